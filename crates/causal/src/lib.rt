@@ -1,0 +1,251 @@
+//! A room's operations so far, and which operation may come next.
+#![tactic(auto)]
+
+ghost use Rattle.std.specs.Prelude.{◌≡◌, ◌-◌, ◌<◌, ◌≤◌, ◌==◌, ◌++◌, ◌∷◌, [], ℕ, true, false, map, position, nat_lt, None, Some, IfOk, IfErr, OnOk, OnErr, IsOk, vec_len, slice_get, slice_index, slice_index_or, length, if◌then◌else◌};
+ghost use Rattle.std.specs.Option.{option_copied};
+ghost use Rattle.std.specs.List.{list_any};
+ghost use Rattle.op_names.specs.Names.{is_site, same_name};
+ghost use Rattle.rules.specs.Operations.{IsHistory, operation};
+ghost use Rattle.rules.specs.Admission.{count_at_site, is_ahead, is_not_closed, causal_refusal};
+ghost use Rattle.causal.specs.Past.{places_of, lacks};
+
+use op_names::{NoMemory, OpName};
+use rules::Refusal;
+pub use rules::{AttrList, Attrs, AttrsFault, Body, Entry, Op, Version};
+use state_vector::StateVector;
+use std::alloc::Global;
+use std::marker::Model;
+use thiserror::Error;
+
+/// Why an operation is not admitted, the first cause that applies in this order.
+#[derive(Clone, Copy, Debug, PartialEq, Eq, Error)]
+pub enum NotAdmitted {
+    /// Its number is not its site's next one.
+    #[error("the number is not the site's next one")]
+    WrongSeq,
+    /// Its vector counts other than the earlier operations of its own site.
+    #[error("the vector counts other than the site's earlier operations")]
+    OwnCount,
+    /// Its vector counts an operation that is not there.
+    #[error("the vector counts an operation that is not there")]
+    Ahead,
+    /// Its vector counts an operation and not all that that one's vector counts.
+    #[error("the vector counts an operation and not all that that one counts")]
+    NotClosed,
+}
+
+impl From<NotAdmitted> for Refusal {
+    ghost use Rattle.std.specs.Prelude.{◌≡◌};
+    ghost use Rattle.causal.specs.NotAdmitted.{refusal_of};
+
+    ghost from_gives = { λ fault refusal. refusal ≡ refusal_of fault };
+
+    fn from(fault: NotAdmitted) -> Refusal {
+        match fault {
+            NotAdmitted::WrongSeq => Refusal::WrongSeq,
+            NotAdmitted::OwnCount => Refusal::OwnCount,
+            NotAdmitted::Ahead => Refusal::Ahead,
+            NotAdmitted::NotClosed => Refusal::NotClosed,
+        }
+    }
+}
+
+/// The operations of a room so far, in the order in which they were added. A look-up by name takes
+/// the same time however many there are.
+#[derive(Debug, Drop)]
+pub struct Past {
+    operations: Vec<Op>,
+    /// For each site, from site 1 on, the places of its operations, by their numbers.
+    places: Vec<Vec<usize>>,
+}
+
+impl Model for Past {
+    ghost use Rattle.std.specs.Prelude.{◌-◌, map, min, vec_capacity, vec_len};
+    ghost use Rattle.causal.specs.Past.{PastState, IsIndex};
+
+    ghost Value = { PastState };
+
+    ghost view = { λ p. record { history = p.operations.items; reserve = map (λ list. min (vec_capacity p.operations - vec_len p.operations) (vec_capacity list - vec_len list)) p.places.items } };
+
+    ghost invariant = { λ p. IsIndex p.operations.items (map (λ list. list.items) p.places.items) };
+}
+
+/// A list without places for each of the sites 1 to 256.
+fn empty_lists(alloc: Global) -> Result<Vec<Vec<usize>>, NoMemory>
+    ensures len { IfOk result (λ lists. vec_len lists ≡ 256) }
+    ensures empty { IfOk result (λ lists. (k : ℕ) → slice_index_or (map (λ list. list.items) lists.items) k [] ≡ []) }
+{
+    let mut lists = Vec::with_capacity(alloc, 256)?;
+    for _site in 0..256usize {
+        lists.push(Vec::new(alloc))?;
+    }
+    Ok(lists)
+}
+
+/// The element at a number that counts from 1, if there is one.
+fn at_number<T>(elements: &[T], number: u32) -> Option<&T>
+    ensures { option_copied result ≡ (if number == 0 then None else slice_get elements.now (number - 1)) }
+{
+    elements.get((number as usize).checked_sub(1)?)
+}
+
+/// The places of a site's operations, by their numbers.
+fn places_of(lists: &[Vec<usize>], site: u32) -> &[usize]
+    ensures { result.now ≡ places_of (map (λ list. list.items) lists.now) site }
+{
+    match at_number(lists, site) {
+        Some(places) => places,
+        None => &[],
+    }
+}
+
+impl Past {
+    ghost use Rattle.causal.specs.NotAdmitted.{refusal_of};
+
+    /// No operations yet. Otherwise `NoMemory`.
+    pub fn new(alloc: Global) -> Result<Past, NoMemory>
+        ensures { IfOk result (λ past. past.history ≡ []) }
+    {
+        let places = empty_lists(alloc)?;
+        Ok(Past {
+            operations: Vec::new(alloc),
+            places,
+        })
+    }
+
+    /// The number of a site's operations, 0 for a site that has none.
+    pub fn count(&self, site: u32) -> u32
+        ensures count { result ≡ count_at_site self.now.history site }
+        ensures history { IsHistory self.now.history }
+    {
+        places_of(&self.places, site).len() as u32
+    }
+
+    /// The place of the operation of a site and a number.
+    fn place(&self, site: u32, seq: u32) -> Option<usize>
+        ensures { result ≡ position (λ op. same_name op.name (site, seq)) self.now.history }
+    {
+        at_number(places_of(&self.places, site), seq).copied()
+    }
+
+    /// The operation of a site and a number.
+    fn operation(&self, site: u32, seq: u32) -> Option<&Op>
+        ensures { option_copied result ≡ operation self.now.history (site, seq) }
+    {
+        self.operations.get(self.place(site, seq)?)
+    }
+
+    /// The operation of this name, or `None` where it is not there.
+    pub fn find(&self, name: OpName) -> Option<&Op>
+        ensures { option_copied result ≡ operation self.now.history name }
+    {
+        self.operation(name.site(), name.seq())
+    }
+
+    /// Is some pair's count above the number of its site's operations?
+    fn has_fewer(&self, pairs: &[(u32, u32)]) -> bool
+        ensures { result ≡ list_any (λ pair. nat_lt (count_at_site self.now.history pair.0) pair.1) pairs.now }
+    {
+        pairs.iter().any(|pair| self.count(pair.0) < pair.1)
+    }
+
+    /// Does the vector count an operation that is not there?
+    fn is_ahead(&self, seen: &StateVector) -> bool
+        ensures { result ≡ is_ahead self.now.history seen.now }
+    {
+        // What stays true of a past: the numbers of a site's operations have no gap.
+        let _ = &self.places;
+        self.has_fewer(seen.pairs())
+    }
+
+    /// Does the vector lack something that the operation of this pair counts?
+    fn lacks_one(&self, seen: &StateVector, pair: (u32, u32)) -> bool
+        ensures { result ≡ lacks self.now.history seen.now pair }
+    {
+        match self.operation(pair.0, pair.1) {
+            Some(op) => !seen.covers(&op.seen),
+            None => false,
+        }
+    }
+
+    /// Does the vector lack something that the operation of one of these pairs counts?
+    fn lacks_some(&self, seen: &StateVector, pairs: &[(u32, u32)]) -> bool
+        ensures { result ≡ list_any (lacks self.now.history seen.now) pairs.now }
+    {
+        pairs.iter().any(|pair| self.lacks_one(seen, *pair))
+    }
+
+    /// Does the vector lack something that an operation which it counts counts?
+    fn is_not_closed(&self, seen: &StateVector) -> bool
+        requires { is_ahead self.now.history seen.now ≡ false }
+        ensures { result ≡ is_not_closed self.now.history seen.now }
+    {
+        // What stays true of a past: the last operation of a site counts all that the site's
+        // earlier ones count.
+        let _ = &self.places;
+        self.lacks_some(seen, seen.pairs())
+    }
+
+    /// Whether an operation of this name and this vector may come next. Otherwise `WrongSeq`,
+    /// `OwnCount`, `Ahead` or `NotClosed`, the first that applies. Takes time with the vector's
+    /// length, and none with the length of the history.
+    #[tactic(auto, unfolding(rules::specs::Admission::causal_refusal))]
+    pub fn admit(&self, name: OpName, seen: &StateVector) -> Result<(), NotAdmitted>
+        ensures admitted { OnOk result (causal_refusal self.now.history name seen.now ≡ None) }
+        ensures refused { IfErr result (λ fault. causal_refusal self.now.history name seen.now ≡ Some (refusal_of fault)) }
+    {
+        let earlier = name.seq() - 1;
+        if self.count(name.site()) != earlier {
+            return Err(NotAdmitted::WrongSeq);
+        }
+        if seen.count(name.site()) != earlier {
+            return Err(NotAdmitted::OwnCount);
+        }
+        if self.is_ahead(seen) {
+            return Err(NotAdmitted::Ahead);
+        }
+        if self.is_not_closed(seen) {
+            return Err(NotAdmitted::NotClosed);
+        }
+        Ok(())
+    }
+
+    /// Takes the memory for one more operation of a site, so that adding it can't fail; otherwise
+    /// `NoMemory`. For a site that is not from 1 to 256 there is nothing to take. No answer changes.
+    pub fn reserve(&mut self, site: u32) -> Result<(), NoMemory>
+        ensures history { self.new.history ≡ self.old.history }
+        ensures ready { OnOk result (is_site site ≡ true → 0 < slice_index self.new.reserve (site - 1)) }
+        ensures outside { is_site site ≡ false → IsOk result }
+    {
+        if site < 1 || site > 256 {
+            return Ok(());
+        }
+        self.operations.reserve(1)?;
+        self.places[site as usize - 1].reserve(1)?;
+        Ok(())
+    }
+
+    /// Adds an operation that is admitted. `NoMemory` only where none was reserved for it, and then
+    /// the history stays.
+    pub fn add(&mut self, op: Op) -> Result<(), NoMemory>
+        requires admitted { causal_refusal self.old.history op.name op.seen ≡ None }
+        ensures ok { OnOk result (self.new.history ≡ self.old.history ++ op ∷ []) }
+        ensures err { OnErr result (self.new.history ≡ self.old.history) }
+        ensures certain { 0 < slice_index self.old.reserve (op.name.0 - 1) → IsOk result }
+    {
+        let place = self.operations.len();
+        // That the number and the vector are in range is part of what stays true of a past.
+        let _ = op.name.seq();
+        let _ = op.seen.pairs();
+        let site = op.name.site() as usize;
+        self.operations.reserve(1)?;
+        self.places[site - 1].push(place)?;
+        let Ok(()) = self.operations.push(op) else {
+            unreachable!()
+        };
+        Ok(())
+    }
+}
+
+#[cfg(test)]
+mod tests;

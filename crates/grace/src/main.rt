@@ -1,0 +1,37 @@
+//! The program: `main` over the library `server`.
+#![tactic(auto)]
+
+use std::env;
+use std::io::{self, ErrorKind};
+use std::process::ExitCode;
+use std::rt::Env;
+
+/// The words of the command line, or the status where they can't be had.
+fn words(rt: &(impl Env + AllocGlobal)) -> io::Result<Vec<String>> {
+    let words = env::args(rt)?.collect(rt.alloc())?;
+    Ok(words)
+}
+
+fn main(rt: HostRuntime) -> ExitCode {
+    match words(&rt) {
+        Ok(words) => {
+            let (mut input, mut output, mut errors) = (rt.stdin(), rt.stdout(), rt.stderr());
+            ExitCode::from(server::run(
+                rt.alloc(),
+                words.as_slice(),
+                &mut input,
+                &mut output,
+                &mut errors,
+            ))
+        }
+        Err(fault) => {
+            if fault.kind() == ErrorKind::OutOfMemory {
+                let _ = eprintln!(rt; "grace: no memory");
+                ExitCode::from(4)
+            } else {
+                let _ = eprintln!(rt; "error: invalid UTF-8 was detected in one or more arguments");
+                ExitCode::from(2)
+            }
+        }
+    }
+}

@@ -1,0 +1,36 @@
+-- Labels: the texts that name rooms, keys and kinds.
+use Rattle.std.specs.Prelude.{ℕ, Bool, not, ◌&&◌, ◌||◌, ◌==◌, nat_le, nat_lt, List, length, Option, Some, None, option_map, is_none, position, if◌then◌else◌}
+use Rattle.op_names.specs.declared.fault.NameFault.{NameFault}
+use Rattle.op_names.specs.declared.fault.NameFault.TheVariants.{Empty, TooLong, BadByte}
+
+-- a text, as its bytes
+abbrev pub Bytes : Type 0
+Bytes = List ℕ
+
+-- a-z, 0-9 or `-`
+abbrev pub is_label_byte : ℕ → Bool
+is_label_byte byte = (nat_le 97 byte && nat_le byte 122) || (nat_le 48 byte && nat_le byte 57) || (byte == 45)
+
+-- what is wrong with a label of at most so many bytes: the first that applies
+unfoldable pub label_fault : ℕ → Bytes → Option NameFault
+label_fault longest bytes =
+    if length bytes == 0 then Some Empty
+    else (if nat_lt longest (length bytes) then Some TooLong
+    else option_map BadByte (position (λ byte. not (is_label_byte byte)) bytes))
+
+-- 1 to so many bytes, each a-z, 0-9 or `-`
+abbrev pub is_label : ℕ → Bytes → Bool
+is_label longest bytes = is_none (label_fault longest bytes)
+
+abbrev pub is_room_name : Bytes → Bool
+is_room_name bytes = is_label 64 bytes
+
+abbrev pub is_key : Bytes → Bool
+is_key bytes = is_label 32 bytes
+
+abbrev pub is_kind : Bytes → Bool
+is_kind bytes = is_label 32 bytes
+
+-- at most 256 bytes
+unfoldable pub is_value_text : Bytes → Bool
+is_value_text bytes = nat_le (length bytes) 256

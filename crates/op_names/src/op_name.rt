@@ -1,0 +1,55 @@
+//! The names of operations.
+
+ghost use Rattle.std.specs.Prelude.{◌≡◌, ◌↔◌, ℕ, true, IfSome, IsSome};
+ghost use Rattle.op_names.specs.Names.{is_op_name, is_site, is_seq};
+
+use std::marker::Model;
+
+/// The name of an operation, and of the object that it creates: a site and a number among the
+/// site's operations. Names are ordered by site, then by number.
+#[derive(Clone, Copy, Debug, PartialEq, Eq, PartialOrd, Ord, Hash)]
+pub struct OpName {
+    site: u32,
+    seq: u32,
+}
+
+impl Model for OpName {
+    ghost Value = { ℕ × ℕ };
+
+    ghost view = { λ name. (name.site, name.seq) };
+
+    ghost invariant = { λ name. is_op_name (name.site, name.seq) ≡ true };
+
+    ghost inverse = { λ pair. record { site = pair.0; seq = pair.1 } };
+}
+
+impl OpName {
+    /// The name of a site's operation, for a site from 1 to 256 and a number from 1 to 16,384;
+    /// otherwise `None`.
+    pub fn new(site: u32, seq: u32) -> Option<OpName>
+        ensures value { IfSome result (λ name. name ≡ (site, seq)) }
+        ensures in_range { IsSome result ↔ (is_op_name (site, seq) ≡ true) }
+    {
+        if 1 <= site && site <= 256 && 1 <= seq && seq <= 16384 {
+            Some(OpName { site, seq })
+        } else {
+            None
+        }
+    }
+
+    /// The site, from 1 to 256.
+    pub fn site(self) -> u32
+        ensures value { result ≡ self.0 }
+        ensures range { is_site self.0 ≡ true }
+    {
+        self.site
+    }
+
+    /// The number among the site's operations, from 1 to 16,384.
+    pub fn seq(self) -> u32
+        ensures value { result ≡ self.1 }
+        ensures range { is_seq self.1 ≡ true }
+    {
+        self.seq
+    }
+}

@@ -1,0 +1,99 @@
+//! The values of attributes.
+
+ghost use Rattle.std.specs.Prelude.{◌≡◌, ◌≢◌, ◌↔◌, List, ℕ, true, false, IfOk, IfErr};
+ghost use Rattle.op_names.specs.Texts.{is_value_text};
+
+use crate::fault::{NameFault, NoMemory};
+use crate::text::Text;
+use std::alloc::Global;
+use std::marker::Model;
+
+/// A text of at most 256 bytes. It may be empty.
+#[derive(Debug, Drop, PartialEq, Eq, PartialOrd, Ord)]
+pub struct ValueText {
+    text: Text,
+}
+
+impl Model for ValueText {
+    ghost Value = { List ℕ };
+
+    ghost view = { λ value. value.text };
+
+    ghost invariant = { λ value. is_value_text value.text ≡ true };
+
+    ghost inverse = { λ bytes. record { text = bytes } };
+}
+
+impl ValueText {
+    /// The text itself.
+    pub fn text(&self) -> &str
+        ensures text { result.now ≡ self.now }
+        ensures range { is_value_text self.now ≡ true }
+    {
+        self.text.as_str()
+    }
+
+    /// Another one of the same text.
+    pub fn copy(&self, alloc: Global) -> Result<ValueText, NoMemory>
+        ensures { IfOk result (λ value. value ≡ self.now) }
+    {
+        let text = self.text.copy(alloc)?;
+        Ok(ValueText { text })
+    }
+}
+
+/// The value of an attribute: a whole number, in the drawing's unit, or a text.
+#[derive(Debug, Drop)]
+pub enum Value {
+    Number(i64),
+    Text(ValueText),
+}
+
+impl Value {
+    /// The value of a text of at most 256 bytes. Otherwise `TooLong`, or `NoMemory`.
+    #[tactic(auto, unfolding(crate::specs::Texts::is_value_text))]
+    pub fn text(alloc: Global, text: &str) -> Result<Value, NameFault>
+        ensures ok { IfOk result (λ value. (value ≡ Value.Text text.now) × (is_value_text text.now ≡ true)) }
+        ensures fault { IfErr result (λ fault. fault ≢ NameFault.NoMemory → fault ≡ NameFault.TooLong) }
+        ensures refused { IfErr result (λ fault. fault ≢ NameFault.NoMemory → is_value_text text.now ≡ false) }
+    {
+        if text.len() > 256 {
+            return Err(NameFault::TooLong);
+        }
+        let text = Text::from_str(alloc, text)?;
+        Ok(Value::Text(ValueText { text }))
+    }
+
+    /// Another one that is equal.
+    pub fn copy(&self, alloc: Global) -> Result<Value, NoMemory>
+        ensures { IfOk result (λ value. value ≡ self.now) }
+    {
+        match self {
+            Value::Number(number) => Ok(Value::Number(*number)),
+            Value::Text(text) => Ok(Value::Text(text.copy(alloc)?)),
+        }
+    }
+}
+
+impl PartialEq for Value {
+    ghost use Rattle.std.specs.Cmp.{partial_equiv_from_equiv};
+    ghost use Rattle.op_names.specs.Values.{same_value, same_value-equivalence};
+
+    ghost eq = { same_value };
+
+    ghost laws = { partial_equiv_from_equiv same_value-equivalence };
+
+    fn eq(&self, other: &Value) -> bool {
+        match (self, other) {
+            (Value::Number(x), Value::Number(y)) => *x == *y,
+            (Value::Text(x), Value::Text(y)) => *x == *y,
+            _ => false,
+        }
+    }
+}
+
+impl Eq for Value {
+    ghost use Rattle.op_names.specs.Values.{same_value-equivalence};
+
+    ghost laws = { same_value-equivalence };
+}

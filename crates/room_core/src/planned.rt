@@ -1,0 +1,54 @@
+//! An answer that is built, and not yet made.
+
+ghost use Rattle.std.specs.Prelude.{◌≡◌};
+ghost use Rattle.room_core.specs.declared.planned.Change.TheVariants.{Nothing};
+
+use rules::{Entry, Op};
+use std::marker::Model;
+use std::sync::Arc;
+use wire::Reply;
+
+/// What an answer changes.
+#[derive(Drop)]
+pub(crate) enum Change {
+    Nothing,
+    /// The entry of a join is added.
+    Joins(Arc<Entry>),
+    /// The entry of a creation is added, and the creation to the operations so far.
+    Creates(Arc<Entry>, Op),
+}
+
+/// A reply that is built, and the change that goes with it.
+#[derive(Drop)]
+pub struct Planned {
+    pub(crate) reply: Reply,
+    pub(crate) change: Change,
+}
+
+impl Model for Planned {
+    ghost use Rattle.room_core.specs.Plans.{Plan};
+
+    ghost Value = { Plan };
+
+    ghost view = { λ planned. record { reply = planned.reply; change = planned.change } };
+}
+
+impl Planned {
+    /// The reply that will be given.
+    pub fn reply(&self) -> &Reply
+        ensures { result.now ≡ self.now.reply }
+    {
+        &self.reply
+    }
+
+    /// A reply that changes nothing.
+    pub(crate) fn told(reply: Reply) -> Planned
+        ensures reply { result.reply ≡ reply }
+        ensures change { result.change ≡ Nothing }
+    {
+        Planned {
+            reply,
+            change: Change::Nothing,
+        }
+    }
+}

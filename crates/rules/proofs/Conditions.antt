@@ -1,0 +1,81 @@
+-- Lists of conditions, and what it says of a record that an entry isn't refused.
+use Rattle.std.proofs.Common.{◌≡◌, ℕ, ◌+◌, ◌<◌, ◌≤◌, Bool, true, false, not, List, [], ◌∷◌, ◌++◌, length, refl, sym, ap, ◌∙◌, ◌⊎◌, inl, inr, arith, Option, Some, None, ◌&&◌, leb, eqb, cond}
+use Rattle.std.specs.Prelude.{is_none, find, option_map}
+use Rattle.std.proofs.lemmas.Bool.{and_parts, and_from, le-leb, leb-false, ne_eqb, cases_Bool, true≢false}
+use Rattle.op_names.specs.Names.{is_site, is_op_name}
+use Rattle.rules.specs.declared.history.Op.{Op}
+use Rattle.rules.specs.declared.history.Entry.{Entry}
+use Rattle.rules.specs.declared.history.Entry.TheVariants.{Join, Operation}
+use Rattle.rules.specs.declared.refusal.Refusal.{Refusal}
+use Rattle.rules.specs.declared.refusal.Refusal.TheVariants.{RoomFull, RecordFull, WrongSeq, TooManyObjects}
+use Rattle.rules.specs.Bounds.{Bounds}
+use Rattle.rules.specs.Operations.{is_set_body}
+use Rattle.rules.specs.Admission.{Condition, count_at_site, first_that_applies, causal_conditions, causal_refusal}
+use Rattle.rules.proofs.Records.{count_at_site-length}
+use Rattle.rules.specs.Records.{operations, objects, sites, is_placed, admits, refusal, conditions, order_conditions, creation_conditions, set_conditions}
+
+-- the first condition doesn't apply, nor any later one
+pub not_first : (c : Condition) (cs : List Condition) → first_that_applies (c ∷ cs) ≡ None → (c.0 ≡ false) × (first_that_applies cs ≡ None)
+not_first c cs e = go c.0 e
+  where
+    go : (b : Bool) → option_map (λ (d : Condition). d.1) (cond b (Some c) (find (λ (d : Condition). d.0) cs)) ≡ None → (b ≡ false) × (first_that_applies cs ≡ None)
+    go true h = absurd cc
+    go false h = (refl, h)
+
+-- no condition of two lists applies
+pub none_of_both : (cs ds : List Condition) → first_that_applies (cs ++ ds) ≡ None → (first_that_applies cs ≡ None) × (first_that_applies ds ≡ None)
+none_of_both [] ds e = (refl, e)
+none_of_both (c ∷ cs) ds e =
+    let a = not_first c (cs ++ ds) e in
+    let b = none_of_both cs ds a.1 in
+    (step c.0 a.0 b.0, b.1)
+  where
+    step : (b : Bool) → b ≡ false → first_that_applies cs ≡ None → option_map (λ (d : Condition). d.1) (cond b (Some c) (find (λ (d : Condition). d.0) cs)) ≡ None
+    step true f h = absurd cc
+    step false f h = h
+
+none_if : {X : Type 0} (r : Option X) → is_none r ≡ true → r ≡ None
+none_if None e = refl
+none_if (Some x) e = absurd cc
+
+module _ (b : Bounds) (r : List Entry) where
+  pub none_applies : (e : Entry) → admits b r e ≡ true → first_that_applies (conditions b r e) ≡ None
+  unfolding refusal
+  none_applies e a = none_if (first_that_applies (conditions b r e)) (and_parts (is_placed r e) (is_none (first_that_applies (conditions b r e))) a).1
+
+  -- a join that is admitted finds room for a site and an entry
+  pub room_for_join : (site : ℕ) → admits b r (Join site) ≡ true → (sites r < b.joins) × (length r < b.entries)
+  room_for_join site a =
+      let x = not_first (leb b.joins (sites r), RoomFull) ((leb b.entries (length r), RecordFull) ∷ []) (none_applies (Join site) a) in
+      let y = not_first (leb b.entries (length r), RecordFull) [] x.1 in
+      (leb-false b.joins (sites r) x.0, leb-false b.entries (length r) y.0)
+
+  -- and so does an operation, of which no causal condition applies
+  pub room_for_operation : (op : Op) → admits b r (Operation op) ≡ true → (length r < b.entries) × (causal_refusal (operations r) op.name op.seen ≡ None)
+  unfolding causal_refusal
+  room_for_operation op a =
+      let x = none_of_both (order_conditions b r op) (cond (is_set_body op.body) set_conditions (creation_conditions b r)) (none_applies (Operation op) a) in
+      let y = not_first (leb b.entries (length r), RecordFull) (causal_conditions (operations r) op.name op.seen) x.0 in
+      (leb-false b.entries (length r) y.0, y.1)
+
+  -- a creation finds room for an object
+  pub room_for_object : (op : Op) → admits b r (Operation op) ≡ true → is_set_body op.body ≡ false → length (objects r) < b.objects
+  room_for_object op a e =
+      let x = none_of_both (order_conditions b r op) (cond (is_set_body op.body) set_conditions (creation_conditions b r)) (none_applies (Operation op) a) in
+      let y : first_that_applies (creation_conditions b r) ≡ None = rw e at x.1 in
+      leb-false b.objects (length (objects r)) (not_first (leb b.objects (length (objects r)), TooManyObjects) [] y).0
+
+  -- an operation whose name is out of range is refused for its number, where the record isn't full
+  pub unnamed_refusal : (op : Op) → is_site op.name.0 ≡ true → is_op_name op.name ≡ false → b.entries ≤ 16384
+      → refusal b r (Operation op) ≡ cond (leb b.entries (length r)) (Some RecordFull) (Some WrongSeq)
+  unfolding refusal
+  unnamed_refusal op site out small = elim (cases_Bool (leb b.entries (length r))) [
+    | inl t ↦ rw t refl
+    | inr f ↦
+        (let wrong : eqb op.name.1 (count_at_site (operations r) op.name.0 + 1) ≡ false = ne_eqb _ _ (λ same.
+        let few : count_at_site (operations r) op.name.0 ≤ length r = count_at_site-length r op.name.0 in
+        let short : length r < b.entries = leb-false b.entries (length r) f in
+        let named : leb 1 op.name.1 && leb op.name.1 16384 ≡ true = and_from _ _ (le-leb 1 op.name.1 (omega arith)) (le-leb op.name.1 16384 (omega arith)) in
+        true≢false (sym (and_from _ _ site named) ∙ out)) in
+        rw (f, wrong) refl)
+  ]

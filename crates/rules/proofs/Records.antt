@@ -1,0 +1,64 @@
+-- What one more entry does to a record.
+use Rattle.std.proofs.Common.{◌≡◌, ℕ, ◌+◌, ◌≤◌, Bool, true, false, cond, not, List, [], ◌∷◌, ◌++◌, length, refl, sym, ap, ◌∙◌, filter, arith}
+use Rattle.std.proofs.lemmas.List.Elements.{filter_map-append}
+use Rattle.std.proofs.lemmas.List.{append-nil, append_assoc}
+use Rattle.std.proofs.lemmas.List.Sums.{sum_by_push, count_by-le-length}
+use Rattle.std.specs.Prelude.{◌==◌}
+use Rattle.rules.specs.declared.history.Op.{Op}
+use Rattle.rules.specs.declared.history.Entry.{Entry}
+use Rattle.rules.specs.declared.history.Entry.TheVariants.{Join, Operation}
+use Rattle.rules.specs.Bounds.{Bounds}
+use Rattle.rules.specs.Operations.{is_set_body}
+use Rattle.rules.specs.Admission.{count_at_site}
+use Rattle.rules.specs.Records.{operation_in, operations, sites, objects, is_join, admits, IsLegal, IsLegalAfter}
+
+pub filter-push : {X : Type 0} (p : X → Bool) (xs : List X) (x : X) → filter p (xs ++ x ∷ []) ≡ filter p xs ++ cond (p x) (x ∷ []) []
+filter-push p [] x = refl
+filter-push {X} p (y ∷ ys) x = step (p y) (filter-push p ys x)
+  where
+    step : (b : Bool) → filter p (ys ++ x ∷ []) ≡ filter p ys ++ cond (p x) (x ∷ []) [] → cond b (y ∷ filter p (ys ++ x ∷ [])) (filter p (ys ++ x ∷ [])) ≡ cond b (y ∷ filter p ys) (filter p ys) ++ cond (p x) (x ∷ []) []
+    step true e = ap (λ (zs : List X). y ∷ zs) e
+    step false e = e
+
+abbrev creates : Op → Bool
+creates op = not (is_set_body op.body)
+
+module _ (r : List Entry) where
+  pub operations-join : (site : ℕ) → operations (r ++ Join site ∷ []) ≡ operations r
+  operations-join site = filter_map-append operation_in r (Join site ∷ []) ∙ append-nil (operations r)
+
+  pub operations-push : (op : Op) → operations (r ++ Operation op ∷ []) ≡ operations r ++ op ∷ []
+  operations-push op = filter_map-append operation_in r (Operation op ∷ [])
+
+  pub sites-join : (site : ℕ) → sites (r ++ Join site ∷ []) ≡ sites r + 1
+  sites-join site = sum_by_push (λ x. cond (is_join x) 1 0) r (Join site)
+
+  pub sites-operation : (op : Op) → sites (r ++ Operation op ∷ []) ≡ sites r
+  sites-operation op = (let e : sites (r ++ Operation op ∷ []) ≡ sites r + 0 = sum_by_push (λ x. cond (is_join x) 1 0) r (Operation op) in omega (arith, e))
+
+  pub objects-join : (site : ℕ) → objects (r ++ Join site ∷ []) ≡ objects r
+  objects-join site = ap (filter creates) (operations-join site)
+
+  pub objects-creation : (op : Op) → is_set_body op.body ≡ false → objects (r ++ Operation op ∷ []) ≡ objects r ++ op ∷ []
+  objects-creation op e = ap (filter creates) (operations-push op) ∙ filter-push creates (operations r) op ∙ ap (λ b. objects r ++ cond (not b) (op ∷ []) []) e
+
+-- ---- legal records
+
+legal_push_after : (b : Bounds) (r rest : List Entry) (e : Entry) → IsLegalAfter b r rest → admits b (r ++ rest) e ≡ true → IsLegalAfter b r (rest ++ e ∷ [])
+legal_push_after b r [] e g a = (ap (λ x. admits b x e) (sym (append-nil r)) ∙ a, tt)
+legal_push_after b r (x ∷ rest) e g a = (g.0, legal_push_after b (r ++ x ∷ []) rest e g.1 (ap (λ y. admits b y e) (append_assoc r (x ∷ []) rest) ∙ a))
+
+-- an admitted entry keeps a record legal
+pub legal_push : (b : Bounds) (r : List Entry) (e : Entry) → IsLegal b r → admits b r e ≡ true → IsLegal b (r ++ e ∷ [])
+legal_push b r e g a = legal_push_after b [] r e g a
+
+-- ---- counts
+
+length-operations : (r : List Entry) → length (operations r) ≤ length r
+length-operations [] = omega arith
+length-operations (Join n ∷ r) = omega (arith, length-operations r)
+length-operations (Operation op ∷ r) = omega (arith, length-operations r)
+
+-- no site has more operations than the record has entries
+pub count_at_site-length : (r : List Entry) (site : ℕ) → count_at_site (operations r) site ≤ length r
+count_at_site-length r site = omega (arith, length-operations r, count_by-le-length (λ (op : Op). op.name.0 == site) (operations r))

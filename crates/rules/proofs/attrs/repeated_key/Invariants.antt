@@ -1,0 +1,7 @@
+use Rattle.std.proofs.Common.{◌≡◌, take, drop}
+use Rattle.op_names.specs.Repeats.{repeat_from, first_repeat}
+use Rattle.rules.specs.AttrLists.{same_key}
+use Rattle.rules.proofs.attrs.repeated_key.Given as goal
+
+abbrev pub invariant-loop-place : goal.invariant-loop-place
+invariant-loop-place l = repeat_from same_key l.place (take l.place l.pairs) (drop l.place l.pairs) ≡ first_repeat same_key l.pairs

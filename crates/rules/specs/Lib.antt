@@ -1,0 +1,13 @@
+pub use Rattle.op_names.specs.Names
+pub use Rattle.op_names.specs.Texts
+pub use Rattle.op_names.specs.Values
+pub use Rattle.op_names.specs.VersionIds
+pub use Rattle.state_vector.specs.Vectors
+pub mod AttrLists
+pub mod Bounds
+pub mod Refusals
+pub mod Operations
+pub mod Admission
+pub mod Records
+pub mod Sorting
+pub mod Versions

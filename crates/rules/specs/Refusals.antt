@@ -1,0 +1,50 @@
+-- The numbers and words of refusals.
+use Rattle.std.specs.Prelude.{ℕ, List, [], ◌∷◌, Bool, codes, Option, ◌==◌}
+use Rattle.std.specs.List.{find}
+use Rattle.rules.specs.declared.refusal.Refusal.{Refusal}
+use Rattle.rules.specs.declared.refusal.Refusal.TheVariants.{BadMessage, NotJoined, AlreadyJoined, NoSuchRoom, RoomFull, RecordFull, WrongSeq, OwnCount, Ahead, NotClosed, NoSuchObject, NoSuchVersion, ObjectFull, TooManyKeys, TooManyVersions, TooManyObjects, TooFar}
+
+abbrev pub code_of : Refusal → ℕ
+code_of BadMessage = 1
+code_of NotJoined = 2
+code_of AlreadyJoined = 3
+code_of NoSuchRoom = 4
+code_of RoomFull = 5
+code_of RecordFull = 6
+code_of WrongSeq = 7
+code_of OwnCount = 8
+code_of Ahead = 9
+code_of NotClosed = 10
+code_of NoSuchObject = 11
+code_of NoSuchVersion = 12
+code_of ObjectFull = 13
+code_of TooManyKeys = 14
+code_of TooManyVersions = 15
+code_of TooManyObjects = 16
+code_of TooFar = 17
+
+abbrev pub word_of : Refusal → List ℕ
+word_of BadMessage = codes "bad-message"
+word_of NotJoined = codes "not-joined"
+word_of AlreadyJoined = codes "already-joined"
+word_of NoSuchRoom = codes "no-such-room"
+word_of RoomFull = codes "room-full"
+word_of RecordFull = codes "record-full"
+word_of WrongSeq = codes "wrong-seq"
+word_of OwnCount = codes "own-count"
+word_of Ahead = codes "ahead"
+word_of NotClosed = codes "not-closed"
+word_of NoSuchObject = codes "no-such-object"
+word_of NoSuchVersion = codes "no-such-version"
+word_of ObjectFull = codes "object-full"
+word_of TooManyKeys = codes "too-many-keys"
+word_of TooManyVersions = codes "too-many-versions"
+word_of TooManyObjects = codes "too-many-objects"
+word_of TooFar = codes "too-far"
+
+abbrev all_refusals : List Refusal
+all_refusals = BadMessage ∷ NotJoined ∷ AlreadyJoined ∷ NoSuchRoom ∷ RoomFull ∷ RecordFull ∷ WrongSeq ∷ OwnCount ∷ Ahead ∷ NotClosed ∷ NoSuchObject ∷ NoSuchVersion ∷ ObjectFull ∷ TooManyKeys ∷ TooManyVersions ∷ TooManyObjects ∷ TooFar ∷ []
+
+-- the refusal with this number
+abbrev pub refusal_at : ℕ → Option Refusal
+refusal_at code = find (λ r. code_of r == code) all_refusals

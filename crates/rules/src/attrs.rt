@@ -1,0 +1,121 @@
+//! The attributes that an object is created with.
+
+ghost use Rattle.std.specs.Prelude.{◌≡◌, ◌↔◌, List, ℕ, true, false, Some, None, IfOk, IfErr, IfSome, OnErr, bytes_eq};
+ghost use Rattle.std.specs.List.{list_any};
+ghost use Rattle.op_names.specs.Repeats.{first_repeat};
+ghost use Rattle.std.specs.Cmp.Rules.{comparing};
+ghost use Rattle.std.proofs.Common.{rules};
+ghost use Rattle.op_names.specs.Values.{same_value-equivalence};
+ghost use Rattle.rules.specs.AttrLists.{Attr, same_attrs, same_key, attrs_fault, are_attrs};
+
+use op_names::{Key, NoMemory, Value};
+use std::alloc::Global;
+use std::marker::Model;
+use thiserror::Error;
+
+/// Why a list is no list of initial attributes, the first cause that applies in this order.
+#[derive(Clone, Copy, Debug, PartialEq, Eq, Error)]
+pub enum AttrsFault {
+    #[error("there are more than 16 attributes")]
+    TooMany,
+    /// The first place, from 0, whose key stands at an earlier place too.
+    #[error("the key at place {0} stands earlier too")]
+    Repeated(usize),
+}
+
+/// The attributes of a creation: at most 16, no key twice, in the order that they were given.
+#[derive(Debug, Drop)]
+pub struct Attrs {
+    pairs: Vec<(Key, Value)>,
+}
+
+impl Model for Attrs {
+    ghost Value = { List Attr };
+
+    ghost view = { λ attrs. attrs.pairs.items };
+
+    ghost invariant = { λ attrs. are_attrs attrs.pairs.items ≡ true };
+}
+
+/// Does one of the pairs have this key?
+fn has_key(pairs: &[(Key, Value)], key: &Key) -> bool
+    ensures { result ≡ list_any (λ pair. bytes_eq pair.0 key.now) pairs.now }
+{
+    pairs.iter().any(|pair| pair.0 == *key)
+}
+
+/// The first place whose key stands at an earlier place too.
+fn repeated_key(pairs: &[(Key, Value)]) -> Option<usize>
+    ensures { result ≡ first_repeat same_key pairs.now }
+{
+    for (place, pair) in pairs.iter().enumerate() {
+        if has_key(&pairs[..place], &pair.0) {
+            return Some(place);
+        }
+    }
+    None
+}
+
+/// Other ones that are equal to these pairs.
+pub(crate) fn copy_pairs(
+    alloc: Global,
+    pairs: &[(Key, Value)],
+) -> Result<Vec<(Key, Value)>, NoMemory>
+    ensures { IfOk result (λ copies. copies.items ≡ pairs.now) }
+{
+    let mut copies = Vec::with_capacity(alloc, pairs.len())?;
+    for pair in pairs {
+        copies.push((pair.0.copy(alloc)?, pair.1.copy(alloc)?))?;
+    }
+    Ok(copies)
+}
+
+impl Attrs {
+    /// These pairs as initial attributes, in their order. Otherwise `TooMany` above 16, or the
+    /// first `Repeated` key. Takes no memory.
+    #[tactic(auto, unfolding(crate::specs::AttrLists::attrs_fault))]
+    pub fn from_pairs(pairs: Vec<(Key, Value)>) -> Result<Attrs, AttrsFault>
+        ensures ok { IfOk result (λ attrs. (attrs ≡ pairs.items) × (attrs_fault pairs.items ≡ None)) }
+        ensures fault { IfErr result (λ fault. attrs_fault pairs.items ≡ Some fault) }
+        ensures range { IfOk result (λ _. are_attrs pairs.items ≡ true) }
+        ensures refused { OnErr result (are_attrs pairs.items ≡ false) }
+    {
+        if pairs.len() > 16 {
+            return Err(AttrsFault::TooMany);
+        }
+        match repeated_key(&pairs) {
+            Some(place) => Err(AttrsFault::Repeated(place)),
+            None => Ok(Attrs { pairs }),
+        }
+    }
+
+    /// The pairs of a key and a value, in the order that they were given.
+    pub fn pairs(&self) -> &[(Key, Value)]
+        ensures pairs { result.now ≡ self.now }
+        ensures range { are_attrs self.now ≡ true }
+    {
+        &self.pairs
+    }
+
+    /// Other ones that are equal.
+    pub fn copy(&self, alloc: Global) -> Result<Attrs, NoMemory>
+        ensures { IfOk result (λ attrs. attrs ≡ self.now) }
+    {
+        let pairs = copy_pairs(alloc, &self.pairs)?;
+        Ok(Attrs { pairs })
+    }
+}
+
+impl PartialEq for Attrs {
+    ghost eq = { same_attrs };
+
+    ghost laws = { Prim.search (comparing, same_value-equivalence, rules) };
+
+    fn eq(&self, other: &Attrs) -> bool {
+        self.pairs.as_slice() == other.pairs.as_slice()
+    }
+}
+
+impl Eq for Attrs {
+    ghost laws = { Prim.search (comparing, same_value-equivalence, rules) };
+}

@@ -1,0 +1,17 @@
+//! The data of a room's history, and the written rules as definitions over it (see `specs/`).
+#![tactic(auto)]
+
+mod attrs;
+mod history;
+mod limits;
+mod refusal;
+mod version;
+
+pub use attrs::{Attrs, AttrsFault};
+pub use history::{Body, Entry, Op};
+pub use limits::Limits;
+pub use refusal::Refusal;
+pub use version::{AttrList, Version};
+
+#[cfg(test)]
+mod tests;

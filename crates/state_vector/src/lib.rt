@@ -1,0 +1,176 @@
+//! State vectors: maps from sites to counts, by which an operation says what its author had seen
+//! (Sun and Chen, ACM TOCHI 9(1), 2002).
+#![tactic(auto)]
+
+ghost use Rattle.std.specs.Prelude.{◌≡◌, ◌≢◌, ℕ, List, [], true, false, Some, None, ◌<◌, length, IfOk, IfErr, OnErr};
+ghost use Rattle.std.specs.List.{HoldsAt};
+ghost use Rattle.state_vector.specs.Vectors.{count_of, counts, covers, pair_fault, vector_fault, is_vector, same_pairs};
+ghost use Rattle.state_vector.specs.declared.VectorFault.TheVariants as vector_fault_of;
+ghost use Rattle.std.specs.Cmp.Rules.{comparing};
+ghost use Rattle.std.proofs.Common.{rules};
+
+use op_names::{NoMemory, OpName};
+use std::alloc::{AllocError, Global};
+use std::marker::Model;
+use thiserror::Error;
+
+/// Why a list of pairs is no state vector: the first bad pair decides, and of its causes the first
+/// in this order.
+#[derive(Clone, Copy, Debug, PartialEq, Eq, Error)]
+pub enum VectorFault {
+    /// The site is not from 1 to 256, or the count is above 16,384.
+    #[error("a site or a count is out of range")]
+    OutOfRange,
+    #[error("a count is 0")]
+    ZeroCount,
+    /// The site is not above the one before it.
+    #[error("the sites do not rise")]
+    NotRising,
+    #[error("out of memory")]
+    NoMemory,
+}
+
+impl From<AllocError> for VectorFault {
+    ghost from_gives = { λ _ fault. fault ≡ vector_fault_of.NoMemory };
+
+    fn from(_fault: AllocError) -> VectorFault {
+        VectorFault::NoMemory
+    }
+}
+
+/// A map from sites to counts: strictly rising sites from 1 to 256, with counts from 1 to 16,384.
+#[derive(Debug, Drop)]
+pub struct StateVector {
+    pairs: Vec<(u32, u32)>,
+}
+
+impl Model for StateVector {
+    ghost Value = { List (ℕ × ℕ) };
+
+    ghost view = { λ vector. vector.pairs.items };
+
+    ghost invariant = { λ vector. is_vector vector.pairs.items ≡ true };
+}
+
+/// What is wrong with a pair that comes after the site `last`, 0 for the first pair.
+fn pair_fault(last: u32, pair: (u32, u32)) -> Option<VectorFault>
+    ensures { result ≡ pair_fault last pair }
+{
+    let (site, count) = pair;
+    if site < 1 || site > 256 || count > 16384 {
+        Some(VectorFault::OutOfRange)
+    } else if count == 0 {
+        Some(VectorFault::ZeroCount)
+    } else if site <= last {
+        Some(VectorFault::NotRising)
+    } else {
+        None
+    }
+}
+
+/// What is wrong with the first bad pair.
+#[tactic(auto, unfolding(crate::specs::Vectors::vector_fault))]
+fn vector_fault(pairs: &[(u32, u32)]) -> Option<VectorFault>
+    ensures { result ≡ vector_fault pairs.now }
+{
+    let mut last = 0;
+    for pair in pairs {
+        if let Some(fault) = pair_fault(last, *pair) {
+            return Some(fault);
+        }
+        last = pair.0;
+    }
+    None
+}
+
+impl StateVector {
+    /// The vector that counts nothing.
+    #[tactic(auto, unfolding(crate::specs::Vectors::vector_fault))]
+    pub fn empty(alloc: Global) -> StateVector
+        ensures { result ≡ [] }
+    {
+        StateVector {
+            pairs: Vec::new(alloc),
+        }
+    }
+
+    /// The vector of these pairs of a site and a count. Otherwise the fault of the first bad pair,
+    /// or `NoMemory`.
+    pub fn from_pairs(alloc: Global, pairs: &[(u32, u32)]) -> Result<StateVector, VectorFault>
+        ensures ok { IfOk result (λ vector. (vector ≡ pairs.now) × (is_vector pairs.now ≡ true)) }
+        ensures fault { IfErr result (λ fault. fault ≢ VectorFault.NoMemory → vector_fault pairs.now ≡ Some fault) }
+        ensures refused { IfErr result (λ fault. fault ≢ VectorFault.NoMemory → is_vector pairs.now ≡ false) }
+    {
+        if let Some(fault) = vector_fault(pairs) {
+            return Err(fault);
+        }
+        let pairs = Vec::from_slice(alloc, pairs)?;
+        Ok(StateVector { pairs })
+    }
+
+    /// The place of the site's pair, or the place where it would go.
+    fn search(&self, site: u32) -> Result<usize, usize>
+        ensures range { IfOk result (λ place. place < length self.now) }
+        ensures found { IfOk result (HoldsAt (λ pair. pair.1 ≡ count_of self.now site) self.now) }
+        ensures absent { OnErr result (count_of self.now site ≡ 0) }
+    {
+        self.pairs.binary_search_by_key(&site, |pair| pair.0)
+    }
+
+    /// The site's count, 0 where the site is absent. A binary search.
+    pub fn count(&self, site: u32) -> u32
+        ensures { result ≡ count_of self.now site }
+    {
+        match self.search(site) {
+            Ok(place) => self.pairs[place].1,
+            Err(_) => 0,
+        }
+    }
+
+    /// Does it count the operation of this name?
+    pub fn has(&self, name: OpName) -> bool
+        ensures { result ≡ counts self.now name }
+    {
+        name.seq() <= self.count(name.site())
+    }
+
+    /// Does it count all that the other counts?
+    pub fn covers(&self, other: &StateVector) -> bool
+        ensures { result ≡ covers self.now other.now }
+    {
+        other.pairs.iter().all(|pair| pair.1 <= self.count(pair.0))
+    }
+
+    /// Its pairs of a site and a count, with the sites rising.
+    pub fn pairs(&self) -> &[(u32, u32)]
+        ensures pairs { result.now ≡ self.now }
+        ensures range { is_vector self.now ≡ true }
+    {
+        &self.pairs
+    }
+
+    /// Another one of the same pairs.
+    pub fn copy(&self, alloc: Global) -> Result<StateVector, NoMemory>
+        ensures { IfOk result (λ vector. vector ≡ self.now) }
+    {
+        let pairs = Vec::from_slice(alloc, &self.pairs)?;
+        Ok(StateVector { pairs })
+    }
+}
+
+impl PartialEq for StateVector {
+    ghost eq = { same_pairs };
+
+    ghost laws = { Prim.search (comparing, rules) };
+
+    fn eq(&self, other: &StateVector) -> bool {
+        self.pairs.as_slice() == other.pairs.as_slice()
+    }
+}
+
+impl Eq for StateVector {
+    ghost laws = { Prim.search (comparing, rules) };
+}
+
+#[cfg(test)]
+mod tests;

@@ -1,0 +1,5 @@
+use Rattle.wire.proofs.Requests as requests
+use Rattle.wire.proofs.laws.requests_by_form.Goals as goal
+
+pub returns : goal.returns
+returns c = requests.requests_by_form

@@ -1,0 +1,178 @@
+-- What the readers read from a JSON value: the value of a form, or nothing.
+use Rattle.std.specs.Prelude.{◌≡◌, ℕ, ◌^◌, ◌-◌, ◌&&◌, ℤ, pos, negsuc, List, [], ◌∷◌, codes, Bool, nat_le, nat_lt, if◌then◌else◌, Option, Some, None, option_map, option_and_then, Result, Ok, Err, bytes_eq, ⊤}
+use Rattle.serde_json.specs.Data.{Num, unsigned, negative, float, Data, Items, no_items, item}
+use Rattle.serde_json.specs.Find.{as_array, as_number, as_str, as_u64}
+use Rattle.op_names.specs.Names.{is_op_name}
+use Rattle.op_names.specs.Texts.{is_room_name, is_key, is_kind, is_value_text}
+use Rattle.op_names.specs.declared.value.Value.{Value}
+use Rattle.op_names.specs.declared.value.Value.TheVariants.{Number, Text}
+use Rattle.state_vector.specs.Vectors.{is_vector}
+use Rattle.rules.specs.AttrLists.{Attr, are_attrs}
+use Rattle.wire.specs.declared.fault.ReadFault.{ReadFault}
+use Rattle.wire.specs.declared.fault.ReadFault.TheVariants.{Bad, NoMemory}
+use Rattle.wire.specs.declared.request.Request.{Request}
+use Rattle.wire.specs.declared.request.Request.TheVariants.{Join, New, Show, Leave}
+
+-- a step, and then the one that goes by what it read
+infixl 10 ◌>>=◌
+abbrev pub ◌>>=◌ : {A B : Type 0} → Option A → (A → Option B) → Option B
+(Some x) >>= f = f x
+None >>= f = None
+
+-- a refusal is where reading gives nothing; want of memory says nothing
+abbrev pub Fails : {Y : Type 0} → ReadFault → Option Y → Type 0
+Fails NoMemory read = Unit {0}
+Fails Bad read = read ≡ None
+
+-- what a function returned, seen by view, is what reading gives, unless memory ran out
+abbrev pub Gives : {X Y : Type 0} → (X → Y) → Result X ReadFault → Option Y → Type 0
+Gives view (Ok x) read = read ≡ Some (view x)
+Gives view (Err e) read = Fails e read
+
+-- the items, as a list
+abbrev pub listed : Items → List Data
+listed no_items = []
+listed (item d ds) = d ∷ listed ds
+
+-- a list's items
+unfoldable pub items_in : Data → Option (List Data)
+items_in d = option_map listed (as_array d)
+
+-- an i64; what no JSON number holds, as a negative number that isn't below 0, gives none
+unfoldable pub integer_at : Num → Option ℤ
+integer_at (unsigned n) = if nat_lt n (2 ^ 63) then Some (pos n) else None
+integer_at (negative (pos n)) = None
+integer_at (negative (negsuc n)) = Some (negsuc n)
+integer_at (float x) = None
+
+-- a whole number in the range of i64
+unfoldable pub integer_in : Data → Option ℤ
+integer_in d = option_and_then integer_at (as_number d)
+
+-- what is read, where it passes the test
+abbrev pub passing : {X : Type 0} → (X → Bool) → (Data → Option X) → Data → Option X
+passing test read d = read d >>= λ x. if test x then Some x else None
+
+-- each of the values, in order
+unfoldable pub all_in : {X : Type 0} → (Data → Option X) → List Data → Option (List X)
+all_in read [] = Some []
+all_in read (d ∷ ds) = do
+  x ← read d
+  xs ← all_in read ds
+  Some (x ∷ xs)
+
+-- a list of such parts
+unfoldable pub list_in : {X : Type 0} → (Data → Option X) → Data → Option (List X)
+list_in read d = items_in d >>= all_in read
+
+-- two values
+unfoldable pub two_at : {X Y : Type 0} → (Data → Option X) → (Data → Option Y) → List Data → Option (X × Y)
+two_at first second (a ∷ b ∷ []) = do
+  x ← first a
+  y ← second b
+  Some (x, y)
+two_at first second _ = None
+
+-- a list of two
+unfoldable pub two_in : {X Y : Type 0} → (Data → Option X) → (Data → Option Y) → Data → Option (X × Y)
+two_in first second d = items_in d >>= two_at first second
+
+-- a whole number from 0
+unfoldable pub natural_in : Data → Option ℕ
+natural_in d = option_and_then as_u64 (as_number d)
+
+-- a whole number in these bounds
+unfoldable pub whole_in : ℕ → ℕ → Data → Option ℕ
+whole_in low high = passing (λ n. nat_le low n && nat_le n high) natural_in
+
+-- two u32
+unfoldable pub pair_in : Data → Option (ℕ × ℕ)
+pair_in = two_in (whole_in 0 (2 ^ 32 - 1)) (whole_in 0 (2 ^ 32 - 1))
+
+-- the name of an operation
+unfoldable pub name_in : Data → Option (ℕ × ℕ)
+name_in = passing is_op_name pair_in
+
+-- the name of a room
+unfoldable pub room_in : Data → Option (List ℕ)
+room_in = passing is_room_name as_str
+
+-- a state vector
+unfoldable pub seen_in : Data → Option (List (ℕ × ℕ))
+seen_in = passing is_vector (list_in pair_in)
+
+-- the key of an attribute
+unfoldable pub key_in : Data → Option (List ℕ)
+key_in = passing is_key as_str
+
+-- the kind of an object
+unfoldable pub kind_in : Data → Option (List ℕ)
+kind_in = passing is_kind as_str
+
+-- a value by whether it is a text
+abbrev text_or_number : Option (List ℕ) → Data → Option Value
+text_or_number (Some s) d = if is_value_text s then Some (Text s) else None
+text_or_number None d = do
+  z ← integer_in d
+  Some (Number z)
+
+-- the value of an attribute
+unfoldable pub value_in : Data → Option Value
+value_in d = text_or_number (as_str d) d
+
+-- an attribute
+unfoldable pub attr_in : Data → Option Attr
+attr_in = two_in key_in value_in
+
+-- the attributes of a creation
+unfoldable pub attrs_in : Data → Option (List Attr)
+attrs_in = passing are_attrs (list_in attr_in)
+
+-- no more fields
+abbrev pub end_at : List Data → Option ⊤
+end_at [] = Some tt
+end_at (d ∷ ds) = None
+
+-- a field, and then others
+abbrev pub field_at : {X Y : Type 0} → (Data → Option X) → (List Data → Option Y) → List Data → Option (X × Y)
+field_at first others [] = None
+field_at first others (d ∷ ds) = do
+  x ← first d
+  y ← others ds
+  Some (x, y)
+
+-- what follows "join"
+unfoldable pub join_at : List Data → Option Request
+join_at ds = field_at room_in end_at ds >>= λ p. Some (Join p.0)
+
+-- what follows "new"
+unfoldable pub new_at : List Data → Option Request
+new_at ds =
+    field_at (whole_in 1 16384) (field_at seen_in (field_at kind_in (field_at attrs_in end_at))) ds >>= λ p. Some (New p.0 p.1.0 p.1.1.0 p.1.1.1.0)
+
+-- what follows "show"
+unfoldable pub show_at : List Data → Option Request
+show_at ds = field_at name_in end_at ds >>= λ p. Some (Show p.0)
+
+-- what follows "leave"
+unfoldable pub leave_at : List Data → Option Request
+leave_at ds = end_at ds >>= λ _. Some Leave
+
+-- by the word, what follows it
+unfoldable pub by_word : List ℕ → List Data → Option Request
+by_word w rest =
+    if bytes_eq w (codes "join") then join_at rest
+    else (if bytes_eq w (codes "new") then new_at rest
+    else (if bytes_eq w (codes "show") then show_at rest
+    else (if bytes_eq w (codes "leave") then leave_at rest else None)))
+
+-- a word and what follows it
+unfoldable pub request_at : List Data → Option Request
+request_at [] = None
+request_at (word ∷ rest) = do
+  w ← as_str word
+  by_word w rest
+
+-- the request whose form a JSON value is
+unfoldable pub request_in : Data → Option Request
+request_in d = items_in d >>= request_at

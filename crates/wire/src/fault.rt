@@ -1,0 +1,91 @@
+//! What can go wrong: memory, and bytes that are out of form.
+
+ghost use Rattle.std.specs.Prelude.{◌≡◌};
+ghost use Rattle.wire.specs.declared.fault.ReadFault.TheVariants.{Bad, NoMemory};
+
+use op_names::{ListFault, NameFault};
+use state_vector::VectorFault;
+use std::alloc::{AllocError, AllocFailed};
+use thiserror::Error;
+
+/// Why bytes were refused.
+#[derive(Clone, Copy, Debug, PartialEq, Eq, Error)]
+pub enum ReadFault {
+    /// They have no such form.
+    #[error("the bytes have no such form")]
+    Bad,
+    #[error("out of memory")]
+    NoMemory,
+}
+
+impl From<AllocError> for ReadFault {
+    ghost from_gives = { λ _ e. e ≡ NoMemory };
+
+    fn from(_e: AllocError) -> ReadFault {
+        ReadFault::NoMemory
+    }
+}
+
+impl<T: Drop> From<AllocFailed<T>> for ReadFault {
+    ghost from_gives = { λ _ e. e ≡ NoMemory };
+
+    fn from(_e: AllocFailed<T>) -> ReadFault {
+        ReadFault::NoMemory
+    }
+}
+
+impl From<NameFault> for ReadFault {
+    ghost use Rattle.wire.specs.Faults.{of_name};
+    ghost use Rattle.std.specs.Prelude.{◌≡◌};
+
+    ghost from_gives = { λ f e. e ≡ of_name f };
+
+    fn from(fault: NameFault) -> ReadFault {
+        match fault {
+            NameFault::NoMemory => ReadFault::NoMemory,
+            _ => ReadFault::Bad,
+        }
+    }
+}
+
+impl From<ListFault> for ReadFault {
+    ghost use Rattle.wire.specs.Faults.{of_list};
+    ghost use Rattle.std.specs.Prelude.{◌≡◌};
+
+    ghost from_gives = { λ f e. e ≡ of_list f };
+
+    fn from(fault: ListFault) -> ReadFault {
+        match fault {
+            ListFault::NoMemory => ReadFault::NoMemory,
+            ListFault::NotRising => ReadFault::Bad,
+        }
+    }
+}
+
+impl From<VectorFault> for ReadFault {
+    ghost use Rattle.wire.specs.Faults.{of_vector};
+    ghost use Rattle.std.specs.Prelude.{◌≡◌};
+
+    ghost from_gives = { λ f e. e ≡ of_vector f };
+
+    fn from(fault: VectorFault) -> ReadFault {
+        match fault {
+            VectorFault::NoMemory => ReadFault::NoMemory,
+            _ => ReadFault::Bad,
+        }
+    }
+}
+
+impl From<serde_json::Error> for ReadFault {
+    ghost use Rattle.wire.specs.Faults.{IsOfText};
+
+    ghost from_gives = { IsOfText };
+
+    fn from(fault: serde_json::Error) -> ReadFault {
+        if fault.is_memory() {
+            ReadFault::NoMemory
+        } else {
+            ReadFault::Bad
+        }
+    }
+}

@@ -1,0 +1,130 @@
+//! The lists in replies: each is seen as the plain list of its members.
+
+ghost use Rattle.std.specs.Prelude.{◌≡◌, List, ℕ, map};
+ghost use Rattle.std.specs.Arc.{arc_value};
+ghost use Rattle.rules.specs.Names.{Name};
+ghost use Rattle.rules.specs.Texts.{Bytes};
+
+use op_names::{Kind, OpName, VersionId};
+use rules::{Entry, Version};
+use std::marker::Model;
+use std::sync::Arc;
+
+/// The identifiers of an object's versions.
+#[derive(Debug, Drop)]
+pub struct IdList {
+    ids: Vec<VersionId>,
+}
+
+impl Model for IdList {
+    ghost Value = { List (List Name) };
+
+    ghost view = { λ list. list.ids.items };
+}
+
+impl IdList {
+    /// These identifiers, in their order. Takes no memory.
+    pub fn from_vec(ids: Vec<VersionId>) -> IdList
+        ensures { result ≡ ids.items }
+    {
+        IdList { ids }
+    }
+
+    /// The identifiers.
+    pub fn as_slice(&self) -> &[VersionId]
+        ensures { result.now ≡ self.now }
+    {
+        &self.ids
+    }
+}
+
+/// The versions of an object.
+#[derive(Debug, Drop)]
+pub struct VersionList {
+    versions: Vec<Version>,
+}
+
+impl Model for VersionList {
+    ghost use Rattle.std.specs.Prelude.{List};
+    ghost use Rattle.rules.specs.declared.version.Version.{Version};
+
+    ghost Value = { List Version };
+
+    ghost view = { λ list. list.versions.items };
+}
+
+impl VersionList {
+    /// These versions, in their order. Takes no memory.
+    pub fn from_vec(versions: Vec<Version>) -> VersionList
+        ensures { result ≡ versions.items }
+    {
+        VersionList { versions }
+    }
+
+    /// The versions.
+    pub fn as_slice(&self) -> &[Version]
+        ensures { result.now ≡ self.now }
+    {
+        &self.versions
+    }
+}
+
+/// Objects with their kinds.
+#[derive(Debug, Drop)]
+pub struct ObjectList {
+    objects: Vec<(OpName, Kind)>,
+}
+
+impl Model for ObjectList {
+    ghost Value = { List (Name × Bytes) };
+
+    ghost view = { λ list. list.objects.items };
+}
+
+impl ObjectList {
+    /// These objects, in their order. Takes no memory.
+    pub fn from_vec(objects: Vec<(OpName, Kind)>) -> ObjectList
+        ensures { result ≡ objects.items }
+    {
+        ObjectList { objects }
+    }
+
+    /// The objects with their kinds.
+    pub fn as_slice(&self) -> &[(OpName, Kind)]
+        ensures { result.now ≡ self.now }
+    {
+        &self.objects
+    }
+}
+
+/// Entries of a record, each shared with the record that holds it.
+#[derive(Debug, Drop)]
+pub struct EntryList {
+    entries: Vec<Arc<Entry>>,
+}
+
+impl Model for EntryList {
+    ghost use Rattle.std.specs.Prelude.{List, map};
+    ghost use Rattle.std.specs.Arc.{arc_value};
+    ghost use Rattle.rules.specs.declared.history.Entry.{Entry};
+
+    ghost Value = { List Entry };
+
+    ghost view = { λ list. map arc_value list.entries.items };
+}
+
+impl EntryList {
+    /// These entries, in their order. Takes no memory.
+    pub fn from_vec(entries: Vec<Arc<Entry>>) -> EntryList
+        ensures { result ≡ map arc_value entries.items }
+    {
+        EntryList { entries }
+    }
+
+    /// The entries.
+    pub fn as_slice(&self) -> &[Arc<Entry>]
+        ensures { map arc_value result.now ≡ self.now }
+    {
+        &self.entries
+    }
+}

@@ -1,0 +1,44 @@
+//! What a session may ask for.
+
+use op_names::{Key, Kind, OpName, RoomName, Value, VersionId};
+use rules::Attrs;
+use state_vector::StateVector;
+
+/// What a session asks for.
+#[derive(Debug, Drop)]
+pub enum Request {
+    /// To be let into a room, as a new site.
+    Join {
+        room: RoomName,
+    },
+    /// To create an object, as the site's operation of this number.
+    New {
+        seq: u32,
+        seen: StateVector,
+        kind: Kind,
+        attrs: Attrs,
+    },
+    /// To give a key of an object a value, from a version that the site has seen.
+    Set {
+        seq: u32,
+        seen: StateVector,
+        object: OpName,
+        version: VersionId,
+        key: Key,
+        value: Value,
+    },
+    /// The versions of an object.
+    Show {
+        object: OpName,
+    },
+    /// A page of the room's objects.
+    List {
+        from: u32,
+    },
+    /// A page of the room's record.
+    Pull {
+        from: u32,
+    },
+    /// To be in no room.
+    Leave,
+}

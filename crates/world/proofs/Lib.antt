@@ -1,0 +1,11 @@
+pub mod Places
+pub mod SeatMaps
+pub mod Changed
+pub mod Runs
+pub mod Lines
+pub mod Transcript
+pub mod LineForms
+pub mod LongLines
+pub mod ScriptForms
+pub mod Parts
+pub mod EndedLines

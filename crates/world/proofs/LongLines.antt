@@ -1,0 +1,167 @@
+-- A line that is longer than any request: what comes after its limit decides nothing.
+use Rattle.std.proofs.Common.{◌≡◌, ◌≢◌, ℕ, ◌+◌, ◌<◌, ◌≤◌, List, [], ◌∷◌, ◌++◌, append_assoc, append-nil, length, take, drop, map, Option, Some, None, Bool, true, false, cond, eqb, ltb, refl, sym, ap, subst, ◌∙◌, arith}
+use mathlib.Core.Path.{fun_ext}
+use Rattle.std.specs.Fmt.{decimal}
+use Rattle.std.proofs.lemmas.Bool.{ne_eqb, lt-leb, eqb-true, ltb-true, ltb-false}
+use Rattle.std.proofs.lemmas.List.{length-append, length-drop, length-take, take_all, take_at, drop_at, take-append-le, drop-append-le, take-append-drop}
+use Rattle.std.proofs.lemmas.Fmt.{length-decimal-le}
+use Rattle.rules.specs.declared.refusal.Refusal.TheVariants.{BadMessage}
+use Rattle.wire.specs.declared.reply.Reply.TheVariants.{No}
+use Rattle.wire.specs.Texts.{request_of, reply_text}
+use Rattle.world.specs.Alone.{Message, message_of, Alone, answer_to, moved, alone_reply, alone_after}
+use Rattle.world.specs.Rooms.{Rooms, named_place, lone_answer, owner_from, reply_at, after_at, reply_of, rooms_after}
+use Rattle.world.specs.State.{State, names_of, rooms_of}
+use Rattle.world.specs.Script.{lines_of, onto_first, message_in, text_for, rooms_for, lines_out, lines_end, output_of, HasNoBreak}
+use Rattle.world.specs.Answered.{kept_part}
+use Rattle.world.proofs.Changed.{rooms_same, alone_same}
+use Rattle.world.proofs.LineForms.{line_of_message, message_of_line}
+
+-- ---- what is no request
+
+pub no_request : (bytes : List ℕ) → 16384 < length bytes → request_of bytes ≡ None
+unfolding request_of
+no_request bytes long = rw (lt-leb (length bytes) 16384 long) refl
+
+alone_bad : (alone : Alone) (m : Message) → request_of m.bytes ≡ None → alone_reply alone m ≡ No 0 BadMessage
+alone_bad alone m e = ap (λ r. (answer_to alone.room (alone.site_of m.session) r).0) e
+
+bad_reply : (names : List (List ℕ)) (rooms : Rooms) (m : Message) → request_of m.bytes ≡ None → reply_of names rooms m ≡ No 0 BadMessage
+bad_reply names rooms m e = elim (rooms.inside m.session) as (λ o. reply_at rooms m (owner_from o (named_place names (request_of m.bytes))) ≡ No 0 BadMessage) [
+  | None ↦ ap (λ r. reply_at rooms m (named_place names r)) e ∙ ap lone_answer e
+  | Some place ↦ alone_bad (rooms.alone place) m e
+]
+
+alone_kept : (alone : Alone) (m : Message) → request_of m.bytes ≡ None → alone_after alone m ≡ alone
+alone_kept alone m e = alone_same _ _ (rw e refl) (ap (λ r. moved r (λ site. site) m.session alone.site_of) (alone_bad alone m e))
+
+kept_at : (b : Bool) (rooms : Rooms) (m : Message) (place other : ℕ) → eqb place other ≡ b → request_of m.bytes ≡ None → cond b (alone_after (rooms.alone place) m) (rooms.alone other) ≡ rooms.alone other
+kept_at true rooms m place other t e = alone_kept (rooms.alone place) m e ∙ ap rooms.alone (eqb-true place other t)
+kept_at false rooms m place other t e = refl
+
+bad_after : (names : List (List ℕ)) (rooms : Rooms) (m : Message) → request_of m.bytes ≡ None → rooms_after names rooms m ≡ rooms
+bad_after names rooms m e = elim (rooms.inside m.session) as (λ o. after_at rooms m (owner_from o (named_place names (request_of m.bytes))) ≡ rooms) [
+  | None ↦ ap (λ r. after_at rooms m (named_place names r)) e
+  | Some place ↦ rooms_same _ _ (ap (λ r. moved r (λ site. place) m.session rooms.inside) (alone_bad (rooms.alone place) m e)) (fun_ext (λ other. kept_at (eqb place other) rooms m place other refl e))
+]
+
+-- ---- two ends of one long line
+
+-- the message of a long line, with another end
+pub other_end : (line a b : List ℕ) (m : Message) → 16396 ≤ length line → message_in (line ++ a) ≡ Some m
+    → (more : List ℕ) × (16384 < length m.bytes) × (16384 < length more) × (message_in (line ++ b) ≡ Some (message_of m.session more))
+other_end line a b m long e =
+    let h = line_of_message (line ++ a) m e in
+    let digits = decimal m.session in
+    let few : length digits ≤ 10 = length-decimal-le 10 m.session (omega arith) (omega (arith, h.small)) (omega (arith, h.small)) in
+    let n = length digits + 1 in
+    let rest = drop n line in
+    let head : List ℕ = digits ++ 32 ∷ [] in
+    let head_length : length head ≡ n = length-append digits (32 ∷ []) in
+    let le : n ≤ length line = omega (arith, few, long) in
+    let whole : line ++ a ≡ head ++ m.bytes = h.form ∙ sym (append_assoc digits (32 ∷ []) m.bytes) in
+    let front : take n line ≡ head = sym (take-append-le n line a le) ∙ ap (take n) whole ∙ take_at head m.bytes n head_length in
+    let line_is : line ≡ head ++ rest = sym (take-append-drop n line) ∙ ap (λ f. f ++ rest) front in
+    let bytes_is : m.bytes ≡ rest ++ a = sym (drop_at head m.bytes n head_length) ∙ ap (drop n) (sym whole) ∙ drop-append-le n line a le in
+    let rest_long : 16384 < length rest = omega (arith, length-drop n line, few, long) in
+    let first : 16384 < length m.bytes = omega (arith, ap length bytes_is, length-append rest a, rest_long) in
+    let second : 16384 < length (rest ++ b) = omega (arith, length-append rest b, rest_long) in (
+      rest ++ b,
+      first,
+      second,
+      message_of_line (line ++ b) (message_of m.session (rest ++ b)) (record {
+        small = h.small;
+        form = ap (λ l. l ++ b) line_is ∙ append_assoc head rest b ∙ append_assoc digits (32 ∷ []) (rest ++ b);
+      }),
+    )
+
+abbrev SameAnswer : List (List ℕ) → Rooms → Option Message → Option Message → Type 0
+SameAnswer names rooms o p = (text_for names rooms o ≡ text_for names rooms p) × (rooms_for names rooms o ≡ rooms_for names rooms p)
+
+same_bad : (names : List (List ℕ)) (rooms : Rooms) (m : Message) (more : List ℕ) → 16384 < length m.bytes → 16384 < length more → SameAnswer names rooms (Some m) (Some (message_of m.session more))
+same_bad names rooms m more long longer = (
+  ap (λ r. decimal m.session ++ (32 ∷ reply_text r) ++ 10 ∷ []) (bad_reply names rooms m (no_request m.bytes long) ∙ sym (bad_reply names rooms (message_of m.session more) (no_request more longer))),
+  bad_after names rooms m (no_request m.bytes long) ∙ sym (bad_after names rooms (message_of m.session more) (no_request more longer)),
+)
+
+same_by : (names : List (List ℕ)) (rooms : Rooms) (line a b : List ℕ) → 16396 ≤ length line → (o p : Option Message) → message_in (line ++ a) ≡ o → message_in (line ++ b) ≡ p → SameAnswer names rooms o p
+same_by names rooms line a b long None None e f = (refl, refl)
+same_by names rooms line a b long (Some m) p e f =
+    let other = other_end line a b m long e in
+    subst (λ q. SameAnswer names rooms (Some m) q) (sym other.3 ∙ f) (same_bad names rooms m other.0 other.1 other.2)
+same_by names rooms line a b long None (Some m) e f =
+    let other = other_end line b a m long f in
+    let clash : None ≡ Some (message_of m.session other.0) = sym e ∙ other.3 in
+    absurd (cc)
+
+same_answer : (names : List (List ℕ)) (rooms : Rooms) (line a b : List ℕ) → 16396 ≤ length line → SameAnswer names rooms (message_in (line ++ a)) (message_in (line ++ b))
+same_answer names rooms line a b long = same_by names rooms line a b long _ _ refl refl
+
+-- ---- what is kept of a line decides
+
+kept_by : (b : Bool) (names : List (List ℕ)) (rooms : Rooms) (line : List ℕ) → ltb 16396 (length line) ≡ b → SameAnswer names rooms (message_in line) (message_in (kept_part line))
+kept_by true names rooms line e =
+    let long : 16396 < length line = ltb-true 16396 (length line) e in
+    let enough : 16396 ≤ length (kept_part line) = omega (arith, length-take 16396 line, long) in
+    let whole = same_answer names rooms (kept_part line) (drop 16396 line) [] enough in
+    subst (λ l. SameAnswer names rooms (message_in l) (message_in (kept_part line))) (take-append-drop 16396 line)
+    (subst (λ l. SameAnswer names rooms (message_in (kept_part line ++ drop 16396 line)) (message_in l)) (append-nil (kept_part line)) whole)
+kept_by false names rooms line e =
+    subst (λ l. SameAnswer names rooms (message_in line) (message_in l)) (sym (take_all 16396 line (ltb-false 16396 (length line) e))) (refl, refl)
+
+same_kept : (names : List (List ℕ)) (rooms : Rooms) (line : List ℕ) → SameAnswer names rooms (message_in line) (message_in (kept_part line))
+same_kept names rooms line = kept_by (ltb 16396 (length line)) names rooms line refl
+
+pub out_kept : (names : List (List ℕ)) (rooms : Rooms) (lines : List (List ℕ)) → lines_out names rooms lines ≡ lines_out names rooms (map kept_part lines)
+out_kept names rooms [] = refl
+out_kept names rooms (line ∷ lines) =
+    let same = same_kept names rooms line in
+    ap (λ t. t ++ lines_out names (rooms_for names rooms (message_in line)) lines) same.0
+    ∙ ap (λ r. text_for names rooms (message_in (kept_part line)) ++ lines_out names r lines) same.1
+    ∙ ap (λ t. text_for names rooms (message_in (kept_part line)) ++ t) (out_kept names (rooms_for names rooms (message_in (kept_part line))) lines)
+
+pub end_kept : (names : List (List ℕ)) (rooms : Rooms) (lines : List (List ℕ)) → lines_end names rooms lines ≡ lines_end names rooms (map kept_part lines)
+end_kept names rooms [] = refl
+end_kept names rooms (line ∷ lines) =
+    ap (λ r. lines_end names r lines) (same_kept names rooms line).1 ∙ end_kept names (rooms_for names rooms (message_in (kept_part line))) lines
+
+-- ---- a byte that comes after the limit
+
+join : List ℕ → List (List ℕ) → List (List ℕ)
+join line [] = (line ++ []) ∷ []
+join line (h ∷ t) = (line ++ h) ∷ t
+
+join_more : (x y : ℕ) (line : List ℕ) (ls : List (List ℕ)) → onto_first x (join (y ∷ line) ls) ≡ join (x ∷ y ∷ line) ls
+unfolding join
+join_more x y line [] = refl
+join_more x y line (h ∷ t) = refl
+
+join_one : (x : ℕ) (ls : List (List ℕ)) → onto_first x ls ≡ join (x ∷ []) ls
+unfolding join
+join_one x [] = refl
+join_one x (h ∷ t) = refl
+
+lines_join : (x : ℕ) (line rest : List ℕ) → HasNoBreak (x ∷ line) → lines_of ((x ∷ line) ++ rest) ≡ join (x ∷ line) (lines_of rest)
+lines_join x [] rest h = rw (ne_eqb x 10 h.0) (join_one x (lines_of rest))
+lines_join x (y ∷ line) rest h = rw (ne_eqb x 10 h.0) (ap (onto_first x) (lines_join y line rest h.1) ∙ join_more x y line (lines_of rest))
+
+same_front : (line a b : List ℕ) → 16396 ≤ length line → kept_part (line ++ a) ≡ kept_part (line ++ b)
+same_front line a b long = take-append-le 16396 line a long ∙ sym (take-append-le 16396 line b long)
+
+join_kept : (line : List ℕ) (x : ℕ) (ls : List (List ℕ)) → 16396 ≤ length line → map kept_part (join line (onto_first x ls)) ≡ map kept_part (join line ls)
+unfolding join
+join_kept line x [] long = ap (λ l. l ∷ []) (same_front line (x ∷ []) [] long)
+join_kept line x (h ∷ t) long = ap (λ l. l ∷ map kept_part t) (same_front line (x ∷ h) h long)
+
+pub lines_dropped : (line : List ℕ) (x : ℕ) (rest : List ℕ) → HasNoBreak line → x ≢ 10 → 16396 ≤ length line → map kept_part (lines_of (line ++ x ∷ rest)) ≡ map kept_part (lines_of (line ++ rest))
+lines_dropped [] x rest h ne long = absurd (omega (arith, long))
+lines_dropped (y ∷ line) x rest h ne long =
+    let read : lines_of (x ∷ rest) ≡ onto_first x (lines_of rest) = rw (ne_eqb x 10 ne) refl in
+    ap (map kept_part) (lines_join y line (x ∷ rest) h ∙ ap (join (y ∷ line)) read)
+    ∙ join_kept (y ∷ line) x (lines_of rest) long
+    ∙ ap (map kept_part) (sym (lines_join y line rest h))
+
+pub output_dropped : (mid : State) (line : List ℕ) (x : ℕ) (rest : List ℕ) → HasNoBreak line → x ≢ 10 → 16396 ≤ length line → output_of mid (line ++ x ∷ rest) ≡ output_of mid (line ++ rest)
+output_dropped mid line x rest h ne long =
+    out_kept (names_of mid) (rooms_of mid) (lines_of (line ++ x ∷ rest))
+    ∙ ap (lines_out (names_of mid) (rooms_of mid)) (lines_dropped line x rest h ne long)
+    ∙ sym (out_kept (names_of mid) (rooms_of mid) (lines_of (line ++ rest)))

@@ -1,0 +1,317 @@
+-- Parts of a script that are answered one after the other.
+use Rattle.std.proofs.Common.{◌≡◌, ◌≢◌, ℕ, ◌+◌, ◌<◌, ◌≤◌, ◌⊎◌, inl, inr, ltb, List, [], ◌∷◌, ◌++◌, append_assoc, append-nil, length, get_or, take, drop, map, Option, Bool, true, false, cond, Result, Ok, Err, OnOk, OnErr, refl, sym, ap, subst, ◌∙◌, arith}
+use Rattle.std.proofs.lemmas.List.{take-append-drop, length_push, drop_more, map-append, take-map}
+use Rattle.std.proofs.Math.Seq.{take-append-add}
+use Rattle.std.proofs.KnownBytes.{Appends-trans, Appends-nil, Appends-kept}
+use Rattle.std.specs.Io.KnownBytes.{Appends, Keeps}
+use Rattle.std.proofs.lemmas.Bool.{ltb-true, ltb-false}
+use Rattle.world.specs.Rooms.{Rooms}
+use Rattle.world.specs.State.{State, names_of, rooms_of}
+use Rattle.world.specs.Script.{kept_line, lines_of, HasNoBreak, AppendsFront, Stops, message_in, text_for, rooms_for, lines_out, lines_end, output_of, end_of}
+use Rattle.world.specs.Answered.{kept_part, Answered, Adds, AnswersSome, Hands, Wrote, WroteSome}
+use Rattle.world.proofs.LongLines.{lines_dropped, out_kept, end_kept}
+use Rattle.world.proofs.Lines.{lines_break, lines_last, no_break_push, no_front}
+
+-- ---- lines one after the other
+
+pub out_append : (names : List (List ℕ)) (rooms : Rooms) (a b : List (List ℕ)) → lines_out names rooms (a ++ b) ≡ lines_out names rooms a ++ lines_out names (lines_end names rooms a) b
+out_append names rooms [] b = refl
+out_append names rooms (line ∷ a) b =
+    ap (λ t. text_for names rooms (message_in line) ++ t) (out_append names (rooms_for names rooms (message_in line)) a b)
+    ∙ sym (append_assoc (text_for names rooms (message_in line)) (lines_out names (rooms_for names rooms (message_in line)) a) (lines_out names (lines_end names rooms (line ∷ a)) b))
+
+pub end_append : (names : List (List ℕ)) (rooms : Rooms) (a b : List (List ℕ)) → lines_end names rooms (a ++ b) ≡ lines_end names (lines_end names rooms a) b
+end_append names rooms [] b = refl
+end_append names rooms (line ∷ a) b = end_append names (rooms_for names rooms (message_in line)) a b
+
+out_from : (from to : State) (lines more : List (List ℕ)) → rooms_of to ≡ lines_end (names_of from) (rooms_of from) lines → names_of to ≡ names_of from
+    → lines_out (names_of from) (rooms_of from) (lines ++ more) ≡ lines_out (names_of from) (rooms_of from) lines ++ lines_out (names_of to) (rooms_of to) more
+out_from from to lines more e f =
+    out_append (names_of from) (rooms_of from) lines more
+    ∙ ap (λ r. lines_out (names_of from) (rooms_of from) lines ++ lines_out (names_of from) r more) (sym e)
+    ∙ ap (λ ns. lines_out (names_of from) (rooms_of from) lines ++ lines_out ns (rooms_of to) more) (sym f)
+
+end_from : (from to : State) (lines more : List (List ℕ)) → rooms_of to ≡ lines_end (names_of from) (rooms_of from) lines → names_of to ≡ names_of from
+    → lines_end (names_of from) (rooms_of from) (lines ++ more) ≡ lines_end (names_of to) (rooms_of to) more
+end_from from to lines more e f =
+    end_append (names_of from) (rooms_of from) lines more
+    ∙ ap (λ r. lines_end (names_of from) r more) (sym e)
+    ∙ ap (λ ns. lines_end ns (rooms_of to) more) (sym f)
+
+-- ---- what was answered so far
+
+pub answered_none : (s : State) (held : List ℕ) → Answered s s held held []
+answered_none s held = record { lines = []; rooms = refl; names = refl; is_text = refl; same = λ rest. refl }
+
+pub answered_more : {from to : State} {taken held text : List ℕ} (more : List ℕ) → Answered from to taken held text → Answered from to (taken ++ more) (held ++ more) text
+answered_more {taken = taken} {held = held} more h = record {
+  lines = h.lines;
+  rooms = h.rooms;
+  names = h.names;
+  is_text = h.is_text;
+  same = λ rest.
+      ap (λ xs. map kept_part (lines_of xs)) (append_assoc taken more rest) ∙ h.same (more ++ rest)
+      ∙ ap (λ xs. map kept_part (h.lines ++ lines_of xs)) (sym (append_assoc held more rest));
+}
+
+pub answered_then : {s0 s1 s2 : State} {taken held last t u : List ℕ} → Answered s0 s1 taken held t → Answered s1 s2 held last u → Answered s0 s2 taken last (t ++ u)
+answered_then {s0 = s0} {s1 = s1} {s2 = s2} {taken = taken} {held = held} {last = last} {t = t} {u = u} h k = record {
+  lines = h.lines ++ k.lines;
+  rooms = k.rooms ∙ sym (end_from s0 s1 h.lines k.lines h.rooms h.names);
+  names = k.names ∙ h.names;
+  is_text = ap (λ x. x ++ u) h.is_text ∙ ap (λ x. lines_out (names_of s0) (rooms_of s0) h.lines ++ x) k.is_text ∙ sym (out_from s0 s1 h.lines k.lines h.rooms h.names);
+  same = λ rest.
+      h.same rest
+      ∙ map-append kept_part h.lines (lines_of (held ++ rest))
+      ∙ ap (λ xs. map kept_part h.lines ++ xs) (k.same rest)
+      ∙ sym (map-append kept_part h.lines (k.lines ++ lines_of (last ++ rest)))
+      ∙ ap (map kept_part) (sym (append_assoc h.lines k.lines (lines_of (last ++ rest))));
+}
+
+-- by the first lines of all, or by all
+module _ {from to : State} {taken held text : List ℕ} (h : Answered from to taken held text) (rest : List ℕ) where
+  first_same : (n : ℕ) → map kept_part (take (length h.lines + n) (lines_of (taken ++ rest))) ≡ map kept_part (h.lines ++ take n (lines_of (held ++ rest)))
+  first_same n =
+      sym (take-map kept_part (length h.lines + n) (lines_of (taken ++ rest)))
+      ∙ ap (take (length h.lines + n)) (h.same rest)
+      ∙ take-map kept_part (length h.lines + n) (h.lines ++ lines_of (held ++ rest))
+      ∙ ap (map kept_part) (take-append-add h.lines (lines_of (held ++ rest)) n)
+
+  by_text : (more : List (List ℕ)) → lines_out (names_of from) (rooms_of from) (h.lines ++ more) ≡ text ++ lines_out (names_of to) (rooms_of to) more
+  by_text more = out_from from to h.lines more h.rooms h.names ∙ ap (λ t. t ++ lines_out (names_of to) (rooms_of to) more) (sym h.is_text)
+
+  out_by : (a more : List (List ℕ)) → map kept_part a ≡ map kept_part (h.lines ++ more) → lines_out (names_of from) (rooms_of from) a ≡ text ++ lines_out (names_of to) (rooms_of to) more
+  out_by a more e =
+      out_kept (names_of from) (rooms_of from) a ∙ ap (lines_out (names_of from) (rooms_of from)) e ∙ sym (out_kept (names_of from) (rooms_of from) (h.lines ++ more)) ∙ by_text more
+
+  end_by : (a more : List (List ℕ)) → map kept_part a ≡ map kept_part (h.lines ++ more) → lines_end (names_of from) (rooms_of from) a ≡ lines_end (names_of to) (rooms_of to) more
+  end_by a more e =
+      end_kept (names_of from) (rooms_of from) a ∙ ap (lines_end (names_of from) (rooms_of from)) e ∙ sym (end_kept (names_of from) (rooms_of from) (h.lines ++ more))
+      ∙ end_from from to h.lines more h.rooms h.names
+
+  pub output_after : output_of from (taken ++ rest) ≡ text ++ output_of to (held ++ rest)
+  output_after = out_by (lines_of (taken ++ rest)) (lines_of (held ++ rest)) (h.same rest)
+
+  pub end_after : end_of from (taken ++ rest) ≡ end_of to (held ++ rest)
+  end_after = end_by (lines_of (taken ++ rest)) (lines_of (held ++ rest)) (h.same rest)
+
+  pub first_output : (n : ℕ) → lines_out (names_of from) (rooms_of from) (take (length h.lines + n) (lines_of (taken ++ rest))) ≡ text ++ lines_out (names_of to) (rooms_of to) (take n (lines_of (held ++ rest)))
+  first_output n = out_by (take (length h.lines + n) (lines_of (taken ++ rest))) (take n (lines_of (held ++ rest))) (first_same n)
+
+  pub first_end : (n : ℕ) → lines_end (names_of from) (rooms_of from) (take (length h.lines + n) (lines_of (taken ++ rest))) ≡ lines_end (names_of to) (rooms_of to) (take n (lines_of (held ++ rest)))
+  first_end n = end_by (take (length h.lines + n) (lines_of (taken ++ rest))) (take n (lines_of (held ++ rest))) (first_same n)
+
+-- ---- one more byte
+
+kept_line_by : (s : State) (t : Bool) (line : List ℕ) (byte : ℕ) (longer : List ℕ) → ltb (length line) 16396 ≡ t → longer ≡ cond t (line ++ byte ∷ []) line → HasNoBreak line → byte ≢ 10
+    → HasNoBreak longer × (length line ≤ 16396 → length longer ≤ 16396) × Answered s s (line ++ byte ∷ []) longer []
+kept_line_by s true line byte longer et e clean ne = (
+  rw e (no_break_push line byte clean ne),
+  λ h. omega (arith, ap length e, length_push line byte, ltb-true (length line) 16396 et),
+  subst (λ l. Answered s s (line ++ byte ∷ []) l []) (sym e) (answered_none s (line ++ byte ∷ [])),
+)
+kept_line_by s false line byte longer et e clean ne = (
+  rw e clean,
+  λ h. omega (arith, ap length e),
+  subst (λ l. Answered s s (line ++ byte ∷ []) l []) (sym e) (record {
+    lines = [];
+    rooms = refl;
+    names = refl;
+    is_text = refl;
+    same = λ rest. ap (λ xs. map kept_part (lines_of xs)) (append_assoc line (byte ∷ []) rest) ∙ lines_dropped line byte rest clean ne (ltb-false (length line) 16396 et);
+  }),
+)
+
+-- it joins the line
+pub answered_kept : (s : State) (line : List ℕ) (byte : ℕ) (longer : List ℕ) → longer ≡ kept_line line byte → HasNoBreak line → byte ≢ 10
+    → HasNoBreak longer × (length line ≤ 16396 → length longer ≤ 16396) × Answered s s (line ++ byte ∷ []) longer []
+answered_kept s line byte longer e clean ne = kept_line_by s (ltb (length line) 16396) line byte longer refl e clean ne
+
+-- it ends the line
+pub answered_line : (s new : State) (line : List ℕ) (byte : ℕ) (text empty : List ℕ) → byte ≡ 10 → HasNoBreak line → empty ≡ []
+    → text ≡ text_for (names_of s) (rooms_of s) (message_in line)
+    → rooms_of new ≡ rooms_for (names_of s) (rooms_of s) (message_in line) → names_of new ≡ names_of s
+    → Answered s new (line ++ byte ∷ []) empty text
+answered_line s new line byte text empty is_break clean none is_text is_rooms is_names = record {
+  lines = line ∷ [];
+  rooms = is_rooms;
+  names = is_names;
+  is_text = is_text ∙ sym (append-nil (text_for (names_of s) (rooms_of s) (message_in line)));
+  same = λ rest.
+      ap (λ xs. map kept_part (lines_of xs)) (append_assoc line (byte ∷ []) rest ∙ ap (λ x. line ++ x ∷ rest) is_break)
+      ∙ ap (map kept_part) (lines_break line rest clean)
+      ∙ ap (λ xs. map kept_part (line ∷ lines_of (xs ++ rest))) (sym none);
+}
+
+-- the line was answered, but the answer is lost, or it was not answered
+pub answered_lost : (s new : State) (line : List ℕ) (byte : ℕ) → byte ≡ 10 → HasNoBreak line → names_of new ≡ names_of s
+    → (rooms_of new ≡ rooms_of s) ⊎ (rooms_of new ≡ rooms_for (names_of s) (rooms_of s) (message_in line)) → AnswersSome s new (line ++ byte ∷ [])
+answered_lost s new line byte is_break clean is_names (inl same) = record {
+  held = line ++ byte ∷ [];
+  text = [];
+  answered = record { lines = []; rooms = same; names = is_names; is_text = refl; same = λ rest. refl };
+}
+answered_lost s new line byte is_break clean is_names (inr moved) = record {
+  held = [];
+  text = text_for (names_of s) (rooms_of s) (message_in line);
+  answered = answered_line s new line byte _ [] is_break clean refl refl moved is_names;
+}
+
+pub answers_nothing : (s new : State) (taken : List ℕ) → new ≡ s → AnswersSome s new taken
+answers_nothing s new taken same = subst (λ n. AnswersSome s n taken) (sym same) (record { held = taken; text = []; answered = answered_none s taken })
+
+-- ---- what was written so far
+
+pub wrote_none : (a : Option (List ℕ)) (s : State) (held pending : List ℕ) → pending ≡ [] → Wrote a a s s held held pending
+wrote_none a s held pending e = record { written = []; adds = Appends-nil a; answered = subst (λ p. Answered s s held held p) (sym e) (answered_none s held) }
+
+-- a byte was taken
+pub wrote_byte : {a b : Option (List ℕ)} {s0 : State} (s1 s2 : State) {taken : List ℕ} (line bytes : List ℕ) (i : ℕ) (byte : ℕ) (longer before after : List ℕ) → i < length bytes → byte ≡ get_or bytes i 0
+    → Wrote a b s0 s1 taken (line ++ drop i bytes) before → Adds s1 s2 (line ++ byte ∷ []) longer before after → Wrote a b s0 s2 taken (longer ++ drop (i + 1) bytes) after
+wrote_byte {s0 = s0} s1 s2 {taken = taken} line bytes i byte longer before after within is h k =
+    let next : line ++ drop i bytes ≡ (line ++ byte ∷ []) ++ drop (i + 1) bytes =
+    ap (λ xs. line ++ xs) (drop_more bytes i 0 within ∙ ap (λ x. x ∷ drop (i + 1) bytes) (sym is)) ∙ sym (append_assoc line (byte ∷ []) (drop (i + 1) bytes)) in
+    let more = answered_then (subst (λ xs. Answered s0 s1 taken xs (h.written ++ before)) next h.answered) (answered_more (drop (i + 1) bytes) k.answered) in
+    record {
+      written = h.written;
+      adds = h.adds;
+      answered = subst (λ t. Answered s0 s2 taken (longer ++ drop (i + 1) bytes) t) (append_assoc h.written before k.text ∙ ap (λ t. h.written ++ t) (sym k.added)) more;
+    }
+
+-- some of the answers were written
+pub wrote_hands : {a b c : Option (List ℕ)} {s0 s1 : State} {taken held before after : List ℕ} → Wrote a b s0 s1 taken held before → Hands b c before after → Wrote a c s0 s1 taken held after
+wrote_hands {a = a} {b = b} {c = c} {s0 = s0} {s1 = s1} {taken = taken} {held = held} {before = before} {after = after} h k = record {
+  written = h.written ++ k.front;
+  adds = Appends-trans a b c _ _ h.adds k.adds;
+  answered = subst (λ t. Answered s0 s1 taken held t) (ap (λ t. h.written ++ t) k.whole ∙ sym (append_assoc h.written k.front after)) h.answered;
+}
+
+pub hands_all : {b c : Option (List ℕ)} {before after : List ℕ} → Appends b c before → after ≡ [] → Hands b c before after
+hands_all {before = before} h e = record { front = before; adds = h; whole = sym (append-nil before) ∙ ap (λ t. before ++ t) (sym e) }
+
+pub hands_front : {b c : Option (List ℕ)} {before : List ℕ} (h : AppendsFront b c before) → Hands b c before h.rest
+hands_front h = record { front = h.front; adds = h.adds; whole = h.whole }
+
+pub wrote_kept : {a b c : Option (List ℕ)} {s0 s1 : State} {taken held pending : List ℕ} → Wrote a b s0 s1 taken held pending → Keeps b c → Wrote a c s0 s1 taken held pending
+wrote_kept {a = a} {b = b} {c = c} h k = record { written = h.written; adds = Appends-kept a b c _ h.adds k; answered = h.answered }
+
+pub some_of : {a b : Option (List ℕ)} {s0 s1 : State} {taken held pending : List ℕ} → Wrote a b s0 s1 taken held pending → WroteSome a b s0 s1 taken
+some_of {held = held} {pending = pending} h = record { held = held; pending = pending; wrote = h }
+
+pub hands_more : {b c : Option (List ℕ)} {before after : List ℕ} (lost : List ℕ) → Hands b c before after → Hands b c (before ++ lost) (after ++ lost)
+hands_more {after = after} lost h = record { front = h.front; adds = h.adds; whole = ap (λ t. t ++ lost) h.whole ∙ append_assoc h.front after lost }
+
+-- a byte was taken, and answers up to here are there
+pub record WroteUpTo (a b : Option (List ℕ)) (s0 s2 : State) (taken after : List ℕ) : Type 0 where
+  pub held : List ℕ
+  pub lost : List ℕ
+  pub wrote : Wrote a b s0 s2 taken held (after ++ lost)
+
+pub wrote_up_to : {T E : Type 0} {a b : Option (List ℕ)} {s0 : State} (r : Result T E) (s1 s2 : State) {taken : List ℕ} (line bytes : List ℕ) (i : ℕ) (longer before after : List ℕ) → i < length bytes
+    → Wrote a b s0 s1 taken (line ++ drop i bytes) before → OnOk r (Adds s1 s2 (line ++ get_or bytes i 0 ∷ []) longer before after) → OnErr r (after ≡ before) → OnErr r (AnswersSome s1 s2 (line ++ get_or bytes i 0 ∷ []))
+    → WroteUpTo a b s0 s2 taken after
+wrote_up_to {a = a} {b = b} {s0 = s0} (Ok x) s1 s2 {taken = taken} line bytes i longer before after within h k none some = record {
+  held = longer ++ drop (i + 1) bytes;
+  lost = [];
+  wrote = subst (λ p. Wrote a b s0 s2 taken (longer ++ drop (i + 1) bytes) p) (sym (append-nil after)) (wrote_byte s1 s2 line bytes i (get_or bytes i 0) longer before after within refl h k);
+}
+wrote_up_to {a = a} {b = b} {s0 = s0} (Err y) s1 s2 {taken = taken} line bytes i longer before after within h k none some = record {
+  held = some.held ++ drop (i + 1) bytes;
+  lost = some.text;
+  wrote = subst (λ p. Wrote a b s0 s2 taken (some.held ++ drop (i + 1) bytes) (p ++ some.text)) (sym none)
+      (wrote_byte s1 s2 line bytes i (get_or bytes i 0) some.held before (before ++ some.text) within refl h (record { text = some.text; added = refl; answered = some.answered }));
+}
+
+pub up_to_hands : {a b c : Option (List ℕ)} {s0 s2 : State} {taken after left : List ℕ} → WroteUpTo a b s0 s2 taken after → Hands b c after left → WroteSome a c s0 s2 taken
+up_to_hands h k = some_of (wrote_hands h.wrote (hands_more h.lost k))
+
+-- one part after another
+pub wrote_then : {a b c : Option (List ℕ)} {s0 s1 s2 : State} {taken held last pending : List ℕ} → Wrote a b s0 s1 taken held [] → Wrote b c s1 s2 held last pending → Wrote a c s0 s2 taken last pending
+wrote_then {a = a} {b = b} {c = c} {s0 = s0} {s2 = s2} {taken = taken} {last = last} {pending = pending} h k = record {
+  written = h.written ++ k.written;
+  adds = Appends-trans a b c _ _ h.adds k.adds;
+  answered = subst (λ t. Answered s0 s2 taken last t) (ap (λ t. t ++ (k.written ++ pending)) (append-nil h.written) ∙ sym (append_assoc h.written k.written pending)) (answered_then h.answered k.answered);
+}
+
+pub wrote_more : {a b : Option (List ℕ)} {s0 s1 : State} {taken held pending : List ℕ} (more : List ℕ) → Wrote a b s0 s1 taken held pending → Wrote a b s0 s1 (taken ++ more) (held ++ more) pending
+wrote_more more h = record { written = h.written; adds = h.adds; answered = answered_more more h.answered }
+
+-- ---- where a script stops
+
+pub stops_of : {a b : Option (List ℕ)} {s0 s1 : State} {taken held pending : List ℕ} (rest : List ℕ) → Wrote a b s0 s1 taken held pending → Stops a b s0 s1 (taken ++ rest)
+stops_of {s0 = s0} {s1 = s1} {pending = pending} rest h = record {
+  count = length h.answered.lines + 0;
+  rooms = sym (first_end h.answered rest 0);
+  names = h.answered.names;
+  answers = record {
+    front = h.written;
+    rest = pending;
+    adds = h.adds;
+    whole = first_output h.answered rest 0 ∙ append-nil (h.written ++ pending);
+  };
+}
+
+pub stops_then : {a b c : Option (List ℕ)} {s0 s1 s2 : State} {taken held : List ℕ} (rest : List ℕ) → Wrote a b s0 s1 taken held [] → Stops b c s1 s2 (held ++ rest) → Stops a c s0 s2 (taken ++ rest)
+stops_then {a = a} {b = b} {c = c} {s1 = s1} {held = held} rest h k = record {
+  count = length h.answered.lines + k.count;
+  rooms = k.rooms ∙ sym (first_end h.answered rest k.count);
+  names = k.names ∙ h.answered.names;
+  answers = record {
+    front = h.written ++ k.answers.front;
+    rest = k.answers.rest;
+    adds = Appends-trans a b c _ _ h.adds k.answers.adds;
+    whole =
+        first_output h.answered rest k.count
+        ∙ ap (λ t. t ++ lines_out (names_of s1) (rooms_of s1) (take k.count (lines_of (held ++ rest)))) (append-nil h.written)
+        ∙ ap (λ t. h.written ++ t) k.answers.whole
+        ∙ sym (append_assoc h.written k.answers.front k.answers.rest);
+  };
+}
+
+-- the last line was answered, and some of the answer written
+pub stops_line : (a c : Option (List ℕ)) (s new : State) (line : List ℕ) → HasNoBreak line → 0 < length line → rooms_of new ≡ rooms_for (names_of s) (rooms_of s) (message_in line) → names_of new ≡ names_of s
+    → AppendsFront a c (text_for (names_of s) (rooms_of s) (message_in line)) → Stops a c s new line
+stops_line a c s new [] clean some moved is_names part = absurd (omega (arith, some))
+stops_line a c s new (x ∷ line) clean some moved is_names part =
+    let one : (x ∷ line) ∷ [] ≡ take 1 (lines_of (x ∷ line)) = ap (take 1) (sym (lines_last x line clean)) in
+    record {
+      count = 1;
+      rooms = moved ∙ ap (lines_end (names_of s) (rooms_of s)) one;
+      names = is_names;
+      answers = record {
+        front = part.front;
+        rest = part.rest;
+        adds = part.adds;
+        whole = ap (lines_out (names_of s) (rooms_of s)) (sym one) ∙ append-nil (text_for (names_of s) (rooms_of s) (message_in (x ∷ line))) ∙ part.whole;
+      };
+    }
+
+-- the last line was answered or not, and nothing is written
+pub stops_lost : (a : Option (List ℕ)) (s new : State) (line : List ℕ) → HasNoBreak line → 0 < length line → names_of new ≡ names_of s
+    → (rooms_of new ≡ rooms_of s) ⊎ (rooms_of new ≡ rooms_for (names_of s) (rooms_of s) (message_in line)) → Stops a a s new line
+stops_lost a s new line clean some is_names (inl same) = record {
+  count = 0;
+  rooms = same;
+  names = is_names;
+  answers = record { front = []; rest = []; adds = Appends-nil a; whole = refl };
+}
+stops_lost a s new line clean some is_names (inr moved) = stops_line a a s new line clean some moved is_names (no_front a _)
+
+-- nothing was done
+pub stops_at_once : (a : Option (List ℕ)) (s : State) (bytes : List ℕ) → Stops a a s s bytes
+stops_at_once a s bytes = stops_of bytes (wrote_none a s [] [] refl)
+
+-- what was written is a front of the whole output
+pub stops_front : {a b : Option (List ℕ)} {s0 s1 : State} {bytes : List ℕ} → Stops a b s0 s1 bytes → AppendsFront a b (output_of s0 bytes)
+stops_front {s0 = s0} {bytes = bytes} h =
+    let later = lines_out (names_of s0) (lines_end (names_of s0) (rooms_of s0) (take h.count (lines_of bytes))) (drop h.count (lines_of bytes)) in
+    record {
+      front = h.answers.front;
+      rest = h.answers.rest ++ later;
+      adds = h.answers.adds;
+      whole =
+          ap (lines_out (names_of s0) (rooms_of s0)) (sym (take-append-drop h.count (lines_of bytes)))
+          ∙ out_append (names_of s0) (rooms_of s0) (take h.count (lines_of bytes)) (drop h.count (lines_of bytes))
+          ∙ ap (λ t. t ++ later) h.answers.whole
+          ∙ append_assoc h.answers.front h.answers.rest later;
+    }

@@ -1,0 +1,40 @@
+-- The place of a name.
+use Rattle.std.proofs.Common.{sym, ◌≡◌, ℕ, ◌+◌, ◌<◌, List, [], ◌∷◌, length, get_or, set, zero, suc, Option, Some, None, ltb, cond, not, position, refl, ap, ◌∙◌, bytes_eq, arith}
+use Rattle.std.specs.List.{position_or_len}
+use Rattle.std.proofs.lemmas.List.{map-set, length-map}
+use Rattle.std.proofs.lemmas.List.Quantifiers.{position-Some}
+use Rattle.room_core.specs.Room.{Room}
+use Rattle.world.specs.Rooms.{place_of}
+use Rattle.world.specs.State.{Named, names_in, rooms_in, room_at}
+
+-- one room is replaced by another of its name
+pub names_set : (rooms : List Named) (i : ℕ) (old new : Named) → old ≡ get_or rooms i old → new.name ≡ old.name → names_in (set rooms i new) ≡ names_in rooms
+names_set [] i old new e f = refl
+names_set (r ∷ rs) zero old new e f = ap (λ x. x ∷ names_in rs) (f ∙ ap (λ (x : Named). x.name) e)
+names_set (r ∷ rs) (suc i) old new e f = ap (λ xs. r.name ∷ xs) (names_set rs i old new e f)
+
+pub rooms_set : (rooms : List Named) (i : ℕ) (new : Named) (target : Room) → new.room ≡ target → rooms_in (set rooms i new) ≡ set (rooms_in rooms) i target
+rooms_set rooms i new target e = map-set (λ (room : Named). room.room) rooms i new ∙ ap (set (rooms_in rooms) i) e
+
+pub room_at_read : (rooms : List Named) (i : ℕ) (room : Named) → i < length rooms → room ≡ get_or rooms i room → room.room ≡ room_at rooms i
+room_at_read [] i room lt e = absurd (omega arith)
+room_at_read (r ∷ rs) zero room lt e = ap (λ (x : Named). x.room) e
+room_at_read (r ∷ rs) (suc i) room lt e = room_at_read rs i room (omega arith) e
+
+-- the names stand in the rooms' order
+first_of : (rooms : List Named) (name : List ℕ) → position_or_len (λ room. bytes_eq room.name name) rooms ≡ position_or_len (λ other. bytes_eq other name) (names_in rooms)
+first_of [] name = refl
+first_of (room ∷ rooms) name = ap (λ n. cond (not (bytes_eq room.name name)) (1 + n) 0) (first_of rooms name)
+
+pub place_of_found : (rooms : List Named) (name : List ℕ) (o : Option ℕ) → o ≡ position (λ room. bytes_eq room.name name) rooms → o ≡ place_of (names_in rooms) name
+place_of_found rooms name o e =
+    e ∙ ap (λ n. cond (ltb n (length rooms)) (Some n) None) (first_of rooms name)
+    ∙ ap (λ k. cond (ltb (position_or_len (λ other. bytes_eq other name) (names_in rooms)) k) (Some (position_or_len (λ other. bytes_eq other name) (names_in rooms))) None) (sym (length-map rooms (λ (room : Named). room.name)))
+
+pub place_of_within : (rooms : List Named) (name : List ℕ) (place : ℕ) → place_of (names_in rooms) name ≡ Some place → place < length rooms
+place_of_within rooms name place e =
+    let within : place < length (names_in rooms) = (position-Some (λ other. bytes_eq other name) (names_in rooms) place [] e).0 in
+    omega (arith, within, length-map rooms (λ (room : Named). room.name))
+
+pub same_length : (rooms others : List Named) → names_in others ≡ names_in rooms → length others ≡ length rooms
+same_length rooms others e = sym (length-map others (λ (room : Named). room.name)) ∙ ap length e ∙ length-map rooms (λ (room : Named). room.name)

@@ -1,0 +1,163 @@
+-- The replies side by side are those of each room alone.
+use Rattle.std.proofs.Common.{◌≡◌, ◌+◌, ℕ, List, [], ◌∷◌, ◌++◌, append-nil, length, take, get_or, ◌<◌, map, Option, Some, None, Bool, true, false, cond, eqb, refl, sym, ap, subst, ◌∙◌, arith}
+use Rattle.std.proofs.lemmas.Bool.{eqb-true}
+use Rattle.std.proofs.lemmas.List.{length_push, take_more, map-append}
+use Rattle.wire.specs.Texts.{reply_text}
+use Rattle.world.specs.Alone.{Message, Alone, alone_reply, alone_after, alone_texts, alone_end}
+use Rattle.world.specs.Rooms.{Rooms, owner_of, reply_at, after_at, reply_of, rooms_after, lone_reply, owners, texts, rooms_end, at_room, at_none}
+use Rattle.world.specs.State.{State, names_of, rooms_of}
+use Rattle.world.specs.Run.{kept, told, IsRun}
+
+-- ---- one more message
+
+pub texts_push : (names : List (List ℕ)) (rooms : Rooms) (all : List Message) (message : Message)
+    → texts names rooms (all ++ message ∷ []) ≡ texts names rooms all ++ reply_text (reply_of names (rooms_end names rooms all) message) ∷ []
+texts_push names rooms [] message = refl
+texts_push names rooms (m ∷ all) message = ap (λ xs. reply_text (reply_of names rooms m) ∷ xs) (texts_push names (rooms_after names rooms m) all message)
+
+pub rooms_end_push : (names : List (List ℕ)) (rooms : Rooms) (all : List Message) (message : Message)
+    → rooms_end names rooms (all ++ message ∷ []) ≡ rooms_after names (rooms_end names rooms all) message
+rooms_end_push names rooms [] message = refl
+rooms_end_push names rooms (m ∷ all) message = rooms_end_push names (rooms_after names rooms m) all message
+
+pub kept_push : (all : List Message) (answers : List (Option (List ℕ))) (message : Message) (answer : Option (List ℕ)) → length answers ≡ length all
+    → kept (all ++ message ∷ []) (answers ++ answer ∷ []) ≡ kept all answers ++ kept (message ∷ []) (answer ∷ [])
+kept_push [] [] message answer e = refl
+kept_push [] (a ∷ answers) message answer e = absurd (omega (arith, e))
+kept_push (m ∷ all) [] message answer e = absurd (omega (arith, e))
+kept_push (m ∷ all) (None ∷ answers) message answer e = kept_push all answers message answer (omega (arith, e))
+kept_push (m ∷ all) (Some text ∷ answers) message answer e = ap (λ xs. m ∷ xs) (kept_push all answers message answer (omega (arith, e)))
+
+pub told_push : (answers : List (Option (List ℕ))) (answer : Option (List ℕ)) → told (answers ++ answer ∷ []) ≡ told answers ++ told (answer ∷ [])
+told_push [] answer = refl
+told_push (None ∷ answers) answer = told_push answers answer
+told_push (Some text ∷ answers) answer = ap (λ xs. text ∷ xs) (told_push answers answer)
+
+-- ---- one room of them
+
+abbrev AloneAt : List (List ℕ) → ℕ → Rooms → List Message → Type 0
+AloneAt names place rooms all = at_room place (owners names rooms all) (texts names rooms all) ≡ alone_texts (rooms.alone place) (at_room place (owners names rooms all) all)
+
+room_by : (b : Bool) (rooms : Rooms) (message : Message) (owner place : ℕ) (later : List (List ℕ)) (others : List Message) → eqb owner place ≡ b
+    → later ≡ alone_texts ((after_at rooms message (Some owner)).alone place) others
+    → cond b (reply_text (alone_reply (rooms.alone owner) message) ∷ later) later ≡ alone_texts (rooms.alone place) (cond b (message ∷ others) others)
+room_by true rooms message owner place later others e ih =
+    let same = eqb-true owner place e in
+    ap (λ k. reply_text (alone_reply (rooms.alone k) message) ∷ later) same
+    ∙ ap (λ xs. reply_text (alone_reply (rooms.alone place) message) ∷ xs)
+    (ih ∙ ap (λ t. alone_texts (cond t (alone_after (rooms.alone owner) message) (rooms.alone place)) others) e ∙ ap (λ k. alone_texts (alone_after (rooms.alone k) message) others) same)
+room_by false rooms message owner place later others e ih =
+    ih ∙ ap (λ t. alone_texts (cond t (alone_after (rooms.alone owner) message) (rooms.alone place)) others) e
+
+alone_step : (names : List (List ℕ)) (place : ℕ) (rooms : Rooms) (message : Message) (all : List Message) (owner : Option ℕ) → AloneAt names place (after_at rooms message owner) all
+    → at_room place (owner ∷ owners names (after_at rooms message owner) all) (reply_text (reply_at rooms message owner) ∷ texts names (after_at rooms message owner) all)
+    ≡ alone_texts (rooms.alone place) (at_room place (owner ∷ owners names (after_at rooms message owner) all) (message ∷ all))
+alone_step names place rooms message all None ih = ih
+alone_step names place rooms message all (Some owner) ih = room_by (eqb owner place) rooms message owner place _ _ refl ih
+
+-- the replies to a room's messages are those of the room alone
+pub alone_law : (names : List (List ℕ)) (place : ℕ) (rooms : Rooms) (all : List Message) → AloneAt names place rooms all
+alone_law names place rooms [] = refl
+alone_law names place rooms (message ∷ all) = alone_step names place rooms message all (owner_of names rooms message) (alone_law names place (rooms_after names rooms message) all)
+
+abbrev EndAt : List (List ℕ) → ℕ → Rooms → List Message → Type 0
+EndAt names place rooms all = (rooms_end names rooms all).alone place ≡ alone_end (rooms.alone place) (at_room place (owners names rooms all) all)
+
+end_by : (b : Bool) (rooms : Rooms) (message : Message) (owner place : ℕ) (last : Alone) (others : List Message) → eqb owner place ≡ b
+    → last ≡ alone_end ((after_at rooms message (Some owner)).alone place) others
+    → last ≡ alone_end (rooms.alone place) (cond b (message ∷ others) others)
+end_by true rooms message owner place last others e ih =
+    ih ∙ ap (λ t. alone_end (cond t (alone_after (rooms.alone owner) message) (rooms.alone place)) others) e ∙ ap (λ k. alone_end (alone_after (rooms.alone k) message) others) (eqb-true owner place e)
+end_by false rooms message owner place last others e ih =
+    ih ∙ ap (λ t. alone_end (cond t (alone_after (rooms.alone owner) message) (rooms.alone place)) others) e
+
+end_step : (names : List (List ℕ)) (place : ℕ) (rooms : Rooms) (message : Message) (all : List Message) (owner : Option ℕ) → EndAt names place (after_at rooms message owner) all
+    → (rooms_end names (after_at rooms message owner) all).alone place ≡ alone_end (rooms.alone place) (at_room place (owner ∷ owners names (after_at rooms message owner) all) (message ∷ all))
+end_step names place rooms message all None ih = ih
+end_step names place rooms message all (Some owner) ih = end_by (eqb owner place) rooms message owner place _ _ refl ih
+
+pub end_law : (names : List (List ℕ)) (place : ℕ) (rooms : Rooms) (all : List Message) → EndAt names place rooms all
+end_law names place rooms [] = refl
+end_law names place rooms (message ∷ all) = end_step names place rooms message all (owner_of names rooms message) (end_law names place (rooms_after names rooms message) all)
+
+abbrev LoneAt : List (List ℕ) → Rooms → List Message → Type 0
+LoneAt names rooms all = at_none (owners names rooms all) (texts names rooms all) ≡ map (λ message. reply_text (lone_reply message)) (at_none (owners names rooms all) all)
+
+lone_step : (names : List (List ℕ)) (rooms : Rooms) (message : Message) (all : List Message) (owner : Option ℕ) → LoneAt names (after_at rooms message owner) all
+    → at_none (owner ∷ owners names (after_at rooms message owner) all) (reply_text (reply_at rooms message owner) ∷ texts names (after_at rooms message owner) all)
+    ≡ map (λ message. reply_text (lone_reply message)) (at_none (owner ∷ owners names (after_at rooms message owner) all) (message ∷ all))
+lone_step names rooms message all None ih = ap (λ xs. reply_text (lone_reply message) ∷ xs) ih
+lone_step names rooms message all (Some owner) ih = ih
+
+pub lone_law : (names : List (List ℕ)) (rooms : Rooms) (all : List Message) → LoneAt names rooms all
+lone_law names rooms [] = refl
+lone_law names rooms (message ∷ all) = lone_step names rooms message all (owner_of names rooms message) (lone_law names (rooms_after names rooms message) all)
+
+-- ---- a run so far
+
+pub record SoFar (old : State) (all : List Message) (answers : List (Option (List ℕ))) (new : State) : Type 0 where
+  pub count : length answers ≡ length all
+  pub names : names_of new ≡ names_of old
+  pub replies : told answers ≡ texts (names_of old) (rooms_of old) (kept all answers)
+  pub rooms : rooms_of new ≡ rooms_end (names_of old) (rooms_of old) (kept all answers)
+
+pub so_far_none : (old : State) → SoFar old [] [] old
+so_far_none old = record { count = refl; names = refl; replies = refl; rooms = refl }
+
+pub so_far_answered : (old mid new : State) (all : List Message) (answers : List (Option (List ℕ))) (message : Message) (text : List ℕ) → SoFar old all answers mid
+    → text ≡ reply_text (reply_of (names_of mid) (rooms_of mid) message) → rooms_of new ≡ rooms_after (names_of mid) (rooms_of mid) message → names_of new ≡ names_of mid
+    → SoFar old (all ++ message ∷ []) (answers ++ Some text ∷ []) new
+so_far_answered old mid new all answers message text h is_text is_rooms is_names =
+    let names = names_of old in
+    let start = rooms_of old in
+    let both = kept_push all answers message (Some text) h.count in
+    record {
+      count = length_push answers (Some text) ∙ ap (λ n. n + 1) h.count ∙ sym (length_push all message);
+      names = is_names ∙ h.names;
+      replies =
+          told_push answers (Some text)
+          ∙ ap (λ xs. xs ++ text ∷ []) h.replies
+          ∙ ap (λ t. texts names start (kept all answers) ++ t ∷ [])
+          (is_text ∙ ap (λ ns. reply_text (reply_of ns (rooms_of mid) message)) h.names ∙ ap (λ r. reply_text (reply_of names r message)) h.rooms)
+          ∙ sym (texts_push names start (kept all answers) message)
+          ∙ ap (texts names start) (sym both);
+      rooms =
+          is_rooms ∙ ap (λ ns. rooms_after ns (rooms_of mid) message) h.names ∙ ap (λ r. rooms_after names r message) h.rooms
+          ∙ sym (rooms_end_push names start (kept all answers) message)
+          ∙ ap (rooms_end names start) (sym both);
+    }
+
+pub so_far_refused : (old mid new : State) (all : List Message) (answers : List (Option (List ℕ))) (message : Message) → SoFar old all answers mid → new ≡ mid
+    → SoFar old (all ++ message ∷ []) (answers ++ None ∷ []) new
+so_far_refused old mid new all answers message h same =
+    let both = kept_push all answers message None h.count ∙ append-nil (kept all answers) in
+    record {
+      count = length_push answers None ∙ ap (λ n. n + 1) h.count ∙ sym (length_push all message);
+      names = ap names_of same ∙ h.names;
+      replies = told_push answers None ∙ append-nil (told answers) ∙ h.replies ∙ ap (texts (names_of old) (rooms_of old)) (sym both);
+      rooms = ap rooms_of same ∙ h.rooms ∙ ap (rooms_end (names_of old) (rooms_of old)) (sym both);
+    }
+
+pub run_of : (old : State) (all : List Message) (answers : List (Option (List ℕ))) (new : State) → SoFar old all answers new → IsRun old all answers new
+run_of old all answers new h =
+    let names = names_of old in
+    let start = rooms_of old in
+    let messages = kept all answers in
+    record {
+      count = h.count;
+      alone = λ place. ap (at_room place (owners names start messages)) h.replies ∙ alone_law names place start messages;
+      lone = ap (at_none (owners names start messages)) h.replies ∙ lone_law names start messages;
+      after = λ place. ap (λ (r : Rooms). r.alone place) h.rooms ∙ end_law names place start messages;
+      names = h.names;
+    }
+
+-- the lists of the loop, with one more
+pub so_far_more : {A B : Type 0} (old new : State) (view : A → Message) (text_of : B → Option (List ℕ)) (items : List A) (i : ℕ) (item : A) (answers longer : List B) (answer : B)
+    → longer ≡ answers ++ answer ∷ [] → i < length items → item ≡ get_or items i item
+    → SoFar old (map view (take i items) ++ view item ∷ []) (map text_of answers ++ text_of answer ∷ []) new
+    → SoFar old (map view (take (i + 1) items)) (map text_of longer) new
+so_far_more old new view text_of items i item answers longer answer is_longer within is_item h =
+    let all : map view (take (i + 1) items) ≡ map view (take i items) ++ view item ∷ [] =
+    ap (map view) (take_more items i item within ∙ ap (λ x. take i items ++ x ∷ []) (sym is_item)) ∙ map-append view (take i items) (item ∷ []) in
+    let told_all : map text_of longer ≡ map text_of answers ++ text_of answer ∷ [] = ap (map text_of) is_longer ∙ map-append text_of answers (answer ∷ []) in
+    subst (λ xs. SoFar old xs (map text_of longer) new) (sym all) (subst (λ ys. SoFar old (map view (take i items) ++ view item ∷ []) ys new) (sym told_all) h)

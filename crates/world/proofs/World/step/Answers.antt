@@ -1,0 +1,26 @@
+use Rattle.std.proofs.Common.{◌≡◌, Some, sym, refl, ◌∙◌}
+use Rattle.std.proofs.lemmas.Result.{on_err_weaker}
+use Rattle.wire.specs.Texts.{request_of}
+use Rattle.world.specs.Alone.{message_of}
+use Rattle.world.specs.State.{names_of, seat_of, asker_of}
+use Rattle.world.proofs.Places.{same_length}
+use Rattle.world.proofs.SeatMaps.{seats_within, state_of}
+use Rattle.world.proofs.Changed.{asked_after, asker_within, both_ok}
+use Rattle.world.proofs.World.step.Goals as goal
+
+pub invariant_of-self : goal.invariant_of-self
+invariant_of-self c =
+    let state = state_of c.self.inside.rooms.items c.self.inside.seats.entries in
+    let found : asker_of (names_of state) c.args.session (seat_of state.seats c.args.session) c.in-Some.request ≡ Some c.in-Some-asker_of.asker = cc (c.asker_of.ensures, c.seat_at-seat.ensures, c.in-Some-asker_of.is, c.deref.ensures.value) in
+    let within = asker_within state c.args.session (seat_of state.seats c.args.session) c.in-Some.request c.in-Some-asker_of.asker c.self.invariant refl found in
+    seats_within c.answer_at.result _ c.in-Some-asker_of.asker.place _ _ c.in-Some-asker_of.asker.session _ _ within (same_length _ _ c.answer_at.ensures.names) c.self.invariant c.answer_at.ensures.seats (on_err_weaker c.answer_at.result (λ e. e.1) c.answer_at.ensures.err)
+
+pub returns-clause-rooms : goal.returns-clause-rooms
+returns-clause-rooms c =
+    let state = state_of c.self.inside.rooms.items c.self.inside.seats.entries in
+    let new = state_of c.answer_at.new.rooms.items c.answer_at.new.seats.entries in
+    let message = message_of c.args.session c.args.bytes.now in
+    let asked : request_of c.args.bytes.now ≡ Some c.in-Some.request = sym c.in_ok-request.ensures ∙ c.in-Some.is in
+    let found : asker_of (names_of state) c.args.session (seat_of state.seats c.args.session) c.in-Some.request ≡ Some c.in-Some-asker_of.asker = cc (c.asker_of.ensures, c.seat_at-seat.ensures, c.in-Some-asker_of.is, c.deref.ensures.value) in
+    let within = asker_within state c.args.session (seat_of state.seats c.args.session) c.in-Some.request c.in-Some-asker_of.asker c.self.invariant refl found in
+    rw (← c.self.view_is) (both_ok c.answer_at.result (λ rooms seats. asked_after state message c.in-Some.request asked c.in-Some-asker_of.asker found new within rooms seats) c.answer_at.ensures.rooms c.answer_at.ensures.seats)

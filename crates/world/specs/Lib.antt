@@ -1,0 +1,6 @@
+pub mod Alone
+pub mod Rooms
+pub mod State
+pub mod Run
+pub mod Script
+pub mod Answered

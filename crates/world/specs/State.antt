@@ -1,0 +1,80 @@
+-- A world as contracts see it.
+use Rattle.std.specs.Prelude.{ℕ, ◌≡◌, ◌<◌, IfSome, ◌==◌, List, [], map, Option, Some, None, option_map, slice_index_or, if◌then◌else◌}
+use Rattle.std.specs.Map.{lookup}
+use Rattle.rules.specs.Bounds.{Bounds}
+use Rattle.wire.specs.declared.request.Request.{Request}
+use Rattle.wire.specs.declared.reply.Reply.{Reply}
+use Rattle.room_core.specs.Room.{Room, empty_room}
+use Rattle.world.specs.declared.seats.Seat.{Seat}
+use Rattle.world.specs.declared.seats.Asker.{Asker}
+use Rattle.world.specs.Alone.{Alone, moved}
+use Rattle.world.specs.Rooms.{Rooms, named_place}
+
+-- a room under its name
+pub record Named : Type 0 where
+  pub name : List ℕ
+  pub room : Room
+
+-- a world: its rooms in order, and the seat of each session that is in one
+pub record State : Type 0 where
+  pub rooms : List Named
+  pub seats : List (ℕ × Seat)
+
+abbrev pub names_in : List Named → List (List ℕ)
+names_in rooms = map (λ room. room.name) rooms
+
+abbrev pub names_of : State → List (List ℕ)
+names_of state = names_in state.rooms
+
+abbrev pub seat_of : List (ℕ × Seat) → ℕ → Option Seat
+seat_of seats session = lookup (λ key. session == key) seats
+
+abbrev pub seat_in : ℕ → ℕ → Seat
+seat_in place site = record { place = place; site = site }
+
+-- the room at this place replied so to a session: each session then has the seat that it had, or is moved
+abbrev pub IsMoved : List (ℕ × Seat) → List (ℕ × Seat) → Reply → ℕ → ℕ → Type 0
+IsMoved old new reply session place = (other : ℕ) → seat_of new other ≡ moved reply (seat_in place) session (seat_of old) other
+
+-- each seat is in one of so many rooms
+abbrev pub SeatsWithin : List (ℕ × Seat) → ℕ → Type 0
+SeatsWithin seats count = (session : ℕ) → IfSome (seat_of seats session) (λ seat. seat.place < count)
+
+-- what stands at a place past the last room
+abbrev pub no_room : Room
+no_room = empty_room (record { joins = 0; entries = 0; objects = 0; sets = 0; keys = 0; versions = 0; page = 0 })
+
+-- the room at a place
+abbrev pub rooms_in : List Named → List Room
+rooms_in rooms = map (λ room. room.room) rooms
+
+abbrev pub room_at : List Named → ℕ → Room
+room_at rooms place = slice_index_or (rooms_in rooms) place no_room
+
+abbrev pub site_at : ℕ → Option Seat → Option ℕ
+site_at place None = None
+site_at place (Some seat) = if seat.place == place then Some seat.site else None
+
+abbrev pub alone_at : State → ℕ → Alone
+alone_at state place = record {
+  room = room_at state.rooms place;
+  site_of = λ session. site_at place (seat_of state.seats session);
+}
+
+abbrev pub rooms_of : State → Rooms
+rooms_of state = record {
+  inside = λ session. option_map (λ seat. seat.place) (seat_of state.seats session);
+  alone = alone_at state;
+}
+
+-- who asks, and which room: a session that has a seat, or one that asks to join a room
+abbrev pub asker_of : List (List ℕ) → ℕ → Option Seat → Request → Option Asker
+asker_of names session (Some seat) request = Some (record { session = session; place = seat.place; site = Some seat.site })
+asker_of names session None request = option_map (λ place. record { session = session; place = place; site = None }) (named_place names (Some request))
+
+-- rooms of these names, and nobody in them
+abbrev pub empty_rooms : List (List ℕ) → Bounds → List Named
+empty_rooms names limits = map (λ name. record { name = name; room = empty_room limits }) names
+
+abbrev pub new_world : List (List ℕ) → Bounds → State
+new_world names limits = record { rooms = empty_rooms names limits; seats = [] }

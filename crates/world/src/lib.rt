@@ -1,0 +1,188 @@
+//! Many rooms, the sessions that are in them, and scripts of their messages.
+#![tactic(auto)]
+
+ghost use Rattle.std.specs.Prelude.{◌≡◌, ◌↔◌, ℕ, map, option_map, Some, None, IfOk, OnOk, OnErr, IsErrOf, string_bytes, bytes_eq};
+ghost use Rattle.std.specs.Arc.{arc_value};
+ghost use Rattle.op_names.specs.Repeats.{first_repeat};
+ghost use Rattle.rules.specs.declared.refusal.Refusal.{Refusal};
+ghost use Rattle.wire.specs.Texts.{request_of, reply_text};
+ghost use Rattle.wire.specs.declared.reply.Reply.TheVariants.{No};
+ghost use Rattle.world.specs.Alone.{message_of, joined_name};
+ghost use Rattle.world.specs.Rooms.{place_of, lone_refusal, reply_of, rooms_after};
+ghost use Rattle.world.specs.State.{State, names_in, names_of, rooms_of, room_at, asker_of, new_world};
+ghost use Rattle.world.specs.Run.{IsRun};
+
+mod fault;
+pub mod laws;
+mod named_room;
+mod script;
+mod seats;
+
+pub use fault::{RoomsFault, ScriptFault};
+use named_room::{NamedRoom, answer_at, empty_rooms, place_of, repeated_name};
+use op_names::{NoMemory, RoomName};
+use rules::{Entry, Limits};
+use seats::{Asker, Seat, seat_at};
+use std::alloc::Global;
+use std::collections::BTreeMap;
+use std::marker::Model;
+use std::sync::Arc;
+use wire::{ReadFault, Refusal, Reply, Request, read_request, write_reply};
+
+/// Rooms, and who is in them.
+#[derive(Drop)]
+pub struct World {
+    rooms: Vec<NamedRoom>,
+    seats: BTreeMap<u32, Seat>,
+}
+
+impl Model for World {
+    ghost use Rattle.std.specs.Prelude.{length};
+    ghost use Rattle.world.specs.State.{State, SeatsWithin};
+
+    ghost Value = { State };
+
+    ghost view = { λ w. record { rooms = w.rooms.items; seats = w.seats.entries } };
+
+    ghost invariant = { λ w. SeatsWithin w.seats.entries (length w.rooms.items) };
+}
+
+/// The request that the bytes are a text of, if there is one.
+fn request_in(alloc: Global, bytes: &[u8]) -> Result<Option<Request>, NoMemory>
+    ensures { IfOk result (λ request. request ≡ request_of bytes.now) }
+{
+    match read_request(alloc, bytes) {
+        Ok(request) => Ok(Some(request)),
+        Err(ReadFault::Bad) => Ok(None),
+        Err(ReadFault::NoMemory) => Err(NoMemory),
+    }
+}
+
+/// The name of the room that a request asks to join.
+fn joined_name(request: &Request) -> Option<&RoomName>
+    ensures { option_map (λ name. name.now) result ≡ joined_name request.now }
+{
+    match request {
+        Request::Join { room } => Some(room),
+        Request::New { .. } => None,
+        Request::Set { .. } => None,
+        Request::Show { .. } => None,
+        Request::List { .. } => None,
+        Request::Pull { .. } => None,
+        Request::Leave => None,
+    }
+}
+
+/// The text of a refusal that looks into no room.
+fn refused(alloc: Global, refusal: Refusal) -> Result<String, NoMemory>
+    ensures { IfOk result (λ text. string_bytes text ≡ reply_text (No 0 refusal)) }
+{
+    write_reply(alloc, &Reply::No { at: 0, refusal })
+}
+
+/// Who asks, and which room: a session that has a seat, or one that asks to join a room.
+fn asker_of(
+    rooms: &[NamedRoom],
+    session: u32,
+    seat: Option<Seat>,
+    request: &Request,
+) -> Option<Asker>
+    ensures { result ≡ asker_of (names_in rooms.now) session seat request.now }
+{
+    if let Some(Seat { place, site }) = seat {
+        return Some(Asker {
+            session,
+            place,
+            site: Some(site),
+        });
+    }
+    let name = joined_name(request)?;
+    let place = place_of(rooms, name)?;
+    Some(Asker {
+        session,
+        place,
+        site: None,
+    })
+}
+
+/// Why a request is refused that is of no room.
+fn lone_refusal(request: &Request) -> Refusal
+    ensures { result ≡ lone_refusal (joined_name request.now) }
+{
+    match joined_name(request) {
+        Some(_name) => Refusal::NoSuchRoom,
+        None => Refusal::NotJoined,
+    }
+}
+
+impl World {
+    /// Rooms of these names, in this order, with nobody in them. `SameName` where a name stands
+    /// twice, with the first place, from 0, whose name stands at an earlier place too; otherwise
+    /// `NoMemory`.
+    pub fn new(alloc: Global, names: &[RoomName], limits: Limits) -> Result<World, RoomsFault>
+        ensures ok { IfOk result (λ world. (first_repeat bytes_eq names.now ≡ None) × (world ≡ new_world names.now limits)) }
+        ensures same_name { (place : ℕ) → IsErrOf result (RoomsFault.SameName place) ↔ (first_repeat bytes_eq names.now ≡ Some place) }
+    {
+        if let Some(place) = repeated_name(names) {
+            return Err(RoomsFault::SameName(place));
+        }
+        let rooms = empty_rooms(alloc, names, limits)?;
+        let seats = BTreeMap::new(alloc);
+        Ok(World { rooms, seats })
+    }
+
+    /// The record of the room of this name, or `None` where there is no such room.
+    #[tactic(auto, using(crate::proofs::Places::place_of_within, crate::proofs::Places::room_at_read))]
+    pub fn entries(&self, name: &RoomName) -> Option<&[Arc<Entry>]>
+        ensures { option_map (λ entries. map arc_value entries.now) result ≡ option_map (λ place. (room_at self.now.rooms place).entries) (place_of (names_of self.now) name.now) }
+    {
+        match place_of(&self.rooms, name) {
+            Some(place) => Some(self.rooms[place].entries()),
+            None => None,
+        }
+    }
+
+    /// Answers a message of a session: the text of the reply, which is the room's that the session
+    /// is in or asks to join. `NoMemory` where memory was refused, and then nothing is changed.
+    pub fn step(&mut self, alloc: Global, session: u32, bytes: &[u8]) -> Result<String, NoMemory>
+        ensures text { IfOk result (λ text. string_bytes text ≡ reply_text (reply_of (names_of self.old) (rooms_of self.old) (message_of session bytes.now))) }
+        ensures rooms { OnOk result (rooms_of self.new ≡ rooms_after (names_of self.old) (rooms_of self.old) (message_of session bytes.now)) }
+        ensures names { names_of self.new ≡ names_of self.old }
+        ensures err { OnErr result (self.new ≡ self.old) }
+    {
+        let Some(request) = request_in(alloc, bytes)? else {
+            return refused(alloc, Refusal::BadMessage);
+        };
+        let seat = seat_at(&self.seats, session);
+        let Some(asker) = asker_of(&self.rooms, session, seat, &request) else {
+            return refused(alloc, lone_refusal(&request));
+        };
+        answer_at(alloc, &mut self.rooms, &mut self.seats, asker, &request)
+    }
+
+    /// Answers messages in order: for each the text of its reply, or `None` where memory was
+    /// refused for it and nothing done. `NoMemory` where the list of the answers can't be made, and
+    /// then nothing is changed.
+    pub fn run(
+        &mut self,
+        alloc: Global,
+        messages: &[(u32, Vec<u8>)],
+    ) -> Result<Vec<Option<String>>, NoMemory>
+        ensures run { let all = map (λ message. message_of message.0 message.1.items) messages.now in
+            IfOk result (λ answers. IsRun self.old all (map (option_map string_bytes) answers.items) self.new) }
+        ensures err { OnErr result (self.new ≡ self.old) }
+    {
+        let mut answers = Vec::with_capacity(alloc, messages.len())?;
+        for message in messages {
+            let answer = match self.step(alloc, message.0, message.1.as_slice()) {
+                Ok(text) => Some(text),
+                Err(NoMemory) => None,
+            };
+            answers.push(answer).unwrap();
+        }
+        Ok(answers)
+    }
+}
+
+#[cfg(test)]
+mod tests;

@@ -1,0 +1,280 @@
+//! Scripts: lines of sessions and their messages, answered as they come.
+
+ghost use Rattle.std.specs.Prelude.{◌≡◌, ◌≢◌, ◌≤◌, ◌⊎◌, ℕ, List, [], ◌∷◌, ◌++◌, length, option_map, IfOk, IfSome, IfErr, OnOk, OnErr, IsErrOf, string_bytes};
+ghost use Rattle.std.specs.Fmt.{decimal};
+ghost use Rattle.std.specs.Io.KnownBytes.{Appends, IsAtEnd, Keeps};
+ghost use Rattle.world.specs.Alone.{message_of};
+ghost use Rattle.world.specs.State.{names_of, rooms_of};
+ghost use Rattle.world.specs.Script.{kept_line, message_in, text_for, rooms_for, output_of, end_of, HasNoBreak, AppendsFront, Stops, AnswersRead};
+ghost use Rattle.world.specs.Answered.{Adds, AnswersSome, Hands, Wrote, WroteSome};
+
+use crate::World;
+use crate::fault::ScriptFault;
+use op_names::NoMemory;
+use std::alloc::Global;
+use std::io::{ErrorKind, Read, Write};
+
+/// How many bytes of a line are kept: a session, a space and one byte more than a request has.
+const LINE_LIMIT: usize = 16396;
+
+/// How many bytes are read at once, and from how many bytes on the answers are written out though
+/// not all that was read is answered.
+const CHUNK: usize = 65536;
+
+/// The session and the message that a line is, if it is of that form.
+#[tactic(auto, using(crate::proofs::Lines::number_then_more))]
+fn message_in(line: &[u8]) -> Option<(u32, &[u8])>
+    ensures { message_in line.now ≡ option_map (λ m. message_of m.0 m.1.now) result }
+{
+    let Some((first, rest)) = line.split_first() else {
+        return None;
+    };
+    if !first.is_ascii_digit() {
+        return None;
+    }
+    let mut value = u32::from(*first - b'0');
+    for (place, byte) in rest.iter().enumerate() {
+        if *byte == b' ' {
+            return Some((value, &rest[place + 1..]));
+        }
+        if !byte.is_ascii_digit() || value == 0 {
+            return None;
+        }
+        let next = u64::from(value) * 10 + u64::from(*byte - b'0');
+        if next >= 4294967296 {
+            return None;
+        }
+        value = next as u32;
+    }
+    None
+}
+
+/// Writes all of the bytes, in as many calls as it takes.
+fn write_out<W: Write>(output: &mut W, bytes: &[u8]) -> Result<(), ScriptFault>
+    ensures ok { OnOk result (Appends (W.contents output.old) (W.contents output.new) bytes.now) }
+    ensures fault { OnErr result (AppendsFront (W.contents output.old) (W.contents output.new) bytes.now) }
+    ensures kind { IfErr result (λ fault. fault ≡ ScriptFault.Write) }
+{
+    let mut written = 0;
+    for _ in 0..u64::MAX {
+        if written >= bytes.len() {
+            return Ok(());
+        }
+        match output.write(&bytes[written..]) {
+            Ok(0) => return Err(ScriptFault::Write),
+            Ok(count) => written += count,
+            Err(fault) => {
+                if fault.kind() != ErrorKind::Interrupted {
+                    return Err(ScriptFault::Write);
+                }
+            }
+        }
+    }
+    Err(ScriptFault::Write)
+}
+
+/// Adds a byte to the line, as long as it can decide something.
+fn keep_byte(line: &mut Vec<u8>, byte: u8) -> Result<(), NoMemory>
+    ensures ok { OnOk result (line.new.items ≡ kept_line line.old.items byte) }
+{
+    if line.len() < LINE_LIMIT {
+        line.push(byte)?;
+    }
+    Ok(())
+}
+
+/// Writes the answers out, and forgets them.
+fn hand_out<W: Write>(output: &mut W, answers: &mut Vec<u8>) -> Result<(), ScriptFault>
+    ensures ok { OnOk result (Appends (W.contents output.old) (W.contents output.new) answers.old.items) }
+    ensures empty { OnOk result (answers.new.items ≡ []) }
+    ensures fault { OnErr result (AppendsFront (W.contents output.old) (W.contents output.new) answers.old.items) }
+    ensures kind { IfErr result (λ fault. fault ≡ ScriptFault.Write) }
+{
+    write_out(output, answers.as_slice())?;
+    answers.clear();
+    Ok(())
+}
+
+/// Writes the answers out if it must be now, or if there are many.
+fn hand_out_many<W: Write>(
+    output: &mut W,
+    answers: &mut Vec<u8>,
+    now: bool,
+) -> Result<(), ScriptFault>
+    ensures ok { OnOk result (Hands (W.contents output.old) (W.contents output.new) answers.old.items answers.new.items) }
+    ensures fault { OnErr result (AppendsFront (W.contents output.old) (W.contents output.new) answers.old.items) }
+    ensures kind { IfErr result (λ fault. fault ≡ ScriptFault.Write) }
+{
+    if now || answers.len() >= CHUNK {
+        return hand_out(output, answers);
+    }
+    Ok(())
+}
+
+/// Hands on what was written.
+fn flush_out<W: Write>(output: &mut W) -> Result<(), ScriptFault>
+    ensures kept { Keeps (W.contents output.old) (W.contents output.new) }
+    ensures kind { IfErr result (λ fault. fault ≡ ScriptFault.Write) }
+{
+    match output.flush() {
+        Ok(()) => Ok(()),
+        Err(_fault) => Err(ScriptFault::Write),
+    }
+}
+
+/// The line that goes out for a reply.
+fn line_text(alloc: Global, session: u32, reply: &str) -> Result<String, NoMemory>
+    ensures { IfOk result (λ text. string_bytes text ≡ decimal session ++ (32 ∷ reply.now) ++ 10 ∷ []) }
+{
+    Ok(format!(in alloc; "{session} {reply}\n")?)
+}
+
+/// Where a read puts what it reads.
+fn read_buffer(alloc: Global) -> Result<Vec<u8>, NoMemory>
+    ensures { IfOk result (λ chunk. length chunk.items ≡ 65536) }
+{
+    Ok(vec![in alloc; 0u8; CHUNK]?)
+}
+
+impl World {
+    /// Adds the answer to a line of a script. On `Err` no answer is added.
+    fn answer_line(
+        &mut self,
+        alloc: Global,
+        line: &[u8],
+        answers: &mut Vec<u8>,
+    ) -> Result<(), NoMemory>
+        ensures answers { OnOk result (answers.new.items ≡ answers.old.items ++ text_for (names_of self.old) (rooms_of self.old) (message_in line.now)) }
+        ensures rooms { OnOk result (rooms_of self.new ≡ rooms_for (names_of self.old) (rooms_of self.old) (message_in line.now)) }
+        ensures names { names_of self.new ≡ names_of self.old }
+        ensures none { OnErr result (answers.new.items ≡ answers.old.items) }
+        ensures err { OnErr result ((rooms_of self.new ≡ rooms_of self.old) ⊎ (rooms_of self.new ≡ rooms_for (names_of self.old) (rooms_of self.old) (message_in line.now))) }
+    {
+        match message_in(line) {
+            None => answers.extend_from_slice(b"?\n")?,
+            Some((session, bytes)) => {
+                let reply = self.step(alloc, session, bytes)?;
+                let text = line_text(alloc, session, reply.as_str())?;
+                answers.extend_from_slice(text.as_bytes())?;
+            }
+        }
+        Ok(())
+    }
+
+    /// Takes the next byte of a script, and adds the answer to a line that it ends.
+    fn take_byte(
+        &mut self,
+        alloc: Global,
+        line: &mut Vec<u8>,
+        byte: u8,
+        answers: &mut Vec<u8>,
+    ) -> Result<(), NoMemory>
+        requires { HasNoBreak line.old.items }
+        ensures line { OnOk result (HasNoBreak line.new.items) }
+        ensures short { OnOk result (length line.old.items ≤ 16396 → length line.new.items ≤ 16396) }
+        ensures ok { OnOk result (Adds self.old self.new (line.old.items ++ byte ∷ []) line.new.items answers.old.items answers.new.items) }
+        ensures none { OnErr result (answers.new.items ≡ answers.old.items) }
+        ensures err { OnErr result (AnswersSome self.old self.new (line.old.items ++ byte ∷ [])) }
+    {
+        if byte != b'\n' {
+            return keep_byte(line, byte);
+        }
+        self.answer_line(alloc, line.as_slice(), answers)?;
+        line.clear();
+        Ok(())
+    }
+
+    /// Takes the next bytes of a script, and answers each line that ends in them.
+    fn take_bytes<W: Write>(
+        &mut self,
+        alloc: Global,
+        line: &mut Vec<u8>,
+        bytes: &[u8],
+        answers: &mut Vec<u8>,
+        output: &mut W,
+    ) -> Result<(), ScriptFault>
+        requires clean { HasNoBreak line.old.items }
+        requires none { answers.old.items ≡ [] }
+        ensures line { OnOk result (HasNoBreak line.new.items) }
+        ensures short { OnOk result (length line.old.items ≤ 16396 → length line.new.items ≤ 16396) }
+        ensures none { OnOk result (answers.new.items ≡ []) }
+        ensures ok { OnOk result (Wrote (W.contents output.old) (W.contents output.new) self.old self.new (line.old.items ++ bytes.now) line.new.items []) }
+        ensures fault { OnErr result (WroteSome (W.contents output.old) (W.contents output.new) self.old self.new (line.old.items ++ bytes.now)) }
+        ensures kind { IfErr result (λ fault. fault ≢ ScriptFault.Read) }
+    {
+        for byte in bytes {
+            let taken = self.take_byte(alloc, line, *byte, answers);
+            hand_out_many(output, answers, taken.is_err())?;
+            taken?;
+        }
+        hand_out(output, answers)?;
+        flush_out(output)
+    }
+
+    /// Answers the line that is left when a script ends.
+    fn finish<W: Write>(
+        &mut self,
+        alloc: Global,
+        line: &[u8],
+        answers: &mut Vec<u8>,
+        output: &mut W,
+    ) -> Result<(), ScriptFault>
+        requires clean { HasNoBreak line.now }
+        requires none { answers.old.items ≡ [] }
+        ensures ok { OnOk result (Appends (W.contents output.old) (W.contents output.new) (output_of self.old line.now)) }
+        ensures rooms { OnOk result (rooms_of self.new ≡ end_of self.old line.now) }
+        ensures names { names_of self.new ≡ names_of self.old }
+        ensures fault { OnErr result (Stops (W.contents output.old) (W.contents output.new) self.old self.new line.now) }
+        ensures kind { IfErr result (λ fault. fault ≢ ScriptFault.Read) }
+    {
+        if line.is_empty() {
+            return Ok(());
+        }
+        self.answer_line(alloc, line, answers)?;
+        hand_out(output, answers)?;
+        flush_out(output)
+    }
+
+    /// Answers a script: each line of its input that is a session's number, a space and a message
+    /// by the session, a space and the text of the reply, and each other line by `?`. All whole
+    /// lines that a read gave are answered and flushed before the next read; a last line may lack
+    /// its line break.
+    ///
+    /// `Read` where the input can't be read, or after 1,000,000,000 reads; `Write` where the output
+    /// can't be written; `NoMemory` where memory was refused. Then some of the first lines were
+    /// answered, and a front of their answers is written; on `Read` those are all the lines whose
+    /// end was read, and their answers are written whole.
+    pub fn script<R: Read, W: Write>(
+        &mut self,
+        alloc: Global,
+        input: &mut R,
+        output: &mut W,
+    ) -> Result<(), ScriptFault>
+        ensures ok { OnOk result (IfSome (R.remaining input.old) (λ bytes. Appends (W.contents output.old) (W.contents output.new) (output_of self.old bytes))) }
+        ensures rooms { OnOk result (IfSome (R.remaining input.old) (λ bytes. rooms_of self.new ≡ end_of self.old bytes)) }
+        ensures end { OnOk result (IsAtEnd (R.remaining input.new)) }
+        ensures names { names_of self.new ≡ names_of self.old }
+        ensures fault { OnErr result (IfSome (R.remaining input.old) (λ bytes. AppendsFront (W.contents output.old) (W.contents output.new) (output_of self.old bytes))) }
+        ensures stops { OnErr result (IfSome (R.remaining input.old) (λ bytes. Stops (W.contents output.old) (W.contents output.new) self.old self.new bytes)) }
+        ensures read { IsErrOf result ScriptFault.Read → AnswersRead (R.remaining input.old) (R.remaining input.new) (W.contents output.old) (W.contents output.new) self.old self.new }
+    {
+        let mut buffer = read_buffer(alloc)?;
+        let chunk = buffer.as_mut_slice();
+        let mut line = Vec::new(alloc);
+        let mut answers = Vec::new(alloc);
+        for _ in 0..1_000_000_000u32 {
+            match input.read(chunk) {
+                Ok(0) => return self.finish(alloc, line.as_slice(), &mut answers, output),
+                Ok(count) => {
+                    self.take_bytes(alloc, &mut line, &chunk[..count], &mut answers, output)?
+                }
+                Err(fault) => {
+                    if fault.kind() != ErrorKind::Interrupted {
+                        return Err(ScriptFault::Read);
+                    }
+                }
+            }
+        }
+        Err(ScriptFault::Read)
+    }
+}

@@ -1,5 +1,3 @@
-pub mod Lists
-pub mod Counted
-pub mod History
 pub mod Ready
 pub mod Index
+pub mod CausalOrder

@@ -10,8 +10,8 @@ use Rattle.rules.specs.declared.history.Op.{Op}
 use Rattle.rules.specs.Operations.{IsHistory, operation}
 use Rattle.rules.specs.Admission.{names_counted, count_at_site, is_ahead, is_not_closed}
 use Rattle.causal.specs.Past.{lacks}
-use Rattle.causal.proofs.Lists.{In-from_Contains, Contains-from_In, any_from, any_back, any_none}
-use Rattle.causal.proofs.Counted.{In-names_counted, In-names_counted_back, count_of_pair, count_positive, count_in, covers-counts, covers_if, operation_is}
+use Rattle.rules.proofs.Lists.{In-from_Contains, Contains-from_In, any_from, any_back, any_none}
+use Rattle.rules.proofs.Counted.{In-names_counted, In-names_counted_back, count_of_pair, count_positive, count_in, covers-counts, covers_if, operation_is}
 use Rattle.causal.proofs.Index.{IsComplete}
 
 same_answer : (a b : Bool) → (a ≡ true → b ≡ true) → (b ≡ true → a ≡ true) → a ≡ b

@@ -17,6 +17,10 @@ use std::alloc::Global;
 use std::marker::Model;
 use thiserror::Error;
 
+mod order;
+
+pub use order::{before, concurrent};
+
 /// Why an operation is not admitted, the first cause that applies in this order.
 #[derive(Clone, Copy, Debug, PartialEq, Eq, Error)]
 pub enum NotAdmitted {

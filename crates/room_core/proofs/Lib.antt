@@ -1,2 +1,4 @@
 pub mod Replay
 pub mod Unnamed
+pub mod Shown
+pub mod Fronts

@@ -1,10 +1,11 @@
 -- What is planned for a room.
-use Rattle.std.specs.Prelude.{◌≡◌, ◌<◌, ℕ, ◌+◌, ◌-◌, Bool, true, false, Option, Some, None, slice_index}
+use Rattle.std.specs.Prelude.{◌≡◌, ◌<◌, ◌+◌, ◌-◌, true, false, Option, Some, None, slice_index}
 use Rattle.std.specs.Arc.{arc_value}
+use Rattle.op_names.specs.Texts.{Bytes}
 use Rattle.rules.specs.declared.history.Op.{Op}
 use Rattle.rules.specs.declared.history.Entry.{Entry}
 use Rattle.rules.specs.declared.history.Entry.TheVariants.{Join, Operation}
-use Rattle.rules.specs.Operations.{is_set_body}
+use Rattle.rules.specs.Bodies.{is_set_body, kind_in}
 use Rattle.rules.specs.Records.{sites, admits}
 use Rattle.wire.specs.declared.reply.Reply.{Reply}
 use Rattle.room_core.specs.Room.{State}
@@ -21,7 +22,7 @@ pub record Plan : Type 0 where
 abbrev pub entry_in : Change → Option Entry
 entry_in Nothing = None
 entry_in (Joins entry) = Some (arc_value entry)
-entry_in (Creates entry op) = Some (arc_value entry)
+entry_in (Creates entry op kind) = Some (arc_value entry)
 
 -- the reply, and the entry that is added if there is one
 abbrev pub outcome : Plan → Outcome
@@ -32,15 +33,17 @@ pub record CanJoin (s : State) (entry : Entry) : Type 0 where
   pub admitted : admits s.room.limits s.room.entries entry ≡ true
   pub place : 0 < s.reserve.entries
 
-pub record CanCreate (s : State) (entry : Entry) (op : Op) : Type 0 where
+pub record CanCreate (s : State) (entry : Entry) (op : Op) (kind : Bytes) : Type 0 where
   pub operation : entry ≡ Operation op
   pub creation : is_set_body op.body ≡ false
   pub admitted : admits s.room.limits s.room.entries entry ≡ true
+  pub named : kind ≡ kind_in op.body
   pub place : 0 < s.reserve.entries
+  pub object_place : 0 < s.reserve.objects
   pub past_place : 0 < slice_index s.reserve.operations (op.name.0 - 1)
 
 -- the change can be made in this state, and takes no memory
 abbrev pub IsReady : State → Change → Type 0
 IsReady s Nothing = Unit {0}
 IsReady s (Joins entry) = CanJoin s (arc_value entry)
-IsReady s (Creates entry op) = CanCreate s (arc_value entry) op
+IsReady s (Creates entry op kind) = CanCreate s (arc_value entry) op kind

@@ -1,6 +1,10 @@
 -- A room, as contracts see it.
-use Rattle.std.specs.Prelude.{ℕ, List, [], ◌∷◌, ◌++◌, Option, Some, None}
-use Rattle.rules.specs.Bounds.{Bounds}
+use Rattle.std.specs.Prelude.{ℕ, List, [], ◌∷◌, ◌++◌, Option, Some, None, map}
+use Rattle.op_names.specs.Names.{Name}
+use Rattle.op_names.specs.Texts.{Bytes}
+use Rattle.rules.specs.Bodies.{kind_in}
+use Rattle.rules.specs.Records.{objects}
+use Rattle.rules.specs.Bounds.{Bounds, full_bounds}
 use Rattle.rules.specs.declared.history.Entry.{Entry}
 
 -- a room: its limits and its record
@@ -17,10 +21,19 @@ with_entry room (Some entry) = record { limits = room.limits; entries = room.ent
 abbrev pub empty_room : Bounds → Room
 empty_room limits = record { limits = limits; entries = [] }
 
--- for how many more entries, and operations of each site, there is memory; no part of the room
+-- a room of full limits with this record
+abbrev pub full_room : List Entry → Room
+full_room entries = record { limits = full_bounds; entries = entries }
+
+-- the objects of a record with their kinds, in order of creation
+abbrev pub all_objects : List Entry → List (Name × Bytes)
+all_objects r = map (λ op. (op.name, kind_in op.body)) (objects r)
+
+-- for how many more entries, operations of each site, and objects there is memory; no part of the room
 pub record Reserve : Type 0 where
   pub entries : ℕ
   pub operations : List ℕ
+  pub objects : ℕ
 
 pub record State : Type 0 where
   pub room : Room

@@ -1,10 +1,11 @@
 //! The attributes of an object, as they are shown.
 
-ghost use Rattle.std.specs.Prelude.{◌≡◌, IfOk, OnOk};
+ghost use Rattle.std.specs.Prelude.{◌≡◌, IfOk, OnOk, true};
 ghost use Rattle.std.specs.List.{position};
 ghost use Rattle.std.specs.Ordering.{is_lt, nat_cmp};
 ghost use Rattle.std.specs.Cmp.Lexicographic.{slice_cmp};
-ghost use Rattle.rules.specs.Sorting.{insert_by, sort_by};
+ghost use Rattle.rules.specs.Lists.{insert_by, sort_by};
+ghost use Rattle.rules.specs.AttrLists.{are_attrs};
 ghost use Rattle.rules.specs.Versions.{key_cmp};
 
 use op_names::{Key, NoMemory, Value};
@@ -43,7 +44,8 @@ fn sorted_pairs(alloc: Global, pairs: &[(Key, Value)]) -> Result<Vec<(Key, Value
 
 /// The attributes that a creation gives, in the order of their keys.
 pub(crate) fn in_key_order(alloc: Global, attrs: &Attrs) -> Result<AttrList, NoMemory>
-    ensures { IfOk result (λ list. list ≡ sort_by key_cmp attrs.now) }
+    ensures sorted { IfOk result (λ list. list ≡ sort_by key_cmp attrs.now) }
+    ensures range { are_attrs attrs.now ≡ true }
 {
     let pairs = sorted_pairs(alloc, attrs.pairs())?;
     Ok(AttrList::from_vec(pairs))

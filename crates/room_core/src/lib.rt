@@ -2,6 +2,8 @@
 #![tactic(auto)]
 
 mod attributes;
+pub mod examples;
+mod pages;
 mod planned;
 mod room;
 

@@ -3,6 +3,7 @@
 ghost use Rattle.std.specs.Prelude.{◌≡◌};
 ghost use Rattle.room_core.specs.declared.planned.Change.TheVariants.{Nothing};
 
+use op_names::Kind;
 use rules::{Entry, Op};
 use std::marker::Model;
 use std::sync::Arc;
@@ -14,8 +15,9 @@ pub(crate) enum Change {
     Nothing,
     /// The entry of a join is added.
     Joins(Arc<Entry>),
-    /// The entry of a creation is added, and the creation to the operations so far.
-    Creates(Arc<Entry>, Op),
+    /// The entry of a creation is added, the creation to the operations so far, and its object with
+    /// this kind to the objects.
+    Creates(Arc<Entry>, Op, Kind),
 }
 
 /// A reply that is built, and the change that goes with it.

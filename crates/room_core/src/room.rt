@@ -5,19 +5,23 @@ ghost use Rattle.std.specs.Arc.{arc_value};
 ghost use Rattle.op_names.specs.Names.{is_op_name};
 ghost use Rattle.rules.specs.declared.history.Op.{Op as AnyOp};
 ghost use Rattle.rules.specs.declared.history.Entry.TheVariants.{Join, Operation};
-ghost use Rattle.rules.specs.Operations.{is_set_body, operation};
+ghost use Rattle.rules.specs.Bodies.{is_set_body, kind_in};
+ghost use Rattle.rules.specs.Operations.{creation_of, operation};
+ghost use Rattle.rules.specs.AttrLists.{are_attrs};
+ghost use Rattle.std.specs.List.{list_any};
 ghost use Rattle.rules.specs.Admission.{causal_refusal, first_that_applies};
 ghost use Rattle.rules.specs.Records.{sites, operations, objects, refusal, order_conditions, is_placed, IsLegal};
-ghost use Rattle.rules.specs.Sorting.{sort_by};
+ghost use Rattle.rules.specs.Lists.{sort_by};
 ghost use Rattle.rules.specs.Versions.{key_cmp};
 ghost use Rattle.state_vector.specs.Vectors.{is_vector};
 ghost use Rattle.wire.specs.declared.reply.Reply.TheVariants.{No};
 ghost use Rattle.room_core.specs.declared.planned.Change.TheVariants.{Nothing};
-ghost use Rattle.room_core.specs.Room.{Room, with_entry, empty_room};
-ghost use Rattle.room_core.specs.Answers.{join_answer, creation_answer, creation_of, shown, answer, has_site};
+ghost use Rattle.room_core.specs.Room.{Room, all_objects, with_entry, empty_room};
+ghost use Rattle.room_core.specs.Answers.{join_answer, creation_answer, shown, objects_from, entries_from, answer_so_far, has_site};
 ghost use Rattle.room_core.specs.Plans.{outcome, entry_in, IsReady, CanJoin, CanCreate};
 
 use crate::attributes::in_key_order;
+use crate::pages::{entries_page, objects_page};
 use crate::planned::{Change, Planned};
 use causal::Past;
 use op_names::{Kind, NoMemory, OpName, VersionId};
@@ -33,9 +37,9 @@ use wire::{Reply, Request, VersionList};
 pub struct RoomState {
     limits: Limits,
     sites: u32,
-    objects: u32,
     entries: Vec<Arc<Entry>>,
     past: Past,
+    objects: Vec<(OpName, Kind)>,
 }
 
 impl Model for RoomState {
@@ -48,10 +52,10 @@ impl Model for RoomState {
 
     ghost view = { λ s. record {
       room = record { limits = s.limits; entries = map arc_value s.entries.items };
-      reserve = record { entries = vec_capacity s.entries - vec_len s.entries; operations = s.past.reserve };
+      reserve = record { entries = vec_capacity s.entries - vec_len s.entries; operations = s.past.reserve; objects = vec_capacity s.objects - vec_len s.objects };
     } };
 
-    ghost invariant = { λ s. IsReplay s.limits (map arc_value s.entries.items) s.sites s.objects s.past.history };
+    ghost invariant = { λ s. IsReplay s.limits (map arc_value s.entries.items) s.sites s.objects.items s.past.history };
 }
 
 impl RoomState {
@@ -63,9 +67,9 @@ impl RoomState {
         Ok(RoomState {
             limits,
             sites: 0,
-            objects: 0,
             entries: Vec::new(alloc),
             past,
+            objects: Vec::new(alloc),
         })
     }
 
@@ -99,6 +103,21 @@ impl RoomState {
     {
         let _bound = self.limits.entries();
         self.entries.len() as u32
+    }
+
+    /// The number of objects.
+    fn count_objects(&self) -> u32
+        ensures { result ≡ length (objects self.now.room.entries) }
+    {
+        let _bound = self.limits.objects();
+        self.objects.len() as u32
+    }
+
+    /// The objects with their kinds, in order of creation.
+    fn objects(&self) -> &[(OpName, Kind)]
+        ensures { result.now ≡ all_objects self.now.room.entries }
+    {
+        self.objects.as_slice()
     }
 
     /// Has the record as many entries as it may have?
@@ -177,9 +196,21 @@ fn creation(
     })
 }
 
+/// The kind that a creation gives its object.
+fn kind_of(alloc: Global, body: &Body) -> Result<Kind, NoMemory>
+    requires { is_set_body body.now ≡ false }
+    ensures { IfOk result (λ kind. kind ≡ kind_in body.now) }
+{
+    match body {
+        Body::New { kind, .. } => kind.copy(alloc),
+        Body::Set { .. } => unreachable!(),
+    }
+}
+
 /// The versions of an object that was created with these attributes and not changed since.
 fn created_versions(alloc: Global, attrs: &Attrs) -> Result<VersionList, NoMemory>
-    ensures { IfOk result (λ list. list ≡ (record { id = []; attrs = sort_by key_cmp attrs.now }) ∷ []) }
+    ensures versions { IfOk result (λ list. list ≡ (record { id = []; attrs = sort_by key_cmp attrs.now }) ∷ []) }
+    ensures range { are_attrs attrs.now ≡ true }
 {
     let id = VersionId::empty(alloc);
     let attrs = in_key_order(alloc, attrs)?;
@@ -211,7 +242,7 @@ impl RoomState {
         if let Some(refusal) = self.order_refusal(op) {
             return Some(refusal);
         }
-        if self.objects >= self.limits.objects() {
+        if self.count_objects() >= self.limits.objects() {
             return Some(Refusal::TooManyObjects);
         }
         None
@@ -233,13 +264,15 @@ impl RoomState {
         }
         let at = self.at();
         let name = op.name;
+        let kind = kind_of(alloc, &op.body)?;
         let creation = op.copy(alloc)?;
         let entry = Arc::new(alloc, Entry::Operation(op))?;
         self.entries.reserve(1)?;
+        self.objects.reserve(1)?;
         self.past.reserve(name.site())?;
         Ok(Planned {
             reply: Reply::Made { at, name },
-            change: Change::Creates(entry, creation),
+            change: Change::Creates(entry, creation, kind),
         })
     }
 
@@ -276,13 +309,21 @@ impl RoomState {
         self.plan_creation(alloc, op)
     }
 
+    /// The operation of a name.
+    fn operation(&self, name: OpName) -> Option<&Op>
+        ensures operation { option_map (λ op. op.now) result ≡ operation (operations self.now.room.entries) name }
+        ensures legal { IsLegal self.now.room.limits self.now.room.entries }
+        ensures unset { list_any (λ op. is_set_body op.body) (operations self.now.room.entries) ≡ false }
+    {
+        self.past.find(name)
+    }
+
     /// Plans to show an object.
-    #[tactic(auto, unfolding(rules::specs::Versions::versions))]
     fn plan_show(&self, alloc: Global, object: OpName) -> Result<Planned, NoMemory>
-        ensures reply { IfOk result (λ p. p.reply ≡ shown self.now.room object (creation_of self.now.room object)) }
+        ensures reply { IfOk result (λ p. p.reply ≡ shown self.now.room object (creation_of (operations self.now.room.entries) object)) }
         ensures change { IfOk result (λ p. p.change ≡ Nothing) }
     {
-        let Some(op) = self.past.find(object) else {
+        let Some(op) = self.operation(object) else {
             return Ok(self.refused(Refusal::NoSuchObject));
         };
         match &op.body {
@@ -294,6 +335,40 @@ impl RoomState {
             })),
             Body::Set { .. } => Ok(self.refused(Refusal::NoSuchObject)),
         }
+    }
+}
+
+impl RoomState {
+    /// Plans to give a page of the objects.
+    fn plan_list(&self, alloc: Global, from: u32) -> Result<Planned, NoMemory>
+        ensures reply { IfOk result (λ p. p.reply ≡ objects_from self.now.room from) }
+        ensures change { IfOk result (λ p. p.change ≡ Nothing) }
+    {
+        let total = self.count_objects();
+        if from > total {
+            return Ok(self.refused(Refusal::TooFar));
+        }
+        let page = self.limits.page() as usize;
+        Ok(Planned::told(Reply::Objects {
+            at: self.at(),
+            from,
+            total,
+            objects: objects_page(alloc, self.objects(), from as usize, page)?,
+        }))
+    }
+
+    /// Plans to give a page of the record.
+    fn plan_pull(&self, alloc: Global, from: u32) -> Result<Planned, NoMemory>
+        ensures reply { IfOk result (λ p. p.reply ≡ entries_from self.now.room from) }
+        ensures change { IfOk result (λ p. p.change ≡ Nothing) }
+    {
+        let at = self.at();
+        if from > at {
+            return Ok(self.refused(Refusal::TooFar));
+        }
+        let page = self.limits.page() as usize;
+        let entries = entries_page(alloc, self.entries(), from as usize, page)?;
+        Ok(Planned::told(Reply::Entries { at, from, entries }))
     }
 }
 
@@ -321,14 +396,14 @@ impl RoomState {
     }
 
     /// Adds a creation that is admitted. Takes no memory.
-    fn add_creation(&mut self, entry: Arc<Entry>, op: Op)
-        requires { CanCreate self.old (arc_value entry) op }
+    fn add_creation(&mut self, entry: Arc<Entry>, op: Op, kind: Kind)
+        requires { CanCreate self.old (arc_value entry) op kind }
         ensures { self.new.room ≡ with_entry self.old.room (Some (arc_value entry)) }
     {
-        let _bound = self.limits.objects();
+        let name = op.name;
         self.entries.push_reserved(entry);
         add_reserved(&mut self.past, op);
-        self.objects += 1;
+        self.objects.push_reserved((name, kind));
     }
 
     /// Makes what was planned for the room as it is, and gives the reply. Takes no memory.
@@ -341,15 +416,15 @@ impl RoomState {
         match change {
             Change::Nothing => {}
             Change::Joins(entry) => self.add_join(entry),
-            Change::Creates(entry, op) => self.add_creation(entry, op),
+            Change::Creates(entry, op, kind) => self.add_creation(entry, op, kind),
         }
         reply
     }
 
     /// Plans the answer to a request of whoever claims to be this site. The room stays as it is.
-    #[tactic(auto, unfolding(crate::specs::Answers::answer))]
+    #[tactic(auto, unfolding(crate::specs::Answers::answer, crate::specs::Answers::answer_so_far))]
     pub fn plan(&mut self, alloc: Global, site: u32, request: &Request) -> Result<Planned, NoMemory>
-        ensures planned { IfOk result (λ p. outcome p ≡ answer self.old.room site request.now) }
+        ensures planned { IfOk result (λ p. outcome p ≡ answer_so_far self.old.room site request.now) }
         ensures ready { IfOk result (λ p. IsReady self.new p.change) }
         ensures room { self.new.room ≡ self.old.room }
     {
@@ -369,9 +444,9 @@ impl RoomState {
             },
             Request::Show { object } => self.plan_show(alloc, *object),
             Request::Leave => Ok(Planned::told(Reply::Left { at: self.at() })),
-            Request::Set { .. } | Request::List { .. } | Request::Pull { .. } => {
-                Ok(Planned::told(unasked(Refusal::BadMessage)))
-            }
+            Request::List { from } => self.plan_list(alloc, *from),
+            Request::Pull { from } => self.plan_pull(alloc, *from),
+            Request::Set { .. } => Ok(Planned::told(unasked(Refusal::BadMessage))),
         }
     }
 
@@ -387,8 +462,8 @@ impl RoomState {
 
     /// Answers a request of whoever claims to be this site.
     pub fn answer(&mut self, alloc: Global, site: u32, request: &Request) -> Result<Reply, NoMemory>
-        ensures reply { IfOk result (λ reply. reply ≡ (answer self.old.room site request.now).0) }
-        ensures room { OnOk result (self.new.room ≡ with_entry self.old.room (answer self.old.room site request.now).1) }
+        ensures reply { IfOk result (λ reply. reply ≡ (answer_so_far self.old.room site request.now).0) }
+        ensures room { OnOk result (self.new.room ≡ with_entry self.old.room (answer_so_far self.old.room site request.now).1) }
         ensures err { OnErr result (self.new.room ≡ self.old.room) }
     {
         let planned = self.plan(alloc, site, request)?;

@@ -121,7 +121,7 @@ fn limits_of_joins_and_entries(rt: HostRuntime) -> Result<(), Fail> {
 }
 
 #[test]
-fn limit_of_objects(rt: HostRuntime) -> Result<(), Fail> {
+fn limits_of_objects_and_pages(rt: HostRuntime) -> Result<(), Fail> {
     let mut one_object = RoomState::new(rt.alloc(), limits(9, 9, 1))?;
     assert_eq!(rt;
         join(rt.alloc(), &mut one_object)?.as_str(),
@@ -133,6 +133,11 @@ fn limit_of_objects(rt: HostRuntime) -> Result<(), Fail> {
             "[\"new\",2,[[1,1]],\"rect\",[]]",
             "[\"no\",2,16,\"too-many-objects\"]",
         ),
+        ("[\"pull\",0]", "[\"entries\",2,0,[[\"join\",1]]]"),
+        ("[\"pull\",2]", "[\"entries\",2,2,[]]"),
+        ("[\"pull\",3]", "[\"no\",2,17,\"too-far\"]"),
+        ("[\"list\",0]", "[\"objects\",2,0,1,[[[1,1],\"rect\"]]]"),
+        ("[\"list\",2]", "[\"no\",2,17,\"too-far\"]"),
     ];
     for (request, reply) in table {
         assert_eq!(rt;

@@ -1,15 +1,14 @@
 -- Lists of conditions, and what it says of a record that an entry isn't refused.
-use Rattle.std.proofs.Common.{◌≡◌, ℕ, ◌+◌, ◌<◌, ◌≤◌, Bool, true, false, not, List, [], ◌∷◌, ◌++◌, length, refl, sym, ap, ◌∙◌, ◌⊎◌, inl, inr, arith, Option, Some, None, ◌&&◌, leb, eqb, cond}
+use Rattle.std.proofs.Common.{◌≡◌, ℕ, ◌+◌, ◌<◌, ◌≤◌, Bool, true, false, List, [], ◌∷◌, ◌++◌, length, refl, sym, ◌∙◌, inl, inr, arith, Option, Some, None, ◌&&◌, leb, eqb, cond}
 use Rattle.std.specs.Prelude.{is_none, find, option_map}
 use Rattle.std.proofs.lemmas.Bool.{and_parts, and_from, le-leb, leb-false, ne_eqb, cases_Bool, true≢false}
 use Rattle.op_names.specs.Names.{is_site, is_op_name}
 use Rattle.rules.specs.declared.history.Op.{Op}
 use Rattle.rules.specs.declared.history.Entry.{Entry}
 use Rattle.rules.specs.declared.history.Entry.TheVariants.{Join, Operation}
-use Rattle.rules.specs.declared.refusal.Refusal.{Refusal}
 use Rattle.rules.specs.declared.refusal.Refusal.TheVariants.{RoomFull, RecordFull, WrongSeq, TooManyObjects}
 use Rattle.rules.specs.Bounds.{Bounds}
-use Rattle.rules.specs.Operations.{is_set_body}
+use Rattle.rules.specs.Bodies.{is_set_body}
 use Rattle.rules.specs.Admission.{Condition, count_at_site, first_that_applies, causal_conditions, causal_refusal}
 use Rattle.rules.proofs.Records.{count_at_site-length}
 use Rattle.rules.specs.Records.{operations, objects, sites, is_placed, admits, refusal, conditions, order_conditions, creation_conditions, set_conditions}
@@ -34,7 +33,7 @@ none_of_both (c ∷ cs) ds e =
     step true f h = absurd cc
     step false f h = h
 
-none_if : {X : Type 0} (r : Option X) → is_none r ≡ true → r ≡ None
+pub none_if : {X : Type 0} (r : Option X) → is_none r ≡ true → r ≡ None
 none_if None e = refl
 none_if (Some x) e = absurd cc
 
@@ -54,14 +53,14 @@ module _ (b : Bounds) (r : List Entry) where
   pub room_for_operation : (op : Op) → admits b r (Operation op) ≡ true → (length r < b.entries) × (causal_refusal (operations r) op.name op.seen ≡ None)
   unfolding causal_refusal
   room_for_operation op a =
-      let x = none_of_both (order_conditions b r op) (cond (is_set_body op.body) set_conditions (creation_conditions b r)) (none_applies (Operation op) a) in
+      let x = none_of_both (order_conditions b r op) (cond (is_set_body op.body) (set_conditions b (operations r) op) (creation_conditions b r)) (none_applies (Operation op) a) in
       let y = not_first (leb b.entries (length r), RecordFull) (causal_conditions (operations r) op.name op.seen) x.0 in
       (leb-false b.entries (length r) y.0, y.1)
 
   -- a creation finds room for an object
   pub room_for_object : (op : Op) → admits b r (Operation op) ≡ true → is_set_body op.body ≡ false → length (objects r) < b.objects
   room_for_object op a e =
-      let x = none_of_both (order_conditions b r op) (cond (is_set_body op.body) set_conditions (creation_conditions b r)) (none_applies (Operation op) a) in
+      let x = none_of_both (order_conditions b r op) (cond (is_set_body op.body) (set_conditions b (operations r) op) (creation_conditions b r)) (none_applies (Operation op) a) in
       let y : first_that_applies (creation_conditions b r) ≡ None = rw e at x.1 in
       leb-false b.objects (length (objects r)) (not_first (leb b.objects (length (objects r)), TooManyObjects) [] y).0
 

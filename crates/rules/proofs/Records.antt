@@ -8,7 +8,7 @@ use Rattle.rules.specs.declared.history.Op.{Op}
 use Rattle.rules.specs.declared.history.Entry.{Entry}
 use Rattle.rules.specs.declared.history.Entry.TheVariants.{Join, Operation}
 use Rattle.rules.specs.Bounds.{Bounds}
-use Rattle.rules.specs.Operations.{is_set_body}
+use Rattle.rules.specs.Bodies.{is_set_body}
 use Rattle.rules.specs.Admission.{count_at_site}
 use Rattle.rules.specs.Records.{operation_in, operations, sites, objects, is_join, admits, IsLegal, IsLegalAfter}
 

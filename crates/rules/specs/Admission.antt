@@ -40,6 +40,7 @@ is_ahead h v = list_any (λ name. not (is_some (operation h name))) (names_count
 abbrev pub is_not_closed : List Op → Vector → Bool
 is_not_closed h v = list_any (λ op. counts v op.name && not (covers v op.seen)) h
 
+-- what is asked of the name and the vector of an operation, in this order
 abbrev pub causal_conditions : List Op → Name → Vector → List Condition
 causal_conditions h name v = (has_wrong_seq h name, WrongSeq) ∷ (has_wrong_own_count name v, OwnCount) ∷ (is_ahead h v, Ahead) ∷ (is_not_closed h v, NotClosed) ∷ []
 

@@ -1,5 +1,5 @@
 -- Lists of attributes: keys with values.
-use Rattle.std.specs.Prelude.{ℕ, Bool, nat_lt, List, length, Option, Some, option_map, is_none, bytes_eq, if◌then◌else◌}
+use Rattle.std.specs.Prelude.{Bool, nat_lt, List, length, Option, Some, option_map, is_none, bytes_eq, if◌then◌else◌}
 use Rattle.std.specs.Ordering.{on, eq_of_both}
 use Rattle.std.specs.Cmp.Lexicographic.{pointwise}
 use Rattle.op_names.specs.Texts.{Bytes}

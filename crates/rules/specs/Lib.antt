@@ -6,8 +6,12 @@ pub use Rattle.state_vector.specs.Vectors
 pub mod AttrLists
 pub mod Bounds
 pub mod Refusals
+pub mod Lists
+pub mod Bodies
 pub mod Operations
 pub mod Admission
-pub mod Records
-pub mod Sorting
+pub mod Groups
+pub mod Conflicts
 pub mod Versions
+pub mod Records
+pub mod Examples

@@ -1,34 +1,50 @@
 -- Histories of operations, and causal order by state vectors (Sun and Chen, ACM TOCHI 9(1), 2002).
-use Rattle.std.specs.Prelude.{◌≡◌, ℕ, ◌+◌, ◌≤◌, Bool, true, false, not, ◌&&◌, List, Option, IsTrue, find, bytes_eq, Contains}
-use Rattle.op_names.specs.Names.{Name, same_name}
-use Rattle.op_names.specs.Values.{same_value}
+use Rattle.std.specs.Prelude.{◌≡◌, ◌+◌, ◌≤◌, Bool, true, not, ◌&&◌, ◌||◌, List, Option, IsTrue, filter, find, Contains, [], ◌∷◌}
+use Rattle.std.specs.declared.cmp.Ordering.{Ordering}
+use Rattle.std.specs.Ordering.{on}
+use Rattle.op_names.specs.Names.{Name, name_cmp, same_name}
 use Rattle.state_vector.specs.Vectors.{count_of, counts, is_vector}
 use Rattle.rules.specs.declared.history.Op.{Op}
-use Rattle.rules.specs.declared.history.Body.{Body}
-use Rattle.rules.specs.declared.history.Body.TheVariants.{New, Set}
+use Rattle.rules.specs.Bodies.{is_set_body, object_in}
+use Rattle.rules.specs.Lists.{HasNoRepeats, sort_by}
 
--- ---- what an operation says
+-- an operation's name
+abbrev pub name_of : Op → Name
+name_of op = op.name
 
--- the object that an operation creates or changes: it has the name of its creation
-abbrev pub object_in : Name → Body → Name
-object_in name (New kind attrs) = name
-object_in name (Set object version key value) = object
+-- operations are told apart by their names
+abbrev pub same_op : Op → Op → Bool
+same_op = λ a b. same_name a.name b.name
 
+-- and ordered by them
+abbrev pub by_name : Op → Op → Ordering
+by_name = on name_of name_cmp
+
+-- the object that an operation creates or changes
 abbrev pub object_of : Op → Name
 object_of op = object_in op.name op.body
 
-abbrev pub is_set_body : Body → Bool
-is_set_body (New kind attrs) = false
-is_set_body (Set object version key value) = true
+-- the operation creates the object or changes it
+abbrev pub is_on : Name → Op → Bool
+is_on object op = same_name (object_of op) object
 
+-- the operation changes the object
 abbrev pub is_set_on : Name → Op → Bool
-is_set_on object op = is_set_body op.body && same_name (object_of op) object
+is_set_on object op = is_set_body op.body && is_on object op
+
+-- the operation creates the object
+abbrev pub is_creation_of : Name → Op → Bool
+is_creation_of object op = not (is_set_body op.body) && same_name op.name object
 
 -- ---- histories
 
 -- the operation of a name
 abbrev pub operation : List Op → Name → Option Op
 operation h name = find (λ op. same_name op.name name) h
+
+-- the creation of an object
+abbrev pub creation_of : List Op → Name → Option Op
+creation_of h object = find (is_creation_of object) h
 
 -- no two operations share a name
 abbrev pub HasDistinctNames : List Op → Type 0
@@ -37,11 +53,23 @@ HasDistinctNames h = (a b : Op) → Contains h a → Contains h b → a.name ≡
 -- A history, in whatever order it is listed: its vectors count operations of it alone, of the operation's own site
 -- exactly the earlier ones, and with each operation all that that one counts.
 pub record IsHistory (h : List Op) : Type 0 where
+  pub once : HasNoRepeats h
   pub distinct : HasDistinctNames h
   pub vector : (o : Op) → Contains h o → is_vector o.seen ≡ true
   pub own : (o : Op) → Contains h o → count_of o.seen o.name.0 + 1 ≡ o.name.1
   pub present : (o : Op) (n : Name) → Contains h o → 1 ≤ n.1 → IsTrue (counts o.seen n) → (a : Op) × Contains h a × (a.name ≡ n)
   pub closed : (a b : Op) (n : Name) → Contains h a → Contains h b → IsTrue (counts b.seen a.name) → IsTrue (counts a.seen n) → IsTrue (counts b.seen n)
+
+-- k is a part of the history h, and a history
+pub record IsPartOf (k h : List Op) : Type 0 where
+  pub part : IsHistory k
+  pub whole : IsHistory h
+  pub within : (o : Op) → Contains k o → Contains h o
+
+-- k and h list the operations of one history
+pub record AreSame (k h : List Op) : Type 0 where
+  pub one : IsPartOf k h
+  pub other : IsPartOf h k
 
 -- ---- causal order
 
@@ -50,10 +78,33 @@ pub data Before (h : List Op) : Op → Op → Type 0 where
   direct : (a b : Op) → Contains h a → Contains h b → IsTrue (counts b.seen a.name) → Before h a b
   through : (a x b : Op) → Before h a x → Before h x b → Before h a b
 
--- the test: on a history it is causal order
+-- the test by one count: on a history it is causal order
 abbrev pub before : Op → Op → Bool
 before a b = counts b.seen a.name
 
 -- neither is before the other
 abbrev pub concurrent : Op → Op → Bool
 concurrent a b = not (before a b) && not (before b a)
+
+-- a is b or before it
+abbrev pub is_past : Op → Op → Bool
+is_past b a = same_op a b || before a b
+
+-- nothing stands before what it is after
+abbrev pub IsCausallyOrdered : List Op → Type 0
+IsCausallyOrdered [] = Unit {0}
+IsCausallyOrdered (x ∷ xs) = ((y : Op) → Contains xs y → IsTrue (not (before y x))) × IsCausallyOrdered xs
+
+-- ---- one object
+
+-- the operations on an object: its creation and its sets
+abbrev pub operations_on : List Op → Name → List Op
+operations_on h object = filter (is_on object) h
+
+-- all sets on an object, in order of name
+unfoldable pub sets_on : List Op → Name → List Op
+sets_on h object = sort_by by_name (filter (is_set_on object) h)
+
+-- what b knows: the sets on its object that are before it
+unfoldable pub known : List Op → Op → List Op
+known h b = filter (λ a. before a b) (sets_on h (object_of b))

@@ -1,21 +1,27 @@
 -- The record of a room: its joins and operations in order, and which entry it admits next.
-use Rattle.std.specs.Prelude.{◌≡◌, ℕ, ◌+◌, Bool, true, false, cond, not, ◌&&◌, List, [], ◌∷◌, ◌++◌, Option, Some, None, ◌==◌, nat_le, filter, filter_map, count_by, length, is_none}
+use Rattle.std.specs.Prelude.{◌≡◌, ℕ, ◌+◌, Bool, true, false, not, ◌&&◌, List, [], ◌∷◌, ◌++◌, Option, Some, None, ◌==◌, nat_le, nat_lt, filter, filter_map, count_by, length, is_none, bytes_eq, if◌then◌else◌}
+use Rattle.std.specs.List.{list_any, list_all}
 use Rattle.state_vector.specs.Vectors.{is_vector}
 use Rattle.rules.specs.declared.history.Op.{Op}
 use Rattle.rules.specs.declared.history.Entry.{Entry}
 use Rattle.rules.specs.declared.history.Entry.TheVariants.{Join, Operation}
 use Rattle.rules.specs.declared.refusal.Refusal.{Refusal}
-use Rattle.rules.specs.declared.refusal.Refusal.TheVariants.{BadMessage, RoomFull, RecordFull, TooManyObjects}
+use Rattle.rules.specs.declared.refusal.Refusal.TheVariants.{RoomFull, RecordFull, NoSuchObject, NoSuchVersion, ObjectFull, TooManyKeys, TooManyVersions, TooManyObjects}
 use Rattle.rules.specs.Bounds.{Bounds}
-use Rattle.rules.specs.Operations.{is_set_body}
+use Rattle.rules.specs.Bodies.{is_set_body, keys_in}
+use Rattle.rules.specs.Operations.{object_of, sets_on}
 use Rattle.rules.specs.Admission.{Condition, first_that_applies, causal_conditions}
+use Rattle.rules.specs.Conflicts.{base, has_object}
+use Rattle.rules.specs.Versions.{groups, keys_of}
 
 -- ---- what a record says
 
+-- is the entry a join
 abbrev pub is_join : Entry → Bool
 is_join (Join site) = true
 is_join (Operation op) = false
 
+-- the operation of an entry, where it is one
 abbrev pub operation_in : Entry → Option Op
 operation_in (Join site) = None
 operation_in (Operation op) = Some op
@@ -34,6 +40,7 @@ objects r = filter (λ op. not (is_set_body op.body)) (operations r)
 
 -- ---- what it admits next
 
+-- what is asked of a join
 abbrev pub join_conditions : Bounds → List Entry → List Condition
 join_conditions b r = (nat_le b.joins (sites r), RoomFull) ∷ (nat_le b.entries (length r), RecordFull) ∷ []
 
@@ -45,13 +52,24 @@ order_conditions b r op = (nat_le b.entries (length r), RecordFull) ∷ causal_c
 abbrev pub creation_conditions : Bounds → List Entry → List Condition
 creation_conditions b r = (nat_le b.objects (length (objects r)), TooManyObjects) ∷ []
 
--- no set is admitted yet
-abbrev pub set_conditions : List Condition
-set_conditions = (true, BadMessage) ∷ []
+-- a key of the set is new to these sets, and they have as many keys as there may be
+abbrev pub has_too_many_keys : Bounds → List Op → Op → Bool
+has_too_many_keys b sets op = not (list_all (λ key. list_any (bytes_eq key) (keys_of sets)) (keys_in op.body)) && nat_le b.keys (length (keys_of sets))
 
+-- with the set its object has more versions than there may be
+abbrev pub has_too_many_versions : Bounds → List Op → Op → Bool
+has_too_many_versions b h op = nat_lt b.versions (length (groups (h ++ op ∷ []) (object_of op)))
+
+-- or of a set, after these operations
+abbrev pub set_conditions : Bounds → List Op → Op → List Condition
+set_conditions b h op = let sets = sets_on h (object_of op) in
+    (not (has_object h op), NoSuchObject) ∷ (is_none (base h op), NoSuchVersion) ∷ (nat_le b.sets (length sets), ObjectFull)
+    ∷ (has_too_many_keys b sets op, TooManyKeys) ∷ (has_too_many_versions b h op, TooManyVersions) ∷ []
+
+-- what is asked of an entry, in this order
 abbrev pub conditions : Bounds → List Entry → Entry → List Condition
 conditions b r (Join site) = join_conditions b r
-conditions b r (Operation op) = order_conditions b r op ++ cond (is_set_body op.body) set_conditions (creation_conditions b r)
+conditions b r (Operation op) = order_conditions b r op ++ (if is_set_body op.body then set_conditions b (operations r) op else creation_conditions b r)
 
 -- why this entry, whose site has joined and whose vector is one, isn't admitted after these, if it isn't
 unfoldable pub refusal : Bounds → List Entry → Entry → Option Refusal
@@ -62,6 +80,7 @@ abbrev pub is_placed : List Entry → Entry → Bool
 is_placed r (Join site) = site == sites r + 1
 is_placed r (Operation op) = nat_le 1 op.name.0 && nat_le op.name.0 (sites r) && is_vector op.seen
 
+-- the entry may come next
 abbrev pub admits : Bounds → List Entry → Entry → Bool
 admits b r entry = is_placed r entry && is_none (refusal b r entry)
 

@@ -1,29 +1,75 @@
--- The versions of an object.
-use Rattle.std.specs.Prelude.{List, [], ◌∷◌}
+-- The versions of an object (the idea is that of Sun and Chen, ACM TOCHI 9(1), 2002): one for each group of its sets.
+use Rattle.std.specs.Prelude.{Bool, not, ◌&&◌, ◌++◌, List, [], Option, Some, None, map, filter_map, flat_map, find, is_some, option_map, bytes_eq}
+use Rattle.std.specs.List.{list_any}
 use Rattle.std.specs.declared.cmp.Ordering.{Ordering}
 use Rattle.std.specs.Ordering.{nat_cmp, on}
 use Rattle.std.specs.Cmp.Lexicographic.{slice_cmp}
+use Rattle.op_names.specs.Names.{Name}
 use Rattle.op_names.specs.Texts.{Bytes}
-use Rattle.rules.specs.declared.history.Body.{Body}
-use Rattle.rules.specs.declared.history.Body.TheVariants.{New, Set}
+use Rattle.op_names.specs.VersionIds.{id_cmp}
+use Rattle.op_names.specs.declared.value.Value.{Value}
+use Rattle.rules.specs.declared.history.Op.{Op}
 use Rattle.rules.specs.declared.version.Version.{Version}
 use Rattle.rules.specs.AttrLists.{Attr}
-use Rattle.rules.specs.Sorting.{sort_by}
+use Rattle.rules.specs.Bodies.{initial_in, keys_in, value_in}
+use Rattle.rules.specs.Lists.{each_once, sort_by}
+use Rattle.rules.specs.Operations.{before, creation_of, name_of, sets_on}
+use Rattle.rules.specs.Groups.{groups_of, identifier}
+use Rattle.rules.specs.Conflicts.{conflict}
 
--- the kind that a creation gives its object
-abbrev pub kind_in : Body → Bytes
-kind_in (New kind attrs) = kind
-kind_in (Set object version key value) = []
+-- ---- the value of a key in a group
 
--- the attributes that a creation gives its object
-abbrev pub initial_in : Body → List Attr
-initial_in (New kind attrs) = attrs
-initial_in (Set object version key value) = []
+-- the operation gives the key a value
+abbrev pub gives : Bytes → Op → Bool
+gives key op = is_some (value_in key op.body)
+
+-- An operation of g decides a key: it gives it a value, and no operation of g that gives it one comes after. One count
+-- tells what comes after, as on a history it is causal order.
+abbrev pub decides : Bytes → List Op → Op → Bool
+decides key g op = gives key op && not (list_any (λ later. gives key later && before op later) g)
+
+-- the value that an operation gives a key; without one, the creation's
+abbrev pub value_by : Bytes → List Attr → Option Op → Option Value
+value_by key initial None = option_map (λ attr. attr.1) (find (λ attr. bytes_eq attr.0 key) initial)
+value_by key initial (Some op) = value_in key op.body
+
+-- the value of a key in g, on an object created with these attributes
+abbrev pub value_of_key : List Attr → List Op → Bytes → Option Value
+value_of_key initial g key = value_by key initial (find (decides key g) g)
+
+-- ---- the attributes of a group
+
+-- the keys that sets give a value, each once
+abbrev pub keys_of : List Op → List Bytes
+keys_of g = each_once bytes_eq (flat_map (λ op. keys_in op.body) g)
 
 -- attributes are ordered by their keys
 abbrev pub key_cmp : Attr → Attr → Ordering
 key_cmp = on (λ attr. attr.0) (slice_cmp nat_cmp)
 
--- An object's versions. No set changes it yet, so there is one, with the attributes of its creation in key order.
-unfoldable pub versions : Body → List Version
-versions creation = (record { id = []; attrs = sort_by key_cmp (initial_in creation) }) ∷ []
+-- each key of the creation or of the group, with its value, in order of key
+unfoldable pub attributes : List Attr → List Op → List Attr
+attributes initial g = sort_by key_cmp (filter_map (λ key. option_map (λ value. (key, value)) (value_of_key initial g key)) (each_once bytes_eq (map (λ attr. attr.0) initial ++ keys_of g)))
+
+-- the attributes that a creation gives; without one, which is never shown, none
+abbrev pub initial_of : Option Op → List Attr
+initial_of None = []
+initial_of (Some op) = initial_in op.body
+
+-- ---- the versions of an object
+
+-- the groups of all sets on an object
+unfoldable pub groups : List Op → Name → List (List Op)
+groups h object = groups_of (conflict h) (sets_on h object)
+
+-- a group as it is shown: its identifier, and its attributes
+unfoldable pub version_of : List Op → Name → List Op → Version
+version_of h object g = record { id = identifier (conflict h) name_of (sets_on h object) g; attrs = attributes (initial_of (creation_of h object)) g }
+
+-- versions are ordered by their identifiers
+abbrev pub by_id : Version → Version → Ordering
+by_id = on (λ version. version.id) id_cmp
+
+-- an object's versions: each of its groups, in order of identifier
+unfoldable pub versions : List Op → Name → List Version
+versions h object = sort_by by_id (map (version_of h object) (groups h object))

@@ -2,7 +2,9 @@
 #![tactic(auto)]
 
 mod attrs;
+pub mod examples;
 mod history;
+pub mod laws;
 mod limits;
 mod refusal;
 mod version;

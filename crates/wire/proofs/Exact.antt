@@ -1,5 +1,5 @@
 -- What reads a form reads it exactly: what is read is the value of that form, and each value is read from its form.
-use Rattle.std.proofs.Common.{◌≡◌, ℕ, ◌^◌, ℤ, pos, negsuc, List, [], ◌∷◌, map, Bool, true, cond, ltb, leb, Option, Some, None, refl, sym, ap, subst, ◌∙◌, lt-ltb, ◌&&◌}
+use Rattle.std.proofs.Common.{◌≡◌, ℕ, ◌^◌, ℤ, pos, negsuc, List, [], ◌∷◌, map, Bool, true, false, cond, ltb, leb, Option, Some, None, refl, sym, ap, subst, ◌∙◌, lt-ltb, ◌&&◌, bytes_eq}
 use Rattle.std.specs.Prelude.{⊤}
 use Rattle.std.specs.List.{AllByRecursion}
 use Rattle.std.proofs.lemmas.Option.{cond_some}
@@ -8,11 +8,19 @@ use Rattle.serde_json.specs.Data.{unsigned, negative, float, Data, null, boolean
 use Rattle.serde_json.specs.Find.{as_str, of_integer}
 use Rattle.serde_json.specs.View.{items_of}
 use Rattle.wire.specs.Form.{list_form, whole_form, IsNumber}
-use Rattle.wire.specs.Reading.{◌>>=◌, listed, items_in, passing, all_in, list_in, two_at, two_in, natural_in, whole_in, integer_at, integer_in, end_at, field_at}
+use Rattle.std.proofs.lemmas.Slice.Eq.{bytes_eq-Decides}
+use Rattle.wire.specs.Reading.{◌>>=◌, listed, items_in, passing, all_in, list_in, two_at, two_in, natural_in, whole_in, integer_at, integer_in, end_at, field_at, worded_at, worded_in, Words, by_word, message_in}
 
 pub record IsExact (X : Type 0) (read : Data → Option X) (form : X → Data) (Fits : X → Type 0) : Type 0 where
   pub takes : (d : Data) (x : X) → read d ≡ Some x → Fits x × (d ≡ form x)
   pub again : (x : X) → Fits x → read (form x) ≡ Some x
+
+-- what fits may be said otherwise
+pub exact_by : {X : Type 0} {read : Data → Option X} {form : X → Data} {Fits Gits : X → Type 0} → IsExact X read form Fits → ((x : X) → Fits x → Gits x) → ((x : X) → Gits x → Fits x) → IsExact X read form Gits
+exact_by exact to from = record {
+  takes = λ d x e. let a = exact.takes d x e in (to x a.0, a.1);
+  again = λ x fit. exact.again x (from x fit);
+}
 
 -- the value of a step that gave one
 pub bind_some : {A B : Type 0} (o : Option A) (f : A → Option B) (y : B) → (o >>= f) ≡ Some y → (x : A) × (o ≡ Some x) × (f x ≡ Some y)
@@ -111,6 +119,19 @@ exact_two {first = first} {form = form} {second = second} {gorm = gorm} f g = re
   again = λ p fit. rw (items_again (form p.0 ∷ gorm p.1 ∷ []), f.again p.0 fit.0, g.again p.1 fit.1) refl;
 }
 
+-- ---- what is made of a value
+
+pub exact_made : {X Y : Type 0} {read : Data → Option X} {form : X → Data} {Fits : X → Type 0} → IsExact X read form Fits → (make : X → Y) (parts : Y → X) → ((x : X) → parts (make x) ≡ x) → ((y : Y) → make (parts y) ≡ y)
+    → IsExact Y (λ d. read d >>= λ x. Some (make x)) (λ y. form (parts y)) (λ y. Fits (parts y))
+exact_made {X = X} {Y = Y} {read = read} {form = form} {Fits = Fits} exact make parts same again = record {
+  takes = λ d y e.
+      let a = bind_some (read d) (λ x. Some (make x)) y e in
+      let b = exact.takes d a.0 a.1 in
+      let c : Fits (parts (make a.0)) × (d ≡ form (parts (make a.0))) = rw (same a.0) b in
+      subst (λ (z : Y). Fits (parts z) × (d ≡ form (parts z))) (some_is (make a.0) y a.2) c;
+  again = λ y fit. rw (exact.again (parts y) fit, again y) refl;
+}
+
 -- ---- texts and numbers
 
 text_takes : (d : Data) (s : List ℕ) → as_str d ≡ Some s → Unit {0} × (d ≡ string s)
@@ -139,9 +160,12 @@ exact_natural : IsExact ℕ natural_in whole_form (λ _. Unit {0})
 unfolding natural_in
 exact_natural = record { takes = natural_takes; again = λ n fit. refl }
 
-pub exact_whole : (low high : ℕ) → IsExact ℕ (whole_in low high) whole_form (λ n. Unit {0} × ((leb low n && leb n high) ≡ true))
+pub exact_text_where : (test : List ℕ → Bool) → IsExact (List ℕ) (passing test as_str) string (λ s. test s ≡ true)
+exact_text_where test = exact_by (exact_passing test exact_text) (λ s fit. fit.1) (λ s fit. (tt, fit))
+
+pub exact_whole : (low high : ℕ) → IsExact ℕ (whole_in low high) whole_form (λ n. (leb low n && leb n high) ≡ true)
 unfolding whole_in
-exact_whole low high = exact_passing (λ n. leb low n && leb n high) exact_natural
+exact_whole low high = exact_by (exact_passing (λ n. leb low n && leb n high) exact_natural) (λ n fit. fit.1) (λ n fit. (tt, fit))
 
 integer_takes : (d : Data) (z : ℤ) → integer_in d ≡ Some z → IsNumber z × (d ≡ number (of_integer z))
 unfolding integer_in integer_at
@@ -200,3 +224,50 @@ made_of {read = read} exact make ds q e =
     let a = bind_some (read ds) (λ y. Some (make y)) q e in
     let b = exact.takes ds a.0 a.1 in
     (a.0, b.0, b.1, some_is (make a.0) q a.2)
+
+-- ---- a word and what follows it
+
+-- what follows the word is read as a value whose form begins with the word
+pub record IsWordOf {X : Type 0} (form : X → Data) (Fits : X → Type 0) (w : List ℕ × (List Data → Option X)) : Type 0 where
+  pub takes : (ds : List Data) (x : X) → w.1 ds ≡ Some x → Fits x × (list_form (string w.0 ∷ ds) ≡ form x)
+
+first_word : {X : Type 0} {form : X → Data} {Fits : X → Type 0} (b : Bool) (word : List ℕ) (first : List ℕ × (List Data → Option X)) (others : Option X) (ds : List Data) (x : X) → bytes_eq word first.0 ≡ b
+    → IsWordOf form Fits first → (others ≡ Some x → Fits x × (list_form (string word ∷ ds) ≡ form x)) → cond b (first.1 ds) others ≡ Some x → Fits x × (list_form (string word ∷ ds) ≡ form x)
+first_word true word first others ds x same h k e =
+    let a = h.takes ds x e in
+    (a.0, ap (λ (w : List ℕ). list_form (string w ∷ ds)) ((bytes_eq-Decides word first.0).0 same) ∙ a.1)
+first_word false word first others ds x same h k e = k e
+
+words_take : {X : Type 0} (form : X → Data) (Fits : X → Type 0) (words : Words X) → AllByRecursion (IsWordOf form Fits) words → (word : List ℕ) (ds : List Data) (x : X) → by_word words word ds ≡ Some x → Fits x × (list_form (string word ∷ ds) ≡ form x)
+words_take form Fits [] h word ds x e = absurd cc
+words_take form Fits (first ∷ others) h word ds x e =
+    first_word (bytes_eq word first.0) word first (by_word others word ds) ds x refl h.0 (words_take form Fits others h.1 word ds x) e
+
+worded_take : (ds : List Data) (p : List ℕ × List Data) → worded_at ds ≡ Some p → list_form ds ≡ list_form (string p.0 ∷ p.1)
+worded_take [] p e = absurd cc
+worded_take (d ∷ ds) p e =
+    let a = bind_some (as_str d) (λ w. Some (w, ds)) p e in
+    subst (λ (q : List ℕ × List Data). list_form (d ∷ ds) ≡ list_form (string q.0 ∷ q.1)) (some_is (a.0, ds) p a.2)
+    (ap (λ (x : Data). list_form (x ∷ ds)) (exact_text.takes d a.0 a.1).1)
+
+pub message_takes : {X : Type 0} (form : X → Data) (Fits : X → Type 0) (words : Words X) → AllByRecursion (IsWordOf form Fits) words → (d : Data) (x : X) → message_in words d ≡ Some x → Fits x × (d ≡ form x)
+unfolding worded_in
+message_takes form Fits words h d x e =
+    let a = bind_some (items_in d >>= worded_at) (λ p. by_word words p.0 p.1) x e in
+    let b = bind_some (items_in d) worded_at a.0 a.1 in
+    let c = words_take form Fits words h a.0.0 a.0.1 x a.2 in
+    (c.0, items_take d b.0 b.1 ∙ worded_take b.0 a.0 b.2 ∙ c.1)
+
+pub message_again : {X : Type 0} (words : Words X) (word : List ℕ) (ds : List Data) → message_in words (list_form (string word ∷ ds)) ≡ by_word words word ds
+unfolding worded_in
+message_again words word ds = rw (items_again (string word ∷ ds)) refl
+
+-- fields that are read exactly, and the value made of them
+pub word_of_fields : {X Y : Type 0} {form : X → Data} {Fits : X → Type 0} {read : List Data → Option Y} {forms : Y → List Data} {Gits : Y → Type 0} → AreExact Y read forms Gits
+    → (word : List ℕ) (make : Y → X) → ((y : Y) → Gits y → Fits (make y) × (list_form (string word ∷ forms y) ≡ form (make y))) → IsWordOf form Fits (word, λ ds. read ds >>= λ y. Some (make y))
+word_of_fields {X = X} {form = form} {Fits = Fits} exact word make h = record {
+  takes = λ ds x e.
+      let a = made_of exact make ds x e in
+      let b = h a.0 a.1 in
+      subst (λ (y : X). Fits y × (list_form (string word ∷ ds) ≡ form y)) a.3 (b.0, ap (λ (fs : List Data). list_form (string word ∷ fs)) a.2 ∙ b.1);
+}

@@ -1,5 +1,12 @@
 pub mod Parts
 pub mod Maps
 pub mod Exact
+pub mod PartForms
 pub mod Requests
+pub mod Entries
+pub mod Replies
+pub mod ByForm
+pub mod RequestTexts
+pub mod EntryTexts
+pub mod ReplyTexts
 pub mod Plain

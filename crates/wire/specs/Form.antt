@@ -1,11 +1,12 @@
 -- The JSON forms of requests, replies and entries, and of their parts.
-use Rattle.std.specs.Prelude.{◌≡◌, ℕ, ◌^◌, ◌<◌, ◌≤◌, ℤ, pos, negsuc, List, [], ◌∷◌, map, length, codes, true, Some, IsUtf8}
+use Rattle.std.specs.Prelude.{◌≡◌, ℕ, ◌^◌, ◌<◌, ◌≤◌, ℤ, pos, negsuc, List, [], ◌∷◌, map, length, codes, Bool, nat_le, true, Some, IsUtf8}
 use Rattle.std.specs.List.{AllByRecursion}
 use Rattle.serde_json.specs.Data.{Data, number, unsigned, string, array}
 use Rattle.serde_json.specs.Find.{of_integer}
 use Rattle.serde_json.specs.Read.{read}
 use Rattle.serde_json.specs.View.{items_of}
-use Rattle.op_names.specs.Names.{is_seq, is_op_name}
+use Rattle.op_names.specs.Names.{is_site, is_seq, is_op_name}
+use Rattle.op_names.specs.VersionIds.{names_rise}
 use Rattle.op_names.specs.Texts.{is_room_name, is_key, is_kind, is_value_text}
 use Rattle.op_names.specs.declared.value.Value.{Value}
 use Rattle.op_names.specs.declared.value.Value.TheVariants.{Number, Text}
@@ -20,6 +21,7 @@ use Rattle.rules.specs.declared.history.Body.{Body}
 use Rattle.rules.specs.declared.history.Body.TheVariants as entry
 use Rattle.rules.specs.declared.version.Version.{Version}
 use Rattle.rules.specs.Refusals.{code_of, word_of}
+use Rattle.wire.specs.Rising.{rise, attr_before, id_before, version_before}
 use Rattle.wire.specs.declared.reply.Reply.{Reply}
 use Rattle.wire.specs.declared.reply.Reply.TheVariants.{Joined, Made, Taken, Versions, Objects, Entries, Left, No}
 
@@ -62,9 +64,21 @@ abbrev pub IsValue : Value → Type 0
 IsValue (Number z) = IsNumber z
 IsValue (Text s) = is_value_text s ≡ true
 
+-- a version identifier in range
+abbrev pub IsId : List (ℕ × ℕ) → Type 0
+IsId names = AllByRecursion (λ name. is_op_name name ≡ true) names × (names_rise names ≡ true)
+
+-- the place that a page begins at, in range
+abbrev pub is_from : ℕ → Bool
+is_from from = nat_le from 65535
+
 -- an attribute in range
 abbrev pub IsAttr : Attr → Type 0
 IsAttr p = (is_key p.0 ≡ true) × IsValue p.1
+
+-- the attributes of a creation, in range
+abbrev pub AreAttrs : List Attr → Type 0
+AreAttrs attrs = AllByRecursion IsAttr attrs × (are_attrs attrs ≡ true)
 
 -- the word that a request begins with
 abbrev pub request_word : Request → List ℕ
@@ -96,21 +110,34 @@ request_form q = list_form (string (request_word q) ∷ request_fields q)
 abbrev pub IsRequest : Request → Type 0
 IsRequest (Join room) = is_room_name room ≡ true
 IsRequest (New seq seen kind attrs) =
-    (is_seq seq ≡ true) × (is_vector seen ≡ true) × (is_kind kind ≡ true)
-    × (are_attrs attrs ≡ true) × AllByRecursion IsAttr attrs
+    (is_seq seq ≡ true) × (is_vector seen ≡ true) × (is_kind kind ≡ true) × AreAttrs attrs
+IsRequest (Set seq seen name version key value) =
+    (is_seq seq ≡ true) × (is_vector seen ≡ true) × (is_op_name name ≡ true) × IsId version
+    × (is_key key ≡ true) × IsValue value
 IsRequest (Show name) = is_op_name name ≡ true
+IsRequest (ListObjects from) = is_from from ≡ true
+IsRequest (Pull from) = is_from from ≡ true
 IsRequest Leave = Unit {0}
--- not read yet
-IsRequest (Set seq seen name version key value) = ⊥
-IsRequest (ListObjects from) = ⊥
-IsRequest (Pull from) = ⊥
 
--- the bytes are a text of the request, with any white space and escapes: at most 16,384 bytes of UTF-8 that are read as its form
+-- the JSON value has the form of x, which is in range
+pub record HasForm {X : Type 0} (form_of : X → Data) (Fits : X → Type 0) (d : Data) (x : X) : Type 0 where
+  pub form : d ≡ form_of x
+  pub in_range : Fits x
+
+-- the JSON value is that of the request
+abbrev pub IsRequestValue : Data → Request → Type 0
+IsRequestValue = HasForm request_form IsRequest
+
+-- the bytes are a text of x, with any white space and escapes: UTF-8 that is read as the form of x, which is in range
+pub record IsTextOf {X : Type 0} (form_of : X → Data) (Fits : X → Type 0) (bytes : List ℕ) (x : X) : Type 0 where
+  pub utf8 : IsUtf8 bytes
+  pub form : read bytes ≡ Some (form_of x)
+  pub in_range : Fits x
+
+-- the bytes are a text of the request, of at most 16,384 bytes
 pub record IsRequestText (bytes : List ℕ) (q : Request) : Type 0 where
   pub short : length bytes ≤ 16384
-  pub utf8 : IsUtf8 bytes
-  pub form : read bytes ≡ Some (request_form q)
-  pub in_range : IsRequest q
+  pub text : IsTextOf request_form IsRequest bytes q
 
 -- a version: its identifier and its attributes
 abbrev pub version_form : Version → Data
@@ -133,6 +160,25 @@ abbrev pub entry_form : Entry → Data
 entry_form (JoinOf site) = list_form (string (codes "join") ∷ whole_form site ∷ [])
 entry_form (Operation o) = operation_form o o.body
 
+-- what an operation that is read keeps to
+abbrev pub IsBody : Body → Type 0
+IsBody (entry.New kind attrs) = (is_kind kind ≡ true) × AreAttrs attrs
+IsBody (entry.Set name version key value) =
+    (is_op_name name ≡ true) × IsId version × (is_key key ≡ true) × IsValue value
+
+-- an entry in range
+abbrev pub IsEntry : Entry → Type 0
+IsEntry (JoinOf site) = is_site site ≡ true
+IsEntry (Operation o) = (is_op_name o.name ≡ true) × (is_vector o.seen ≡ true) × IsBody o.body
+
+-- the JSON value is that of the entry
+abbrev pub IsEntryValue : Data → Entry → Type 0
+IsEntryValue = HasForm entry_form IsEntry
+
+-- the bytes are a text of the entry
+abbrev pub IsEntryText : List ℕ → Entry → Type 0
+IsEntryText = IsTextOf entry_form IsEntry
+
 -- the form of a reply: its word, the number of entries before the call, and more
 abbrev pub reply_form : Reply → Data
 reply_form (Joined at site) = list_form (string (codes "joined") ∷ whole_form at ∷ whole_form site ∷ [])
@@ -147,3 +193,48 @@ reply_form (Entries at from entries) =
 reply_form (Left at) = list_form (string (codes "left") ∷ whole_form at ∷ [])
 reply_form (No at refusal) =
     list_form (string (codes "no") ∷ whole_form at ∷ whole_form (code_of refusal) ∷ string (word_of refusal) ∷ [])
+
+-- a place in the record, or a number of entries or objects, in range
+abbrev pub is_at : ℕ → Bool
+is_at at = nat_le at 16384
+
+-- the attributes of a version, in range
+abbrev pub AreShown : List Attr → Type 0
+AreShown attrs = AllByRecursion IsAttr attrs × (rise attr_before attrs ≡ true)
+
+-- a version in range
+abbrev pub IsVersion : Version → Type 0
+IsVersion v = IsId v.id × AreShown v.attrs
+
+-- an object's versions, in range
+abbrev pub AreVersions : List Version → Type 0
+AreVersions versions = AllByRecursion IsVersion versions × (rise version_before versions ≡ true)
+
+-- the identifiers of an object's versions, in range
+abbrev pub AreIds : List (List (ℕ × ℕ)) → Type 0
+AreIds ids = AllByRecursion IsId ids × (rise id_before ids ≡ true)
+
+-- an object with its kind, in range
+abbrev pub IsObject : (ℕ × ℕ) × List ℕ → Type 0
+IsObject o = (is_op_name o.0 ≡ true) × (is_kind o.1 ≡ true)
+
+-- a reply in range
+abbrev pub IsReply : Reply → Type 0
+IsReply (Joined at site) = (is_at at ≡ true) × (is_site site ≡ true)
+IsReply (Made at name) = (is_at at ≡ true) × (is_op_name name ≡ true)
+IsReply (Taken at ids) = (is_at at ≡ true) × AreIds ids
+IsReply (Versions at name kind versions) =
+    (is_at at ≡ true) × (is_op_name name ≡ true) × (is_kind kind ≡ true) × AreVersions versions
+IsReply (Objects at from total objects) =
+    (is_at at ≡ true) × (is_from from ≡ true) × (is_at total ≡ true) × AllByRecursion IsObject objects
+IsReply (Entries at from entries) = (is_at at ≡ true) × (is_from from ≡ true) × AllByRecursion IsEntry entries
+IsReply (Left at) = is_at at ≡ true
+IsReply (No at refusal) = is_at at ≡ true
+
+-- the JSON value is that of the reply
+abbrev pub IsReplyValue : Data → Reply → Type 0
+IsReplyValue = HasForm reply_form IsReply
+
+-- the bytes are a text of the reply
+abbrev pub IsReplyText : List ℕ → Reply → Type 0
+IsReplyText = IsTextOf reply_form IsReply

@@ -1,4 +1,8 @@
 pub mod Form
+pub mod Rising
 pub mod Reading
+pub mod Requests
+pub mod Entries
+pub mod Replies
 pub mod Faults
 pub mod Texts

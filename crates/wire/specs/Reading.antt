@@ -1,8 +1,9 @@
--- What the readers read from a JSON value: the value of a form, or nothing.
-use Rattle.std.specs.Prelude.{◌≡◌, ℕ, ◌^◌, ◌-◌, ◌&&◌, ℤ, pos, negsuc, List, [], ◌∷◌, codes, Bool, nat_le, nat_lt, if◌then◌else◌, Option, Some, None, option_map, option_and_then, Result, Ok, Err, bytes_eq, ⊤}
+-- What the readers of the parts read from a JSON value: the value of a form, or nothing.
+use Rattle.std.specs.Prelude.{◌≡◌, ℕ, ◌^◌, ◌-◌, ◌&&◌, ℤ, pos, negsuc, List, [], ◌∷◌, Bool, nat_le, nat_lt, if◌then◌else◌, Option, Some, None, option_map, option_and_then, Result, Ok, Err, bytes_eq, ⊤}
 use Rattle.serde_json.specs.Data.{Num, unsigned, negative, float, Data, Items, no_items, item}
 use Rattle.serde_json.specs.Find.{as_array, as_number, as_str, as_u64}
 use Rattle.op_names.specs.Names.{is_op_name}
+use Rattle.op_names.specs.VersionIds.{names_rise}
 use Rattle.op_names.specs.Texts.{is_room_name, is_key, is_kind, is_value_text}
 use Rattle.op_names.specs.declared.value.Value.{Value}
 use Rattle.op_names.specs.declared.value.Value.TheVariants.{Number, Text}
@@ -10,8 +11,6 @@ use Rattle.state_vector.specs.Vectors.{is_vector}
 use Rattle.rules.specs.AttrLists.{Attr, are_attrs}
 use Rattle.wire.specs.declared.fault.ReadFault.{ReadFault}
 use Rattle.wire.specs.declared.fault.ReadFault.TheVariants.{Bad, NoMemory}
-use Rattle.wire.specs.declared.request.Request.{Request}
-use Rattle.wire.specs.declared.request.Request.TheVariants.{Join, New, Show, Leave}
 
 -- a step, and then the one that goes by what it read
 infixl 10 ◌>>=◌
@@ -101,6 +100,10 @@ room_in = passing is_room_name as_str
 unfoldable pub seen_in : Data → Option (List (ℕ × ℕ))
 seen_in = passing is_vector (list_in pair_in)
 
+-- the identifier of a version
+unfoldable pub id_in : Data → Option (List (ℕ × ℕ))
+id_in = passing names_rise (list_in name_in)
+
 -- the key of an attribute
 unfoldable pub key_in : Data → Option (List ℕ)
 key_in = passing is_key as_str
@@ -141,38 +144,26 @@ field_at first others (d ∷ ds) = do
   y ← others ds
   Some (x, y)
 
--- what follows "join"
-unfoldable pub join_at : List Data → Option Request
-join_at ds = field_at room_in end_at ds >>= λ p. Some (Join p.0)
+-- a word, and what follows it
+abbrev pub worded_at : List Data → Option (List ℕ × List Data)
+worded_at [] = None
+worded_at (first ∷ rest) = do
+  word ← as_str first
+  Some (word, rest)
 
--- what follows "new"
-unfoldable pub new_at : List Data → Option Request
-new_at ds =
-    field_at (whole_in 1 16384) (field_at seen_in (field_at kind_in (field_at attrs_in end_at))) ds >>= λ p. Some (New p.0 p.1.0 p.1.1.0 p.1.1.1.0)
+-- a list of a word and what follows it
+unfoldable pub worded_in : Data → Option (List ℕ × List Data)
+worded_in d = items_in d >>= worded_at
 
--- what follows "show"
-unfoldable pub show_at : List Data → Option Request
-show_at ds = field_at name_in end_at ds >>= λ p. Some (Show p.0)
-
--- what follows "leave"
-unfoldable pub leave_at : List Data → Option Request
-leave_at ds = end_at ds >>= λ _. Some Leave
+-- words, each with the reader of what follows it
+abbrev pub Words : Type 0 → Type 0
+Words X = List (List ℕ × (List Data → Option X))
 
 -- by the word, what follows it
-unfoldable pub by_word : List ℕ → List Data → Option Request
-by_word w rest =
-    if bytes_eq w (codes "join") then join_at rest
-    else (if bytes_eq w (codes "new") then new_at rest
-    else (if bytes_eq w (codes "show") then show_at rest
-    else (if bytes_eq w (codes "leave") then leave_at rest else None)))
+abbrev pub by_word : {X : Type 0} → Words X → List ℕ → List Data → Option X
+by_word [] word rest = None
+by_word (first ∷ others) word rest = if bytes_eq word first.0 then first.1 rest else by_word others word rest
 
--- a word and what follows it
-unfoldable pub request_at : List Data → Option Request
-request_at [] = None
-request_at (word ∷ rest) = do
-  w ← as_str word
-  by_word w rest
-
--- the request whose form a JSON value is
-unfoldable pub request_in : Data → Option Request
-request_in d = items_in d >>= request_at
+-- a list of one of the words and what follows it
+abbrev pub message_in : {X : Type 0} → Words X → Data → Option X
+message_in words d = worded_in d >>= λ p. by_word words p.0 p.1

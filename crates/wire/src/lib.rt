@@ -1,10 +1,9 @@
-//! Requests and replies, and their JSON forms.
+//! Requests, replies and entries of a record, and their JSON forms.
 #![tactic(auto)]
 
 mod fault;
 pub mod laws;
 mod lists;
-mod part;
 mod read;
 mod reply;
 mod request;
@@ -12,11 +11,11 @@ mod write;
 
 pub use fault::ReadFault;
 pub use lists::{EntryList, IdList, ObjectList, VersionList};
-pub use read::read_request;
+pub use read::{entry_of, read_entry, read_reply, read_request, reply_of, request_of};
 pub use reply::Reply;
 pub use request::Request;
 pub use rules::Refusal;
-pub use write::{write_reply, write_request};
+pub use write::{write_entry, write_reply, write_request};
 
 #[cfg(test)]
 mod tests;

@@ -1,8 +1,10 @@
-//! Requests and replies as text.
+//! Requests, replies and entries as text.
 
+mod entry;
 mod part;
 mod reply;
 mod request;
 
+pub use entry::write_entry;
 pub use reply::write_reply;
 pub use request::write_request;

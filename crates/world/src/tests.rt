@@ -83,7 +83,34 @@ fn a_room_of_creations(rt: HostRuntime) -> Result<(), Fail> {
         ("3 [\"show\",[9,9]]", "3 [\"no\",6,11,\"no-such-object\"]"),
         ("3 [\"leave\"]", "3 [\"left\",6]"),
         ("3 [\"join\",\"r\"]", "3 [\"joined\",6,4]"),
-        ("3 [\"list\",0]", "3 [\"no\",0,1,\"bad-message\"]"),
+    ];
+    check(&rt, &["r"], &lines)
+}
+
+#[test]
+fn pages_of_a_room(rt: HostRuntime) -> Result<(), Fail> {
+    let lines = [
+        ("9 [\"list\",0]", "9 [\"no\",0,2,\"not-joined\"]"),
+        ("1 [\"join\",\"r\"]", "1 [\"joined\",0,1]"),
+        ("1 [\"list\",0]", "1 [\"objects\",1,0,0,[]]"),
+        (
+            "1 [\"new\",1,[],\"rect\",[[\"x\",0]]]",
+            "1 [\"made\",1,[1,1]]",
+        ),
+        ("2 [\"join\",\"r\"]", "2 [\"joined\",2,2]"),
+        ("2 [\"list\",0]", "2 [\"objects\",3,0,1,[[[1,1],\"rect\"]]]"),
+        ("2 [\"list\",1]", "2 [\"objects\",3,1,1,[]]"),
+        ("2 [\"list\",2]", "2 [\"no\",3,17,\"too-far\"]"),
+        (
+            "2 [\"pull\",1]",
+            "2 [\"entries\",3,1,[[\"new\",[1,1],[],\"rect\",[[\"x\",0]]],[\"join\",2]]]",
+        ),
+        ("2 [\"pull\",3]", "2 [\"entries\",3,3,[]]"),
+        ("2 [\"pull\",99]", "2 [\"no\",3,17,\"too-far\"]"),
+        (
+            "2 [\"set\",1,[[1,1]],[1,1],[],\"x\",9]",
+            "2 [\"no\",0,1,\"bad-message\"]",
+        ),
     ];
     check(&rt, &["r"], &lines)
 }

@@ -1,16 +1,14 @@
 //! The parts of a form, to JSON.
 
 ghost use Rattle.std.specs.Prelude.{◌≡◌, map, IfOk};
-ghost use Rattle.std.specs.Arc.{arc_value};
 ghost use Rattle.serde_json.specs.Data.{Data, string};
 ghost use Rattle.serde_json.specs.View.{view};
-ghost use Rattle.wire.specs.Form.{list_form, name_form, value_form, attr_form, names_form, version_form, object_form, entry_form, operation_form};
+ghost use Rattle.wire.specs.Form.{list_form, name_form, value_form, attr_form, names_form, version_form, object_form};
 
 use op_names::{Key, Kind, OpName, VersionId};
-use rules::{Body, Entry, Op, Version};
+use rules::Version;
 use serde_json::Value;
 use std::alloc::{AllocError, Global};
-use std::sync::Arc;
 
 /// What has a form.
 pub(crate) trait Written {
@@ -110,57 +108,5 @@ impl Written for (OpName, Kind) {
     fn to_json(&self, alloc: Global) -> Result<Value, AllocError> {
         let name = self.0.to_json(alloc)?;
         values_to_json(alloc, [name, text_to_json(alloc, self.1.text())?])
-    }
-}
-
-impl Written for Op {
-    ghost form = { λ op. operation_form op op.body };
-
-    fn to_json(&self, alloc: Global) -> Result<Value, AllocError> {
-        let name = self.name.to_json(alloc)?;
-        let seen = list_to_json(alloc, self.seen.pairs())?;
-        match &self.body {
-            Body::New { kind, attrs } => {
-                let word = text_to_json(alloc, "new")?;
-                let kind = text_to_json(alloc, kind.text())?;
-                let attrs = list_to_json(alloc, attrs.pairs())?;
-                values_to_json(alloc, [word, name, seen, kind, attrs])
-            }
-            Body::Set {
-                object,
-                version,
-                key,
-                value,
-            } => {
-                let word = text_to_json(alloc, "set")?;
-                let object = object.to_json(alloc)?;
-                let version = version.to_json(alloc)?;
-                let key = text_to_json(alloc, key.text())?;
-                let value = value.to_json(alloc)?;
-                values_to_json(alloc, [word, name, seen, object, version, key, value])
-            }
-        }
-    }
-}
-
-impl Written for Entry {
-    ghost form = { entry_form };
-
-    fn to_json(&self, alloc: Global) -> Result<Value, AllocError> {
-        match self {
-            Entry::Join(site) => {
-                values_to_json(alloc, [text_to_json(alloc, "join")?, Value::from(*site)])
-            }
-            Entry::Operation(op) => op.to_json(alloc),
-        }
-    }
-}
-
-impl Written for Arc<Entry> {
-    ghost form = { λ entry. entry_form (arc_value entry) };
-
-    fn to_json(&self, alloc: Global) -> Result<Value, AllocError> {
-        let entry: &Entry = self;
-        entry.to_json(alloc)
     }
 }

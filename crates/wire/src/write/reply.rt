@@ -3,7 +3,7 @@
 ghost use Rattle.std.specs.Prelude.{◌≡◌, map, IfOk, string_bytes};
 ghost use Rattle.std.specs.Arc.{arc_value};
 ghost use Rattle.serde_json.specs.View.{view};
-ghost use Rattle.wire.specs.Form.{list_form, entry_form, reply_form};
+ghost use Rattle.wire.specs.Form.{list_form, entry_form, reply_form, IsReply, IsReplyText};
 ghost use Rattle.wire.specs.Texts.{reply_text};
 
 use super::part::{Written, list_to_json, text_to_json, values_to_json};
@@ -135,10 +135,13 @@ impl Written for Reply {
     }
 }
 
-/// The compact text of a reply: its form without white space.
+/// The compact text of a reply: its form without white space. That of a reply in range is read as
+/// it.
 #[tactic(auto, using(crate::proofs::Plain::plain_reply), unfolding(crate::specs::Texts::reply_text))]
 pub fn write_reply(alloc: Global, reply: &Reply) -> Result<String, NoMemory>
-    ensures { IfOk result (λ text. string_bytes text ≡ reply_text reply.now) }
+    ensures text { IfOk result (λ text. string_bytes text ≡ reply_text reply.now) }
+    ensures is_read { IfOk result (λ text. IsReply reply.now
+        → IsReplyText (string_bytes text) reply.now) }
 {
     let value = reply.to_json(alloc)?;
     Ok(value.to_string(alloc)?)

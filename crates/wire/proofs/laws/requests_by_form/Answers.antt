@@ -1,4 +1,4 @@
-use Rattle.wire.proofs.Requests as requests
+use Rattle.wire.proofs.RequestTexts as requests
 use Rattle.wire.proofs.laws.requests_by_form.Goals as goal
 
 pub returns : goal.returns

@@ -9,4 +9,7 @@ pub returns-clause-is_read : goal.returns-clause-is_read
 returns-clause-is_read c in_range short =
     let shallow : depth (request_form c.args.request.now) ≤ 3 = (plain_request c.args.request.now).shallow in
     let back = rw c.in_ok-value.ensures at c.in_ok-to_string.ensures.reads_back in
-    record { short = short; utf8 = IsUtf8-string_bytes c.in_ok-to_string.field-0; form = back (omega arith); in_range = in_range }
+    record {
+      short = short;
+      text = record { utf8 = IsUtf8-string_bytes c.in_ok-to_string.field-0; form = back (omega arith); in_range = in_range };
+    }

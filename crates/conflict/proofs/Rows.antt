@@ -1,0 +1,211 @@
+-- The row of a set that comes after all others, and what is stored once it is added.
+use Rattle.std.proofs.Common.{◌≡◌, ℕ, ◌+◌, ◌<◌, ◌≤◌, Bool, true, false, not, ◌&&◌, ◌||◌, List, [], ◌∷◌, ◌++◌, length, map, get_or, refl, sym, ap, ◌∙◌, arith, inl, inr, eqb}
+use Rattle.std.specs.Prelude.{filter}
+use Rattle.std.specs.List.{list_any}
+use Rattle.std.proofs.lemmas.Bool.{true≢false, false_from_ne_true, or_cases, or_left, or_right, eqb-true, eq-eqb, cases_lt}
+use Rattle.std.proofs.lemmas.List.{length-append, map-append}
+use Rattle.std.proofs.lemmas.List.FromFn.{map-range_with_len_more, get_or-map-range_with_len, length-map-range_with_len}
+use Rattle.state_vector.specs.Vectors.{counts}
+use Rattle.op_names.specs.Names.{Name, is_op_name}
+use Rattle.rules.specs.declared.history.Op.{Op}
+use Rattle.rules.specs.Bodies.{differ_on_a_key}
+use Rattle.rules.specs.Operations.{before, same_op}
+use Rattle.rules.specs.Conflicts.{base, conflict, direct_conflict, members}
+use Rattle.rules.proofs.Lists.{In, In-from_Contains, Contains-from_In, In-append_cases, In-filter, In-filter_back, any_from, any_back, any_agree, filter_agree, map_agree}
+use Rattle.rules.proofs.Relation.{same_answer, conflict_symmetric}
+use Rattle.rules.proofs.Counted.{same_name-true, same_name-refl}
+use Rattle.rules.proofs.Sets.{in_known_back}
+use Rattle.conflict.specs.Members.{has, places}
+use Rattle.conflict.specs.Relations.{IsRelation}
+use Rattle.conflict.specs.Sets.{AreSetsOf, AreSetsOn, AreStored, at, places_of, base_places, earlier_conflicts, is_in_row}
+use Rattle.conflict.proofs.Places.{In-places, below, has-filter, has-filter_past, left_next, at_in, place_of, one_place_each, at_push, at_last, has-places_of, any-places_of}
+use Rattle.conflict.proofs.Growth.{apart, once, few_sets, base_inside, base_within, never_alone, conflict_from_base_on, stays, is_there, apart_before, before_none, base_grows, conflict_grows}
+
+-- ---- direct conflict with a later set
+
+-- the test of direct conflict, where the first operation isn't before the second, but the second before the first
+direct_if_known : (p q d l m : Bool) → p ≡ false → q ≡ true → not m ≡ (((not p && not q) && d) || (p && not l) || (q && not m))
+direct_if_known false true d l m e t = refl
+direct_if_known true q d l m e t = absurd (true≢false e)
+direct_if_known false false d l m e t = absurd (true≢false (sym t))
+
+-- and where neither is
+direct_if_unknown : (p q d l m : Bool) → p ≡ false → q ≡ false → d ≡ (((not p && not q) && d) || (p && not l) || (q && not m))
+direct_if_unknown false false true l m e t = refl
+direct_if_unknown false false false l m e t = refl
+direct_if_unknown true q d l m e t = absurd (true≢false e)
+direct_if_unknown false true d l m e t = absurd (true≢false t)
+
+module _ {object : Name} (k : List Op) (o : Op) (w : AreSetsOf object (k ++ o ∷ [])) where
+  abbrev pub grown : List Op
+  grown = k ++ o ∷ []
+
+  has_base_place : (p : ℕ) → p < length k → has (base_places k o) p ≡ list_any (same_op (at k p)) (members (base grown o))
+  has_base_place p l =
+      has-places_of k (members (base k o)) p l
+      ∙ ap (λ b. list_any (same_op (at k p)) (members b)) (base_grows k o w o (is_there k o w))
+
+  -- a set that the later one knows is in direct conflict with it where it isn't in its base
+  pub met_if_known : (p : ℕ) → p < length k → before (at k p) o ≡ true → not (has (base_places k o) p) ≡ direct_conflict (base grown) o (at k p)
+  met_if_known p l t =
+      let x = at k p in
+      ap not (has_base_place p l)
+      ∙ direct_if_known (before o x) (before x o) (differ_on_a_key o.body x.body) (list_any (same_op o) (members (base grown x))) (list_any (same_op x) (members (base grown o)))
+      (before_none k o w x (stays k o w x (at_in k p l))) t
+
+  -- one that it doesn't know, where the two give a key different values
+  pub met_if_unknown : (p : ℕ) → p < length k → before (at k p) o ≡ false → differ_on_a_key o.body (at k p).body ≡ direct_conflict (base grown) o (at k p)
+  met_if_unknown p l t =
+      let x = at k p in
+      direct_if_unknown (before o x) (before x o) (differ_on_a_key o.body x.body) (list_any (same_op o) (members (base grown x))) (list_any (same_op x) (members (base grown o)))
+      (before_none k o w x (stays k o w x (at_in k p l))) t
+
+  -- ---- the row
+
+  -- a test on a set and its base, at their places
+  reached : (f : Op → Bool) (j : ℕ) → j < length k → list_any (has (j ∷ base_places k (at k j))) (filter (λ p. f (at k p)) (places (length k))) ≡ list_any f (at k j ∷ members (base k (at k j)))
+  reached f j l =
+      let b = at k j in
+      let g = members (base k b) in
+      let kept : ℕ → Bool = λ p. f (at k p) in
+      same_answer (list_any (has (j ∷ base_places k b)) (filter kept (places (length k)))) (list_any f (b ∷ g))
+      (λ e.
+      let c = any_back (has (j ∷ base_places k b)) (filter kept (places (length k))) e in
+      let m = In-filter_back kept c.0 (places (length k)) c.1 in
+      elim (or_cases (eqb j c.0) (has (base_places k b) c.0) c.2) [
+        | inl q ↦ any_from f b (b ∷ g) (inl refl) (ap kept (eqb-true j c.0 q) ∙ m.1)
+        | inr r ↦
+            (let p : c.0 < length k = below (length k) c.0 m.0 in
+            let d = any_back (same_op (at k c.0)) g (sym (has-places_of k g c.0 p) ∙ r) in
+            let s : at k c.0 ≡ d.0 = apart_before k o w (at k c.0) d.0 (at_in k c.0 p) (base_inside k b d.0 d.1) (same_name-true (at k c.0).name d.0.name d.2) in
+            any_from f d.0 (b ∷ g) (inr d.1) (sym (ap f s) ∙ m.1))
+      ])
+      (λ e.
+      let c = any_back f (b ∷ g) e in
+      elim c.1 [
+        | inl q ↦ any_from (has (j ∷ base_places k b)) j (filter kept (places (length k))) (In-filter kept j (places (length k)) (In-places (length k) j l) (sym (ap f q) ∙ c.2)) (or_left (eqb j j) (has (base_places k b) j) (eq-eqb j j refl))
+        | inr r ↦
+            (let p = place_of c.0 k (base_inside k b c.0 r) in
+            let t : has (base_places k b) p.place ≡ true = has-places_of k g p.place p.within ∙ any_from (same_op (at k p.place)) c.0 g r (same_name-refl (at k p.place).name c.0.name (ap (λ (x : Op). x.name) p.is)) in
+            any_from (has (j ∷ base_places k b)) p.place (filter kept (places (length k))) (In-filter kept p.place (places (length k)) (In-places (length k) p.place p.within) (ap f p.is ∙ c.2)) (or_right (eqb j p.place) (has (base_places k b) p.place) t))
+      ])
+
+  listed_is : filter (has (base_places k o)) (places (length k)) ≡ base_places k o
+  listed_is = filter_agree (has (base_places k o)) (λ p. list_any (same_op (at k p)) (members (base k o))) (places (length k)) (λ p m. has-places_of k (members (base k o)) p (below (length k) p m))
+
+  joined : (b : Op) → In b k → list_any (λ p. conflict k (at k p) b) (base_places k o) ≡ list_any (λ x. conflict grown x b) (members (base grown o))
+  joined b m =
+      let g = members (base k o) in
+      any-places_of k g (apart_before k o w) (base_inside k o) (λ x. conflict k x b)
+      ∙ any_agree (λ x. conflict k x b) (λ x. conflict grown x b) g (λ x l. conflict_grows k o w x b (stays k o w x (base_inside k o x l)) (stays k o w b m))
+      ∙ ap (λ r. list_any (λ x. conflict grown x b) (members r)) (base_grows k o w o (is_there k o w))
+
+  in_row : (j : ℕ) → j < length k → is_in_row k (filter (λ p. direct_conflict (base grown) o (at k p)) (places (length k))) (base_places k o) j ≡ conflict grown o (at k j)
+  in_row j l =
+      let b = at k j in
+      let m = at_in k j l in
+      let first = reached (direct_conflict (base grown) o) j l ∙ ap (λ r. list_any (direct_conflict (base grown) o) (b ∷ members r)) (base_grows k o w b (stays k o w b m)) in
+      (λ i. first i || joined b m i) ∙ sym (conflict_from_base_on w o b (is_there k o w) (stays k o w b m))
+
+  -- the row that is made from the places of those met directly and of the base
+  pub row_is : (based met listed row : List ℕ) → based ≡ base_places k o
+      → met ≡ filter (λ p. direct_conflict (base grown) o (at k p)) (places (length k)) → listed ≡ filter (has based) (places (length k))
+      → row ≡ filter (is_in_row k met listed) (places (length k))
+      → row ≡ filter (λ j. conflict grown o (at k j)) (places (length k))
+  row_is based met listed row b d s r =
+      let listed_same : listed ≡ base_places k o = s ∙ ap (λ x. filter (has x) (places (length k))) b ∙ listed_is in
+      r
+      ∙ (λ i. filter (is_in_row k (d i) (listed_same i)) (places (length k)))
+      ∙ filter_agree
+      (is_in_row k (filter (λ p. direct_conflict (base grown) o (at k p)) (places (length k))) (base_places k o))
+      (λ j. conflict grown o (at k j)) (places (length k)) (λ j m. in_row j (below (length k) j m))
+
+  -- ---- what is stored, with one set more
+
+  one_more : length grown ≡ length k + 1
+  one_more = length-append k (o ∷ [])
+
+  base_places_grow : (x : Op) → In x grown → base_places grown x ≡ base_places k x
+  base_places_grow x m =
+      let g = members (base k x) in
+      let test : ℕ → Bool = λ p. list_any (same_op (at grown p)) g in
+      let out : list_any (same_op o) g ≡ false = false_from_ne_true (list_any (same_op o) g) (λ e.
+      let c = any_back (same_op o) g e in
+      let t : o.name ≡ c.0.name = same_name-true o.name c.0.name c.2 in
+      true≢false (sym (ap (counts x.seen) t ∙ (in_known_back k x c.0 (base_within k x c.0 c.1)).earlier) ∙ before_none k o w x m)) in
+      let last : test (length k) ≡ false = ap (λ z. list_any (same_op z) g) (at_last k o) ∙ out in
+      ap (λ r. places_of grown (members r)) (sym (base_grows k o w x m))
+      ∙ ap (λ n. filter test (places n)) one_more
+      ∙ left_next test (length k) last
+      ∙ filter_agree test (λ p. list_any (same_op (at k p)) g) (places (length k)) (λ p n. ap (λ z. list_any (same_op z) g) (at_push k o p (below (length k) p n)))
+
+  bases_grow : map (base_places grown) grown ≡ map (base_places k) k ++ base_places k o ∷ []
+  bases_grow =
+      map-append (base_places grown) k (o ∷ [])
+      ∙ (λ i. map_agree (base_places grown) (base_places k) k (λ x m. base_places_grow x (stays k o w x m)) i ++ base_places_grow o (is_there k o w) i ∷ [])
+
+  row_stays : (p : ℕ) → p < length k → earlier_conflicts grown p ≡ earlier_conflicts k p
+  row_stays p l = filter_agree (λ j. conflict grown (at grown p) (at grown j)) (λ j. conflict k (at k p) (at k j)) (places p) (λ j m.
+      let b = below p j m in
+      let n : j < length k = omega arith in
+      (λ i. conflict grown (at_push k o p l i) (at_push k o j n i))
+      ∙ sym (conflict_grows k o w (at k p) (at k j) (stays k o w (at k p) (at_in k p l)) (stays k o w (at k j) (at_in k j n))))
+
+  last_row : earlier_conflicts grown (length k) ≡ filter (λ j. conflict grown o (at k j)) (places (length k))
+  last_row = filter_agree (λ j. conflict grown (at grown (length k)) (at grown j)) (λ j. conflict grown o (at k j)) (places (length k)) (λ j m.
+      λ i. conflict grown (at_last k o i) (at_push k o j (below (length k) j m) i))
+
+  rows_grow : map (earlier_conflicts grown) (places (length grown)) ≡ map (earlier_conflicts k) (places (length k)) ++ filter (λ j. conflict grown o (at k j)) (places (length k)) ∷ []
+  rows_grow =
+      ap (λ n. map (earlier_conflicts grown) (places n)) one_more
+      ∙ map-range_with_len_more (earlier_conflicts grown) 0 (length k) (length k) (omega arith)
+      ∙ (λ i. map_agree (earlier_conflicts grown) (earlier_conflicts k) (places (length k)) (λ p m. row_stays p (below (length k) p m)) i ++ last_row i ∷ [])
+
+pub stored_push : {object : Name} (k : List Op) (o : Op) (bases rows : List (List ℕ)) (b r : List ℕ) → AreStored object k bases rows → AreSetsOn object (k ++ o ∷ []) → is_op_name o.name ≡ true
+    → b ≡ base_places k o → r ≡ filter (λ j. conflict (k ++ o ∷ []) o (at k j)) (places (length k)) → AreStored object (k ++ o ∷ []) (bases ++ b ∷ []) (rows ++ r ∷ [])
+stored_push {object} k o bases rows b r s w name p q =
+    let named : (x : Op) → In x (k ++ o ∷ []) → is_op_name x.name ≡ true =
+    λ x m. elim (In-append_cases x k (o ∷ []) m) [
+      | inl l ↦ s.named x (Contains-from_In x k l)
+      | inr l ↦ elim l [ inl e ↦ ap (λ (z : Op). is_op_name z.name) e ∙ name | inr f ↦ absurd f ]
+    ] in
+    record {
+      sets = w;
+      named = λ x m. named x (In-from_Contains x (k ++ o ∷ []) m);
+      few = few_sets w.listed named;
+      bases_are = (λ i. s.bases_are i ++ p i ∷ []) ∙ sym (bases_grow k o w.listed);
+      rows_are = (λ i. s.rows_are i ++ q i ∷ []) ∙ sym (rows_grow k o w.listed);
+    }
+
+-- ---- look-ups
+
+pub row_found : (k : List Op) (rows : List (List ℕ)) (p : ℕ) (d : List ℕ) → rows ≡ map (earlier_conflicts k) (places (length k)) → p < length k → get_or rows p d ≡ earlier_conflicts k p
+row_found k rows p d e l = ap (λ r. get_or r p d) e ∙ get_or-map-range_with_len (earlier_conflicts k) 0 (length k) p p d l (omega arith)
+
+pub rows_length : (k : List Op) (rows : List (List ℕ)) → rows ≡ map (earlier_conflicts k) (places (length k)) → length rows ≡ length k
+rows_length k rows e = ap length e ∙ length-map-range_with_len (earlier_conflicts k) 0 (length k)
+
+module _ {object : Name} {k : List Op} (w : AreSetsOn object k) where
+  -- the sets at two places, by the row of the later one
+  pub conflict_in_row : (i j : ℕ) → i < length k → i < j → has (earlier_conflicts k j) i ≡ conflict k (at k i) (at k j)
+  conflict_in_row i j l b = has-filter (λ e. conflict k (at k j) (at k e)) j i b ∙ conflict_symmetric k (at k j) (at k i)
+
+  pub conflict_in_own_row : (i j : ℕ) → i < length k → j ≤ i → has (earlier_conflicts k i) j ≡ conflict k (at k i) (at k j)
+  conflict_in_own_row i j l b = elim (cases_lt j i) [
+    | inl s ↦ has-filter (λ e. conflict k (at k i) (at k e)) i j s
+    | inr g ↦
+        (let e : j ≡ i = omega arith in
+        has-filter_past (λ z. conflict k (at k i) (at k z)) i j g
+        ∙ sym (never_alone w (at k i) (at_in k i l))
+        ∙ ap (λ z. conflict k (at k i) (at k z)) (sym e))
+  ]
+
+  same_place : (i j : ℕ) → i < length k → j < length k → (at k i).name ≡ (at k j).name → i ≡ j
+  same_place i j l m e = one_place_each k i j (once w.listed) l m (apart w.listed (at k i) (at k j) (at_in k i l) (at_in k j m) e)
+
+  pub is_relation : IsRelation (length k) (λ i. (at k i).name) (λ i j. conflict k (at k i) (at k j))
+  is_relation = record {
+    both_ways = λ i j l m. conflict_symmetric k (at k i) (at k j);
+    never_alone = λ i l. never_alone w (at k i) (at_in k i l);
+    one_each = same_place;
+  }

@@ -1,0 +1,4 @@
+pub mod Members
+pub mod Relations
+pub mod Sets
+pub mod Example

@@ -1,0 +1,14 @@
+//! Sets of places, relations between places, and the conflicts between the sets on an object.
+#![tactic(auto)]
+
+mod clashes;
+pub mod laws;
+mod members;
+mod relation;
+
+pub use clashes::Clashes;
+pub use members::Members;
+pub use relation::Relation;
+
+#[cfg(test)]
+mod tests;

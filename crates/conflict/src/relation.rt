@@ -1,0 +1,36 @@
+//! Relations between places.
+
+ghost use Rattle.std.specs.Prelude.{◌≡◌, ℕ, ◌<◌, Bool};
+ghost use Rattle.op_names.specs.Names.{Name};
+ghost use Rattle.conflict.specs.Relations.{IsRelation};
+
+use op_names::OpName;
+
+/// Operations by their places, which count from 0, and which two of them are in conflict.
+pub trait Relation {
+    /// The number of operations.
+    ghost size: { Self → ℕ };
+
+    /// The name of the operation at a place.
+    ghost name_at: { Self → ℕ → Name };
+
+    /// Are the operations at two places in conflict?
+    ghost clashes: { Self → ℕ → ℕ → Bool };
+
+    /// The number of operations. On their places conflict goes both ways, nothing is in conflict
+    /// with itself, and no two have one name.
+    fn len(&self) -> u32
+        ensures size { result ≡ size self.now }
+        ensures relation { IsRelation (size self.now) (name_at self.now) (clashes self.now) };
+
+    /// The name of the operation at a place.
+    fn name(&self, i: u32) -> OpName
+        requires { i < size self.now }
+        ensures { result ≡ name_at self.now i };
+
+    /// Are the operations at two places in conflict?
+    fn clash(&self, i: u32, j: u32) -> bool
+        requires first { i < size self.now }
+        requires second { j < size self.now }
+        ensures { result ≡ clashes self.now i j };
+}

@@ -1,0 +1,124 @@
+-- A legal record's operations are a history in causal order, and each of its sets has its object and its base.
+use Rattle.std.proofs.Common.{◌≡◌, true, false, not, List, [], ◌∷◌, ◌++◌, refl, sym, ap, ◌∙◌, subst, inl, inr, Option, Some, None, leb, cond, ◌&&◌}
+use Rattle.std.specs.Prelude.{Contains, IsTrue, is_none, is_some, Bool}
+use Rattle.std.specs.List.{list_any}
+use Rattle.std.proofs.lemmas.Bool.{true≢false, and_parts, not-false, not_from_false, false_from_ne_true}
+use Rattle.std.proofs.lemmas.List.Elements.{Contains-push_cases}
+use Rattle.std.proofs.lemmas.List.{append_assoc, append-nil}
+use Rattle.state_vector.specs.Vectors.{is_vector}
+use Rattle.rules.specs.declared.history.Op.{Op}
+use Rattle.rules.specs.declared.history.Entry.{Entry}
+use Rattle.rules.specs.declared.history.Entry.TheVariants.{Join, Operation}
+use Rattle.rules.specs.declared.refusal.Refusal.TheVariants.{NoSuchObject, NoSuchVersion, ObjectFull, TooManyKeys, TooManyVersions}
+use Rattle.rules.specs.Bounds.{Bounds}
+use Rattle.rules.specs.Bodies.{is_set_body}
+use Rattle.rules.specs.Operations.{IsHistory, IsCausallyOrdered, before, is_creation_of, object_of, sets_on}
+use Rattle.rules.specs.Admission.{first_that_applies}
+use Rattle.rules.specs.Conflicts.{base, has_object, IsFounded}
+use Rattle.rules.specs.Records.{operations, sites, admits, is_placed, refusal, order_conditions, set_conditions, creation_conditions, has_too_many_keys, has_too_many_versions, IsLegal, IsLegalAfter}
+use Rattle.rules.proofs.Lists.{In, In-from_Contains, Contains-from_In, In-append_left, any_from, any_back}
+use Rattle.rules.proofs.Histories.{IsNumbered, numbered_push, numbered_empty, not_counted}
+use Rattle.rules.proofs.Records.{operations-join, operations-push}
+use Rattle.rules.proofs.Conditions.{not_first, none_of_both, none_applies, room_for_operation}
+use Rattle.rules.proofs.Agreement.{base_in_part}
+use Rattle.rules.proofs.Parts.{part_of_grown, base_before_adding}
+
+is_some-not_none : {X : Type 0} (r : Option X) → is_none r ≡ false → is_some r ≡ true
+is_some-not_none None e = absurd (true≢false e)
+is_some-not_none (Some x) e = refl
+
+record HasGround (h : List Op) (op : Op) : Type 0 where
+  object : has_object h op ≡ true
+  based : is_some (base h op) ≡ true
+
+-- a set that is admitted has its object and its base
+ground_if : (b : Bounds) (r : List Entry) (op : Op) → admits b r (Operation op) ≡ true → is_set_body op.body ≡ true → HasGround (operations r) op
+ground_if b r op a e =
+    let h = operations r in
+    let x = none_of_both (order_conditions b r op) (cond (is_set_body op.body) (set_conditions b h op) (creation_conditions b r)) (none_applies b r (Operation op) a) in
+    let y : first_that_applies (set_conditions b h op) ≡ None = rw e at x.1 in
+    let sets = sets_on h (object_of op) in
+    let late = (leb b.sets (Rattle.std.specs.Prelude.length sets), ObjectFull) ∷ (has_too_many_keys b sets op, TooManyKeys) ∷ (has_too_many_versions b h op, TooManyVersions) ∷ [] in
+    let first = not_first (not (has_object h op), NoSuchObject) ((is_none (base h op), NoSuchVersion) ∷ late) y in
+    let second = not_first (is_none (base h op), NoSuchVersion) late first.1 in
+    record { object = not-false (has_object h op) first.0; based = is_some-not_none (base h op) second.0 }
+
+-- a history in causal order, whose sites number their operations, and whose sets have their objects and bases
+record IsSound (h : List Op) : Type 0 where
+  numbered : IsNumbered h
+  ordered : IsCausallyOrdered h
+  founded : IsFounded h
+
+object_stays : (h : List Op) (o op : Op) → has_object h op ≡ true → has_object (h ++ o ∷ []) op ≡ true
+object_stays h o op e =
+    let test : Op → Bool = λ a. is_creation_of (object_of op) a && before a op in
+    let c = any_back test h e in
+    any_from test c.0 (h ++ o ∷ []) (In-append_left c.0 h (o ∷ []) c.1) c.2
+
+ordered_push : (h : List Op) (o : Op) → IsCausallyOrdered h → ((x : Op) → In x h → before o x ≡ false) → IsCausallyOrdered (h ++ o ∷ [])
+ordered_push [] o c f = ((λ y m. absurd (In-from_Contains y [] m)), tt)
+ordered_push (x ∷ h) o c f = (
+  (λ y m. elim (Contains-push_cases h o y m) [
+    | inl p ↦ c.0 y p
+    | inr e ↦ subst (λ z. IsTrue (not (before z x))) e (not_from_false (before o x) (f x (inl refl)))
+  ]),
+  ordered_push h o c.1 (λ z m. f z (inr m)),
+)
+
+founded_push : (b : Bounds) (r : List Entry) (o : Op) (s : IsSound (operations r)) → IsHistory (operations r ++ o ∷ []) → admits b r (Operation o) ≡ true → IsFounded (operations r ++ o ∷ [])
+founded_push b r o s j a =
+    let h = operations r in
+    let i = s.numbered.history in
+    record {
+      object = λ x m t. elim (Contains-push_cases h o x m) [
+        | inl p ↦ object_stays h o x (s.founded.object x p t)
+        | inr e ↦ subst (λ z. has_object (h ++ o ∷ []) z ≡ true) e (object_stays h o o (ground_if b r o a (ap (λ (z : Op). is_set_body z.body) e ∙ t)).object)
+      ];
+      based = λ x m t. elim (Contains-push_cases h o x m) [
+        | inl p ↦ ap is_some (sym (base_in_part (part_of_grown o i j) x p)) ∙ s.founded.based x p t
+        | inr e ↦ subst (λ z. is_some (base (h ++ o ∷ []) z) ≡ true) e (ap is_some (sym (base_before_adding o i j)) ∙ (ground_if b r o a (ap (λ (z : Op). is_set_body z.body) e ∙ t)).based)
+      ];
+    }
+
+sound_push : (b : Bounds) (r : List Entry) (o : Op) → IsSound (operations r) → admits b r (Operation o) ≡ true → IsSound (operations r ++ o ∷ [])
+sound_push b r o s a =
+    let h = operations r in
+    let none = (room_for_operation b r o a).1 in
+    let vector : is_vector o.seen ≡ true = (and_parts (leb 1 o.name.0 && leb o.name.0 (sites r)) (is_vector o.seen) (and_parts (is_placed r (Operation o)) (is_none (refusal b r (Operation o))) a).0).1 in
+    let n = numbered_push h o s.numbered none vector in
+    record {
+      numbered = n;
+      ordered = ordered_push h o s.ordered (λ x m. false_from_ne_true (before o x) (λ t. not_counted h o s.numbered none vector x (Contains-from_In x h m) t));
+      founded = founded_push b r o s n.history a;
+    }
+
+sound_after : (b : Bounds) (r rest : List Entry) → IsSound (operations r) → IsLegalAfter b r rest → IsSound (operations (r ++ rest))
+sound_after b r [] s g = subst (λ x. IsSound (operations x)) (sym (append-nil r)) s
+sound_after b r (Join site ∷ rest) s g =
+    subst (λ x. IsSound (operations x)) (append_assoc r (Join site ∷ []) rest)
+    (sound_after b (r ++ Join site ∷ []) rest (subst IsSound (sym (operations-join r site)) s) g.1)
+sound_after b r (Operation o ∷ rest) s g =
+    subst (λ x. IsSound (operations x)) (append_assoc r (Operation o ∷ []) rest)
+    (sound_after b (r ++ Operation o ∷ []) rest (subst IsSound (sym (operations-push r o)) (sound_push b r o s g.0)) g.1)
+
+sound_empty : IsSound []
+sound_empty = record {
+  numbered = numbered_empty;
+  ordered = tt;
+  founded = record { object = λ x m t. absurd (In-from_Contains x [] m); based = λ x m t. absurd (In-from_Contains x [] m) };
+}
+
+sound : (b : Bounds) (r : List Entry) → IsLegal b r → IsSound (operations r)
+sound b r g = sound_after b [] r sound_empty g
+
+-- a legal record's operations are a history
+pub history_if_legal : (b : Bounds) (r : List Entry) → IsLegal b r → IsHistory (operations r)
+history_if_legal b r g = (sound b r g).numbered.history
+
+-- in causal order
+pub ordered_if_legal : (b : Bounds) (r : List Entry) → IsLegal b r → IsCausallyOrdered (operations r)
+ordered_if_legal b r g = (sound b r g).ordered
+
+-- whose sets have their objects and bases
+pub founded_if_legal : (b : Bounds) (r : List Entry) → IsLegal b r → IsFounded (operations r)
+founded_if_legal b r g = (sound b r g).founded

@@ -1,0 +1,58 @@
+-- The base of a set, and when two sets conflict. The basic conflict is that of Sun and Chen (ACM TOCHI 9(1), 2002):
+-- concurrent, on one object and one attribute, with different values. Bases and inherited conflict are our own.
+use Rattle.std.specs.Prelude.{◌≡◌, ℕ, zero, suc, ◌+◌, Bool, true, not, ◌&&◌, ◌||◌, List, [], ◌∷◌, Option, Some, None, Contains, is_some}
+use Rattle.std.specs.List.{list_any}
+use Rattle.state_vector.specs.Vectors.{Vector}
+use Rattle.rules.specs.declared.history.Op.{Op}
+use Rattle.rules.specs.Bodies.{is_set_body, version_in, differ_on_a_key}
+use Rattle.rules.specs.Operations.{before, concurrent, known, name_of, object_of, same_op, is_creation_of}
+use Rattle.rules.specs.Groups.{group_named}
+
+-- what a set is based on; a set without a base is never admitted, and counts as based on nothing
+abbrev pub members : Option (List Op) → List Op
+members None = []
+members (Some g) = g
+
+-- b and what it is based on
+abbrev pub with_base : (Op → Option (List Op)) → Op → List Op
+with_base base b = b ∷ members (base b)
+
+-- a is before b and not in b's base
+abbrev pub is_left_out : (Op → Option (List Op)) → Op → Op → Bool
+is_left_out base a b = before a b && not (list_any (same_op a) (members (base b)))
+
+-- Two sets on one object conflict directly: they are concurrent with different values for one key, or one is before the
+-- other and isn't in the other's base.
+abbrev pub direct_conflict : (Op → Option (List Op)) → Op → Op → Bool
+direct_conflict base a b = (concurrent a b && differ_on_a_key a.body b.body) || is_left_out base a b || is_left_out base b a
+
+-- some member of a's base, or a, conflicts directly with some member of b's base, or b
+abbrev pub conflict_by : (Op → Option (List Op)) → Op → Op → Bool
+conflict_by base a b = list_any (λ x. list_any (direct_conflict base x) (with_base base b)) (with_base base a)
+
+-- how many operations a vector counts
+abbrev pub total : Vector → ℕ
+total [] = 0
+total (pair ∷ pairs) = pair.1 + total pairs
+
+-- b's base, where b's vector counts fewer than n operations
+abbrev pub base_within : ℕ → List Op → Op → Option (List Op)
+base_within zero h b = None
+base_within (suc n) h b = group_named (conflict_by (base_within n h)) name_of (known h b) (version_in b.body)
+
+-- The base of b: the group of what b knows whose identifier b names. Each operation before b counts fewer than b does.
+unfoldable pub base : List Op → Op → Option (List Op)
+base h b = base_within (suc (total b.seen)) h b
+
+-- two sets on one object conflict
+unfoldable pub conflict : List Op → Op → Op → Bool
+conflict h = conflict_by (base h)
+
+-- b counts a creation of its object
+abbrev pub has_object : List Op → Op → Bool
+has_object h b = list_any (λ a. is_creation_of (object_of b) a && before a b) h
+
+-- each set's object is a creation that it counts, and each set has a base
+pub record IsFounded (h : List Op) : Type 0 where
+  pub object : (b : Op) → Contains h b → is_set_body b.body ≡ true → has_object h b ≡ true
+  pub based : (b : Op) → Contains h b → is_set_body b.body ≡ true → is_some (base h b) ≡ true

@@ -1,0 +1,173 @@
+//! Laws over the definitions. These functions run nothing.
+
+ghost use Rattle.std.specs.Prelude.{◌≡◌, ◌↔◌, ◌≤◌, ◌||◌, ◌∷◌, Bool, true, false, List, [], length, map, Some, IsTrue, Contains};
+ghost use Rattle.std.specs.List.{list_any};
+ghost use Rattle.std.specs.List.Sorted.{IsPermutation, IsStrictlySortedBy};
+ghost use Rattle.op_names.specs.Names.{Name};
+ghost use Rattle.op_names.specs.Texts.{Bytes};
+ghost use Rattle.op_names.specs.VersionIds.{id_cmp};
+ghost use Rattle.rules.specs.declared.history.Op.{Op};
+ghost use Rattle.rules.specs.declared.history.Entry.{Entry};
+ghost use Rattle.rules.specs.Bounds.{Bounds};
+ghost use Rattle.rules.specs.Bodies.{value_in};
+ghost use Rattle.rules.specs.Lists.{HasNoRepeats};
+ghost use Rattle.rules.specs.Operations.{IsHistory, IsPartOf, AreSame, Before, before, is_past, is_on, is_set_on, name_of, object_of, known, sets_on, operations_on, creation_of, IsCausallyOrdered};
+ghost use Rattle.rules.specs.Groups.{groups_of, identifier, IsGroup};
+ghost use Rattle.rules.specs.Conflicts.{base, conflict, direct_conflict, members, with_base, IsFounded};
+ghost use Rattle.rules.specs.Bodies.{version_in};
+ghost use Rattle.rules.specs.Versions.{groups, versions, version_of, decides};
+ghost use Rattle.rules.specs.Records.{operations, IsLegal};
+
+// ---- causal order
+
+/// On a history causal order is one count.
+pub fn before_is_one_count()
+    ensures { (h : List Op) (a b : Op) → IsHistory h → Contains h a → Contains h b → (IsTrue (before a b) ↔ Before h a b) }
+{}
+
+/// The operations of a history can be listed so that none stands before what it is after.
+pub fn histories_have_a_causal_order()
+    ensures { (h : List Op) → IsHistory h → (k : List Op) × IsPermutation h k × IsCausallyOrdered k }
+{}
+
+/// What is listed as all sets on an object are the sets on it.
+pub fn sets_on_an_object()
+    ensures { (h : List Op) (object : Name) (a : Op) → Contains (sets_on h object) a ↔ (Contains h a × IsTrue (is_set_on object a)) }
+{}
+
+/// What an operation knows are the sets on its object that are before it.
+pub fn known_are_the_sets_before()
+    ensures { (h : List Op) (a b : Op) → IsHistory h → Contains h b
+        → (Contains (known h b) a ↔ (Contains h a × IsTrue (is_set_on (object_of b) a) × Before h a b)) }
+{}
+
+// ---- groups of any list, by any relation of conflict
+
+/// The groups of a list are its maximal compatible parts.
+pub fn groups_are_the_maximal_parts<X>()
+    ensures { (conflict : X → X → Bool) (s g : List X) → HasNoRepeats s → (Contains (groups_of conflict s) g ↔ IsGroup conflict s g) }
+{}
+
+/// No group is listed twice.
+pub fn groups_stand_once<X>()
+    ensures { (conflict : X → X → Bool) (s : List X) → HasNoRepeats s → HasNoRepeats (groups_of conflict s) }
+{}
+
+/// Different groups of a list have different identifiers.
+pub fn identifiers_differ<X>()
+    ensures { (conflict : X → X → Bool) (name : X → Name) (s g h : List X) → HasNoRepeats s
+        → ((x y : X) → Contains s x → Contains s y → name x ≡ name y → x ≡ y)
+        → IsGroup conflict s g → IsGroup conflict s h → identifier conflict name s g ≡ identifier conflict name s h → g ≡ h }
+{}
+
+/// The number of groups never falls when members are added.
+pub fn groups_never_get_fewer<X>()
+    ensures { (conflict : X → X → Bool) (part whole : List X) → HasNoRepeats part → HasNoRepeats whole
+        → ((x : X) → Contains part x → Contains whole x)
+        → ((x y : X) → Contains whole x → Contains whole y → conflict x y ≡ conflict y x)
+        → ((x : X) → Contains whole x → conflict x x ≡ false)
+        → length (groups_of conflict part) ≤ length (groups_of conflict whole) }
+{}
+
+// ---- bases and conflicts
+
+/// The base of an operation is the group of what it knows that has the identifier which it names.
+pub fn base_is_the_named_group()
+    ensures { (h : List Op) (b : Op) (g : List Op) → IsHistory h → Contains h b
+        → ((base h b ≡ Some g) ↔ (IsGroup (conflict h) (known h b) g × (identifier (conflict h) name_of (known h b) g ≡ version_in b.body))) }
+{}
+
+/// Conflict goes both ways, and nothing that has a base conflicts with itself.
+pub fn conflict_is_symmetric_and_never_with_itself()
+    ensures symmetric { (h : List Op) (a b : Op) → conflict h a b ≡ conflict h b a }
+    ensures never_with_itself { (h : List Op) (b : Op) (g : List Op) → IsHistory h → Contains h b → base h b ≡ Some g → conflict h b b ≡ false }
+{}
+
+/// A part of a history agrees with the whole on bases and on conflicts.
+pub fn a_part_agrees_with_the_whole()
+    ensures bases { (k h : List Op) (b : Op) → IsPartOf k h → Contains k b → base k b ≡ base h b }
+    ensures conflicts { (k h : List Op) (a b : Op) → IsPartOf k h → Contains k a → Contains k b → conflict k a b ≡ conflict h a b }
+{}
+
+/// Two histories that agree on two operations and on all before these agree on whether the two
+/// conflict.
+pub fn conflict_is_decided_by_the_past()
+    ensures { (h k : List Op) (a b : Op) → IsHistory h → IsHistory k → Contains h a → Contains h b
+        → ((x : Op) → Contains h x → IsTrue (is_past a x || is_past b x) → Contains k x)
+        → conflict h a b ≡ conflict k a b }
+{}
+
+/// Each group of a causally closed list holds the base of each of its members.
+pub fn groups_hold_their_bases()
+    ensures { (h s g : List Op) → IsHistory h → IsGroup (conflict h) s g
+        → ((x : Op) → Contains s x → Contains h x) → ((x u : Op) → Contains s x → Contains (known h x) u → Contains s u)
+        → (a u : Op) → Contains g a → Contains (members (base h a)) u → Contains g u }
+{}
+
+/// An operation conflicts with another exactly where it conflicts directly with that one or its
+/// base, or a member of its own base conflicts with it.
+pub fn conflicts_follow_from_the_base()
+    ensures { (h : List Op) (a b : Op) → IsHistory h → Contains h a
+        → conflict h a b ≡ (list_any (direct_conflict (base h) a) (with_base (base h) b) || list_any (λ x. conflict h x b) (members (base h a))) }
+{}
+
+// ---- versions
+
+/// In whatever order its operations are listed, a history has the same versions of each object.
+pub fn versions_in_any_order()
+    ensures { (k h : List Op) (object : Name) → AreSame k h → versions k object ≡ versions h object }
+{}
+
+/// The operations of a group that could decide a key give it one value.
+pub fn deciding_operations_agree()
+    ensures { (h : List Op) (object : Name) (g : List Op) (key : Bytes) (a b : Op) → IsHistory h → Contains (groups h object) g
+        → Contains g a → IsTrue (decides key g a) → Contains g b → IsTrue (decides key g b) → value_in key a.body ≡ value_in key b.body }
+{}
+
+/// Where two histories agree on the creation, on the operations of a group and on all before these,
+/// the group of the one and the group of the other with the same names have the same attributes.
+pub fn a_group_has_the_same_attributes_everywhere()
+    ensures { (h k : List Op) (object : Name) (f g : List Op) → IsHistory h → IsHistory k
+        → Contains (groups h object) f → Contains (groups k object) g → map name_of f ≡ map name_of g
+        → creation_of h object ≡ creation_of k object
+        → ((a x : Op) → Contains f a → Contains h x → IsTrue (is_past a x) → Contains k x)
+        → (version_of h object f).attrs ≡ (version_of k object g).attrs }
+{}
+
+/// The identifiers of an object's versions rise strictly.
+pub fn identifiers_rise()
+    ensures { (h : List Op) (object : Name) → IsHistory h → IsStrictlySortedBy id_cmp (map (λ version. version.id) (versions h object)) }
+{}
+
+/// Each group of all sets on an object is shown exactly once.
+pub fn each_group_is_shown_once()
+    ensures groups { (h : List Op) (object : Name) → IsHistory h → HasNoRepeats (groups h object) }
+    ensures shown { (h : List Op) (object : Name) → IsPermutation (map (version_of h object) (groups h object)) (versions h object) }
+{}
+
+/// An object never has fewer versions when operations are added.
+pub fn versions_never_get_fewer()
+    ensures { (k h : List Op) (object : Name) → IsPartOf k h → IsFounded h → length (versions k object) ≤ length (versions h object) }
+{}
+
+/// What is decided about an object depends on the operations on that object alone.
+pub fn an_object_stands_alone()
+    ensures known { (h : List Op) (object : Name) (b : Op) → IsTrue (is_on object b) → known (operations_on h object) b ≡ known h b }
+    ensures base { (h : List Op) (object : Name) (b : Op) → IsTrue (is_on object b) → base (operations_on h object) b ≡ base h b }
+    ensures conflict { (h : List Op) (object : Name) (a b : Op) → IsTrue (is_on object a) → IsTrue (is_on object b) → conflict (operations_on h object) a b ≡ conflict h a b }
+    ensures groups { (h : List Op) (object : Name) → groups (operations_on h object) object ≡ groups h object }
+    ensures versions { (h : List Op) (object : Name) → versions (operations_on h object) object ≡ versions h object }
+{}
+
+// ---- records
+
+/// The operations of a legal record are a history, in causal order.
+pub fn legal_records_are_histories()
+    ensures history { (b : Bounds) (r : List Entry) → IsLegal b r → IsHistory (operations r) }
+    ensures ordered { (b : Bounds) (r : List Entry) → IsLegal b r → IsCausallyOrdered (operations r) }
+{}
+
+/// Each set of a legal record has its object and its base.
+pub fn sets_of_legal_records_are_founded()
+    ensures { (b : Bounds) (r : List Entry) → IsLegal b r → IsFounded (operations r) }
+{}

@@ -1,0 +1,92 @@
+-- What the reader of replies reads from a JSON value.
+use Rattle.std.specs.Prelude.{ℕ, List, [], ◌∷◌, codes, Option, Some, None, bytes_eq, if◌then◌else◌}
+use Rattle.serde_json.specs.Data.{Data}
+use Rattle.serde_json.specs.Find.{as_str}
+use Rattle.rules.specs.AttrLists.{Attr}
+use Rattle.rules.specs.Refusals.{refusal_at, word_of}
+use Rattle.rules.specs.declared.refusal.Refusal.{Refusal}
+use Rattle.rules.specs.declared.version.Version.{Version}
+use Rattle.wire.specs.declared.reply.Reply.{Reply}
+use Rattle.wire.specs.declared.reply.Reply.TheVariants.{Joined, Made, Taken, Versions, Objects, Entries, Left, No}
+use Rattle.wire.specs.Rising.{rise, attr_before, id_before, version_before}
+use Rattle.wire.specs.Reading.{◌>>=◌, passing, list_in, two_in, end_at, field_at, whole_in, name_in, id_in, kind_in, attr_in, Words, message_in}
+use Rattle.wire.specs.Entries.{entry_in}
+
+-- a place in the record, or a number of entries or objects
+unfoldable pub at_in : Data → Option ℕ
+at_in = whole_in 0 16384
+
+-- the identifiers of an object's versions
+unfoldable pub ids_in : Data → Option (List (List (ℕ × ℕ)))
+ids_in = passing (rise id_before) (list_in id_in)
+
+-- the attributes of a version
+unfoldable pub shown_in : Data → Option (List Attr)
+shown_in = passing (rise attr_before) (list_in attr_in)
+
+-- a version
+unfoldable pub version_in : Data → Option Version
+version_in d = two_in id_in shown_in d >>= λ p. Some (record { id = p.0; attrs = p.1 })
+
+-- the versions of an object
+unfoldable pub versions_in : Data → Option (List Version)
+versions_in = passing (rise version_before) (list_in version_in)
+
+-- an object with its kind
+unfoldable pub object_in : Data → Option ((ℕ × ℕ) × List ℕ)
+object_in = two_in name_in kind_in
+
+-- what follows "joined"
+unfoldable pub joined_at : List Data → Option Reply
+joined_at ds = field_at at_in (field_at (whole_in 1 256) end_at) ds >>= λ p. Some (Joined p.0 p.1.0)
+
+-- what follows "made"
+unfoldable pub made_at : List Data → Option Reply
+made_at ds = field_at at_in (field_at name_in end_at) ds >>= λ p. Some (Made p.0 p.1.0)
+
+-- what follows "taken"
+unfoldable pub taken_at : List Data → Option Reply
+taken_at ds = field_at at_in (field_at ids_in end_at) ds >>= λ p. Some (Taken p.0 p.1.0)
+
+-- what follows "versions"
+unfoldable pub versions_at : List Data → Option Reply
+versions_at ds =
+    field_at at_in (field_at name_in (field_at kind_in (field_at versions_in end_at))) ds
+    >>= λ p. Some (Versions p.0 p.1.0 p.1.1.0 p.1.1.1.0)
+
+-- what follows "objects"
+unfoldable pub objects_at : List Data → Option Reply
+objects_at ds =
+    field_at at_in (field_at (whole_in 0 65535) (field_at at_in (field_at (list_in object_in) end_at))) ds
+    >>= λ p. Some (Objects p.0 p.1.0 p.1.1.0 p.1.1.1.0)
+
+-- what follows "entries"
+unfoldable pub entries_at : List Data → Option Reply
+entries_at ds =
+    field_at at_in (field_at (whole_in 0 65535) (field_at (list_in entry_in) end_at)) ds
+    >>= λ p. Some (Entries p.0 p.1.0 p.1.1.0)
+
+-- what follows "left"
+unfoldable pub left_at : List Data → Option Reply
+left_at ds = field_at at_in end_at ds >>= λ p. Some (Left p.0)
+
+-- the refusal of this number and word
+unfoldable pub refusal_with : ℕ → List ℕ → Option Refusal
+refusal_with code word = refusal_at code >>= λ refusal. if bytes_eq (word_of refusal) word then Some refusal else None
+
+-- a number and a word of one refusal
+unfoldable pub refusal_fields : List Data → Option Refusal
+refusal_fields ds = field_at (whole_in 1 17) (field_at as_str end_at) ds >>= λ p. refusal_with p.0 p.1.0
+
+-- what follows "no"
+unfoldable pub no_at : List Data → Option Reply
+no_at ds = field_at at_in refusal_fields ds >>= λ p. Some (No p.0 p.1)
+
+abbrev pub reply_words : Words Reply
+reply_words =
+    (codes "joined", joined_at) ∷ (codes "made", made_at) ∷ (codes "taken", taken_at) ∷ (codes "versions", versions_at)
+    ∷ (codes "objects", objects_at) ∷ (codes "entries", entries_at) ∷ (codes "left", left_at) ∷ (codes "no", no_at) ∷ []
+
+-- the reply whose form a JSON value is
+unfoldable pub reply_in : Data → Option Reply
+reply_in = message_in reply_words

@@ -1,0 +1,122 @@
+//! Entries of a record from JSON.
+
+ghost use Rattle.std.specs.Prelude.{◌≡◌, map, IfOk, IsErrOf, Some, None};
+ghost use Rattle.std.specs.Arc.{arc_value};
+ghost use Rattle.serde_json.specs.View.{view};
+ghost use Rattle.rules.specs.declared.history.Entry.{Entry as AnyEntry};
+ghost use Rattle.wire.specs.Form.{IsEntryText, IsEntryValue};
+ghost use Rattle.wire.specs.Reading.{Gives};
+ghost use Rattle.wire.specs.Entries.{join_at, new_at, set_at, entry_in};
+ghost use Rattle.wire.specs.Texts.{entry_of as entry_in_text};
+
+use super::part::{
+    Part, attrs_of, id_of, key_of, kind_of, name_of, read_text, seen_of, value_of, whole_of,
+    worded_of,
+};
+use crate::fault::ReadFault;
+use rules::{Body, Entry, Op};
+use serde_json::Value;
+use std::alloc::Global;
+use std::sync::Arc;
+
+#[tactic(auto, unfolding(crate::specs::Entries::join_at))]
+fn join_of(fields: &[Value]) -> Result<Entry, ReadFault>
+    ensures { Gives (λ entry. entry) result (join_at (map view fields.now)) }
+{
+    let [site] = fields else {
+        return Err(ReadFault::Bad);
+    };
+    let site = whole_of(site, 1, 256)?;
+    Ok(Entry::Join(site))
+}
+
+#[tactic(auto, unfolding(crate::specs::Entries::new_at))]
+fn new_of(alloc: Global, fields: &[Value]) -> Result<Entry, ReadFault>
+    ensures { Gives (λ entry. entry) result (new_at (map view fields.now)) }
+{
+    let [name, seen, kind, attrs] = fields else {
+        return Err(ReadFault::Bad);
+    };
+    let name = name_of(name)?;
+    let seen = seen_of(alloc, seen)?;
+    let kind = kind_of(alloc, kind)?;
+    let attrs = attrs_of(alloc, attrs)?;
+    let body = Body::New { kind, attrs };
+    Ok(Entry::Operation(Op { name, seen, body }))
+}
+
+#[tactic(auto, unfolding(crate::specs::Entries::set_at))]
+fn set_of(alloc: Global, fields: &[Value]) -> Result<Entry, ReadFault>
+    ensures { Gives (λ entry. entry) result (set_at (map view fields.now)) }
+{
+    let [name, seen, object, version, key, value] = fields else {
+        return Err(ReadFault::Bad);
+    };
+    let name = name_of(name)?;
+    let seen = seen_of(alloc, seen)?;
+    let object = name_of(object)?;
+    let version = id_of(alloc, version)?;
+    let key = key_of(alloc, key)?;
+    let value = value_of(alloc, value)?;
+    let body = Body::Set {
+        object,
+        version,
+        key,
+        value,
+    };
+    Ok(Entry::Operation(Op { name, seen, body }))
+}
+
+impl Part for Entry {
+    ghost Seen = { AnyEntry };
+
+    ghost seen = { λ entry. entry };
+
+    ghost read_in = { entry_in };
+
+    #[tactic(auto, unfolding(crate::specs::Entries::entry_in))]
+    fn read(alloc: Global, value: &Value) -> Result<Entry, ReadFault> {
+        let (word, fields) = worded_of(value)?;
+        match word {
+            "join" => join_of(fields),
+            "new" => new_of(alloc, fields),
+            "set" => set_of(alloc, fields),
+            _ => Err(ReadFault::Bad),
+        }
+    }
+}
+
+impl Part for Arc<Entry> {
+    ghost Seen = { AnyEntry };
+
+    ghost seen = { λ entry. arc_value entry };
+
+    ghost read_in = { entry_in };
+
+    fn read(alloc: Global, value: &Value) -> Result<Arc<Entry>, ReadFault> {
+        let entry = Entry::read(alloc, value)?;
+        Ok(Arc::new(alloc, entry)?)
+    }
+}
+
+/// The entry whose form a JSON value is. Otherwise `Bad`, or `NoMemory`.
+pub fn entry_of(alloc: Global, value: &Value) -> Result<Entry, ReadFault>
+    ensures ok { IfOk result (IsEntryValue (view value.now)) }
+    ensures bad { IsErrOf result ReadFault.Bad
+        → (e : AnyEntry) → ¬ IsEntryValue (view value.now) e }
+    ensures value { IfOk result (λ entry. entry_in (view value.now) ≡ Some entry) }
+    ensures none { IsErrOf result ReadFault.Bad → entry_in (view value.now) ≡ None }
+{
+    Entry::read(alloc, value)
+}
+
+/// The entry that the bytes are a text of: UTF-8 that holds one JSON value, the entry's form.
+/// Otherwise `Bad`, or `NoMemory`. Takes time in proportion to the number of bytes.
+pub fn read_entry(alloc: Global, bytes: &[u8]) -> Result<Entry, ReadFault>
+    ensures ok { IfOk result (IsEntryText bytes.now) }
+    ensures bad { IsErrOf result ReadFault.Bad → (e : AnyEntry) → ¬ IsEntryText bytes.now e }
+    ensures value { IfOk result (λ entry. entry_in_text bytes.now ≡ Some entry) }
+    ensures none { IsErrOf result ReadFault.Bad → entry_in_text bytes.now ≡ None }
+{
+    read_text(alloc, bytes)
+}

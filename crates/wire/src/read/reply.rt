@@ -1,0 +1,286 @@
+//! Replies from JSON.
+
+ghost use Rattle.std.specs.Prelude.{◌≡◌, List, ℕ, map, IfOk, IsErrOf, Some, None};
+ghost use Rattle.serde_json.specs.View.{view};
+ghost use Rattle.rules.specs.declared.version.Version.{Version as AnyVersion};
+ghost use Rattle.wire.specs.declared.reply.Reply.{Reply as AnyReply};
+ghost use Rattle.wire.specs.Form.{IsReplyText, IsReplyValue};
+ghost use Rattle.wire.specs.Reading.{Gives, whole_in, id_in};
+ghost use Rattle.wire.specs.Replies.{at_in, ids_in, shown_in, version_in, versions_in, object_in, joined_at, made_at, taken_at, versions_at, objects_at, entries_at, left_at, refusal_with, refusal_fields, no_at, reply_in};
+ghost use Rattle.wire.specs.Texts.{reply_of as reply_in_text};
+
+use super::part::{
+    Part, id_of, items_of, kind_of, list_of, name_of, read_text, text_of, whole_of, worded_of,
+};
+use super::rising::rising;
+use crate::fault::ReadFault;
+use crate::lists::{EntryList, IdList, ObjectList, VersionList};
+use crate::reply::Reply;
+use op_names::{Key, Kind, OpName, VersionId};
+use rules::{AttrList, Entry, Refusal, Version};
+use serde_json::Value;
+use std::alloc::Global;
+use std::sync::Arc;
+
+/// A place in the record, or a number of entries or objects.
+#[tactic(auto, unfolding(crate::specs::Replies::at_in))]
+fn at_of(value: &Value) -> Result<u32, ReadFault>
+    ensures { Gives (λ at. at) result (at_in (view value.now)) }
+{
+    whole_of(value, 0, 16384)
+}
+
+/// The place that a page begins at.
+fn from_of(value: &Value) -> Result<u32, ReadFault>
+    ensures { Gives (λ from. from) result (whole_in 0 65535 (view value.now)) }
+{
+    whole_of(value, 0, 65535)
+}
+
+impl Part for VersionId {
+    ghost Seen = { List (ℕ × ℕ) };
+
+    ghost seen = { λ id. id };
+
+    ghost read_in = { id_in };
+
+    fn read(alloc: Global, value: &Value) -> Result<VersionId, ReadFault> {
+        id_of(alloc, value)
+    }
+}
+
+#[tactic(auto, using(crate::proofs::Maps::map_same), unfolding(crate::specs::Replies::ids_in))]
+fn ids_of(alloc: Global, value: &Value) -> Result<IdList, ReadFault>
+    ensures { Gives (λ ids. ids) result (ids_in (view value.now)) }
+{
+    let ids: Vec<VersionId> = list_of(alloc, value)?;
+    let ids = rising(ids)?;
+    Ok(IdList::from_vec(ids))
+}
+
+#[tactic(auto, using(crate::proofs::Maps::map_same), unfolding(crate::specs::Replies::shown_in))]
+fn shown_of(alloc: Global, value: &Value) -> Result<AttrList, ReadFault>
+    ensures { Gives (λ attrs. attrs) result (shown_in (view value.now)) }
+{
+    let attrs: Vec<(Key, op_names::Value)> = list_of(alloc, value)?;
+    let attrs = rising(attrs)?;
+    Ok(AttrList::from_vec(attrs))
+}
+
+impl Part for Version {
+    ghost Seen = { AnyVersion };
+
+    ghost seen = { λ version. version };
+
+    ghost read_in = { version_in };
+
+    #[tactic(auto, unfolding(crate::specs::Replies::version_in, crate::specs::Reading::two_in, crate::specs::Reading::two_at))]
+    fn read(alloc: Global, value: &Value) -> Result<Version, ReadFault> {
+        let [id, attrs] = items_of(value)? else {
+            return Err(ReadFault::Bad);
+        };
+        let id = id_of(alloc, id)?;
+        let attrs = shown_of(alloc, attrs)?;
+        Ok(Version { id, attrs })
+    }
+}
+
+#[tactic(auto, using(crate::proofs::Maps::map_same), unfolding(crate::specs::Replies::versions_in))]
+fn versions_list_of(alloc: Global, value: &Value) -> Result<VersionList, ReadFault>
+    ensures { Gives (λ versions. versions) result (versions_in (view value.now)) }
+{
+    let versions: Vec<Version> = list_of(alloc, value)?;
+    let versions = rising(versions)?;
+    Ok(VersionList::from_vec(versions))
+}
+
+/// An object with its kind.
+impl Part for (OpName, Kind) {
+    ghost Seen = { (ℕ × ℕ) × List ℕ };
+
+    ghost seen = { λ object. object };
+
+    ghost read_in = { object_in };
+
+    #[tactic(auto, unfolding(crate::specs::Replies::object_in, crate::specs::Reading::two_in, crate::specs::Reading::two_at))]
+    fn read(alloc: Global, value: &Value) -> Result<(OpName, Kind), ReadFault> {
+        let [name, kind] = items_of(value)? else {
+            return Err(ReadFault::Bad);
+        };
+        let name = name_of(name)?;
+        let kind = kind_of(alloc, kind)?;
+        Ok((name, kind))
+    }
+}
+
+#[tactic(auto, unfolding(crate::specs::Replies::joined_at))]
+fn joined_of(fields: &[Value]) -> Result<Reply, ReadFault>
+    ensures { Gives (λ reply. reply) result (joined_at (map view fields.now)) }
+{
+    let [at, site] = fields else {
+        return Err(ReadFault::Bad);
+    };
+    let at = at_of(at)?;
+    let site = whole_of(site, 1, 256)?;
+    Ok(Reply::Joined { at, site })
+}
+
+#[tactic(auto, unfolding(crate::specs::Replies::made_at))]
+fn made_of(fields: &[Value]) -> Result<Reply, ReadFault>
+    ensures { Gives (λ reply. reply) result (made_at (map view fields.now)) }
+{
+    let [at, name] = fields else {
+        return Err(ReadFault::Bad);
+    };
+    let at = at_of(at)?;
+    let name = name_of(name)?;
+    Ok(Reply::Made { at, name })
+}
+
+#[tactic(auto, unfolding(crate::specs::Replies::taken_at))]
+fn taken_of(alloc: Global, fields: &[Value]) -> Result<Reply, ReadFault>
+    ensures { Gives (λ reply. reply) result (taken_at (map view fields.now)) }
+{
+    let [at, ids] = fields else {
+        return Err(ReadFault::Bad);
+    };
+    let at = at_of(at)?;
+    let ids = ids_of(alloc, ids)?;
+    Ok(Reply::Taken { at, ids })
+}
+
+#[tactic(auto, unfolding(crate::specs::Replies::versions_at))]
+fn versions_of(alloc: Global, fields: &[Value]) -> Result<Reply, ReadFault>
+    ensures { Gives (λ reply. reply) result (versions_at (map view fields.now)) }
+{
+    let [at, object, kind, versions] = fields else {
+        return Err(ReadFault::Bad);
+    };
+    let at = at_of(at)?;
+    let object = name_of(object)?;
+    let kind = kind_of(alloc, kind)?;
+    let versions = versions_list_of(alloc, versions)?;
+    Ok(Reply::Versions {
+        at,
+        object,
+        kind,
+        versions,
+    })
+}
+
+#[tactic(auto, using(crate::proofs::Maps::map_same), unfolding(crate::specs::Replies::objects_at))]
+fn objects_of(alloc: Global, fields: &[Value]) -> Result<Reply, ReadFault>
+    ensures { Gives (λ reply. reply) result (objects_at (map view fields.now)) }
+{
+    let [at, from, total, objects] = fields else {
+        return Err(ReadFault::Bad);
+    };
+    let at = at_of(at)?;
+    let from = from_of(from)?;
+    let total = at_of(total)?;
+    let objects: Vec<(OpName, Kind)> = list_of(alloc, objects)?;
+    Ok(Reply::Objects {
+        at,
+        from,
+        total,
+        objects: ObjectList::from_vec(objects),
+    })
+}
+
+#[tactic(auto, unfolding(crate::specs::Replies::entries_at))]
+fn entries_of(alloc: Global, fields: &[Value]) -> Result<Reply, ReadFault>
+    ensures { Gives (λ reply. reply) result (entries_at (map view fields.now)) }
+{
+    let [at, from, entries] = fields else {
+        return Err(ReadFault::Bad);
+    };
+    let at = at_of(at)?;
+    let from = from_of(from)?;
+    let entries: Vec<Arc<Entry>> = list_of(alloc, entries)?;
+    let entries = EntryList::from_vec(entries);
+    Ok(Reply::Entries { at, from, entries })
+}
+
+#[tactic(auto, unfolding(crate::specs::Replies::left_at))]
+fn left_of(fields: &[Value]) -> Result<Reply, ReadFault>
+    ensures { Gives (λ reply. reply) result (left_at (map view fields.now)) }
+{
+    let [at] = fields else {
+        return Err(ReadFault::Bad);
+    };
+    let at = at_of(at)?;
+    Ok(Reply::Left { at })
+}
+
+/// The refusal of this number and word.
+#[tactic(auto, unfolding(crate::specs::Replies::refusal_with))]
+fn refusal_with(code: u32, word: &str) -> Result<Refusal, ReadFault>
+    ensures { Gives (λ refusal. refusal) result (refusal_with code word.now) }
+{
+    let refusal = Refusal::from_code(code).ok_or(ReadFault::Bad)?;
+    if refusal.word() == word {
+        Ok(refusal)
+    } else {
+        Err(ReadFault::Bad)
+    }
+}
+
+#[tactic(auto, unfolding(crate::specs::Replies::no_at, crate::specs::Replies::refusal_fields))]
+fn no_of(fields: &[Value]) -> Result<Reply, ReadFault>
+    ensures { Gives (λ reply. reply) result (no_at (map view fields.now)) }
+{
+    let [at, code, word] = fields else {
+        return Err(ReadFault::Bad);
+    };
+    let at = at_of(at)?;
+    let code = whole_of(code, 1, 17)?;
+    let word = text_of(word)?;
+    let refusal = refusal_with(code, word)?;
+    Ok(Reply::No { at, refusal })
+}
+
+impl Part for Reply {
+    ghost Seen = { AnyReply };
+
+    ghost seen = { λ reply. reply };
+
+    ghost read_in = { reply_in };
+
+    #[tactic(auto, unfolding(crate::specs::Replies::reply_in))]
+    fn read(alloc: Global, value: &Value) -> Result<Reply, ReadFault> {
+        let (word, fields) = worded_of(value)?;
+        match word {
+            "joined" => joined_of(fields),
+            "made" => made_of(fields),
+            "taken" => taken_of(alloc, fields),
+            "versions" => versions_of(alloc, fields),
+            "objects" => objects_of(alloc, fields),
+            "entries" => entries_of(alloc, fields),
+            "left" => left_of(fields),
+            "no" => no_of(fields),
+            _ => Err(ReadFault::Bad),
+        }
+    }
+}
+
+/// The reply whose form a JSON value is. Otherwise `Bad`, or `NoMemory`.
+pub fn reply_of(alloc: Global, value: &Value) -> Result<Reply, ReadFault>
+    ensures ok { IfOk result (IsReplyValue (view value.now)) }
+    ensures bad { IsErrOf result ReadFault.Bad
+        → (r : AnyReply) → ¬ IsReplyValue (view value.now) r }
+    ensures value { IfOk result (λ reply. reply_in (view value.now) ≡ Some reply) }
+    ensures none { IsErrOf result ReadFault.Bad → reply_in (view value.now) ≡ None }
+{
+    Reply::read(alloc, value)
+}
+
+/// The reply that the bytes are a text of: UTF-8 that holds one JSON value, the reply's form.
+/// Otherwise `Bad`, or `NoMemory`. Takes time in proportion to the number of bytes.
+pub fn read_reply(alloc: Global, bytes: &[u8]) -> Result<Reply, ReadFault>
+    ensures ok { IfOk result (IsReplyText bytes.now) }
+    ensures bad { IsErrOf result ReadFault.Bad → (r : AnyReply) → ¬ IsReplyText bytes.now r }
+    ensures value { IfOk result (λ reply. reply_in_text bytes.now ≡ Some reply) }
+    ensures none { IsErrOf result ReadFault.Bad → reply_in_text bytes.now ≡ None }
+{
+    read_text(alloc, bytes)
+}

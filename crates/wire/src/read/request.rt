@@ -1,0 +1,173 @@
+//! Requests from JSON.
+
+ghost use Rattle.std.specs.Prelude.{◌≡◌, map, IfOk, IsErrOf, Some, None};
+ghost use Rattle.serde_json.specs.View.{view};
+ghost use Rattle.wire.specs.declared.request.Request.{Request as AnyRequest};
+ghost use Rattle.wire.specs.Form.{IsRequestText, IsRequestValue};
+ghost use Rattle.wire.specs.Reading.{Gives};
+ghost use Rattle.wire.specs.Requests.{join_at, new_at, set_at, show_at, list_at, pull_at, leave_at, request_in};
+ghost use Rattle.wire.specs.Texts.{request_of as request_in_text};
+
+use super::part::{
+    Part, attrs_of, id_of, key_of, kind_of, name_of, read_text, room_of, seen_of, value_of,
+    whole_of, worded_of,
+};
+use crate::fault::ReadFault;
+use crate::request::Request;
+use serde_json::Value;
+use std::alloc::Global;
+
+/// How many bytes a request may have.
+const MAX_REQUEST_LEN: usize = 16_384;
+
+#[tactic(auto, unfolding(crate::specs::Requests::join_at))]
+fn join_of(alloc: Global, fields: &[Value]) -> Result<Request, ReadFault>
+    ensures { Gives (λ request. request) result (join_at (map view fields.now)) }
+{
+    let [room] = fields else {
+        return Err(ReadFault::Bad);
+    };
+    let room = room_of(alloc, room)?;
+    Ok(Request::Join { room })
+}
+
+#[tactic(auto, unfolding(crate::specs::Requests::new_at))]
+fn new_of(alloc: Global, fields: &[Value]) -> Result<Request, ReadFault>
+    ensures { Gives (λ request. request) result (new_at (map view fields.now)) }
+{
+    let [seq, seen, kind, attrs] = fields else {
+        return Err(ReadFault::Bad);
+    };
+    let seq = whole_of(seq, 1, 16384)?;
+    let seen = seen_of(alloc, seen)?;
+    let kind = kind_of(alloc, kind)?;
+    let attrs = attrs_of(alloc, attrs)?;
+    Ok(Request::New {
+        seq,
+        seen,
+        kind,
+        attrs,
+    })
+}
+
+#[tactic(auto, unfolding(crate::specs::Requests::set_at))]
+fn set_of(alloc: Global, fields: &[Value]) -> Result<Request, ReadFault>
+    ensures { Gives (λ request. request) result (set_at (map view fields.now)) }
+{
+    let [seq, seen, object, version, key, value] = fields else {
+        return Err(ReadFault::Bad);
+    };
+    let seq = whole_of(seq, 1, 16384)?;
+    let seen = seen_of(alloc, seen)?;
+    let object = name_of(object)?;
+    let version = id_of(alloc, version)?;
+    let key = key_of(alloc, key)?;
+    let value = value_of(alloc, value)?;
+    Ok(Request::Set {
+        seq,
+        seen,
+        object,
+        version,
+        key,
+        value,
+    })
+}
+
+#[tactic(auto, unfolding(crate::specs::Requests::show_at))]
+fn show_of(fields: &[Value]) -> Result<Request, ReadFault>
+    ensures { Gives (λ request. request) result (show_at (map view fields.now)) }
+{
+    let [object] = fields else {
+        return Err(ReadFault::Bad);
+    };
+    let object = name_of(object)?;
+    Ok(Request::Show { object })
+}
+
+#[tactic(auto, unfolding(crate::specs::Requests::list_at))]
+fn list_of(fields: &[Value]) -> Result<Request, ReadFault>
+    ensures { Gives (λ request. request) result (list_at (map view fields.now)) }
+{
+    let [from] = fields else {
+        return Err(ReadFault::Bad);
+    };
+    let from = whole_of(from, 0, 65535)?;
+    Ok(Request::List { from })
+}
+
+#[tactic(auto, unfolding(crate::specs::Requests::pull_at))]
+fn pull_of(fields: &[Value]) -> Result<Request, ReadFault>
+    ensures { Gives (λ request. request) result (pull_at (map view fields.now)) }
+{
+    let [from] = fields else {
+        return Err(ReadFault::Bad);
+    };
+    let from = whole_of(from, 0, 65535)?;
+    Ok(Request::Pull { from })
+}
+
+#[tactic(auto, unfolding(crate::specs::Requests::leave_at))]
+fn leave_of(fields: &[Value]) -> Result<Request, ReadFault>
+    ensures { Gives (λ request. request) result (leave_at (map view fields.now)) }
+{
+    let [] = fields else {
+        return Err(ReadFault::Bad);
+    };
+    Ok(Request::Leave)
+}
+
+impl Part for Request {
+    ghost Seen = { AnyRequest };
+
+    ghost seen = { λ request. request };
+
+    ghost read_in = { request_in };
+
+    #[tactic(auto, unfolding(crate::specs::Requests::request_in))]
+    fn read(alloc: Global, value: &Value) -> Result<Request, ReadFault> {
+        let (word, fields) = worded_of(value)?;
+        match word {
+            "join" => join_of(alloc, fields),
+            "new" => new_of(alloc, fields),
+            "set" => set_of(alloc, fields),
+            "show" => show_of(fields),
+            "list" => list_of(fields),
+            "pull" => pull_of(fields),
+            "leave" => leave_of(fields),
+            _ => Err(ReadFault::Bad),
+        }
+    }
+}
+
+/// The request whose form a JSON value is. Otherwise `Bad`, or `NoMemory`.
+pub fn request_of(alloc: Global, value: &Value) -> Result<Request, ReadFault>
+    ensures ok { IfOk result (IsRequestValue (view value.now)) }
+    ensures bad { IsErrOf result ReadFault.Bad
+        → (q : AnyRequest) → ¬ IsRequestValue (view value.now) q }
+    ensures value { IfOk result (λ request. request_in (view value.now) ≡ Some request) }
+    ensures none { IsErrOf result ReadFault.Bad → request_in (view value.now) ≡ None }
+{
+    Request::read(alloc, value)
+}
+
+#[tactic(auto, unfolding(crate::specs::Texts::request_of))]
+fn request_in_bytes(alloc: Global, bytes: &[u8]) -> Result<Request, ReadFault>
+    ensures { Gives (λ request. request) result (request_in_text bytes.now) }
+{
+    if bytes.len() > MAX_REQUEST_LEN {
+        return Err(ReadFault::Bad);
+    }
+    read_text(alloc, bytes)
+}
+
+/// The request that the bytes are a text of: at most 16,384 bytes of UTF-8 that hold one JSON
+/// value, the request's form. Otherwise `Bad`, or `NoMemory`. Takes time in proportion to the
+/// number of bytes.
+pub fn read_request(alloc: Global, bytes: &[u8]) -> Result<Request, ReadFault>
+    ensures ok { IfOk result (IsRequestText bytes.now) }
+    ensures bad { IsErrOf result ReadFault.Bad → (q : AnyRequest) → ¬ IsRequestText bytes.now q }
+    ensures value { IfOk result (λ request. request_in_text bytes.now ≡ Some request) }
+    ensures none { IsErrOf result ReadFault.Bad → request_in_text bytes.now ≡ None }
+{
+    request_in_bytes(alloc, bytes)
+}

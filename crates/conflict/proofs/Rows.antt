@@ -1,6 +1,6 @@
 -- The row of a set that comes after all others, and what is stored once it is added.
-use Rattle.std.proofs.Common.{◌≡◌, ℕ, ◌+◌, ◌<◌, ◌≤◌, Bool, true, false, not, ◌&&◌, ◌||◌, List, [], ◌∷◌, ◌++◌, length, map, get_or, refl, sym, ap, ◌∙◌, arith, inl, inr, eqb}
-use Rattle.std.specs.Prelude.{filter}
+use Rattle.std.proofs.Common.{◌≡◌, ℕ, ◌+◌, ◌^◌, ◌<◌, ◌≤◌, Bool, true, false, not, ◌&&◌, ◌||◌, List, [], ◌∷◌, ◌++◌, length, map, get_or, refl, sym, ap, ◌∙◌, subst, arith, inl, inr, eqb}
+use Rattle.std.specs.Prelude.{filter, Contains}
 use Rattle.std.specs.List.{list_any}
 use Rattle.std.proofs.lemmas.Bool.{true≢false, false_from_ne_true, or_cases, or_left, or_right, eqb-true, eq-eqb, cases_lt}
 use Rattle.std.proofs.lemmas.List.{length-append, map-append}
@@ -17,7 +17,7 @@ use Rattle.rules.proofs.Counted.{same_name-true, same_name-refl}
 use Rattle.rules.proofs.Sets.{in_known_back}
 use Rattle.conflict.specs.Members.{has, places}
 use Rattle.conflict.specs.Relations.{IsRelation}
-use Rattle.conflict.specs.Sets.{AreSetsOf, AreSetsOn, AreStored, at, places_of, base_places, earlier_conflicts, is_in_row}
+use Rattle.conflict.specs.Sets.{AreSetsOf, AreSetsOn, AreStored, Added, IsAddition, at, places_of, base_places, earlier_conflicts, new_conflicts, is_in_row}
 use Rattle.conflict.proofs.Places.{In-places, below, has-filter, has-filter_past, left_next, at_in, place_of, one_place_each, at_push, at_last, has-places_of, any-places_of}
 use Rattle.conflict.proofs.Growth.{apart, once, few_sets, base_inside, base_within, never_alone, conflict_from_base_on, stays, is_there, apart_before, before_none, base_grows, conflict_grows}
 
@@ -111,7 +111,7 @@ module _ {object : Name} (k : List Op) (o : Op) (w : AreSetsOf object (k ++ o �
   pub row_is : (based met listed row : List ℕ) → based ≡ base_places k o
       → met ≡ filter (λ p. direct_conflict (base grown) o (at k p)) (places (length k)) → listed ≡ filter (has based) (places (length k))
       → row ≡ filter (is_in_row k met listed) (places (length k))
-      → row ≡ filter (λ j. conflict grown o (at k j)) (places (length k))
+      → row ≡ new_conflicts k o
   row_is based met listed row b d s r =
       let listed_same : listed ≡ base_places k o = s ∙ ap (λ x. filter (has x) (places (length k))) b ∙ listed_is in
       r
@@ -151,31 +151,39 @@ module _ {object : Name} (k : List Op) (o : Op) (w : AreSetsOf object (k ++ o �
       (λ i. conflict grown (at_push k o p l i) (at_push k o j n i))
       ∙ sym (conflict_grows k o w (at k p) (at k j) (stays k o w (at k p) (at_in k p l)) (stays k o w (at k j) (at_in k j n))))
 
-  last_row : earlier_conflicts grown (length k) ≡ filter (λ j. conflict grown o (at k j)) (places (length k))
+  last_row : earlier_conflicts grown (length k) ≡ new_conflicts k o
   last_row = filter_agree (λ j. conflict grown (at grown (length k)) (at grown j)) (λ j. conflict grown o (at k j)) (places (length k)) (λ j m.
       λ i. conflict grown (at_last k o i) (at_push k o j (below (length k) j m) i))
 
-  rows_grow : map (earlier_conflicts grown) (places (length grown)) ≡ map (earlier_conflicts k) (places (length k)) ++ filter (λ j. conflict grown o (at k j)) (places (length k)) ∷ []
+  rows_grow : map (earlier_conflicts grown) (places (length grown)) ≡ map (earlier_conflicts k) (places (length k)) ++ new_conflicts k o ∷ []
   rows_grow =
       ap (λ n. map (earlier_conflicts grown) (places n)) one_more
       ∙ map-range_with_len_more (earlier_conflicts grown) 0 (length k) (length k) (omega arith)
       ∙ (λ i. map_agree (earlier_conflicts grown) (earlier_conflicts k) (places (length k)) (λ p m. row_stays p (below (length k) p m)) i ++ last_row i ∷ [])
 
-pub stored_push : {object : Name} (k : List Op) (o : Op) (bases rows : List (List ℕ)) (b r : List ℕ) → AreStored object k bases rows → AreSetsOn object (k ++ o ∷ []) → is_op_name o.name ≡ true
-    → b ≡ base_places k o → r ≡ filter (λ j. conflict (k ++ o ∷ []) o (at k j)) (places (length k)) → AreStored object (k ++ o ∷ []) (bases ++ b ∷ []) (rows ++ r ∷ [])
-stored_push {object} k o bases rows b r s w name p q =
-    let named : (x : Op) → In x (k ++ o ∷ []) → is_op_name x.name ≡ true =
-    λ x m. elim (In-append_cases x k (o ∷ []) m) [
-      | inl l ↦ s.named x (Contains-from_In x k l)
-      | inr l ↦ elim l [ inl e ↦ ap (λ (z : Op). is_op_name z.name) e ∙ name | inr f ↦ absurd f ]
-    ] in
-    record {
-      sets = w;
-      named = λ x m. named x (In-from_Contains x (k ++ o ∷ []) m);
-      few = few_sets w.listed named;
-      bases_are = (λ i. s.bases_are i ++ p i ∷ []) ∙ sym (bases_grow k o w.listed);
-      rows_are = (λ i. s.rows_are i ++ q i ∷ []) ∙ sym (rows_grow k o w.listed);
-    }
+-- there are few sets, also with one more
+module _ (k : List Op) (o : Op) (named : (x : Op) → Contains k x → is_op_name x.name ≡ true) (name : is_op_name o.name ≡ true) where
+  all_named : (x : Op) → In x (k ++ o ∷ []) → is_op_name x.name ≡ true
+  all_named x m = elim (In-append_cases x k (o ∷ []) m) [
+    | inl l ↦ named x (Contains-from_In x k l)
+    | inr l ↦ elim l [ inl e ↦ ap (λ (z : Op). is_op_name z.name) e ∙ name | inr f ↦ absurd f ]
+  ]
+
+  few_after : {object : Name} → AreSetsOf object (k ++ o ∷ []) → length (k ++ o ∷ []) < 2 ^ 32
+  few_after w = few_sets w all_named
+
+  pub few_with_one_more : {object : Name} → AreSetsOf object (k ++ o ∷ []) → length k + 1 < 2 ^ 32
+  few_with_one_more w = omega (arith, few_after w, length-append k (o ∷ []))
+
+pub stored_push : {object : Name} (k : List Op) (bases rows : List (List ℕ)) (a : Added) → AreStored object k bases rows → IsAddition object k a → is_op_name a.op.name ≡ true
+    → AreStored object (k ++ a.op ∷ []) (bases ++ a.base ∷ []) (rows ++ a.row ∷ [])
+stored_push {object} k bases rows a s w name = record {
+  sets = w.sets;
+  named = λ x m. all_named k a.op s.named name x (In-from_Contains x (k ++ a.op ∷ []) m);
+  few = few_after k a.op s.named name w.sets.listed;
+  bases_are = (λ i. s.bases_are i ++ w.base i ∷ []) ∙ sym (bases_grow k a.op w.sets.listed);
+  rows_are = (λ i. s.rows_are i ++ w.row i ∷ []) ∙ sym (rows_grow k a.op w.sets.listed);
+}
 
 -- ---- look-ups
 
@@ -209,3 +217,34 @@ module _ {object : Name} {k : List Op} (w : AreSetsOn object k) where
     never_alone = λ i l. never_alone w (at k i) (at_in k i l);
     one_each = same_place;
   }
+
+-- ---- with one set more
+
+module _ {object : Name} (k : List Op) (a : Added) (w : IsAddition object k a) (ops : List Op) (e : k ++ a.op ∷ [] ≡ ops) where
+  abbrev longer : List Op
+  longer = k ++ a.op ∷ []
+
+  pub longer_by_one : length ops ≡ length k + 1
+  longer_by_one = ap length (sym e) ∙ length-append k (a.op ∷ [])
+
+  pub sets_longer : AreSetsOn object ops
+  sets_longer = subst (AreSetsOn object) e w.sets
+
+  pub never_alone_longer : (i j : ℕ) → i < length ops → i ≡ j → false ≡ conflict ops (at ops i) (at ops j)
+  never_alone_longer i j l q = sym (never_alone sets_longer (at ops i) (at_in ops i l)) ∙ ap (λ n. conflict ops (at ops i) (at ops n)) q
+
+  pub last_in_row : (i j : ℕ) → i ≡ length k → j < length k → has a.row j ≡ conflict ops (at ops i) (at ops j)
+  last_in_row i j q l =
+      ap (λ r. has r j) w.row
+      ∙ has-filter (λ p. conflict longer a.op (at k p)) (length k) j l
+      ∙ (λ t. conflict longer (sym (at_last k a.op) t) (sym (at_push k a.op j l) t))
+      ∙ (λ t. conflict (e t) (at (e t) (sym q t)) (at (e t) j))
+
+  pub in_last_row : (i j : ℕ) → i < length k → j ≡ length k → has a.row i ≡ conflict ops (at ops i) (at ops j)
+  in_last_row i j l q = last_in_row j i q l ∙ conflict_symmetric ops (at ops j) (at ops i)
+
+  pub conflict_stays : (i j : ℕ) → i < length k → j < length k → conflict k (at k i) (at k j) ≡ conflict ops (at ops i) (at ops j)
+  conflict_stays i j l m =
+      conflict_grows k a.op w.sets.listed (at k i) (at k j) (stays k a.op w.sets.listed (at k i) (at_in k i l)) (stays k a.op w.sets.listed (at k j) (at_in k j m))
+      ∙ (λ t. conflict longer (sym (at_push k a.op i l) t) (sym (at_push k a.op j m) t))
+      ∙ (λ t. conflict (e t) (at (e t) i) (at (e t) j))

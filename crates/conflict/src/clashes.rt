@@ -5,9 +5,9 @@ ghost use Rattle.std.specs.List.{list_any};
 ghost use Rattle.rules.specs.Bodies.{differ_on_a_key};
 ghost use Rattle.rules.specs.Conflicts.{base, conflict, direct_conflict};
 ghost use Rattle.conflict.specs.Members.{has, places};
-ghost use Rattle.conflict.specs.Sets.{at, base_places, earlier_conflicts, is_in_row, places_counted, AreSetsOn};
+ghost use Rattle.conflict.specs.Sets.{at, base_places, earlier_conflicts, is_in_row, new_conflicts, places_counted, AreSetsOn, IsAddition};
 
-use crate::{Members, Relation};
+use crate::{Addition, Longer, Members, Relation};
 use causal::before;
 use op_names::{NoMemory, OpName};
 use rules::{Body, Op};
@@ -16,8 +16,8 @@ use std::alloc::Global;
 use std::marker::Model;
 
 /// The sets on an object in order of arrival, by their places, which count from 0. With each stand
-/// the places of its base. Which of the earlier sets it is in conflict with is worked out when it is
-/// added.
+/// the places of its base. Which of the earlier sets it is in conflict with is worked out once, before
+/// it is put in.
 #[derive(Debug, Drop)]
 pub struct Clashes {
     object: OpName,
@@ -28,11 +28,12 @@ pub struct Clashes {
 }
 
 impl Model for Clashes {
+    ghost use Rattle.std.specs.Prelude.{◌-◌, min, vec_capacity, vec_len};
     ghost use Rattle.conflict.specs.Sets.{AreStored, Sets};
 
     ghost Value = { Sets };
 
-    ghost view = { λ clashes. record { object = clashes.object; ops = clashes.ops.items } };
+    ghost view = { λ clashes. record { object = clashes.object; ops = clashes.ops.items; spare = min (vec_capacity clashes.ops - vec_len clashes.ops) (min (vec_capacity clashes.bases - vec_len clashes.bases) (vec_capacity clashes.rows - vec_len clashes.rows)) } };
 
     ghost invariant = { λ clashes. AreStored clashes.object clashes.ops.items clashes.bases.items clashes.rows.items };
 }
@@ -62,7 +63,8 @@ impl Clashes {
     /// No sets on an object. It takes no memory yet.
     pub fn new(alloc: Global, object: OpName) -> Result<Clashes, NoMemory>
         ensures certain { IsOk result }
-        ensures none { IfOk result (λ clashes. clashes ≡ record { object = object; ops = [] }) }
+        ensures object { IfOk result (λ clashes. clashes.object ≡ object) }
+        ensures none { IfOk result (λ clashes. clashes.ops ≡ []) }
     {
         Ok(Clashes {
             object,
@@ -72,27 +74,67 @@ impl Clashes {
         })
     }
 
-    /// Adds a set on the object that is before none of these in causal order and knows no others,
-    /// with the places of its base. On `NoMemory` nothing is changed. Takes time with the number of
-    /// the sets, and for each with the numbers of those in the base and of those that the new set
-    /// conflicts with directly.
-    pub fn add(&mut self, alloc: Global, op: Op, base: Members) -> Result<(), NoMemory>
+    /// Works out what a set on the object needs to be put with these, and takes the memory for it,
+    /// so that `put` can't fail; otherwise `NoMemory`. The set is before none of these in causal
+    /// order, it knows no others on the object, and it comes with the places of its base. The sets
+    /// stay as they are. Takes time with the number of the sets, and for each with the numbers of
+    /// those in the base and of those that the new set conflicts with directly.
+    pub fn prepare(&mut self, alloc: Global, op: Op, base: Members) -> Result<Addition, NoMemory>
         requires sets { AreSetsOn self.old.object (self.old.ops ++ op ∷ []) }
         requires base { base ≡ base_places self.old.ops op }
-        ensures ok { OnOk result (self.new ≡ record { object = self.old.object; ops = self.old.ops ++ op ∷ [] }) }
-        ensures err { OnErr result (self.new ≡ self.old) }
+        ensures op { IfOk result (λ addition. addition.op ≡ op) }
+        ensures ready { IfOk result (λ addition. IsAddition self.new.object self.new.ops addition) }
+        ensures spare { OnOk result (0 < self.new.spare) }
+        ensures object { self.new.object ≡ self.old.object }
+        ensures ops { self.new.ops ≡ self.old.ops }
     {
-        // That the name is in range is part of what stays true of the sets: so there are few of them.
-        let _ = op.name.site();
-        let _ = op.name.seq();
         let row = self.row(alloc, &op, &base)?;
         self.ops.reserve(1)?;
         self.bases.reserve(1)?;
         self.rows.reserve(1)?;
+        Ok(Addition::new(op, base, row))
+    }
+
+    /// Puts a set with these that was prepared for them. Takes no memory.
+    pub fn put(&mut self, addition: Addition)
+        requires ready { IsAddition self.old.object self.old.ops addition }
+        requires spare { 0 < self.old.spare }
+        ensures object { self.new.object ≡ self.old.object }
+        ensures ops { self.new.ops ≡ self.old.ops ++ addition.op ∷ [] }
+    {
+        let (op, base, row) = addition.into_parts();
+        // That the name is in range is part of what stays true of the sets: so there are few of them.
+        let _ = op.name.site();
+        let _ = op.name.seq();
         self.ops.push_reserved(op);
         self.bases.push_reserved(base);
         self.rows.push_reserved(row);
+    }
+
+    /// Adds a set on the object: `prepare`, then `put`. On `NoMemory` the sets are as before.
+    pub fn add(&mut self, alloc: Global, op: Op, base: Members) -> Result<(), NoMemory>
+        requires sets { AreSetsOn self.old.object (self.old.ops ++ op ∷ []) }
+        requires base { base ≡ base_places self.old.ops op }
+        ensures object { self.new.object ≡ self.old.object }
+        ensures ok { OnOk result (self.new.ops ≡ self.old.ops ++ op ∷ []) }
+        ensures err { OnErr result (self.new.ops ≡ self.old.ops) }
+    {
+        let addition = self.prepare(alloc, op, base)?;
+        self.put(addition);
         Ok(())
+    }
+
+    /// These sets and one that was prepared for them, as a relation.
+    pub fn with<'a>(&'a self, addition: &'a Addition) -> Longer<'a>
+        requires { IsAddition self.now.object self.now.ops addition.now }
+        ensures { result ≡ self.now.ops ++ addition.now.op ∷ [] }
+    {
+        // What stays true of the sets, and the range of the name: there are few, also with one more.
+        let _ = &self.ops;
+        let op = addition.op();
+        let _ = op.name.site();
+        let _ = op.name.seq();
+        Longer::new(self, addition)
     }
 
     /// The places of the base of the set at a place.
@@ -247,8 +289,7 @@ impl Clashes {
     fn row(&self, alloc: Global, op: &Op, based: &Members) -> Result<Members, NoMemory>
         requires sets { AreSetsOn self.now.object (self.now.ops ++ op.now ∷ []) }
         requires base { based.now ≡ base_places self.now.ops op.now }
-        ensures { IfOk result (λ row. row
-            ≡ filter (λ place. conflict (self.now.ops ++ op.now ∷ []) op.now (at self.now.ops place)) (places (length self.now.ops))) }
+        ensures { IfOk result (λ row. row ≡ new_conflicts self.now.ops op.now) }
     {
         let met = self.met_by(alloc, op, based)?;
         let listed = self.listed(alloc, based)?;

@@ -54,7 +54,8 @@ impl Members {
 
     /// The number of places.
     pub fn count(&self) -> usize
-        ensures { result ≡ length self.now }
+        ensures count { result ≡ length self.now }
+        ensures rises { IsStrictlyIncreasing self.now }
     {
         self.places.len()
     }

@@ -50,21 +50,27 @@ last_if key g a e =
       none_later = λ x m t. elim (and_cases (gives key x) (before a x) (any_none (λ x. gives key x && before a x) x g (not-true _ c.1) m)) [ inl z ↦ absurd (true≢false (sym t ∙ z)) | inr z ↦ z ];
     }
 
--- all operations of a group that could decide a key give it one value
-pub one_decision : (h : List Op) (object : Name) (g : List Op) (key : Bytes) (a b : Op) → Contains (groups h object) g → Contains g a → IsTrue (decides key g a) → Contains g b → IsTrue (decides key g b) → value_in key a.body ≡ value_in key b.body
-unfolding groups conflict
-one_decision h object g key a b group ma da mb db =
-    let i = group_is (conflict h) (sets_on h object) g (In-from_Contains g (groups h object) group) in
+-- two operations that aren't in conflict and both could decide a key give it one value
+pub one_value_decided : (h : List Op) (g : List Op) (key : Bytes) (a b : Op) → conflict h a b ≡ false → In a g → decides key g a ≡ true → In b g → decides key g b ≡ true → value_in key a.body ≡ value_in key b.body
+unfolding conflict
+one_value_decided h g key a b free ma da mb db =
     let p = last_if key g a da in
     let q = last_if key g b db in
-    let ab : before a b ≡ false = p.none_later b (In-from_Contains b g mb) q.gives_it in
-    let ba : before b a ≡ false = q.none_later a (In-from_Contains a g ma) p.gives_it in
+    let ab : before a b ≡ false = p.none_later b mb q.gives_it in
+    let ba : before b a ≡ false = q.none_later a ma p.gives_it in
     let apart : concurrent a b ≡ true = and_from (not (before a b)) (not (before b a)) (not_from_false _ ab) (not_from_false _ ba) in
-    let direct : direct_conflict (base h) a b ≡ false = no_direct_conflict (base h) a b a b (i.compatible a b ma mb) (inl refl) (inl refl) in
+    let direct : direct_conflict (base h) a b ≡ false = no_direct_conflict (base h) a b a b free (inl refl) (inl refl) in
     let part = or_parts ((concurrent a b && differ_on_a_key a.body b.body) || is_left_out (base h) a b) (is_left_out (base h) b a) direct in
     let first = or_parts (concurrent a b && differ_on_a_key a.body b.body) (is_left_out (base h) a b) part.0 in
     let same : differ_on_a_key a.body b.body ≡ false = elim (and_cases (concurrent a b) (differ_on_a_key a.body b.body) first.0) [ inl z ↦ absurd (true≢false (sym apart ∙ z)) | inr z ↦ z ] in
     one_value key a.body b.body p.gives_it q.gives_it same
+
+-- all operations of a group that could decide a key give it one value
+pub one_decision : (h : List Op) (object : Name) (g : List Op) (key : Bytes) (a b : Op) → Contains (groups h object) g → Contains g a → IsTrue (decides key g a) → Contains g b → IsTrue (decides key g b) → value_in key a.body ≡ value_in key b.body
+unfolding groups
+one_decision h object g key a b group ma da mb db =
+    let i = group_is (conflict h) (sets_on h object) g (In-from_Contains g (groups h object) group) in
+    one_value_decided h g key a b (i.compatible a b ma mb) (In-from_Contains a g ma) da (In-from_Contains b g mb) db
 
 -- ---- two histories
 

@@ -8,6 +8,7 @@ pub mod Histories
 pub mod Causal
 pub mod Groups
 pub mod Identifiers
+pub mod Resolve
 pub mod Growth
 pub mod Orders
 pub mod Sets
@@ -19,7 +20,11 @@ pub mod Nested
 pub mod Parts
 pub mod Objects
 pub mod Attributes
+pub mod Decided
 pub mod Shown
 pub mod Founded
 pub mod Unset
 pub mod Ordered
+pub mod Reordered
+pub mod Permutations
+pub mod Sorted

@@ -1,12 +1,16 @@
 -- What is decided about an object depends on the operations on that object alone.
-use Rattle.std.proofs.Common.{◌≡◌, Bool, true, not, List, [], ◌∷◌, map, refl, sym, ap, ◌∙◌, subst, inl, inr}
-use Rattle.std.specs.Prelude.{IsTrue, filter, find}
+use Rattle.std.proofs.Common.{◌≡◌, Bool, true, cond, not, List, [], ◌∷◌, ◌++◌, length, map, refl, sym, ap, ◌∙◌, subst, inl, inr}
+use Rattle.std.specs.Prelude.{IsTrue, filter, find, is_none, nat_le, nat_lt}
+use Rattle.std.proofs.lemmas.List.Elements.{filter-append}
 use Rattle.std.proofs.lemmas.Bool.{cases_Bool, true≢false, and_parts}
 use Rattle.op_names.specs.Names.{Name, same_name}
 use Rattle.rules.specs.declared.history.Op.{Op}
 use Rattle.rules.specs.declared.history.Body.{Body}
 use Rattle.rules.specs.declared.history.Body.TheVariants.{New, Set}
+use Rattle.rules.specs.declared.refusal.Refusal.TheVariants.{NoSuchVersion, ObjectFull, TooManyKeys, TooManyVersions}
+use Rattle.rules.specs.Bounds.{Bounds}
 use Rattle.rules.specs.Bodies.{is_set_body, object_in}
+use Rattle.rules.specs.Records.{has_too_many_keys, version_conditions}
 use Rattle.rules.specs.Lists.{sort_by}
 use Rattle.rules.specs.Groups.{groups_of, identifier}
 use Rattle.rules.specs.Operations.{known, sets_on, object_of, is_on, is_set_on, is_creation_of, operations_on, creation_of, by_name, before, name_of}
@@ -108,3 +112,16 @@ module _ (h : List Op) (object : Name) where
 
   pub versions_alone : versions (operations_on h object) object ≡ versions h object
   versions_alone = versions_kept object (is_on object) set_is_on h (creation_is_on object)
+
+  -- whether a set on the object is refused
+  pub conditions_alone : (b : Bounds) (op : Op) → IsTrue (is_on object op) → version_conditions b (operations_on h object) op ≡ version_conditions b h op
+  conditions_alone b op e =
+      let named : object_of op ≡ object = on op e in
+      let sets : sets_on (operations_on h object) (object_of op) ≡ sets_on h (object_of op) = subst (λ n. sets_on (operations_on h object) n ≡ sets_on h n) (sym named) (sets_on_kept object (is_on object) set_is_on h) in
+      let pushed : operations_on (h ++ op ∷ []) object ≡ operations_on h object ++ op ∷ [] = filter-append (is_on object) h (op ∷ []) ∙ ap (λ t. operations_on h object ++ cond t (op ∷ []) []) e in
+      let shown : groups (operations_on h object ++ op ∷ []) (object_of op) ≡ groups (h ++ op ∷ []) (object_of op) =
+      subst (λ n. groups (operations_on h object ++ op ∷ []) n ≡ groups (h ++ op ∷ []) n) (sym named)
+      (ap (λ l. groups l object) (sym pushed) ∙ groups_kept object (is_on object) set_is_on (h ++ op ∷ [])) in
+      λ i.
+      (is_none (base_alone op e i), NoSuchVersion) ∷ (nat_le b.sets (length (sets i)), ObjectFull) ∷ (has_too_many_keys b (sets i) op, TooManyKeys)
+      ∷ (nat_lt b.versions (length (shown i)), TooManyVersions) ∷ []

@@ -69,21 +69,29 @@ rises_filter p (x ∷ xs) r = elim (cases_Bool (p x)) [
   | inr e ↦ rw e (rises_filter p xs r.1)
 ]
 
+-- in any list whose operations differ by their names
+module _ (k : List Op) (apart : (a b : Op) → In a k → In b k → a.name ≡ b.name → a ≡ b) (once : Once k) where
+  pub sets_rise : (object : Name) → Rises by_name by_name_total (sets_on k object)
+  unfolding sets_on
+  sets_rise object =
+      sort_rises by_name by_name_total (filter (is_set_on object) k)
+      (untied (filter (is_set_on object) k)
+      (λ a b m n e. apart a b (In-filter_back (is_set_on object) a k m).0 (In-filter_back (is_set_on object) b k n).0 e)
+      (Once-filter (is_set_on object) k once))
+
+  pub known_rises : (b : Op) → Rises by_name by_name_total (known k b)
+  unfolding known
+  known_rises b = rises_filter (λ a. before a b) (sets_on k (object_of b)) (sets_rise (object_of b))
+
 module _ {h : List Op} (i : IsHistory h) where
   pub one_op : (a b : Op) → In a h → In b h → a.name ≡ b.name → a ≡ b
   one_op a b m n e = i.distinct a b (Contains-from_In a h m) (Contains-from_In b h n) e
 
   sets_on_rises : (object : Name) → Rises by_name by_name_total (sets_on h object)
-  unfolding sets_on
-  sets_on_rises object =
-      sort_rises by_name by_name_total (filter (is_set_on object) h)
-      (untied (filter (is_set_on object) h)
-      (λ a b m n e. one_op a b (In-filter_back (is_set_on object) a h m).0 (In-filter_back (is_set_on object) b h n).0 e)
-      (Once-filter (is_set_on object) h (Once-from_HasNoRepeats h i.once)))
+  sets_on_rises = sets_rise h one_op (Once-from_HasNoRepeats h i.once)
 
-  known_rises : (b : Op) → Rises by_name by_name_total (known h b)
-  unfolding known
-  known_rises b = rises_filter (λ a. before a b) (sets_on h (object_of b)) (sets_on_rises (object_of b))
+  known_rise : (b : Op) → Rises by_name by_name_total (known h b)
+  known_rise = known_rises h one_op (Once-from_HasNoRepeats h i.once)
 
 pub once_if_rises : (xs : List Op) → Rises by_name by_name_total xs → Once xs
 once_if_rises [] r = tt
@@ -93,7 +101,7 @@ pub Once-sets_on : {h : List Op} → IsHistory h → (object : Name) → Once (s
 Once-sets_on {h} i object = once_if_rises (sets_on h object) (sets_on_rises i object)
 
 pub Once-known : {h : List Op} → IsHistory h → (b : Op) → Once (known h b)
-Once-known {h} i b = once_if_rises (known h b) (known_rises i b)
+Once-known {h} i b = once_if_rises (known h b) (known_rise i b)
 
 -- two histories with the same sets on an object list them alike
 pub sets_on_same : {k h : List Op} → IsHistory k → IsHistory h → (object : Name) →
@@ -105,6 +113,6 @@ sets_on_same {k} {h} i j object to back = rises_same by_name by_name_total (sets
 -- and an operation knows the same in two histories that have the same operations before it
 pub known_same : {k h : List Op} → IsHistory k → IsHistory h → (b : Op) →
     ((a : Op) → In a k → before a b ≡ true → In a h) → ((a : Op) → In a h → before a b ≡ true → In a k) → known k b ≡ known h b
-known_same {k} {h} i j b to back = rises_same by_name by_name_total (known k b) (known h b) (known_rises i b) (known_rises j b)
+known_same {k} {h} i j b to back = rises_same by_name by_name_total (known k b) (known h b) (known_rise i b) (known_rise j b)
     (λ a m. let c = in_known_back k b a m in in_known h b a (to a c.there c.earlier) c.set c.earlier)
     (λ a m. let c = in_known_back h b a m in in_known k b a (back a c.there c.earlier) c.set c.earlier)

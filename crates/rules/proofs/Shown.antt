@@ -95,7 +95,7 @@ insert-length cmp x (y ∷ ys) = elim (cases_Bool (is_lt (cmp x y))) [
   | inr e ↦ rw e (let n = insert-length cmp x ys in omega (arith, n))
 ]
 
-sort-length : {X : Type 0} (cmp : X → X → Ordering) (xs : List X) → length (sort_by cmp xs) ≡ length xs
+pub sort-length : {X : Type 0} (cmp : X → X → Ordering) (xs : List X) → length (sort_by cmp xs) ≡ length xs
 sort-length cmp [] = refl
 sort-length cmp (x ∷ xs) = (let a = insert-length cmp x (sort_by cmp xs) in let b = sort-length cmp xs in omega (arith, a, b))
 

@@ -71,7 +71,7 @@ module _ {X : Type 0} (cmp : X → X → Ordering) (o : IsTotalOrder cmp) where
   Rises [] = Unit {0}
   Rises (x ∷ xs) = ((y : X) → In y xs → cmp x y ≡ Less) × Rises xs
 
-  back_of : (r : Ordering) (x y : X) → cmp x y ≡ r → cmp y x ≡ ordering_reverse r
+  pub back_of : (r : Ordering) (x y : X) → cmp x y ≡ r → cmp y x ≡ ordering_reverse r
   back_of r x y e = o.antisymm y x ∙ ap ordering_reverse e
 
   not_two : (x y : X) → cmp x y ≡ Less → cmp y x ≡ Less → ⊥
@@ -80,7 +80,7 @@ module _ {X : Type 0} (cmp : X → X → Ordering) (o : IsTotalOrder cmp) where
   pub never_below_itself : (x : X) → cmp x x ≡ Less → ⊥
   never_below_itself x p = not_two x x p p
 
-  less_back : (x y : X) → is_lt (cmp x y) ≡ false → (cmp x y ≡ Equal → ⊥) → cmp y x ≡ Less
+  pub less_back : (x y : X) → is_lt (cmp x y) ≡ false → (cmp x y ≡ Equal → ⊥) → cmp y x ≡ Less
   less_back x y e d = go (cmp x y) refl
     where
       go : (r : Ordering) → cmp x y ≡ r → cmp y x ≡ Less

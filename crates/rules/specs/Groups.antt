@@ -1,7 +1,7 @@
 -- Maximal compatible groups, for any relation of conflict, and their identifiers.
 use Rattle.std.specs.Prelude.{◌≡◌, Bool, false, not, ◌&&◌, List, [], ◌∷◌, ◌++◌, map, filter, find, Option, ◌⊎◌, Contains, IsTrue}
 use Rattle.std.specs.List.{list_any, list_all}
-use Rattle.op_names.specs.Names.{Name, name_cmp}
+use Rattle.op_names.specs.Names.{Name, name_cmp, same_name}
 use Rattle.op_names.specs.VersionIds.{same_names}
 use Rattle.rules.specs.Lists.{sort_by}
 
@@ -34,6 +34,14 @@ identifier conflict name s g = sort_by name_cmp (map name (filter (meets conflic
 -- the group of s with this identifier
 unfoldable pub group_named : {X : Type 0} → (X → X → Bool) → (X → Name) → List X → List Name → Option (List X)
 group_named conflict name s id = find (λ g. same_names (identifier conflict name s g) id) (groups_of conflict s)
+
+-- the identifier has x's name
+abbrev pub is_named : {X : Type 0} → (X → Name) → List Name → X → Bool
+is_named name id x = list_any (same_name (name x)) id
+
+-- the members of s that conflict with no member whose name the identifier has
+abbrev pub unopposed : {X : Type 0} → (X → X → Bool) → (X → Name) → List X → List Name → List X
+unopposed conflict name s id = filter (λ x. not (meets conflict (filter (is_named name id) s) x)) s
 
 -- ---- the same, as a predicate
 

@@ -52,19 +52,27 @@ order_conditions b r op = (nat_le b.entries (length r), RecordFull) ∷ causal_c
 abbrev pub creation_conditions : Bounds → List Entry → List Condition
 creation_conditions b r = (nat_le b.objects (length (objects r)), TooManyObjects) ∷ []
 
--- a key of the set is new to these sets, and they have as many keys as there may be
+-- the set has a key that these sets don't have
+abbrev pub has_new_key : List Op → Op → Bool
+has_new_key sets op = not (list_all (λ key. list_any (bytes_eq key) (keys_of sets)) (keys_in op.body))
+
+-- and these have as many keys as there may be
 abbrev pub has_too_many_keys : Bounds → List Op → Op → Bool
-has_too_many_keys b sets op = not (list_all (λ key. list_any (bytes_eq key) (keys_of sets)) (keys_in op.body)) && nat_le b.keys (length (keys_of sets))
+has_too_many_keys b sets op = has_new_key sets op && nat_le b.keys (length (keys_of sets))
 
 -- with the set its object has more versions than there may be
 abbrev pub has_too_many_versions : Bounds → List Op → Op → Bool
 has_too_many_versions b h op = nat_lt b.versions (length (groups (h ++ op ∷ []) (object_of op)))
 
--- or of a set, after these operations
+-- or of a set on an object that is there, after these operations
+abbrev pub version_conditions : Bounds → List Op → Op → List Condition
+version_conditions b h op = let sets = sets_on h (object_of op) in
+    (is_none (base h op), NoSuchVersion) ∷ (nat_le b.sets (length sets), ObjectFull) ∷ (has_too_many_keys b sets op, TooManyKeys)
+    ∷ (has_too_many_versions b h op, TooManyVersions) ∷ []
+
+-- or of any set
 abbrev pub set_conditions : Bounds → List Op → Op → List Condition
-set_conditions b h op = let sets = sets_on h (object_of op) in
-    (not (has_object h op), NoSuchObject) ∷ (is_none (base h op), NoSuchVersion) ∷ (nat_le b.sets (length sets), ObjectFull)
-    ∷ (has_too_many_keys b sets op, TooManyKeys) ∷ (has_too_many_versions b h op, TooManyVersions) ∷ []
+set_conditions b h op = (not (has_object h op), NoSuchObject) ∷ version_conditions b h op
 
 -- what is asked of an entry, in this order
 abbrev pub conditions : Bounds → List Entry → Entry → List Condition

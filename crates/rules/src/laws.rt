@@ -1,22 +1,23 @@
 //! Laws over the definitions. These functions run nothing.
 
-ghost use Rattle.std.specs.Prelude.{◌≡◌, ◌↔◌, ◌≤◌, ◌||◌, ◌∷◌, Bool, true, false, List, [], length, map, Some, IsTrue, Contains};
+ghost use Rattle.std.specs.Prelude.{◌≡◌, ◌↔◌, ◌≤◌, ◌||◌, ◌∷◌, Bool, true, false, List, [], length, map, reverse, find, Some, None, IsTrue, Contains, if◌then◌else◌};
 ghost use Rattle.std.specs.List.{list_any};
 ghost use Rattle.std.specs.List.Sorted.{IsPermutation, IsStrictlySortedBy};
 ghost use Rattle.op_names.specs.Names.{Name};
 ghost use Rattle.op_names.specs.Texts.{Bytes};
-ghost use Rattle.op_names.specs.VersionIds.{id_cmp};
+ghost use Rattle.op_names.specs.VersionIds.{id_cmp, same_names};
 ghost use Rattle.rules.specs.declared.history.Op.{Op};
 ghost use Rattle.rules.specs.declared.history.Entry.{Entry};
 ghost use Rattle.rules.specs.Bounds.{Bounds};
 ghost use Rattle.rules.specs.Bodies.{value_in};
 ghost use Rattle.rules.specs.Lists.{HasNoRepeats};
 ghost use Rattle.rules.specs.Operations.{IsHistory, IsPartOf, AreSame, Before, before, is_past, is_on, is_set_on, name_of, object_of, known, sets_on, operations_on, creation_of, IsCausallyOrdered};
-ghost use Rattle.rules.specs.Groups.{groups_of, identifier, IsGroup};
+ghost use Rattle.rules.specs.Groups.{groups_of, group_named, identifier, is_compatible, unopposed, IsGroup};
 ghost use Rattle.rules.specs.Conflicts.{base, conflict, direct_conflict, members, with_base, IsFounded};
 ghost use Rattle.rules.specs.Bodies.{version_in};
-ghost use Rattle.rules.specs.Versions.{groups, versions, version_of, decides};
-ghost use Rattle.rules.specs.Records.{operations, IsLegal};
+ghost use Rattle.rules.specs.AttrLists.{Attr};
+ghost use Rattle.rules.specs.Versions.{attributes, groups, versions, version_of, decides, gives, value_by, value_of_key};
+ghost use Rattle.rules.specs.Records.{operations, version_conditions, IsLegal};
 
 // ---- causal order
 
@@ -58,6 +59,16 @@ pub fn identifiers_differ<X>()
     ensures { (conflict : X → X → Bool) (name : X → Name) (s g h : List X) → HasNoRepeats s
         → ((x y : X) → Contains s x → Contains s y → name x ≡ name y → x ≡ y)
         → IsGroup conflict s g → IsGroup conflict s h → identifier conflict name s g ≡ identifier conflict name s h → g ≡ h }
+{}
+
+/// The group with an identifier is found by one filter and one comparison: where there is one, it is
+/// all members that conflict with no member whose name the identifier has.
+pub fn a_named_group_is_found_by_one_filter<X>()
+    ensures { (conflict : X → X → Bool) (name : X → Name) (s : List X) (id : List Name) → HasNoRepeats s
+        → ((x y : X) → Contains s x → Contains s y → name x ≡ name y → x ≡ y)
+        → ((x y : X) → Contains s x → Contains s y → conflict x y ≡ conflict y x)
+        → group_named conflict name s id
+        ≡ (if same_names (identifier conflict name s (unopposed conflict name s id)) id then Some (unopposed conflict name s id) else None) }
 {}
 
 /// The number of groups never falls when members are added.
@@ -124,6 +135,21 @@ pub fn deciding_operations_agree()
         → Contains g a → IsTrue (decides key g a) → Contains g b → IsTrue (decides key g b) → value_in key a.body ≡ value_in key b.body }
 {}
 
+/// In a group in causal order the last operation that gives a key decides its value.
+pub fn the_last_set_on_a_key_decides()
+    ensures { (h g : List Op) (initial : List Attr) (key : Bytes) → is_compatible (conflict h) g ≡ true → IsCausallyOrdered g
+        → ((x : Op) → Contains g x → before x x ≡ false)
+        → value_of_key initial g key ≡ value_by key initial (find (gives key) (reverse g)) }
+{}
+
+/// In whatever order the operations of a group are listed, it has the same attributes, where those
+/// that could decide a key agree.
+pub fn attributes_in_any_order()
+    ensures { (initial : List Attr) (f g : List Op) → ((a : Op) → Contains f a ↔ Contains g a)
+        → ((key : Bytes) (a b : Op) → Contains f a → Contains f b → IsTrue (decides key f a) → IsTrue (decides key f b) → value_in key a.body ≡ value_in key b.body)
+        → attributes initial f ≡ attributes initial g }
+{}
+
 /// Where two histories agree on the creation, on the operations of a group and on all before these,
 /// the group of the one and the group of the other with the same names have the same attributes.
 pub fn a_group_has_the_same_attributes_everywhere()
@@ -157,6 +183,7 @@ pub fn an_object_stands_alone()
     ensures conflict { (h : List Op) (object : Name) (a b : Op) → IsTrue (is_on object a) → IsTrue (is_on object b) → conflict (operations_on h object) a b ≡ conflict h a b }
     ensures groups { (h : List Op) (object : Name) → groups (operations_on h object) object ≡ groups h object }
     ensures versions { (h : List Op) (object : Name) → versions (operations_on h object) object ≡ versions h object }
+    ensures conditions { (b : Bounds) (h : List Op) (object : Name) (op : Op) → IsTrue (is_on object op) → version_conditions b (operations_on h object) op ≡ version_conditions b h op }
 {}
 
 // ---- records

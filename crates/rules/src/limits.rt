@@ -130,6 +130,7 @@ impl Limits {
     /// How many versions an object may have.
     pub fn versions(&self) -> u32
         ensures value { result ≡ self.now.versions }
+        ensures least { 1 ≤ self.now.versions }
         ensures range { self.now.versions ≤ 32 }
     {
         self.versions

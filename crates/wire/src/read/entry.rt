@@ -111,7 +111,7 @@ pub fn entry_of(alloc: Global, value: &Value) -> Result<Entry, ReadFault>
 }
 
 /// The entry that the bytes are a text of: UTF-8 that holds one JSON value, the entry's form.
-/// Otherwise `Bad`, or `NoMemory`. Takes time in proportion to the number of bytes.
+/// Otherwise `Bad`, or `NoMemory`.
 pub fn read_entry(alloc: Global, bytes: &[u8]) -> Result<Entry, ReadFault>
     ensures ok { IfOk result (IsEntryText bytes.now) }
     ensures bad { IsErrOf result ReadFault.Bad → (e : AnyEntry) → ¬ IsEntryText bytes.now e }

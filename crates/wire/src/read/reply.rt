@@ -275,7 +275,7 @@ pub fn reply_of(alloc: Global, value: &Value) -> Result<Reply, ReadFault>
 }
 
 /// The reply that the bytes are a text of: UTF-8 that holds one JSON value, the reply's form.
-/// Otherwise `Bad`, or `NoMemory`. Takes time in proportion to the number of bytes.
+/// Otherwise `Bad`, or `NoMemory`.
 pub fn read_reply(alloc: Global, bytes: &[u8]) -> Result<Reply, ReadFault>
     ensures ok { IfOk result (IsReplyText bytes.now) }
     ensures bad { IsErrOf result ReadFault.Bad → (r : AnyReply) → ¬ IsReplyText bytes.now r }

@@ -161,8 +161,7 @@ fn request_in_bytes(alloc: Global, bytes: &[u8]) -> Result<Request, ReadFault>
 }
 
 /// The request that the bytes are a text of: at most 16,384 bytes of UTF-8 that hold one JSON
-/// value, the request's form. Otherwise `Bad`, or `NoMemory`. Takes time in proportion to the
-/// number of bytes.
+/// value, the request's form. Otherwise `Bad`, or `NoMemory`.
 pub fn read_request(alloc: Global, bytes: &[u8]) -> Result<Request, ReadFault>
     ensures ok { IfOk result (IsRequestText bytes.now) }
     ensures bad { IsErrOf result ReadFault.Bad → (q : AnyRequest) → ¬ IsRequestText bytes.now q }

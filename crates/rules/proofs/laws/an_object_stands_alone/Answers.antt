@@ -1,4 +1,4 @@
-use Rattle.rules.proofs.Objects.{known_alone, base_alone, conflict_alone, groups_alone, versions_alone}
+use Rattle.rules.proofs.Objects.{known_alone, base_alone, conflict_alone, groups_alone, versions_alone, conditions_alone}
 use Rattle.rules.proofs.laws.an_object_stands_alone.Goals as goal
 
 pub returns-clause-known : goal.returns-clause-known
@@ -15,3 +15,6 @@ returns-clause-groups c = groups_alone
 
 pub returns-clause-versions : goal.returns-clause-versions
 returns-clause-versions c = versions_alone
+
+pub returns-clause-conditions : goal.returns-clause-conditions
+returns-clause-conditions c = λ b h object op e. conditions_alone h object b op e

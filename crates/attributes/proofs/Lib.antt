@@ -1,0 +1,4 @@
+pub mod Pairs
+pub mod Members
+pub mod Shown
+pub mod Example

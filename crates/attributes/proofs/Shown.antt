@@ -1,0 +1,160 @@
+-- What is kept once of what the sets give and then of the initial attributes, in order of key, are the attributes.
+use Rattle.std.proofs.Common.{◌≡◌, ℕ, ◌<◌, true, false, cond, List, [], ◌∷◌, ◌++◌, length, map, reverse, refl, sym, ap, ◌∙◌, subst, inl, inr, Option, Some, None, is_some}
+use Rattle.std.specs.Prelude.{All, filter_map, find, flat_map, bytes_eq, option_map}
+use Rattle.std.specs.Option.{option_or}
+use Rattle.std.specs.List.Sorted.{IsPermutation, IsSorted}
+use Rattle.std.proofs.lemmas.Bool.{cases_Bool, true≢false}
+use Rattle.std.proofs.lemmas.List.Sorted.{Contains-permutation, IsPermutation-sym}
+use Rattle.std.proofs.lemmas.Slice.Eq.{bytes_eq-Decides}
+use Rattle.op_names.specs.Names.{Name}
+use Rattle.op_names.specs.Texts.{Bytes}
+use Rattle.op_names.specs.declared.value.Value.{Value}
+use Rattle.rules.specs.declared.history.Op.{Op}
+use Rattle.rules.specs.declared.history.Body.{Body}
+use Rattle.rules.specs.declared.history.Body.TheVariants.{New, Set}
+use Rattle.rules.specs.AttrLists.{Attr}
+use Rattle.rules.specs.Bodies.{keys_in, value_in}
+use Rattle.rules.specs.Lists.{each_once}
+use Rattle.rules.specs.Groups.{is_compatible}
+use Rattle.rules.specs.Conflicts.{conflict}
+use Rattle.rules.specs.Versions.{attributes, decides, gives, key_cmp, keys_of, value_by, value_of_key}
+use Rattle.rules.proofs.Lists.{In, In-from_Contains, Contains-from_In, In-append_left, In-append_right, In-filter_map, In-filter_map_back, In-flat_map, In-map, find_is}
+use Rattle.rules.proofs.Once.{Once}
+use Rattle.rules.proofs.Relation.{same_answer}
+use Rattle.rules.proofs.Sorting.{Rises, sort_is}
+use Rattle.rules.proofs.Decided.{value_is_last}
+use Rattle.rules.proofs.Reordered.{In-each_once, Once-each_once, key_cmp_total, one_key, same_key_is, same_key_itself, untied_with_values}
+use Rattle.rules.proofs.Sorted.{sorted_rises}
+use Rattle.conflict.specs.Sets.{at, AreSetsOn}
+use Rattle.attributes.specs.Pairs.{given_below, given_by, members_below, with_all}
+use Rattle.attributes.proofs.Pairs.{Apart, Apart-all, attr_of, attr_of-all, attr_if_in}
+use Rattle.attributes.proofs.Members.{there, back, is_set, members_ordered, not_before_itself}
+
+-- ---- a sort keeps keys apart
+
+once_if_apart : (xs : List Attr) → Apart xs → Once xs
+once_if_apart [] a = tt
+once_if_apart (p ∷ ps) a = ((λ m. a.0 p m refl), once_if_apart ps a.1)
+
+same_if_same_key : (xs : List Attr) → Apart xs → (p q : Attr) → In p xs → In q xs → p.0 ≡ q.0 → p ≡ q
+same_if_same_key [] a p q m n e = absurd m
+same_if_same_key (x ∷ xs) a p q m n e = elim m [
+  | inl f ↦ elim n [
+    | inl g ↦ f ∙ sym g
+    | inr k ↦ absurd (a.0 q k (ap (λ (z : Attr). z.0) (sym f) ∙ e))
+  ]
+  | inr k ↦ elim n [
+    | inl g ↦ absurd (a.0 p k (ap (λ (z : Attr). z.0) (sym g) ∙ sym e))
+    | inr l ↦ same_if_same_key xs a.1 p q k l e
+  ]
+]
+
+-- pairs of different keys after a sort by key rise
+rises_if_sorted : (xs ys : List Attr) → Apart xs → IsPermutation xs ys → IsSorted key_cmp ys → Rises key_cmp key_cmp_total ys
+rises_if_sorted xs ys a p s = sorted_rises key_cmp key_cmp_total xs ys p s (once_if_apart xs a) (λ x y m n e. same_if_same_key xs a x y m n (one_key x y e))
+
+-- ---- what the definition lists
+
+abbrev pair_of : Bytes → Option Value → Option Attr
+pair_of key value = option_map (λ v. (key, v)) value
+
+pair_is : (key : Bytes) (o : Option Value) (z : Attr) → pair_of key o ≡ Some z → (z.0 ≡ key) × (o ≡ Some z.1)
+pair_is key None z e = absurd cc
+pair_is key (Some v) z e = let p : (key, v) ≡ z = cc in (ap (λ (w : Attr). w.0) (sym p), ap (λ (w : Attr). Some w.1) p)
+
+module _ (f : Bytes → Option Value) where
+  abbrev shown : Bytes → Option Attr
+  shown key = pair_of key (f key)
+
+  shown_in : (keys : List Bytes) (z : Attr) → In z (filter_map shown keys) → In z.0 keys × (f z.0 ≡ Some z.1)
+  shown_in keys z m =
+      let c = In-filter_map_back shown z keys m in
+      let p = pair_is c.0 (f c.0) z c.2 in
+      (subst (λ k. In k keys) (sym p.0) c.1, ap f p.0 ∙ p.1)
+
+  in_shown : (keys : List Bytes) (z : Attr) → In z.0 keys → f z.0 ≡ Some z.1 → In z (filter_map shown keys)
+  in_shown keys z m e = In-filter_map shown z.0 z keys m (ap (pair_of z.0) e)
+
+-- a key with a value stands among the keys
+key_there : (initial : List Attr) (g : List Op) (key : Bytes) (v : Value) → value_of_key initial g key ≡ Some v → In key (map (λ (attr : Attr). attr.0) initial ++ keys_of g)
+key_there initial g key v e = go (find (decides key g) g) refl e
+  where
+    from_initial : (r : Option Attr) → find (λ attr. bytes_eq attr.0 key) initial ≡ r → option_map (λ (attr : Attr). attr.1) r ≡ Some v → In key (map (λ (attr : Attr). attr.0) initial)
+    from_initial None f t = absurd cc
+    from_initial (Some a) f t =
+        let c = find_is (λ (attr : Attr). bytes_eq attr.0 key) a initial f in
+        subst (λ k. In k (map (λ (attr : Attr). attr.0) initial)) ((bytes_eq-Decides a.0 key).0 c.1) (In-map (λ (attr : Attr). attr.0) a initial c.0)
+
+    from_body : (b : Body) → value_in key b ≡ Some v → In key (keys_in b)
+    from_body (New m a) t = absurd cc
+    from_body (Set o w k x) t = elim (cases_Bool (bytes_eq key k)) [
+      | inl q ↦ inl ((bytes_eq-Decides key k).0 q)
+      | inr q ↦ (let z : None ≡ Some v = rw q at t in absurd (true≢false (ap is_some (sym z))))
+    ]
+
+    go : (r : Option Op) → find (decides key g) g ≡ r → value_by key initial r ≡ Some v → In key (map (λ (attr : Attr). attr.0) initial ++ keys_of g)
+    go None f t = In-append_left key (map (λ (attr : Attr). attr.0) initial) (keys_of g) (from_initial (find (λ attr. bytes_eq attr.0 key) initial) refl t)
+    go (Some a) f t =
+        let c = find_is (decides key g) a g f in
+        In-append_right key (map (λ (attr : Attr). attr.0) initial) (keys_of g)
+        (In-each_once bytes_eq same_key_is same_key_itself key (flat_map (λ (op : Op). keys_in op.body) g) (In-flat_map (λ (op : Op). keys_in op.body) a key g c.0 (from_body a.body t)))
+
+-- a rising list that has a key with a value exactly where that is the key's value are the attributes
+are_attributes : (initial : List Attr) (g : List Op) (pairs : List Attr) → Rises key_cmp key_cmp_total pairs → ((z : Attr) → In z pairs → value_of_key initial g z.0 ≡ Some z.1) → ((z : Attr) → value_of_key initial g z.0 ≡ Some z.1 → In z pairs) → pairs ≡ attributes initial g
+unfolding attributes
+are_attributes initial g pairs rises back to =
+    let f : Bytes → Option Value = value_of_key initial g in
+    let all : List Bytes = map (λ (attr : Attr). attr.0) initial ++ keys_of g in
+    let keys : List Bytes = each_once bytes_eq all in
+    sort_is key_cmp key_cmp_total (filter_map (shown f) keys) pairs (untied_with_values f keys (Once-each_once bytes_eq same_key_is same_key_itself all)) rises
+    (λ z m. to z (shown_in f keys z m).1)
+    (λ z m. let e = back z m in in_shown f keys z (In-each_once bytes_eq same_key_is same_key_itself z.0 all (key_there initial g z.0 z.1 e)) e)
+
+-- ---- what is kept of what the sets give and of the initial attributes
+
+abbrev given : List Op → List Attr
+given ops = flat_map (λ (op : Op). given_by op.body) ops
+
+-- the value of a key there is what the first set that gives it gives, or else the initial one
+first_given : (initial : List Attr) (key : Bytes) (ops : List Op) → option_map (λ (attr : Attr). attr.1) (option_or (attr_of key (given ops)) (attr_of key initial)) ≡ value_by key initial (find (gives key) ops)
+first_given initial key [] = refl
+first_given initial key (op ∷ ops) = by_body op.body refl (first_given initial key ops)
+  where
+    by_body : (b : Body) → op.body ≡ b → option_map (λ (attr : Attr). attr.1) (option_or (attr_of key (given ops)) (attr_of key initial)) ≡ value_by key initial (find (gives key) ops)
+        → option_map (λ (attr : Attr). attr.1) (option_or (attr_of key (given_by op.body ++ given ops)) (attr_of key initial)) ≡ value_by key initial (cond (is_some (value_in key op.body)) (Some op) (find (gives key) ops))
+    by_body (New m a) e h = rw e h
+    by_body (Set o w k x) e h = elim (cases_Bool (bytes_eq key k)) [
+      | inl t ↦ (let s : bytes_eq k key ≡ true = (bytes_eq-Decides k key).1 (sym ((bytes_eq-Decides key k).0 t)) in rw (e, t, s) (sym (ap (λ b. cond b (Some x) None) t)))
+      | inr t ↦ (let s : bytes_eq k key ≡ false = same_answer (bytes_eq k key) (bytes_eq key k) (λ q. (bytes_eq-Decides key k).1 (sym ((bytes_eq-Decides k key).0 q))) (λ q. (bytes_eq-Decides k key).1 (sym ((bytes_eq-Decides key k).0 q))) ∙ t in rw (e, t, s) h)
+    ]
+
+with_value : (key : Bytes) (attrs : List Attr) (v : Value) → option_map (λ (attr : Attr). attr.1) (attr_of key attrs) ≡ Some v → attr_of key attrs ≡ Some (key, v)
+with_value key attrs v e = go (attr_of key attrs) refl e
+  where
+    go : (r : Option Attr) → attr_of key attrs ≡ r → option_map (λ (attr : Attr). attr.1) r ≡ Some v → attr_of key attrs ≡ Some (key, v)
+    go None f t = absurd cc
+    go (Some a) f t =
+        let k : a.0 ≡ key = (bytes_eq-Decides a.0 key).0 (find_is (λ (attr : Attr). bytes_eq attr.0 key) a attrs f).1 in
+        let w : a.1 ≡ v = cc in
+        f ∙ (λ i. Some (k i, w i))
+
+-- the pairs that the program ends with
+pub attributes_are : {object : Name} (k : List Op) (members : List ℕ) (initial : List Attr) (first all pairs : List Attr) → AreSetsOn object k
+    → All (λ place. place < length k) members → is_compatible (conflict k) (map (at k) members) ≡ true
+    → first ≡ with_all [] (given_below k members (length k)) → all ≡ with_all first initial → IsPermutation all pairs → IsSorted key_cmp pairs
+    → pairs ≡ attributes initial (map (at k) members)
+attributes_are k members initial first all pairs w within compatible e f p s =
+    let l : List Op = members_below k members (length k) in
+    let apart : Apart all = subst Apart (sym (f ∙ ap (λ z. with_all z initial) e)) (Apart-all (with_all [] (given (reverse l))) initial (Apart-all [] (given (reverse l)) tt)) in
+    let looked : (key : Bytes) → attr_of key all ≡ option_or (attr_of key (given (reverse l))) (attr_of key initial) =
+    λ key. ap (attr_of key) (f ∙ ap (λ z. with_all z initial) e) ∙ attr_of-all key (with_all [] (given (reverse l))) initial ∙ ap (λ o. option_or o (attr_of key initial)) (attr_of-all key [] (given (reverse l))) in
+    let valued : (key : Bytes) → option_map (λ (attr : Attr). attr.1) (attr_of key all) ≡ value_of_key initial (map (at k) members) key =
+    λ key. ap (option_map (λ (attr : Attr). attr.1)) (looked key) ∙ first_given initial key (reverse l)
+    ∙ sym (value_is_last k (map (at k) members) l compatible (λ x m. there k members x within m) (back k members) (members_ordered k members w.listed.ordered) (λ x m. not_before_itself w.listed x (is_set k members x m)) initial key) in
+    are_attributes initial (map (at k) members) pairs (rises_if_sorted all pairs apart p s)
+    (λ z m.
+    let n = In-from_Contains z all (Contains-permutation pairs all z (IsPermutation-sym all pairs p) (Contains-from_In z pairs m)) in
+    sym (valued z.0) ∙ ap (option_map (λ (attr : Attr). attr.1)) (attr_if_in all apart z n))
+    (λ z q.
+    let n = find_is (λ (attr : Attr). bytes_eq attr.0 z.0) z all (with_value z.0 all z.1 (valued z.0 ∙ q)) in
+    In-from_Contains z pairs (Contains-permutation all pairs z p (Contains-from_In z all n.0)))

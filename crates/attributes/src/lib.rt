@@ -1,0 +1,125 @@
+//! The attributes of a version.
+#![tactic(auto)]
+
+ghost use Rattle.std.specs.Prelude.{◌≡◌, ◌<◌, [], true, length, map, bytes_eq, All, IfOk, OnOk};
+ghost use Rattle.std.specs.List.{list_any};
+ghost use Rattle.std.specs.List.Sorted.{IsPermutation, IsSorted};
+ghost use Rattle.op_names.specs.Names.{Name};
+ghost use Rattle.rules.specs.Groups.{is_compatible};
+ghost use Rattle.rules.specs.Conflicts.{conflict};
+ghost use Rattle.rules.specs.Versions.{attributes, key_cmp};
+ghost use Rattle.conflict.specs.Sets.{at, AreSetsOn};
+ghost use Rattle.attributes.specs.Pairs.{given_below, given_by, with_all, with_new};
+
+use conflict::Members;
+use op_names::{Key, NoMemory, Value};
+use rules::{Attrs, Body, Op};
+use std::alloc::Global;
+
+/// The attributes of an object that was created with these initial attributes and changed by the
+/// sets at these places: each key with its value, in order of key. A key has the value that the
+/// last set on it gives; without one, the initial value. Fails only with `NoMemory`.
+///
+/// Takes time with the number of all the sets, and for each of those at the places and each initial
+/// attribute with the number of keys. Copies only what it gives.
+pub fn attributes_of(
+    alloc: Global,
+    initial: &Attrs,
+    ops: &[Op],
+    members: &Members,
+) -> Result<Vec<(Key, Value)>, NoMemory>
+    requires sets { (object : Name) × AreSetsOn object ops.now }
+    requires within { All (λ place. place < length ops.now) members.now }
+    requires compatible { is_compatible (conflict ops.now) (map (at ops.now) members.now) ≡ true }
+    ensures { IfOk result (λ pairs. pairs.items ≡ attributes initial.now (map (at ops.now) members.now)) }
+{
+    let mut pairs = last_given(alloc, ops, members)?;
+    add_missing(alloc, &mut pairs, initial.pairs())?;
+    sort_by_key(&mut pairs);
+    Ok(pairs)
+}
+
+/// For each key that the sets at these places give, what the last one of them gives: so they are
+/// gone over from the last to the first.
+fn last_given(alloc: Global, ops: &[Op], members: &Members) -> Result<Vec<(Key, Value)>, NoMemory>
+    requires { (object : Name) × AreSetsOn object ops.now }
+    ensures { IfOk result (λ pairs. pairs.items ≡ with_all [] (given_below ops.now members.now (length ops.now))) }
+{
+    let mut pairs = Vec::new(alloc);
+    for place in (0..count(ops)).rev() {
+        if members.has(place) {
+            add_given(alloc, &mut pairs, &ops[place as usize].body)?;
+        }
+    }
+    Ok(pairs)
+}
+
+/// The number of sets.
+fn count(ops: &[Op]) -> u32
+    requires { (object : Name) × AreSetsOn object ops.now }
+    ensures { result ≡ length ops.now }
+{
+    // No two sets have one name, and names are in range: so there are few of them.
+    for op in ops {
+        let _ = op.name.site();
+        let _ = op.name.seq();
+    }
+    ops.len() as u32
+}
+
+/// Adds what a set gives, if its key isn't there yet.
+fn add_given(alloc: Global, pairs: &mut Vec<(Key, Value)>, body: &Body) -> Result<(), NoMemory>
+    ensures { OnOk result (pairs.new.items ≡ with_all pairs.old.items (given_by body.now)) }
+{
+    if let Body::Set { key, value, .. } = body {
+        add_new(alloc, pairs, key, value)?;
+    }
+    Ok(())
+}
+
+/// Adds those pairs whose keys aren't there yet.
+fn add_missing(
+    alloc: Global,
+    pairs: &mut Vec<(Key, Value)>,
+    others: &[(Key, Value)],
+) -> Result<(), NoMemory>
+    ensures { OnOk result (pairs.new.items ≡ with_all pairs.old.items others.now) }
+{
+    for other in others {
+        add_new(alloc, pairs, &other.0, &other.1)?;
+    }
+    Ok(())
+}
+
+/// Does one of the pairs have this key?
+fn has_key(pairs: &[(Key, Value)], key: &Key) -> bool
+    ensures { result ≡ list_any (λ pair. bytes_eq key.now pair.0) pairs.now }
+{
+    pairs.iter().any(|pair| *key == pair.0)
+}
+
+/// Adds a key with its value, if the key isn't there yet.
+fn add_new(
+    alloc: Global,
+    pairs: &mut Vec<(Key, Value)>,
+    key: &Key,
+    value: &Value,
+) -> Result<(), NoMemory>
+    ensures { OnOk result (pairs.new.items ≡ with_new (key.now, value.now) pairs.old.items) }
+{
+    if !has_key(pairs, key) {
+        pairs.push((key.copy(alloc)?, value.copy(alloc)?))?;
+    }
+    Ok(())
+}
+
+/// Puts the pairs in order of key.
+fn sort_by_key(pairs: &mut Vec<(Key, Value)>)
+    ensures permutation { IsPermutation pairs.old.items pairs.new.items }
+    ensures sorted { IsSorted key_cmp pairs.new.items }
+{
+    pairs.sort_unstable_by(|a, b| a.0.cmp(&b.0));
+}
+
+#[cfg(test)]
+mod tests;

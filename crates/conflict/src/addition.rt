@@ -1,0 +1,121 @@
+//! A set that is to be put with those on its object.
+
+ghost use Rattle.std.specs.Prelude.{◌≡◌, ◌+◌, ◌<◌, ◌^◌, ◌++◌, ◌∷◌, [], List, length};
+ghost use Rattle.rules.specs.declared.history.Op.{Op};
+ghost use Rattle.conflict.specs.Sets.{IsAddition};
+
+use crate::{Clashes, Members, Relation};
+use op_names::OpName;
+use rules::Op;
+use std::marker::Model;
+
+/// A set that `Clashes` has prepared, with the places of its base and of the sets that it is in
+/// conflict with.
+#[derive(Debug, Drop)]
+pub struct Addition {
+    op: Op,
+    base: Members,
+    row: Members,
+}
+
+impl Model for Addition {
+    ghost use Rattle.conflict.specs.Sets.{Added};
+
+    ghost Value = { Added };
+
+    ghost view = { λ addition. record { op = addition.op; base = addition.base; row = addition.row } };
+}
+
+impl Addition {
+    pub(crate) fn new(op: Op, base: Members, row: Members) -> Addition
+        ensures { result ≡ record { op = op; base = base; row = row } }
+    {
+        Addition { op, base, row }
+    }
+
+    /// The set.
+    pub fn op(&self) -> &Op
+        ensures { result.now ≡ self.now.op }
+    {
+        &self.op
+    }
+
+    /// The places of the sets that it is in conflict with.
+    pub(crate) fn row(&self) -> &Members
+        ensures { result.now ≡ self.now.row }
+    {
+        &self.row
+    }
+
+    pub(crate) fn into_parts(self) -> (Op, Members, Members)
+        ensures { result ≡ (self.op, self.base, self.row) }
+    {
+        (self.op, self.base, self.row)
+    }
+}
+
+/// The sets on an object and one that is prepared for them, as a relation.
+#[derive(Debug, Drop)]
+pub struct Longer<'a> {
+    sets: &'a Clashes,
+    addition: &'a Addition,
+}
+
+impl<'a> Model for Longer<'a> {
+    ghost use Rattle.std.specs.Prelude.{◌+◌, ◌<◌, ◌^◌, List, [], ◌∷◌, ◌++◌, length};
+    ghost use Rattle.rules.specs.declared.history.Op.{Op};
+    ghost use Rattle.conflict.specs.Sets.{IsAddition};
+
+    ghost Value = { List Op };
+
+    ghost view = { λ longer. longer.sets.now.ops ++ longer.addition.now.op ∷ [] };
+
+    ghost invariant = { λ longer. IsAddition longer.sets.now.object longer.sets.now.ops longer.addition.now × (length longer.sets.now.ops + 1 < 2 ^ 32) };
+}
+
+impl<'a> Longer<'a> {
+    pub(crate) fn new(sets: &'a Clashes, addition: &'a Addition) -> Longer<'a>
+        requires ready { IsAddition sets.now.object sets.now.ops addition.now }
+        requires few { length sets.now.ops + 1 < 2 ^ 32 }
+        ensures { result ≡ sets.now.ops ++ addition.now.op ∷ [] }
+    {
+        Longer { sets, addition }
+    }
+}
+
+impl<'a> Relation for Longer<'a> {
+    ghost use Rattle.std.specs.Prelude.{length};
+    ghost use Rattle.rules.specs.Conflicts.{conflict};
+    ghost use Rattle.conflict.specs.Sets.{at};
+
+    ghost size = { λ ops. length ops };
+
+    ghost name_at = { λ ops i. (at ops i).name };
+
+    ghost clashes = { λ ops i j. conflict ops (at ops i) (at ops j) };
+
+    fn len(&self) -> u32 {
+        self.sets.len() + 1
+    }
+
+    fn name(&self, i: u32) -> OpName {
+        if i < self.sets.len() {
+            self.sets.name(i)
+        } else {
+            self.addition.op().name
+        }
+    }
+
+    fn clash(&self, i: u32, j: u32) -> bool {
+        let last = self.sets.len();
+        if i == j {
+            false
+        } else if i == last {
+            self.addition.row().has(j)
+        } else if j == last {
+            self.addition.row().has(i)
+        } else {
+            self.sets.clash(i, j)
+        }
+    }
+}

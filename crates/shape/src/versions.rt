@@ -1,0 +1,109 @@
+//! Groups as they are shown.
+
+ghost use Rattle.std.specs.Prelude.{◌≡◌, ◌<◌, false, All, IfOk, Contains, length, map};
+ghost use Rattle.op_names.specs.VersionIds.{id_cmp};
+ghost use Rattle.rules.specs.Bodies.{is_set_body};
+ghost use Rattle.rules.specs.Lists.{sort_by};
+ghost use Rattle.rules.specs.Groups.{groups_of, identifier};
+ghost use Rattle.rules.specs.Versions.{by_id};
+ghost use Rattle.conflict.specs.Members.{places};
+ghost use Rattle.version_groups.specs.Kept.{AreGroups};
+ghost use Rattle.shape.specs.Kept.{clash, version_at};
+
+use attributes::attributes_of;
+use conflict::{Clashes, Members, Relation};
+use op_names::{NoMemory, VersionId};
+use rules::{AttrList, Body, Op, Version};
+use std::alloc::Global;
+use version_groups::Groups;
+use version_ids::id_of;
+
+/// The identifiers of groups, in the order of the groups.
+fn listed_ids<R: Relation>(
+    alloc: Global,
+    relation: &R,
+    groups: &Groups,
+) -> Result<Vec<VersionId>, NoMemory>
+    requires { All (All (λ place. place < R.size relation.now)) groups.now.groups }
+    ensures { IfOk result (λ ids. ids.items ≡ map (identifier (R.clashes relation.now) (R.name_at relation.now) (places (R.size relation.now))) groups.now.groups) }
+{
+    let mut ids = Vec::with_capacity(alloc, groups.count())?;
+    for group in 0..groups.count() {
+        ids.push(id_of(alloc, relation, groups.members(group))?)?;
+    }
+    Ok(ids)
+}
+
+/// The identifiers of the groups of all places of a relation, in their own order.
+pub(crate) fn sorted_ids<R: Relation>(
+    alloc: Global,
+    relation: &R,
+    groups: &Groups,
+) -> Result<Vec<VersionId>, NoMemory>
+    requires { AreGroups (R.clashes relation.now) (places (R.size relation.now)) groups.now.groups }
+    ensures { IfOk result (λ ids. ids.items ≡ sort_by id_cmp (map (identifier (R.clashes relation.now) (R.name_at relation.now) (places (R.size relation.now))) groups.now.groups)) }
+{
+    let _ = relation.len();
+    let mut ids = listed_ids(alloc, relation, groups)?;
+    ids.sort_unstable();
+    Ok(ids)
+}
+
+/// A group as it is shown.
+fn version_of(
+    alloc: Global,
+    creation: &Op,
+    sets: &Clashes,
+    group: &Members,
+) -> Result<Version, NoMemory>
+    requires creation { is_set_body creation.now.body ≡ false }
+    requires group { Contains (groups_of (clash sets.now.ops) (places (length sets.now.ops))) group.now }
+    ensures { IfOk result (λ version. version ≡ version_at creation.now sets.now.ops group.now) }
+{
+    let Body::New { attrs, .. } = &creation.body else {
+        unreachable!()
+    };
+    let id = id_of(alloc, sets, group)?;
+    let attrs = attributes_of(alloc, attrs, sets.ops(), group)?;
+    Ok(Version {
+        id,
+        attrs: AttrList::from_vec(attrs),
+    })
+}
+
+/// Groups as they are shown, in the order of the groups.
+fn listed_versions(
+    alloc: Global,
+    creation: &Op,
+    sets: &Clashes,
+    groups: &Groups,
+) -> Result<Vec<Version>, NoMemory>
+    requires creation { is_set_body creation.now.body ≡ false }
+    requires groups { AreGroups (clash sets.now.ops) (places (length sets.now.ops)) groups.now.groups }
+    ensures { IfOk result (λ versions. versions.items ≡ map (version_at creation.now sets.now.ops) groups.now.groups) }
+{
+    let mut versions = Vec::with_capacity(alloc, groups.count())?;
+    for group in 0..groups.count() {
+        versions.push(version_of(alloc, creation, sets, groups.members(group))?)?;
+    }
+    Ok(versions)
+}
+
+/// The groups of all sets as they are shown, in the order of their identifiers.
+pub(crate) fn sorted_versions(
+    alloc: Global,
+    creation: &Op,
+    sets: &Clashes,
+    groups: &Groups,
+) -> Result<Vec<Version>, NoMemory>
+    requires creation { is_set_body creation.now.body ≡ false }
+    requires object { sets.now.object ≡ creation.now.name }
+    requires groups { AreGroups (clash sets.now.ops) (places (length sets.now.ops)) groups.now.groups }
+    ensures { IfOk result (λ versions. versions.items ≡ sort_by by_id (map (version_at creation.now sets.now.ops) groups.now.groups)) }
+{
+    // That the sets are some history's is part of what stays true of them.
+    let _ = sets.ops();
+    let mut versions = listed_versions(alloc, creation, sets, groups)?;
+    versions.sort_unstable_by(|a, b| a.id.cmp(&b.id));
+    Ok(versions)
+}

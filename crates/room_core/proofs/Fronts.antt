@@ -1,6 +1,7 @@
 -- Parts of a list whose members are seen through a function.
-use Rattle.std.proofs.Common.{◌≡◌, ℕ, ◌+◌, ◌<◌, List, [], ◌∷◌, ◌++◌, length, get_or, map, take, drop, sym, ap, ◌∙◌}
-use Rattle.std.proofs.lemmas.List.{get_or-map, length-map, map-append, take-map, take_more, drop-map}
+use Rattle.std.proofs.Common.{◌≡◌, ℕ, ◌+◌, ◌<◌, List, [], ◌∷◌, ◌++◌, length, get_or, map, take, drop, sym, ap, ◌∙◌, slice_get, Some, min}
+use Rattle.std.proofs.lemmas.List.{get_or-map, length-map, map-append, take-map, take_min, take_more, drop-map}
+use Rattle.std.proofs.lemmas.Option.{get_or_from_slice_get, slice_get_within}
 
 module _ {X Y : Type 0} (f : X → Y) (xs : List X) where
   -- a page of a list, seen, is that page of the list as it is seen
@@ -13,3 +14,14 @@ module _ {X Y : Type 0} (f : X → Y) (xs : List X) where
       let within : k < length (map f xs) = rw length-map there in
       let next : f b ≡ get_or (map f xs) k (f a) = same ∙ ap f is ∙ sym (get_or-map f xs k a (f a) there) in
       map-append f ys (b ∷ []) ∙ (λ i. front i ++ next i ∷ []) ∙ sym (take_more (map f xs) k (f a) within)
+
+  -- one more of a front, as it is found
+  pub found_more : (ys : List Y) (k : ℕ) (a : X) → slice_get xs k ≡ Some a → ys ≡ take k (map f xs) → ys ++ f a ∷ [] ≡ take (k + 1) (map f xs)
+  found_more ys k a there front =
+      let within : k < length (map f xs) = rw length-map (slice_get_within xs k a there) in
+      let next : get_or (map f xs) k (f a) ≡ f a = get_or-map f xs k a (f a) (slice_get_within xs k a there) ∙ ap f (get_or_from_slice_get xs k a a there) in
+      (λ i. front i ++ sym next i ∷ []) ∙ sym (take_more (map f xs) k (f a) within)
+
+  -- a page holds no more than there is
+  pub page_counted : (page count : ℕ) → count ≡ min page (length xs) → take count (map f xs) ≡ take page (map f xs)
+  page_counted page count e = ap (λ n. take n (map f xs)) (e ∙ ap (min page) (sym (length-map xs f))) ∙ take_min page (map f xs)

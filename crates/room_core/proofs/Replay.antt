@@ -1,75 +1,163 @@
 -- A room with one more entry is the replay of its record with that entry.
-use Rattle.std.proofs.Common.{◌≡◌, ℕ, ◌+◌, Bool, true, false, List, [], ◌∷◌, ◌++◌, length, map, refl, sym, ap, ◌∙◌, subst, arith}
-use Rattle.std.specs.List.{list_any}
-use Rattle.std.proofs.lemmas.Bool.{or_from, or_parts}
-use Rattle.std.proofs.lemmas.List.{length_push, map-append}
-use Rattle.op_names.specs.Names.{Name}
-use Rattle.op_names.specs.Texts.{Bytes}
+use Rattle.std.proofs.Common.{◌≡◌, ◌≢◌, ℕ, ◌+◌, Bool, true, false, not, List, [], ◌∷◌, ◌++◌, length, map, refl, sym, ap, ◌∙◌, subst, arith, Option, Some, None, cond, ◌&&◌, leb}
+use Rattle.std.specs.Prelude.{find, is_none}
+use Rattle.std.specs.List.{IsDistinct}
+use Rattle.std.specs.Map.{keys_of, lookup, set_value}
+use Rattle.std.proofs.lemmas.Bool.{and_parts, false_from_ne_true}
+use Rattle.std.proofs.lemmas.List.{append-nil, length_push, map-append}
+use Rattle.op_names.specs.Names.{Name, same_name}
+use Rattle.state_vector.specs.Vectors.{is_vector}
 use Rattle.rules.specs.declared.history.Op.{Op}
 use Rattle.rules.specs.declared.history.Entry.{Entry}
 use Rattle.rules.specs.declared.history.Entry.TheVariants.{Join, Operation}
 use Rattle.rules.specs.Bounds.{Bounds}
-use Rattle.rules.specs.Bodies.{is_set_body, kind_in}
-use Rattle.rules.specs.Records.{operations, objects, admits}
-use Rattle.rules.proofs.Records.{operations-join, operations-push, sites-join, sites-operation, objects-join, objects-creation, legal_push}
+use Rattle.rules.specs.Bodies.{is_set_body}
+use Rattle.rules.specs.Admission.{count_at_site}
+use Rattle.rules.specs.Operations.{before, creation_of, is_creation_of, is_on, is_set_on, object_of}
+use Rattle.rules.specs.Records.{operations, objects, sites, admits, is_placed, refusal, IsLegal}
+use Rattle.rules.proofs.Counted.{same_name-true}
+use Rattle.rules.proofs.Lists.{In, Contains-from_In, any_back, find_is}
+use Rattle.rules.proofs.Records.{filter-push, operations-join, operations-push, sites-join, sites-operation, objects-join, objects-creation, legal_push}
 use Rattle.rules.proofs.Conditions.{room_for_join, room_for_operation, room_for_object}
+use Rattle.rules.proofs.Founded.{founded_if_legal, history_if_legal}
+use Rattle.rules.proofs.Histories.{follows_if}
+use Rattle.shape.specs.Drawing.{Drawn, with_set}
+use Rattle.shape.proofs.Next.{numbered_if}
 use Rattle.room_core.specs.Replay.{IsReplay}
+use Rattle.room_core.proofs.Drawings.{drawings_at, drawings_push, drawings_same, drawings_set}
+use Rattle.room_core.proofs.Lookup.{none_there}
 
-abbrev in_list : Op → Name × Bytes
-in_list = λ op. (op.name, kind_in op.body)
+-- the vector of an operation that is admitted is one
+pub vector_if : (l : Bounds) (r : List Entry) (o : Op) → is_placed r (Operation o) ≡ true → is_vector o.seen ≡ true
+vector_if l r o p = (and_parts (leb 1 o.name.0 && leb o.name.0 (sites r)) (is_vector o.seen) p).1
 
-abbrev listed : List Op → List (Name × Bytes)
-listed = map in_list
+objects-set : (r : List Entry) (o : Op) → is_set_body o.body ≡ true → objects (r ++ Operation o ∷ []) ≡ objects r
+objects-set r o t =
+    ap (λ (h : List Op). Rattle.std.specs.Prelude.filter (λ op. not (is_set_body op.body)) h) (operations-push r o)
+    ∙ filter-push (λ (op : Op). not (is_set_body op.body)) (operations r) o
+    ∙ ap (λ b. objects r ++ cond (not b) (o ∷ []) []) t
+    ∙ append-nil (objects r)
 
-abbrev sets : Op → Bool
-sets op = is_set_body op.body
+-- ---- an operation that is admitted
 
-none_more : (h : List Op) (op : Op) → list_any sets h ≡ false → sets op ≡ false → list_any sets (h ++ op ∷ []) ≡ false
-none_more [] op e f = or_from (sets op) false f refl
-none_more (x ∷ h) op e f = let c = or_parts (sets x) (list_any sets h) e in or_from (sets x) (list_any sets (h ++ op ∷ [])) c.0 (none_more h op c.1 f)
+module _ (l : Bounds) (r : List Entry) (legal : IsLegal l r) (o : Op) (a : admits l r (Operation o) ≡ true) where
+  -- has a new name
+  name_is_new : (x : Op) → In x (operations r) → x.name ≢ o.name
+  name_is_new x m e =
+      let h = operations r in
+      let v = vector_if l r o (and_parts (is_placed r (Operation o)) (is_none (refusal l r (Operation o))) a).0 in
+      let next = (follows_if h o (room_for_operation l r o a).1 v).seq in
+      let last = (numbered_if (history_if_legal l r legal)).numbered x (Contains-from_In x h m) in
+      let seq : x.name.1 ≡ o.name.1 = ap (λ (n : Name). n.1) e in
+      let count : count_at_site h x.name.0 ≡ count_at_site h o.name.0 = ap (λ (n : Name). count_at_site h n.0) e in
+      omega (arith, next, last, seq, count)
 
-module _ (limits : Bounds) (r : List Entry) (joined : ℕ) (shown : List (Name × Bytes)) (history : List Op) (replay : IsReplay limits r joined shown history) where
-  replay_join : (site : ℕ) → admits limits r (Join site) ≡ true → IsReplay limits (r ++ Join site ∷ []) (joined + 1) shown history
+  -- no set is on what has its name
+  no_set_yet : (x : Op) → In x (operations r) → is_set_on o.name x ≡ false
+  no_set_yet x m = false_from_ne_true (is_set_on o.name x) (λ t.
+      let h = operations r in
+      let p = and_parts (is_set_body x.body) (is_on o.name x) t in
+      let c = any_back (λ (y : Op). is_creation_of (object_of x) y && before y x) h ((founded_if_legal l r legal).object x (Contains-from_In x h m) p.0) in
+      let q = and_parts (is_creation_of (object_of x) c.0) (before c.0 x) c.2 in
+      let named = same_name-true c.0.name (object_of x) (and_parts (not (is_set_body c.0.body)) (same_name c.0.name (object_of x)) q.0).1 in
+      name_is_new c.0 c.1 (named ∙ same_name-true (object_of x) o.name p.1))
+
+  pub not_created : creation_of (operations r) o.name ≡ None
+  not_created = go (creation_of (operations r) o.name) refl
+    where
+      go : (q : Option Op) → creation_of (operations r) o.name ≡ q → q ≡ None
+      go None e = refl
+      go (Some x) e =
+          let f = find_is (is_creation_of o.name) x (operations r) e in
+          absurd (name_is_new x f.0 (same_name-true x.name o.name (and_parts (not (is_set_body x.body)) (same_name x.name o.name) f.1).1))
+
+-- ---- one more entry
+
+module _ (l : Bounds) (r : List Entry) (joined : ℕ) (shapes : List (Name × Drawn)) (history : List Op) (replay : IsReplay l r joined shapes history) where
+  -- an admitted creation is of no object that is there
+  pub new_name : (o : Op) → admits l r (Operation o) ≡ true → lookup (same_name o.name) shapes ≡ None
+  new_name o a = none_there l r shapes replay.shapes_are o.name (not_created l r replay.legal o a)
+
+  replay_join : (site : ℕ) → admits l r (Join site) ≡ true → IsReplay l (r ++ Join site ∷ []) (joined + 1) shapes history
   replay_join site a =
-      let room = room_for_join limits r site a in
+      let room = room_for_join l r site a in
       record {
-        legal = legal_push limits r (Join site) replay.legal a;
+        legal = legal_push l r (Join site) replay.legal a;
         joins = (let e = sites-join r site in omega (arith, e, replay.joins));
-        creations = replay.creations ∙ sym (ap listed (objects-join r site));
-        unset = ap (list_any sets) (operations-join r site) ∙ replay.unset;
+        shapes_are = replay.shapes_are ∙ (λ i. drawings_at l (sym (operations-join r site) i) (sym (objects-join r site) i));
         past = replay.past ∙ sym (operations-join r site);
         few = omega (arith, replay.joins, room.0);
         short = (let e = length_push r (Join site) in omega (arith, e, room.1));
         fits = (let e = ap length (objects-join r site) in omega (arith, e, replay.fits));
       }
 
-  replay_creation : (op : Op) → admits limits r (Operation op) ≡ true → is_set_body op.body ≡ false → IsReplay limits (r ++ Operation op ∷ []) joined (shown ++ (op.name, kind_in op.body) ∷ []) (history ++ op ∷ [])
-  replay_creation op a creates =
-      let room = room_for_operation limits r op a in
-      let more : length (objects (r ++ Operation op ∷ [])) ≡ length (objects r) + 1 = ap length (objects-creation r op creates) ∙ length_push (objects r) op in
+  replay_creation : (o : Op) (d : Drawn) → admits l r (Operation o) ≡ true → is_set_body o.body ≡ false → d.drawing ≡ record { limits = l; creation = o; sets = [] }
+      → IsReplay l (r ++ Operation o ∷ []) joined (shapes ++ (o.name, d) ∷ []) (history ++ o ∷ [])
+  replay_creation o d a creates made =
+      let room = room_for_operation l r o a in
+      let more : length (objects (r ++ Operation o ∷ [])) ≡ length (objects r) + 1 = ap length (objects-creation r o creates) ∙ length_push (objects r) o in
       record {
-        legal = legal_push limits r (Operation op) replay.legal a;
-        joins = replay.joins ∙ sym (sites-operation r op);
-        creations = ap (λ os. os ++ (op.name, kind_in op.body) ∷ []) replay.creations ∙ sym (ap listed (objects-creation r op creates) ∙ map-append in_list (objects r) (op ∷ []));
-        unset = ap (list_any sets) (operations-push r op) ∙ none_more (operations r) op replay.unset creates;
-        past = ap (λ (h : List Op). h ++ op ∷ []) replay.past ∙ sym (operations-push r op);
+        legal = legal_push l r (Operation o) replay.legal a;
+        joins = replay.joins ∙ sym (sites-operation r o);
+        shapes_are =
+            drawings_push l (operations r) o (objects r) shapes d creates (no_set_yet l r replay.legal o a) replay.shapes_are made
+            ∙ (λ i. drawings_at l (sym (operations-push r o) i) (sym (objects-creation r o creates) i));
+        past = ap (λ (h : List Op). h ++ o ∷ []) replay.past ∙ sym (operations-push r o);
         few = replay.few;
-        short = (let e = length_push r (Operation op) in omega (arith, e, room.0));
-        fits = omega (arith, more, room_for_object limits r op a creates);
+        short = (let e = length_push r (Operation o) in omega (arith, e, room.0));
+        fits = omega (arith, more, room_for_object l r o a creates);
       }
 
-module _ {X : Type 0} (f : X → Entry) (limits : Bounds) (xs : List X) (x : X) (joined : ℕ) (shown : List (Name × Bytes)) (history : List Op) (replay : IsReplay limits (map f xs) joined shown history) where
-  pushed : map f xs ++ f x ∷ [] ≡ map f (xs ++ x ∷ [])
-  pushed = sym (map-append f xs (x ∷ []))
+  replay_set : (o : Op) (d w : Drawn) → admits l r (Operation o) ≡ true → is_set_body o.body ≡ true → IsDistinct same_name (keys_of shapes)
+      → lookup (same_name (object_of o)) shapes ≡ Some d → w.drawing ≡ with_set d.drawing o
+      → IsReplay l (r ++ Operation o ∷ []) joined (set_value (same_name (object_of o)) shapes w) (history ++ o ∷ [])
+  replay_set o d w a sets unique there taken =
+      let room = room_for_operation l r o a in
+      record {
+        legal = legal_push l r (Operation o) replay.legal a;
+        joins = replay.joins ∙ sym (sites-operation r o);
+        shapes_are =
+            drawings_set l (operations r) o d w shapes (objects r) sets unique replay.shapes_are there taken
+            ∙ (λ i. drawings_at l (sym (operations-push r o) i) (sym (objects-set r o sets) i));
+        past = ap (λ (h : List Op). h ++ o ∷ []) replay.past ∙ sym (operations-push r o);
+        few = replay.few;
+        short = (let e = length_push r (Operation o) in omega (arith, e, room.0));
+        fits = (let e = ap length (objects-set r o sets) in omega (arith, e, replay.fits));
+      }
 
-  -- the same, of a list that gives the entries
-  pub replay_joined : {site : ℕ} → f x ≡ Join site → admits limits (map f xs) (f x) ≡ true → IsReplay limits (map f (xs ++ x ∷ [])) (joined + 1) shown history
-  replay_joined {site} is a =
-      subst (λ r. IsReplay limits r (joined + 1) shown history) (ap (λ (e : Entry). map f xs ++ e ∷ []) (sym is) ∙ pushed)
-      (replay_join limits (map f xs) joined shown history replay site (ap (admits limits (map f xs)) (sym is) ∙ a))
+  -- an object that stays, in another's place
+  pub replay_same : (t : Name → Bool) (d w : Drawn) → lookup t shapes ≡ Some d → w.drawing ≡ d.drawing → IsReplay l r joined (set_value t shapes w) history
+  replay_same t d w there same = record {
+    legal = replay.legal;
+    joins = replay.joins;
+    shapes_are = drawings_same t d w shapes there same ∙ replay.shapes_are;
+    past = replay.past;
+    few = replay.few;
+    short = replay.short;
+    fits = replay.fits;
+  }
 
-  pub replay_created : {op : Op} (kind : Bytes) → f x ≡ Operation op → admits limits (map f xs) (f x) ≡ true → is_set_body op.body ≡ false → kind ≡ kind_in op.body → IsReplay limits (map f (xs ++ x ∷ [])) joined (shown ++ (op.name, kind) ∷ []) (history ++ op ∷ [])
-  replay_created {op} kind is a creates named =
-      subst (λ k. IsReplay limits (map f (xs ++ x ∷ [])) joined (shown ++ (op.name, k) ∷ []) (history ++ op ∷ [])) (sym named)
-      (subst (λ r. IsReplay limits r joined (shown ++ (op.name, kind_in op.body) ∷ []) (history ++ op ∷ [])) (ap (λ (e : Entry). map f xs ++ e ∷ []) (sym is) ∙ pushed)
-      (replay_creation limits (map f xs) joined shown history replay op (ap (admits limits (map f xs)) (sym is) ∙ a) creates))
+-- ---- the same, of a list that gives the entries
+
+module _ {X : Type 0} (f : X → Entry) (l : Bounds) (xs : List X) (x : X) (joined : ℕ) (shapes : List (Name × Drawn)) (history : List Op) (replay : IsReplay l (map f xs) joined shapes history) where
+  pushed : {e : Entry} → f x ≡ e → map f xs ++ e ∷ [] ≡ map f (xs ++ x ∷ [])
+  pushed is = ap (λ (e : Entry). map f xs ++ e ∷ []) (sym is) ∙ sym (map-append f xs (x ∷ []))
+
+  admitted : {e : Entry} → f x ≡ e → admits l (map f xs) (f x) ≡ true → admits l (map f xs) e ≡ true
+  admitted is a = ap (admits l (map f xs)) (sym is) ∙ a
+
+  pub replay_joined : {site : ℕ} → f x ≡ Join site → admits l (map f xs) (f x) ≡ true → IsReplay l (map f (xs ++ x ∷ [])) (joined + 1) shapes history
+  replay_joined {site} is a = subst (λ r. IsReplay l r (joined + 1) shapes history) (pushed is) (replay_join l (map f xs) joined shapes history replay site (admitted is a))
+
+  pub replay_created : {o : Op} (d : Drawn) → f x ≡ Operation o → admits l (map f xs) (f x) ≡ true → is_set_body o.body ≡ false → d.drawing ≡ record { limits = l; creation = o; sets = [] }
+      → IsReplay l (map f (xs ++ x ∷ [])) joined (shapes ++ (o.name, d) ∷ []) (history ++ o ∷ [])
+  replay_created {o} d is a creates made =
+      subst (λ r. IsReplay l r joined (shapes ++ (o.name, d) ∷ []) (history ++ o ∷ [])) (pushed is)
+      (replay_creation l (map f xs) joined shapes history replay o d (admitted is a) creates made)
+
+  pub replay_changed : {o : Op} (d w : Drawn) → f x ≡ Operation o → admits l (map f xs) (f x) ≡ true → is_set_body o.body ≡ true → IsDistinct same_name (keys_of shapes)
+      → lookup (same_name (object_of o)) shapes ≡ Some d → w.drawing ≡ with_set d.drawing o
+      → IsReplay l (map f (xs ++ x ∷ [])) joined (set_value (same_name (object_of o)) shapes w) (history ++ o ∷ [])
+  replay_changed {o} d w is a sets unique there taken =
+      subst (λ r. IsReplay l r joined (set_value (same_name (object_of o)) shapes w) (history ++ o ∷ [])) (pushed is)
+      (replay_set l (map f xs) joined shapes history replay o d w (admitted is a) sets unique there taken)

@@ -1,12 +1,12 @@
 -- What a room answers: a reply, and the entry that is added if there is one.
-use Rattle.std.specs.Prelude.{ℕ, ◌+◌, Bool, true, false, ◌&&◌, List, [], ◌∷◌, ◌++◌, Option, Some, None, nat_le, nat_lt, length, map, take, drop, if◌then◌else◌}
+use Rattle.std.specs.Prelude.{ℕ, ◌+◌, Bool, ◌&&◌, List, [], ◌∷◌, ◌++◌, Option, Some, None, nat_le, nat_lt, length, map, take, drop, if◌then◌else◌}
 use Rattle.op_names.specs.Names.{Name}
 use Rattle.rules.specs.declared.history.Op.{Op}
 use Rattle.rules.specs.declared.history.Body.TheVariants.{New, Set}
 use Rattle.rules.specs.declared.history.Entry.{Entry}
 use Rattle.rules.specs.declared.history.Entry.TheVariants.{Join, Operation}
 use Rattle.rules.specs.declared.refusal.Refusal.{Refusal}
-use Rattle.rules.specs.declared.refusal.Refusal.TheVariants.{BadMessage, NotJoined, AlreadyJoined, NoSuchObject, TooFar}
+use Rattle.rules.specs.declared.refusal.Refusal.TheVariants.{NotJoined, AlreadyJoined, NoSuchObject, TooFar}
 use Rattle.rules.specs.Bodies.{kind_in}
 use Rattle.rules.specs.Operations.{creation_of, object_of}
 use Rattle.rules.specs.Records.{operations, objects, sites, refusal}
@@ -83,14 +83,3 @@ has_site room site = nat_le 1 site && nat_le site (sites room.entries)
 -- ask it, and by what name, is said where sessions are.
 unfoldable pub answer : Room → ℕ → Request → Outcome
 answer room site request = if has_site room site then site_answer room site request else told (No 0 NotJoined)
-
--- ---- so far
-
--- rooms don't take sets yet
-abbrev pub is_set : Request → Bool
-is_set (Request.Set seq seen object version key value) = true
-is_set _ = false
-
--- the answer, but to a set, which is refused as no message
-unfoldable pub answer_so_far : Room → ℕ → Request → Outcome
-answer_so_far room site request = if has_site room site && is_set request then told (No 0 BadMessage) else answer room site request

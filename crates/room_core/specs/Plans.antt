@@ -1,16 +1,27 @@
 -- What is planned for a room.
-use Rattle.std.specs.Prelude.{◌≡◌, ◌<◌, ◌+◌, ◌-◌, true, false, Option, Some, None, slice_index}
+use Rattle.std.specs.Prelude.{◌≡◌, ◌≢◌, ◌<◌, ◌+◌, ◌-◌, ◌++◌, ◌∷◌, not, true, false, List, [], Option, Some, None, Result, IfErr, IfOk, OnOk, slice_index}
 use Rattle.std.specs.Arc.{arc_value}
-use Rattle.op_names.specs.Texts.{Bytes}
+use Rattle.std.specs.Map.{lookup, set_value}
+use Rattle.op_names.specs.Names.{Name, same_name}
 use Rattle.rules.specs.declared.history.Op.{Op}
 use Rattle.rules.specs.declared.history.Entry.{Entry}
 use Rattle.rules.specs.declared.history.Entry.TheVariants.{Join, Operation}
-use Rattle.rules.specs.Bodies.{is_set_body, kind_in}
-use Rattle.rules.specs.Records.{sites, admits}
+use Rattle.rules.specs.declared.refusal.Refusal.{Refusal}
+use Rattle.rules.specs.declared.refusal.Refusal.TheVariants.{NoSuchObject}
+use Rattle.rules.specs.Admission.{first_that_applies}
+use Rattle.rules.specs.Bodies.{is_set_body}
+use Rattle.rules.specs.Conflicts.{has_object}
+use Rattle.rules.specs.Operations.{object_of}
+use Rattle.rules.specs.Records.{sites, operations, order_conditions, admits}
+use Rattle.shape.specs.declared.fault.SetFault.{SetFault}
+use Rattle.shape.specs.declared.fault.SetFault.TheVariants.{NoMemory}
+use Rattle.shape.specs.Drawing.{Drawn, set_refusal, shown_ids, with_set}
+use Rattle.shape.specs.Faults.{refusal_of}
+use Rattle.shape.specs.Planned.{IsPlanned, Plan as SetPlan}
 use Rattle.wire.specs.declared.reply.Reply.{Reply}
-use Rattle.room_core.specs.Room.{State}
+use Rattle.room_core.specs.Room.{Room, State}
 use Rattle.room_core.specs.declared.planned.Change.{Change}
-use Rattle.room_core.specs.declared.planned.Change.TheVariants.{Nothing, Joins, Creates}
+use Rattle.room_core.specs.declared.planned.Change.TheVariants.{Nothing, Joins, Creates, Sets}
 use Rattle.room_core.specs.Answers.{Outcome}
 
 -- a reply, and the change that goes with it
@@ -22,7 +33,8 @@ pub record Plan : Type 0 where
 abbrev pub entry_in : Change → Option Entry
 entry_in Nothing = None
 entry_in (Joins entry) = Some (arc_value entry)
-entry_in (Creates entry op kind) = Some (arc_value entry)
+entry_in (Creates entry op shape) = Some (arc_value entry)
+entry_in (Sets entry op planned) = Some (arc_value entry)
 
 -- the reply, and the entry that is added if there is one
 abbrev pub outcome : Plan → Outcome
@@ -33,17 +45,44 @@ pub record CanJoin (s : State) (entry : Entry) : Type 0 where
   pub admitted : admits s.room.limits s.room.entries entry ≡ true
   pub place : 0 < s.reserve.entries
 
-pub record CanCreate (s : State) (entry : Entry) (op : Op) (kind : Bytes) : Type 0 where
+pub record CanCreate (s : State) (entry : Entry) (op : Op) (shape : Drawn) : Type 0 where
   pub operation : entry ≡ Operation op
   pub creation : is_set_body op.body ≡ false
   pub admitted : admits s.room.limits s.room.entries entry ≡ true
-  pub named : kind ≡ kind_in op.body
+  pub created : shape.drawing ≡ record { limits = s.room.limits; creation = op; sets = [] }
   pub place : 0 < s.reserve.entries
   pub object_place : 0 < s.reserve.objects
   pub past_place : 0 < slice_index s.reserve.operations (op.name.0 - 1)
+
+pub record CanSet (s : State) (entry : Entry) (op : Op) (planned : SetPlan) : Type 0 where
+  pub operation : entry ≡ Operation op
+  pub set : is_set_body op.body ≡ true
+  pub admitted : admits s.room.limits s.room.entries entry ≡ true
+  pub added : planned.addition.op ≡ op
+  pub place : 0 < s.reserve.entries
+  pub past_place : 0 < slice_index s.reserve.operations (op.name.0 - 1)
+  pub shape : (d : Drawn) × (lookup (same_name (object_of op)) s.reserve.shapes ≡ Some d) × IsPlanned d planned
+
+-- why a set is refused before its object is asked, if it is: it may not come next, or it doesn't count its object
+abbrev pub unasked_refusal : Room → Op → Option Refusal
+unasked_refusal room op = first_that_applies (order_conditions room.limits room.entries op ++ (not (has_object (operations room.entries) op), NoSuchObject) ∷ [])
+
+-- the object there was `before` and is `after`, which differ in memory alone, and the answer to this set is the object's
+pub record IsPlannedAt (object : Name) (op : Op) (old new : List (Name × Drawn)) (answer : Result SetPlan SetFault) : Type 0 where
+  pub before : Drawn
+  pub after : Drawn
+  pub was : lookup (same_name object) old ≡ Some before
+  pub now : new ≡ set_value (same_name object) old after
+  pub kept : after.drawing ≡ before.drawing
+  pub planned : IfOk answer (λ plan. IsPlanned after plan)
+  pub added : IfOk answer (λ plan. plan.addition.op ≡ op)
+  pub ids : IfOk answer (λ plan. plan.ids ≡ shown_ids (with_set before.drawing op))
+  pub taken : OnOk answer (set_refusal before.drawing op ≡ None)
+  pub refused : IfErr answer (λ fault. fault ≢ NoMemory → set_refusal before.drawing op ≡ refusal_of fault)
 
 -- the change can be made in this state, and takes no memory
 abbrev pub IsReady : State → Change → Type 0
 IsReady s Nothing = Unit {0}
 IsReady s (Joins entry) = CanJoin s (arc_value entry)
-IsReady s (Creates entry op kind) = CanCreate s (arc_value entry) op kind
+IsReady s (Creates entry op shape) = CanCreate s (arc_value entry) op shape
+IsReady s (Sets entry op planned) = CanSet s (arc_value entry) op planned

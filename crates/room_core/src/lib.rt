@@ -1,12 +1,15 @@
 //! A drawing room: its record, and what follows from it.
 #![tactic(auto)]
 
-mod attributes;
 pub mod examples;
+mod fault;
+mod objects;
+mod operations;
 mod pages;
 mod planned;
 mod room;
 
+pub use fault::RoomsFault;
 pub use planned::Planned;
 pub use room::RoomState;
 pub use rules::Limits;

@@ -1,13 +1,13 @@
-//! Pages of a room's objects and of its record.
+//! Pages of a room's record.
 
 ghost use Rattle.std.specs.Prelude.{◌≡◌, ◌≤◌, IfOk, length, map, take, drop};
 ghost use Rattle.std.specs.Arc.{arc_value};
 
-use op_names::{Kind, NoMemory, OpName};
+use op_names::NoMemory;
 use rules::Entry;
 use std::alloc::Global;
 use std::sync::Arc;
-use wire::{EntryList, ObjectList};
+use wire::EntryList;
 
 /// As many members as stand on a page, from a place on.
 fn page_from<T>(members: &[T], from: usize, page: usize) -> &[T]
@@ -20,31 +20,6 @@ fn page_from<T>(members: &[T], from: usize, page: usize) -> &[T]
     } else {
         rest
     }
-}
-
-/// A page of objects with their kinds from a place on. Linear in the page.
-pub(crate) fn objects_page(
-    alloc: Global,
-    objects: &[(OpName, Kind)],
-    from: usize,
-    page: usize,
-) -> Result<ObjectList, NoMemory>
-    requires { from ≤ length objects.now }
-    ensures { IfOk result (λ list. list ≡ take page (drop from objects.now)) }
-{
-    let copies = copy_objects(alloc, page_from(objects, from, page))?;
-    Ok(ObjectList::from_vec(copies))
-}
-
-/// Other ones that are equal to these objects and kinds.
-fn copy_objects(alloc: Global, objects: &[(OpName, Kind)]) -> Result<Vec<(OpName, Kind)>, NoMemory>
-    ensures { IfOk result (λ copies. copies.items ≡ objects.now) }
-{
-    let mut copies = Vec::with_capacity(alloc, objects.len())?;
-    for object in objects {
-        copies.push((object.0, object.1.copy(alloc)?))?;
-    }
-    Ok(copies)
 }
 
 /// A page of entries from a place on, each shared. Linear in the page.

@@ -3,8 +3,8 @@
 ghost use Rattle.std.specs.Prelude.{◌≡◌};
 ghost use Rattle.room_core.specs.declared.planned.Change.TheVariants.{Nothing};
 
-use op_names::Kind;
 use rules::{Entry, Op};
+use shape::{PlannedSet, Shape};
 use std::marker::Model;
 use std::sync::Arc;
 use wire::Reply;
@@ -15,9 +15,12 @@ pub(crate) enum Change {
     Nothing,
     /// The entry of a join is added.
     Joins(Arc<Entry>),
-    /// The entry of a creation is added, the creation to the operations so far, and its object with
-    /// this kind to the objects.
-    Creates(Arc<Entry>, Op, Kind),
+    /// The entry of a creation is added, the creation to the operations so far, and its object to the
+    /// objects.
+    Creates(Arc<Entry>, Op, Shape),
+    /// The entry of a set is added, the set to the operations so far, and what is planned to its
+    /// object.
+    Sets(Arc<Entry>, Op, PlannedSet),
 }
 
 /// A reply that is built, and the change that goes with it.

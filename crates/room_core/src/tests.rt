@@ -1,3 +1,8 @@
+//! The worked rows of one room.
+
+mod rows;
+
+use self::rows::{EXAMPLES, LIMITED};
 use super::*;
 use op_names::Kind;
 use rules::Attrs;
@@ -6,20 +11,77 @@ use std::alloc::Global;
 use std::test::Fail;
 use wire::{Reply, Request, read_request, write_reply};
 
+/// A site, the text of its request, and the text of the reply.
+pub type Line = (u32, &'static str, &'static str);
+
+/// In place of a request: the next site joins.
+pub const JOIN: &str = "";
+
+/// Lines that a room of these limits answers one after the other.
+pub struct Example {
+    pub name: &'static str,
+    /// Joins, entries, objects, sets on an object, keys, versions, a page.
+    pub limits: [u32; 7],
+    pub parts: &'static [&'static [Line]],
+}
+
 fn text(alloc: Global, reply: &Reply) -> Result<String, Fail> {
     Ok(write_reply(alloc, reply)?)
 }
 
-/// The text of a room's answer to a site's request.
-fn answer(alloc: Global, room: &mut RoomState, site: u32, request: &str) -> Result<String, Fail> {
+fn room_of(alloc: Global, limits: [u32; 7]) -> Result<RoomState, Fail> {
+    let [joins, entries, objects, sets, keys, versions, page] = limits;
+    let limits = Limits::new(joins, entries, objects, sets, keys, versions, page);
+    Ok(RoomState::new(alloc, limits.ok_or("limits")?)?)
+}
+
+fn joined(alloc: Global, room: &mut RoomState) -> Result<String, Fail> {
+    let reply = room.join(alloc)?;
+    text(alloc, &reply)
+}
+
+fn answered(alloc: Global, room: &mut RoomState, site: u32, request: &str) -> Result<String, Fail> {
     let request = read_request(alloc, request.as_bytes())?;
     let reply = room.answer(alloc, site, &request)?;
     text(alloc, &reply)
 }
 
-fn join(alloc: Global, room: &mut RoomState) -> Result<String, Fail> {
-    let reply = room.join(alloc)?;
-    text(alloc, &reply)
+/// Does the room answer the line as the line says?
+fn answers(alloc: Global, room: &mut RoomState, line: &Line) -> Result<bool, Fail> {
+    let reply = if line.1 == JOIN {
+        joined(alloc, room)?
+    } else {
+        answered(alloc, room, line.0, line.1)?
+    };
+    Ok(reply.as_str() == line.2)
+}
+
+fn holds(alloc: Global, example: &Example) -> Result<bool, Fail> {
+    let mut room = room_of(alloc, example.limits)?;
+    for part in example.parts {
+        for line in *part {
+            if !answers(alloc, &mut room, line)? {
+                return Ok(false);
+            }
+        }
+    }
+    Ok(true)
+}
+
+#[test]
+fn rooms_answer(rt: HostRuntime) -> Result<(), Fail> {
+    for example in EXAMPLES {
+        assert!(rt; holds(rt.alloc(), example)?, "{}", example.name);
+    }
+    Ok(())
+}
+
+#[test]
+fn limits_are_kept(rt: HostRuntime) -> Result<(), Fail> {
+    for example in LIMITED {
+        assert!(rt; holds(rt.alloc(), example)?, "{}", example.name);
+    }
+    Ok(())
 }
 
 /// A creation of this number, which may be out of range.
@@ -40,110 +102,74 @@ fn answer_to_number(alloc: Global, room: &mut RoomState, seq: u32) -> Result<Str
     text(alloc, &reply)
 }
 
-fn limits(joins: u32, entries: u32, objects: u32) -> Limits {
-    Limits::new(joins, entries, objects, 1, 1, 1, 1).unwrap_or(Limits::full())
-}
-
+// No text has such numbers.
 #[test]
-fn a_room_answers(rt: HostRuntime) -> Result<(), Fail> {
-    let mut room = RoomState::new(rt.alloc(), Limits::full())?;
-    assert_eq!(rt; join(rt.alloc(), &mut room)?.as_str(), "[\"joined\",0,1]");
-    let table = [
-        (2, "[\"leave\"]", "[\"no\",0,2,\"not-joined\"]"),
-        (0, "[\"leave\"]", "[\"no\",0,2,\"not-joined\"]"),
-        (1, "[\"join\",\"r\"]", "[\"no\",0,3,\"already-joined\"]"),
-        (
-            1,
-            "[\"new\",1,[],\"rect\",[[\"x\",0]]]",
-            "[\"made\",1,[1,1]]",
-        ),
-        (
-            1,
-            "[\"show\",[1,1]]",
-            "[\"versions\",2,[1,1],\"rect\",[[[],[[\"x\",0]]]]]",
-        ),
-        (1, "[\"show\",[1,2]]", "[\"no\",2,11,\"no-such-object\"]"),
-        (1, "[\"leave\"]", "[\"left\",2]"),
-    ];
-    for (site, request, reply) in table {
-        assert_eq!(rt;
-            answer(rt.alloc(), &mut room, site, request)?.as_str(),
-            reply
-        );
-    }
+fn numbers_out_of_range(rt: HostRuntime) -> Result<(), Fail> {
+    let mut room = room_of(rt.alloc(), rows::FULL)?;
+    let mut full = room_of(rt.alloc(), [9, 1, 9, 9, 9, 9, 9])?;
+    room.join(rt.alloc())?;
+    full.join(rt.alloc())?;
     for seq in [0, 16385, 4294967295] {
         assert_eq!(rt;
             answer_to_number(rt.alloc(), &mut room, seq)?.as_str(),
-            "[\"no\",2,7,\"wrong-seq\"]"
+            r#"["no",1,7,"wrong-seq"]"#
+        );
+        assert_eq!(rt;
+            answer_to_number(rt.alloc(), &mut full, seq)?.as_str(),
+            r#"["no",1,6,"record-full"]"#
         );
     }
-    assert_eq!(rt; (room.sites(), room.entries().len()), (1, 2));
-    assert_eq!(rt; room.limits(), Limits::full());
     Ok(())
 }
 
 #[test]
 fn a_plan_changes_nothing_until_it_is_committed(rt: HostRuntime) -> Result<(), Fail> {
-    let mut room = RoomState::new(rt.alloc(), Limits::full())?;
+    let mut room = room_of(rt.alloc(), rows::FULL)?;
     let planned = room.plan_join(rt.alloc())?;
     assert_eq!(rt; (room.sites(), room.entries().len()), (0, 0));
     assert_eq!(rt;
         text(rt.alloc(), planned.reply())?.as_str(),
-        "[\"joined\",0,1]"
+        r#"["joined",0,1]"#
     );
     let reply = room.commit(planned);
-    assert_eq!(rt; text(rt.alloc(), &reply)?.as_str(), "[\"joined\",0,1]");
+    assert_eq!(rt; text(rt.alloc(), &reply)?.as_str(), r#"["joined",0,1]"#);
     assert_eq!(rt; (room.sites(), room.entries().len()), (1, 1));
+    assert_eq!(rt; room.limits(), Limits::full());
+    Ok(())
+}
+
+/// What the only site asks for after so many: 512 creations, then sets on each of these objects in
+/// turn.
+fn next_request(alloc: Global, seen: u32, seq: u32) -> Result<String, Fail> {
+    if seen == 0 {
+        return Ok(format!(in alloc; "[\"new\",1,[],\"rect\",[]]")?);
+    }
+    if seq <= 512 {
+        return Ok(format!(in alloc; "[\"new\",{seq},[[1,{seen}]],\"rect\",[]]")?);
+    }
+    let object = seq % 512 + 1;
+    Ok(format!(in alloc; "[\"set\",{seq},[[1,{seen}]],[1,{object}],[],\"x\",{seq}]")?)
+}
+
+/// Asks for the next operation of the only site.
+fn ask_next(alloc: Global, room: &mut RoomState, seen: u32, seq: u32) -> Result<(), Fail> {
+    let text = next_request(alloc, seen, seq)?;
+    let request = read_request(alloc, text.as_bytes())?;
+    room.answer(alloc, 1, &request)?;
     Ok(())
 }
 
 #[test]
-fn limits_of_joins_and_entries(rt: HostRuntime) -> Result<(), Fail> {
-    let mut one_join = RoomState::new(rt.alloc(), limits(1, 9, 9))?;
-    for reply in ["[\"joined\",0,1]", "[\"no\",1,5,\"room-full\"]"] {
-        assert_eq!(rt; join(rt.alloc(), &mut one_join)?.as_str(), reply);
+fn a_full_room_still_shows(rt: HostRuntime) -> Result<(), Fail> {
+    let mut room = room_of(rt.alloc(), rows::FULL)?;
+    room.join(rt.alloc())?;
+    for seen in 0..16383 {
+        ask_next(rt.alloc(), &mut room, seen, seen + 1)?;
     }
-    let mut two_entries = RoomState::new(rt.alloc(), limits(9, 2, 9))?;
-    for reply in [
-        "[\"joined\",0,1]",
-        "[\"joined\",1,2]",
-        "[\"no\",2,6,\"record-full\"]",
-    ] {
-        assert_eq!(rt; join(rt.alloc(), &mut two_entries)?.as_str(), reply);
+    assert_eq!(rt; room.entries().len(), 16384);
+    for line in rows::AT_THE_END {
+        assert!(rt; answers(rt.alloc(), &mut room, line)?, "{}", line.1);
     }
-    for seq in [0, 1, 16385] {
-        assert_eq!(rt;
-            answer_to_number(rt.alloc(), &mut two_entries, seq)?.as_str(),
-            "[\"no\",2,6,\"record-full\"]"
-        );
-    }
-    Ok(())
-}
-
-#[test]
-fn limits_of_objects_and_pages(rt: HostRuntime) -> Result<(), Fail> {
-    let mut one_object = RoomState::new(rt.alloc(), limits(9, 9, 1))?;
-    assert_eq!(rt;
-        join(rt.alloc(), &mut one_object)?.as_str(),
-        "[\"joined\",0,1]"
-    );
-    let table = [
-        ("[\"new\",1,[],\"rect\",[]]", "[\"made\",1,[1,1]]"),
-        (
-            "[\"new\",2,[[1,1]],\"rect\",[]]",
-            "[\"no\",2,16,\"too-many-objects\"]",
-        ),
-        ("[\"pull\",0]", "[\"entries\",2,0,[[\"join\",1]]]"),
-        ("[\"pull\",2]", "[\"entries\",2,2,[]]"),
-        ("[\"pull\",3]", "[\"no\",2,17,\"too-far\"]"),
-        ("[\"list\",0]", "[\"objects\",2,0,1,[[[1,1],\"rect\"]]]"),
-        ("[\"list\",2]", "[\"no\",2,17,\"too-far\"]"),
-    ];
-    for (request, reply) in table {
-        assert_eq!(rt;
-            answer(rt.alloc(), &mut one_object, 1, request)?.as_str(),
-            reply
-        );
-    }
+    assert_eq!(rt; room.entries().len(), 16384);
     Ok(())
 }

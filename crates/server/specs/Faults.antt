@@ -2,8 +2,8 @@
 use Rattle.std.specs.Prelude.{ℕ}
 use Rattle.op_names.specs.declared.fault.NameFault.{NameFault}
 use Rattle.op_names.specs.declared.fault.NameFault.TheVariants as name
-use Rattle.world.specs.declared.fault.RoomsFault.{RoomsFault}
-use Rattle.world.specs.declared.fault.RoomsFault.TheVariants as rooms
+use Rattle.room_core.specs.declared.fault.RoomsFault.{RoomsFault}
+use Rattle.room_core.specs.declared.fault.RoomsFault.TheVariants as rooms
 use Rattle.world.specs.declared.fault.ScriptFault.{ScriptFault}
 use Rattle.world.specs.declared.fault.ScriptFault.TheVariants as script
 use Rattle.server.specs.declared.fault.Fault.{Fault}

@@ -9,3 +9,8 @@ pub mod LongLines
 pub mod ScriptForms
 pub mod Parts
 pub mod EndedLines
+pub mod RoomShows
+pub mod Growth
+pub mod ReadBack
+pub mod Ranges
+pub mod AnswerRanges

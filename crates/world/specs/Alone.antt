@@ -7,7 +7,7 @@ use Rattle.wire.specs.declared.reply.Reply.{Reply}
 use Rattle.wire.specs.declared.reply.Reply.TheVariants.{Joined, Left, No}
 use Rattle.wire.specs.Texts.{request_of, reply_text}
 use Rattle.room_core.specs.Room.{Room, with_entry}
-use Rattle.room_core.specs.Answers.{Outcome, join_answer, answer_so_far}
+use Rattle.room_core.specs.Answers.{Outcome, join_answer, answer}
 
 -- a message: a session's number, and bytes
 pub record Message : Type 0 where
@@ -29,7 +29,7 @@ refused reply = (reply, None)
 -- the answer to a request of a site, or to a session that joins
 abbrev pub asked : Room → Option ℕ → Request → Outcome
 asked room None request = join_answer room
-asked room (Some site) request = answer_so_far room site request
+asked room (Some site) request = answer room site request
 
 -- the answer to somebody who is not in the room, whose request asks to join by a name or is another one
 abbrev pub outside_answer : Room → Option (List ℕ) → Outcome
@@ -40,7 +40,7 @@ outside_answer room None = refused (No 0 NotJoined)
 abbrev pub answer_to : Room → Option ℕ → Option Request → Outcome
 answer_to room who None = refused (No 0 BadMessage)
 answer_to room None (Some request) = outside_answer room (joined_name request)
-answer_to room (Some site) (Some request) = answer_so_far room site request
+answer_to room (Some site) (Some request) = answer room site request
 
 -- a room alone: its record, and the site of each session that is in it
 pub record Alone : Type 0 where

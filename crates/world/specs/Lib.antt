@@ -4,3 +4,4 @@ pub mod State
 pub mod Run
 pub mod Script
 pub mod Answered
+pub mod Shown

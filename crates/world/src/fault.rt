@@ -1,29 +1,10 @@
-//! Why rooms can't be made, and why a script ends early.
+//! Why a script ends early.
 
 ghost use Rattle.std.specs.Prelude.{◌≡◌};
-ghost use Rattle.world.specs.declared.fault.RoomsFault.TheVariants as rooms_fault;
 ghost use Rattle.world.specs.declared.fault.ScriptFault.TheVariants as script_fault;
 
 use op_names::NoMemory;
 use thiserror::Error;
-
-/// Why rooms can't be made.
-#[derive(Clone, Copy, Debug, PartialEq, Eq, Error)]
-pub enum RoomsFault {
-    /// The first place, from 0, whose name stands at an earlier place too.
-    #[error("the name at place {0} stands earlier too")]
-    SameName(usize),
-    #[error("out of memory")]
-    NoMemory,
-}
-
-impl From<NoMemory> for RoomsFault {
-    ghost from_gives = { λ _ fault. fault ≡ rooms_fault.NoMemory };
-
-    fn from(_fault: NoMemory) -> RoomsFault {
-        RoomsFault::NoMemory
-    }
-}
 
 /// Why a script ended early.
 #[derive(Clone, Copy, Debug, PartialEq, Eq, Error)]

@@ -5,12 +5,13 @@ ghost use Rattle.std.specs.Prelude.{◌≡◌, ◌↔◌, ℕ, map, option_map, 
 ghost use Rattle.std.specs.Arc.{arc_value};
 ghost use Rattle.op_names.specs.Repeats.{first_repeat};
 ghost use Rattle.rules.specs.declared.refusal.Refusal.{Refusal};
-ghost use Rattle.wire.specs.Texts.{request_of, reply_text};
+ghost use Rattle.wire.specs.Texts.{request_of, reply_text, reply_of as reply_read};
 ghost use Rattle.wire.specs.declared.reply.Reply.TheVariants.{No};
 ghost use Rattle.world.specs.Alone.{message_of, joined_name};
 ghost use Rattle.world.specs.Rooms.{place_of, lone_refusal, reply_of, rooms_after};
 ghost use Rattle.world.specs.State.{State, names_in, names_of, rooms_of, room_at, asker_of, new_world};
 ghost use Rattle.world.specs.Run.{IsRun};
+ghost use Rattle.world.specs.Shown.{ShowsGroups, AllShowGroups};
 
 mod fault;
 pub mod laws;
@@ -18,9 +19,10 @@ mod named_room;
 mod script;
 mod seats;
 
-pub use fault::{RoomsFault, ScriptFault};
+pub use fault::ScriptFault;
 use named_room::{NamedRoom, answer_at, empty_rooms, place_of, repeated_name};
 use op_names::{NoMemory, RoomName};
+pub use room_core::RoomsFault;
 use rules::{Entry, Limits};
 use seats::{Asker, Seat, seat_at};
 use std::alloc::Global;
@@ -75,7 +77,8 @@ fn joined_name(request: &Request) -> Option<&RoomName>
 
 /// The text of a refusal that looks into no room.
 fn refused(alloc: Global, refusal: Refusal) -> Result<String, NoMemory>
-    ensures { IfOk result (λ text. string_bytes text ≡ reply_text (No 0 refusal)) }
+    ensures text { IfOk result (λ text. string_bytes text ≡ reply_text (No 0 refusal)) }
+    ensures read { IfOk result (λ text. reply_read (string_bytes text) ≡ Some (No 0 refusal)) }
 {
     write_reply(alloc, &Reply::No { at: 0, refusal })
 }
@@ -143,11 +146,14 @@ impl World {
     }
 
     /// Answers a message of a session: the text of the reply, which is the room's that the session
-    /// is in or asks to join. `NoMemory` where memory was refused, and then nothing is changed.
+    /// is in or asks to join. Where it shows an object, its versions are the maximal compatible
+    /// groups of its operations. `NoMemory` where memory was refused, and then nothing is changed.
     pub fn step(&mut self, alloc: Global, session: u32, bytes: &[u8]) -> Result<String, NoMemory>
         ensures text { IfOk result (λ text. string_bytes text ≡ reply_text (reply_of (names_of self.old) (rooms_of self.old) (message_of session bytes.now))) }
+        ensures read { IfOk result (λ text. reply_read (string_bytes text) ≡ Some (reply_of (names_of self.old) (rooms_of self.old) (message_of session bytes.now))) }
         ensures rooms { OnOk result (rooms_of self.new ≡ rooms_after (names_of self.old) (rooms_of self.old) (message_of session bytes.now)) }
         ensures names { names_of self.new ≡ names_of self.old }
+        ensures shown { IfOk result (λ text. ShowsGroups self.new.rooms (string_bytes text)) }
         ensures err { OnErr result (self.new ≡ self.old) }
     {
         let Some(request) = request_in(alloc, bytes)? else {
@@ -161,8 +167,9 @@ impl World {
     }
 
     /// Answers messages in order: for each the text of its reply, or `None` where memory was
-    /// refused for it and nothing done. `NoMemory` where the list of the answers can't be made, and
-    /// then nothing is changed.
+    /// refused for it and nothing done. Wherever an answer shows an object, its versions are the
+    /// maximal compatible groups of its operations. `NoMemory` where the list of the answers can't
+    /// be made, and then nothing is changed.
     pub fn run(
         &mut self,
         alloc: Global,
@@ -170,6 +177,7 @@ impl World {
     ) -> Result<Vec<Option<String>>, NoMemory>
         ensures run { let all = map (λ message. message_of message.0 message.1.items) messages.now in
             IfOk result (λ answers. IsRun self.old all (map (option_map string_bytes) answers.items) self.new) }
+        ensures shown { IfOk result (λ answers. AllShowGroups self.new.rooms (map (option_map string_bytes) answers.items)) }
         ensures err { OnErr result (self.new ≡ self.old) }
     {
         let mut answers = Vec::with_capacity(alloc, messages.len())?;

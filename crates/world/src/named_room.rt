@@ -4,7 +4,9 @@ ghost use Rattle.std.specs.Prelude.{◌≡◌, ◌<◌, ℕ, List, length, map, 
 ghost use Rattle.std.specs.List.{list_any};
 ghost use Rattle.std.specs.Arc.{arc_value};
 ghost use Rattle.op_names.specs.Repeats.{first_repeat};
-ghost use Rattle.wire.specs.Texts.{reply_text};
+ghost use Rattle.rules.specs.Records.{IsLegal};
+ghost use Rattle.wire.specs.Form.{IsReply, IsRequest};
+ghost use Rattle.wire.specs.Texts.{reply_text, reply_of as reply_read};
 ghost use Rattle.room_core.specs.Room.{with_entry};
 ghost use Rattle.room_core.specs.Plans.{IsReady, outcome, entry_in};
 ghost use Rattle.world.specs.Alone.{asked};
@@ -29,11 +31,15 @@ pub(crate) struct NamedRoom {
 }
 
 impl Model for NamedRoom {
+    ghost use Rattle.std.specs.List.{AllByRecursion};
+    ghost use Rattle.wire.specs.Form.{IsEntry};
     ghost use Rattle.world.specs.State.{Named};
 
     ghost Value = { Named };
 
     ghost view = { λ r. record { name = r.name; room = r.state.room } };
+
+    ghost invariant = { λ r. AllByRecursion IsEntry r.state.room.entries };
 }
 
 /// Is this name among these?
@@ -73,7 +79,6 @@ pub(crate) fn empty_rooms(
 }
 
 /// The place of the first room of this name.
-
 pub(crate) fn place_of(rooms: &[NamedRoom], name: &RoomName) -> Option<usize>
     ensures { result ≡ place_of (names_in rooms.now) name.now }
 {
@@ -105,8 +110,10 @@ fn put_in_place(
     asker: Asker,
     planned: Planned,
 ) -> Result<String, NoMemory>
-    requires { IsReady room.old planned.change }
+    requires ready { IsReady room.old planned.change }
+    requires range { IsReply planned.reply }
     ensures text { IfOk result (λ text. string_bytes text ≡ reply_text planned.reply) }
+    ensures read { IfOk result (λ text. reply_read (string_bytes text) ≡ Some planned.reply) }
     ensures room { OnOk result (room.new.room ≡ with_entry room.old.room (entry_in planned.change)) }
     ensures seats { OnOk result (IsMoved seats.old.entries seats.new.entries planned.reply asker.session asker.place) }
     ensures err { OnErr result ((room.new ≡ room.old) × (seats.new.entries ≡ seats.old.entries)) }
@@ -133,12 +140,19 @@ impl NamedRoom {
         asker: Asker,
         request: &Request,
     ) -> Result<String, NoMemory>
+        requires { IsRequest request.now }
         ensures text { IfOk result (λ text. string_bytes text ≡ reply_text (asked self.old.room asker.site request.now).0) }
+        ensures read { IfOk result (λ text. reply_read (string_bytes text) ≡ Some (asked self.old.room asker.site request.now).0) }
+        ensures legal { IsLegal self.old.room.limits self.old.room.entries }
         ensures name { self.new.name ≡ self.old.name }
         ensures room { OnOk result (self.new.room ≡ with_entry self.old.room (asked self.old.room asker.site request.now).1) }
         ensures seats { OnOk result (IsMoved seats.old.entries seats.new.entries (asked self.old.room asker.site request.now).0 asker.session asker.place) }
         ensures err { OnErr result ((self.new ≡ self.old) × (seats.new.entries ≡ seats.old.entries)) }
     {
+        // The record is legal and the limits are at most the full ones, so the reply is in range.
+        let _record = self.state.entries();
+        let limits = self.state.limits();
+        let (_joins, _entries) = (limits.joins(), limits.entries());
         let planned = plan(alloc, &mut self.state, asker.site, request)?;
         put_in_place(alloc, &mut self.state, seats, asker, planned)
     }
@@ -153,8 +167,11 @@ pub(crate) fn answer_at(
     asker: Asker,
     request: &Request,
 ) -> Result<String, NoMemory>
-    requires { asker.place < length rooms.old.items }
+    requires place { asker.place < length rooms.old.items }
+    requires range { IsRequest request.now }
     ensures text { IfOk result (λ text. string_bytes text ≡ reply_text (asked (room_at rooms.old.items asker.place) asker.site request.now).0) }
+    ensures read { IfOk result (λ text. reply_read (string_bytes text) ≡ Some (asked (room_at rooms.old.items asker.place) asker.site request.now).0) }
+    ensures legal { let room = room_at rooms.old.items asker.place in IsLegal room.limits room.entries }
     ensures names { names_in rooms.new.items ≡ names_in rooms.old.items }
     ensures rooms { let room = room_at rooms.old.items asker.place in
         OnOk result (rooms_in rooms.new.items ≡ slice_set (rooms_in rooms.old.items) asker.place (with_entry room (asked room asker.site request.now).1)) }

@@ -1,151 +1,273 @@
+//! Scripts and their answers.
+
+mod rows;
+
+use self::rows::{FULL, LIMITED, REFUSALS, ROOMS, SETS, SHORT};
 use super::*;
-use op_names::RoomName;
-use rules::Limits;
 use std::alloc::Global;
-use std::process::Abort;
+use std::io;
+use std::io::{ErrorKind, Read, Write};
 use std::test::Fail;
 
-/// What a script in rooms of these names gives.
-fn answers(alloc: Global, names: &[&str], input: &str) -> Result<String, Fail> {
+/// What rooms of these names and limits answer to the lines of a script.
+pub struct Example {
+    pub name: &'static str,
+    pub rooms: &'static [&'static str],
+    /// Joins, entries, objects, sets on an object, keys, versions, a page.
+    pub limits: [u32; 7],
+    /// Each line, and below it the line that answers it.
+    pub parts: &'static [&'static str],
+}
+
+fn world_of(alloc: Global, names: &[&str], limits: [u32; 7]) -> Result<World, Fail> {
     let mut rooms = Vec::new(alloc);
     for name in names {
         rooms.push(RoomName::parse(alloc, name.as_bytes())?)?;
     }
-    let mut world = World::new(alloc, &rooms, Limits::full())?;
+    let [joins, entries, objects, sets, keys, versions, page] = limits;
+    let limits = Limits::new(joins, entries, objects, sets, keys, versions, page);
+    Ok(World::new(alloc, &rooms, limits.ok_or("limits")?)?)
+}
+
+/// What a script gives.
+fn output_of(alloc: Global, world: &mut World, input: &str) -> Result<Vec<u8>, Fail> {
     let mut reader = input.as_bytes();
     let mut output = Vec::new(alloc);
     world.script(alloc, &mut reader, &mut output)?;
-    match String::from_utf8(output) {
-        Ok(text) => Ok(text),
-        Err(_) => Err(Fail::from("text")),
-    }
+    Ok(output)
 }
 
-/// Each line of a script gives the line beside it.
-fn check<R: Abort + AllocGlobal>(
-    rt: &R,
-    names: &[&str],
-    lines: &[(&str, &str)],
-) -> Result<(), Fail> {
-    let alloc = rt.alloc();
+/// The lines of an example, and the lines that answer them.
+fn texts_of(alloc: Global, example: &Example) -> Result<(String, String), Fail> {
     let mut input = String::new(alloc);
     let mut output = String::new(alloc);
-    for (line, answer) in lines {
-        writeln!(input, "{line}")?;
-        writeln!(output, "{answer}")?;
+    for part in example.parts {
+        let mut is_answer = false;
+        for line in part.split('\n') {
+            let text = if is_answer { &mut output } else { &mut input };
+            writeln!(text, "{line}")?;
+            is_answer = !is_answer;
+        }
     }
-    assert_eq!(rt;
-        answers(alloc, names, input.as_str())?.as_str(),
-        output.as_str()
-    );
+    Ok((input, output))
+}
+
+fn holds(alloc: Global, example: &Example) -> Result<bool, Fail> {
+    let mut world = world_of(alloc, example.rooms, example.limits)?;
+    let (input, output) = texts_of(alloc, example)?;
+    let written = output_of(alloc, &mut world, input.as_str())?;
+    Ok(written.as_slice() == output.as_bytes())
+}
+
+#[test]
+fn sets_are_taken(rt: HostRuntime) -> Result<(), Fail> {
+    for example in SETS {
+        assert!(rt; holds(rt.alloc(), example)?, "{}", example.name);
+    }
     Ok(())
 }
 
 #[test]
-fn a_room_of_creations(rt: HostRuntime) -> Result<(), Fail> {
-    let lines = [
-        ("1 [\"join\",\"r\"]", "1 [\"joined\",0,1]"),
-        (
-            "1 [\"new\",1,[],\"rect\",[[\"x\",0]]]",
-            "1 [\"made\",1,[1,1]]",
-        ),
-        (
-            "1 [\"show\",[1,1]]",
-            "1 [\"versions\",2,[1,1],\"rect\",[[[],[[\"x\",0]]]]]",
-        ),
-        (
-            "1 [\"new\",1,[],\"rect\",[]]",
-            "1 [\"no\",2,7,\"wrong-seq\"]",
-        ),
-        (
-            "1 [\"new\",2,[],\"rect\",[]]",
-            "1 [\"no\",2,8,\"own-count\"]",
-        ),
-        (
-            "1 [\"new\",2,[[1,1],[2,1]],\"rect\",[]]",
-            "1 [\"no\",2,9,\"ahead\"]",
-        ),
-        ("2 [\"join\",\"r\"]", "2 [\"joined\",2,2]"),
-        ("3 [\"join\",\"r\"]", "3 [\"joined\",3,3]"),
-        ("2 [\"new\",1,[[1,1]],\"rect\",[]]", "2 [\"made\",4,[2,1]]"),
-        (
-            "3 [\"new\",1,[[2,1]],\"rect\",[]]",
-            "3 [\"no\",5,10,\"not-closed\"]",
-        ),
-        (
-            "3 [\"new\",1,[[1,1],[2,1]],\"rect\",[]]",
-            "3 [\"made\",5,[3,1]]",
-        ),
-        (
-            "3 [\"show\",[3,1]]",
-            "3 [\"versions\",6,[3,1],\"rect\",[[[],[]]]]",
-        ),
-        ("3 [\"show\",[9,9]]", "3 [\"no\",6,11,\"no-such-object\"]"),
-        ("3 [\"leave\"]", "3 [\"left\",6]"),
-        ("3 [\"join\",\"r\"]", "3 [\"joined\",6,4]"),
-    ];
-    check(&rt, &["r"], &lines)
-}
-
-#[test]
-fn pages_of_a_room(rt: HostRuntime) -> Result<(), Fail> {
-    let lines = [
-        ("9 [\"list\",0]", "9 [\"no\",0,2,\"not-joined\"]"),
-        ("1 [\"join\",\"r\"]", "1 [\"joined\",0,1]"),
-        ("1 [\"list\",0]", "1 [\"objects\",1,0,0,[]]"),
-        (
-            "1 [\"new\",1,[],\"rect\",[[\"x\",0]]]",
-            "1 [\"made\",1,[1,1]]",
-        ),
-        ("2 [\"join\",\"r\"]", "2 [\"joined\",2,2]"),
-        ("2 [\"list\",0]", "2 [\"objects\",3,0,1,[[[1,1],\"rect\"]]]"),
-        ("2 [\"list\",1]", "2 [\"objects\",3,1,1,[]]"),
-        ("2 [\"list\",2]", "2 [\"no\",3,17,\"too-far\"]"),
-        (
-            "2 [\"pull\",1]",
-            "2 [\"entries\",3,1,[[\"new\",[1,1],[],\"rect\",[[\"x\",0]]],[\"join\",2]]]",
-        ),
-        ("2 [\"pull\",3]", "2 [\"entries\",3,3,[]]"),
-        ("2 [\"pull\",99]", "2 [\"no\",3,17,\"too-far\"]"),
-        (
-            "2 [\"set\",1,[[1,1]],[1,1],[],\"x\",9]",
-            "2 [\"no\",0,1,\"bad-message\"]",
-        ),
-    ];
-    check(&rt, &["r"], &lines)
+fn messages_are_refused(rt: HostRuntime) -> Result<(), Fail> {
+    for example in REFUSALS {
+        assert!(rt; holds(rt.alloc(), example)?, "{}", example.name);
+    }
+    Ok(())
 }
 
 #[test]
 fn rooms_share_nothing(rt: HostRuntime) -> Result<(), Fail> {
-    let lines = [
-        ("1 [\"join\",\"a\"]", "1 [\"joined\",0,1]"),
-        ("2 [\"join\",\"b\"]", "2 [\"joined\",0,1]"),
-        ("3 [\"join\",\"a\"]", "3 [\"joined\",1,2]"),
-        ("4 [\"join\",\"b\"]", "4 [\"joined\",1,2]"),
-        ("1 [\"join\",\"zz\"]", "1 [\"no\",0,3,\"already-joined\"]"),
-        ("9 [\"join\",\"zz\"]", "9 [\"no\",0,4,\"no-such-room\"]"),
-        ("9 [\"show\",[1,1]]", "9 [\"no\",0,2,\"not-joined\"]"),
-    ];
-    check(&rt, &["a", "b"], &lines)
+    for example in ROOMS {
+        assert!(rt; holds(rt.alloc(), example)?, "{}", example.name);
+    }
+    Ok(())
 }
 
 #[test]
-fn lines_of_another_form(rt: HostRuntime) -> Result<(), Fail> {
-    let lines = [
-        ("x [\"leave\"]", "?"),
-        ("01 [\"leave\"]", "?"),
-        ("7", "?"),
-        ("", "?"),
-        ("4294967296 [\"leave\"]", "?"),
-        ("7 ", "7 [\"no\",0,1,\"bad-message\"]"),
-        (
-            "4294967295 [\"leave\"]",
-            "4294967295 [\"no\",0,2,\"not-joined\"]",
-        ),
+fn limits_are_kept(rt: HostRuntime) -> Result<(), Fail> {
+    for example in LIMITED {
+        assert!(rt; holds(rt.alloc(), example)?, "{}", example.name);
+    }
+    Ok(())
+}
+
+#[test]
+fn the_last_line_needs_no_break(rt: HostRuntime) -> Result<(), Fail> {
+    let mut world = world_of(rt.alloc(), &["r"], FULL)?;
+    assert_eq!(rt; output_of(rt.alloc(), &mut world, "")?.len(), 0);
+    let last = output_of(rt.alloc(), &mut world, r#"0 ["leave"]"#)?;
+    assert_eq!(rt;
+        last.as_slice(),
+        b"0 [\"no\",0,2,\"not-joined\"]\n".as_slice()
+    );
+    Ok(())
+}
+
+/// A line of session 1 that begins so and ends with this character so many times.
+fn ended_by(alloc: Global, start: &str, end: char, times: usize) -> Result<String, Fail> {
+    let mut line = format!(in alloc; "1 {start}")?;
+    for _ in 0..times {
+        line.push(end)?;
+    }
+    Ok(line)
+}
+
+#[test]
+fn lines_of_a_length(rt: HostRuntime) -> Result<(), Fail> {
+    let mut world = world_of(rt.alloc(), &["r"], FULL)?;
+    output_of(rt.alloc(), &mut world, r#"1 ["join","r"]"#)?;
+    let brackets = "[".repeat(rt.alloc(), 128)?;
+    let bad = b"1 [\"no\",0,1,\"bad-message\"]\n".as_slice();
+    let left = b"1 [\"left\",1]\n".as_slice();
+    let table = [
+        (brackets.as_str(), ']', 128, bad),
+        (r#"["leave"]"#, ' ', 16376, bad),
+        (r#"["leave"]"#, ' ', 1000000, bad),
+        (r#"["leave"]"#, ' ', 16375, left),
     ];
-    check(&rt, &["r"], &lines)?;
-    assert_eq!(rt; answers(rt.alloc(), &["r"], "")?.as_str(), "");
-    let last = answers(rt.alloc(), &["r"], "0 [\"leave\"]")?;
-    assert_eq!(rt; last.as_str(), "0 [\"no\",0,2,\"not-joined\"]\n");
+    for (start, end, times, answer) in table {
+        let line = ended_by(rt.alloc(), start, end, times)?;
+        let written = output_of(rt.alloc(), &mut world, line.as_str())?;
+        assert_eq!(rt; written.as_slice(), answer);
+    }
+    Ok(())
+}
+
+/// A reader that gives seven bytes at a call, and fails after so many calls.
+#[derive(Drop)]
+struct Failing<'a> {
+    bytes: &'a [u8],
+    calls: u32,
+}
+
+impl Read for Failing<'_> {
+    fn read(&mut self, buf: &mut [u8]) -> io::Result<usize> {
+        if self.calls == 0 {
+            return Err(io::Error::from(ErrorKind::ConnectionReset));
+        }
+        self.calls -= 1;
+        let count = self.bytes.len().min(7).min(buf.len());
+        let (first, others) = self.bytes.split_at(count);
+        buf[..count].copy_from_slice(first);
+        self.bytes = others;
+        Ok(count)
+    }
+}
+
+/// A writer that takes five bytes at a call, and fails after so many calls.
+#[derive(Drop)]
+struct Breaking {
+    held: Vec<u8>,
+    calls: u32,
+}
+
+impl Write for Breaking {
+    fn write(&mut self, bytes: &[u8]) -> io::Result<usize> {
+        if self.calls == 0 {
+            return Err(io::Error::from(ErrorKind::BrokenPipe));
+        }
+        self.calls -= 1;
+        let count = bytes.len().min(5);
+        match self.held.extend_from_slice(&bytes[..count]) {
+            Ok(()) => Ok(count),
+            Err(_) => Err(io::Error::from(ErrorKind::OutOfMemory)),
+        }
+    }
+
+    fn flush(&mut self) -> io::Result<()> {
+        Ok(())
+    }
+}
+
+/// Is a front of the output written where the input fails after so many calls, and the whole where
+/// it doesn't?
+fn holds_where_input_fails(alloc: Global, example: &Example, calls: u32) -> Result<bool, Fail> {
+    let mut world = world_of(alloc, example.rooms, example.limits)?;
+    let (input, output) = texts_of(alloc, example)?;
+    let mut reader = Failing {
+        bytes: input.as_bytes(),
+        calls,
+    };
+    let mut written = Vec::new(alloc);
+    match world.script(alloc, &mut reader, &mut written) {
+        Ok(()) => Ok(written.as_slice() == output.as_bytes()),
+        Err(ScriptFault::Read) => Ok(output.as_bytes().starts_with(&written)),
+        Err(_) => Ok(false),
+    }
+}
+
+fn holds_where_output_fails(alloc: Global, example: &Example, calls: u32) -> Result<bool, Fail> {
+    let mut world = world_of(alloc, example.rooms, example.limits)?;
+    let (input, output) = texts_of(alloc, example)?;
+    let mut reader = input.as_bytes();
+    let mut writer = Breaking {
+        held: Vec::new(alloc),
+        calls,
+    };
+    match world.script(alloc, &mut reader, &mut writer) {
+        Ok(()) => Ok(writer.held.as_slice() == output.as_bytes()),
+        Err(ScriptFault::Write) => Ok(output.as_bytes().starts_with(&writer.held)),
+        Err(_) => Ok(false),
+    }
+}
+
+#[test]
+fn a_front_is_written_where_input_fails(rt: HostRuntime) -> Result<(), Fail> {
+    for calls in 0..30 {
+        assert!(rt;
+            holds_where_input_fails(rt.alloc(), SHORT, calls)?,
+            "{calls}"
+        );
+    }
+    Ok(())
+}
+
+#[test]
+fn a_front_is_written_where_output_fails(rt: HostRuntime) -> Result<(), Fail> {
+    for calls in 0..30 {
+        assert!(rt;
+            holds_where_output_fails(rt.alloc(), SHORT, calls)?,
+            "{calls}"
+        );
+    }
+    Ok(())
+}
+
+#[test]
+fn messages_are_answered(rt: HostRuntime) -> Result<(), Fail> {
+    let alloc = rt.alloc();
+    let mut world = world_of(alloc, &["a", "b"], FULL)?;
+    let table = [
+        (1, r#"["join","a"]"#, r#"["joined",0,1]"#),
+        (2, r#"["join","b"]"#, r#"["joined",0,1]"#),
+        (3, r#"["join","a"]"#, r#"["joined",1,2]"#),
+        (4, r#"["join","b"]"#, r#"["joined",1,2]"#),
+    ];
+    let mut messages = Vec::new(alloc);
+    for (session, text, _) in table {
+        let mut bytes = Vec::new(alloc);
+        bytes.extend_from_slice(text.as_bytes())?;
+        messages.push((session, bytes))?;
+    }
+    let answers = world.run(alloc, &messages)?;
+    for (answer, line) in answers.iter().zip(table.iter()) {
+        assert_eq!(rt; answer.as_ref().ok_or("an answer")?.as_str(), line.2);
+    }
+    let name = RoomName::parse(alloc, b"a")?;
+    assert_eq!(rt; world.entries(&name).ok_or("a room")?.len(), 2);
+    Ok(())
+}
+
+#[test]
+fn names_are_told_apart(rt: HostRuntime) -> Result<(), Fail> {
+    let alloc = rt.alloc();
+    let mut names = Vec::new(alloc);
+    for name in [b"a", b"b", b"a"] {
+        names.push(RoomName::parse(alloc, name)?)?;
+    }
+    match World::new(alloc, &names, Limits::full()) {
+        Err(fault) => assert_eq!(rt; fault, RoomsFault::SameName(2)),
+        Ok(_) => return Err(Fail::from("a name twice")),
+    }
     Ok(())
 }

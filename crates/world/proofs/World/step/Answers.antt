@@ -6,6 +6,8 @@ use Rattle.world.specs.State.{names_of, seat_of, asker_of}
 use Rattle.world.proofs.Places.{same_length}
 use Rattle.world.proofs.SeatMaps.{seats_within, state_of}
 use Rattle.world.proofs.Changed.{asked_after, asker_within, both_ok}
+use Rattle.world.proofs.ReadBack.{request_in_range}
+use Rattle.world.proofs.Growth.{answer_shows_groups, if_ok_and}
 use Rattle.world.proofs.World.step.Goals as goal
 
 pub invariant_of-self : goal.invariant_of-self
@@ -24,3 +26,13 @@ returns-clause-rooms c =
     let found : asker_of (names_of state) c.args.session (seat_of state.seats c.args.session) c.in-Some.request ≡ Some c.in-Some-asker_of.asker = cc (c.asker_of.ensures, c.seat_at-seat.ensures, c.in-Some-asker_of.is, c.deref.ensures.value) in
     let within = asker_within state c.args.session (seat_of state.seats c.args.session) c.in-Some.request c.in-Some-asker_of.asker c.self.invariant refl found in
     rw (← c.self.view_is) (both_ok c.answer_at.result (λ rooms seats. asked_after state message c.in-Some.request asked c.in-Some-asker_of.asker found new within rooms seats) c.answer_at.ensures.rooms c.answer_at.ensures.seats)
+
+pub returns-clause-shown : goal.returns-clause-shown
+returns-clause-shown c =
+    let state = state_of c.self.inside.rooms.items c.self.inside.seats.entries in
+    let found : asker_of (names_of state) c.args.session (seat_of state.seats c.args.session) c.in-Some.request ≡ Some c.in-Some-asker_of.asker = cc (c.asker_of.ensures, c.seat_at-seat.ensures, c.in-Some-asker_of.is, c.deref.ensures.value) in
+    let within = asker_within state c.args.session (seat_of state.seats c.args.session) c.in-Some.request c.in-Some-asker_of.asker c.self.invariant refl found in
+    if_ok_and c.answer_at.result _ _ (λ text is_read rooms. answer_shows_groups _ _ _ _ _ _ within c.answer_at.ensures.names rooms c.answer_at.ensures.legal is_read) c.answer_at.ensures.read c.answer_at.ensures.rooms
+
+pub answer_at-requires-clause-range : goal.answer_at-requires-clause-range
+answer_at-requires-clause-range c = request_in_range c.args.bytes.now c.in-Some.request (sym c.in_ok-request.ensures ∙ c.in-Some.is)

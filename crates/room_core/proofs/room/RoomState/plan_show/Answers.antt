@@ -1,28 +1,29 @@
-use Rattle.std.proofs.Common.{[], ◌∷◌, length, sym, ap, ◌∙◌}
-use Rattle.rules.specs.AttrLists.{are_attrs}
-use Rattle.rules.specs.Bodies.{initial_in, is_set_body, kind_in}
-use Rattle.rules.specs.Lists.{sort_by}
-use Rattle.rules.specs.Versions.{key_cmp}
-use Rattle.wire.specs.declared.reply.Reply.TheVariants.{Versions}
-use Rattle.room_core.proofs.Shown.{shown_absent, shown_created, shown_set}
+use Rattle.std.proofs.Common.{◌≡◌, map, sym, subst, ◌∙◌, length}
+use Rattle.std.specs.Arc.{arc_value}
+use Rattle.rules.specs.declared.refusal.Refusal.TheVariants.{NoSuchObject}
+use Rattle.rules.specs.Bodies.{kind_in}
+use Rattle.rules.specs.Operations.{creation_of}
+use Rattle.rules.specs.Records.{operations}
+use Rattle.wire.specs.declared.reply.Reply.TheVariants.{No, Versions}
+use Rattle.shape.specs.Drawing as drawing
+use Rattle.room_core.specs.Answers.{shown}
+use Rattle.room_core.specs.Room.{Room, State}
+use Rattle.room_core.proofs.Shown.{shown_absent, shown_there}
 use Rattle.room_core.proofs.room.RoomState.plan_show.Goals as goal
 
 pub returns-in_default-clause-reply : goal.returns-in_default-clause-reply
 returns-in_default-clause-reply c =
+    let room : Room = record { limits = c.self.inside.limits; entries = map arc_value c.self.inside.entries.items } in
+    let none = shown_absent room c.self.invariant.legal c.self.inside.objects.entries c.self.invariant.shapes_are c.args.object (sym c.in_default.ensures.value) in
     c.refused.ensures.reply
-    ∙ sym (shown_absent c.args.self.now.room c.operation.ensures.legal c.operation.ensures.unset c.args.object (sym c.in_default.ensures.operation))
+    ∙ sym (subst (λ (s : State). shown s.room c.args.object (creation_of (operations s.room.entries) c.args.object) ≡ No (length s.room.entries) NoSuchObject) c.self.view_is none)
 
-pub returns-in_ok-created_versions-in-New-clause-reply : goal.returns-in_ok-created_versions-in-New-clause-reply
-returns-in_ok-created_versions-in-New-clause-reply c =
-    let room = c.args.self.now.room in
-    let is = c.in-New.is in
+pub returns-clause-reply : goal.returns-clause-reply
+returns-clause-reply c =
+    let room : Room = record { limits = c.self.inside.limits; entries = map arc_value c.self.inside.entries.items } in
+    let d = c.in-Some.shape.now in
+    let there = shown_there room c.self.invariant.legal c.self.inside.objects.entries c.self.invariant.shapes_are c.args.object d (sym c.in-Some.ensures.value) in
     c.told.ensures.reply
-    ∙ (λ i. Versions (c.at.ensures i) c.args.object (c.in_ok-copy-in-New.ensures i) (c.in_ok-created_versions-in-New.ensures.versions i))
-    ∙ sym (ap (λ body. Versions (length room.entries) c.args.object (kind_in body) ((record { id = []; attrs = sort_by key_cmp (initial_in body) }) ∷ [])) is)
-    ∙ sym (shown_created room c.operation.ensures.legal c.operation.ensures.unset c.args.object c.in-Some.op.now (sym c.in-Some.ensures.operation) (ap is_set_body is)
-    (ap (λ body. are_attrs (initial_in body)) is ∙ c.in_ok-created_versions-in-New.ensures.range))
-
-pub returns-in-Set-clause-reply : goal.returns-in-Set-clause-reply
-returns-in-Set-clause-reply c =
-    c.refused-in-Set.ensures.reply
-    ∙ sym (shown_set c.args.self.now.room c.operation.ensures.legal c.operation.ensures.unset c.args.object c.in-Some.op.now (sym c.in-Some.ensures.operation) (ap is_set_body c.in-Set.is))
+    ∙ (λ i. Versions (c.at.ensures i) c.args.object ((c.in_ok-copy.ensures ∙ c.kind.ensures) i) ((c.from_vec.ensures ∙ c.in_ok-show.ensures) i))
+    ∙ sym (subst (λ (s : State). shown s.room c.args.object (creation_of (operations s.room.entries) c.args.object)
+    ≡ Versions (length s.room.entries) c.args.object (kind_in d.drawing.creation.body) (drawing.shown d.drawing)) c.self.view_is there)

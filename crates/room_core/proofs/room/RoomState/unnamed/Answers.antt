@@ -4,11 +4,11 @@ use Rattle.room_core.proofs.Unnamed.{full, not_full}
 use Rattle.room_core.proofs.room.RoomState.unnamed.Goals as goal
 
 pub returns-then-is_full-clause-planned : goal.returns-then-is_full-clause-planned
-returns-then-is_full-clause-planned c op named =
+returns-then-is_full-clause-planned c op reply named =
     (λ i. (c.refused.ensures.reply i, entry_in (c.refused.ensures.change i)))
-    ∙ sym (full c.args.self.now.room c.args.site c.args.seq c.requires.joined c.sites-sites.ensures.range c.is_full.ensures.range c.requires.out_of_range op named (sym c.is_full.ensures.full ∙ c.if-is_full.true))
+    ∙ sym (full c.args.self.now.room c.args.site c.args.seq c.requires.joined c.sites-sites.ensures.range c.is_full.ensures.range c.requires.out_of_range op named reply (sym c.is_full.ensures.full ∙ c.if-is_full.true))
 
 pub returns-else-is_full-clause-planned : goal.returns-else-is_full-clause-planned
-returns-else-is_full-clause-planned c op named =
+returns-else-is_full-clause-planned c op reply named =
     (λ i. (c.refused-else-is_full.ensures.reply i, entry_in (c.refused-else-is_full.ensures.change i)))
-    ∙ sym (not_full c.args.self.now.room c.args.site c.args.seq c.requires.joined c.sites-sites.ensures.range c.is_full.ensures.range c.requires.out_of_range op named (sym c.is_full.ensures.full ∙ c.if-is_full.false))
+    ∙ sym (not_full c.args.self.now.room c.args.site c.args.seq c.requires.joined c.sites-sites.ensures.range c.is_full.ensures.range c.requires.out_of_range op named reply (sym c.is_full.ensures.full ∙ c.if-is_full.false))

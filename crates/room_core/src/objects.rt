@@ -1,0 +1,81 @@
+//! A room's objects as shapes, by name, in order of creation.
+
+ghost use Rattle.std.specs.Prelude.{◌≡◌, ◌≤◌, ◌<◌, ◌∷◌, ◌++◌, [], IfOk, None, Some, drop, length, take};
+ghost use Rattle.std.specs.Map.{keys_of, lookup, set_value};
+ghost use Rattle.std.specs.List.{IsDistinct};
+ghost use Rattle.indexmap.specs.IndexMap.{spare};
+ghost use Rattle.op_names.specs.Names.{same_name};
+ghost use Rattle.conflict.specs.Sets.{AreSetsOf};
+ghost use Rattle.shape.specs.Drawing.{Drawn, with_set};
+ghost use Rattle.shape.specs.Planned.{IsPlanned};
+ghost use Rattle.room_core.specs.Room.{kinds_of};
+ghost use Rattle.room_core.specs.Plans.{IsPlannedAt};
+
+use indexmap::IndexMap;
+use op_names::{NoMemory, OpName};
+use rules::Op;
+use shape::{PlannedSet, SetFault, Shape};
+use std::alloc::Global;
+use wire::ObjectList;
+
+/// Adds an object under a new name where there is memory for it.
+pub(crate) fn insert_reserved(objects: &mut IndexMap<OpName, Shape>, name: OpName, shape: Shape)
+    requires absent { lookup (same_name name) objects.old.entries ≡ None }
+    requires memory { 0 < spare objects.old }
+    ensures { objects.new.entries ≡ objects.old.entries ++ (name, shape) ∷ [] }
+{
+    match objects.insert(name, shape) {
+        Ok(_) => {}
+        Err(_) => unreachable!(),
+    }
+}
+
+/// Plans a set on an object that is there. What the objects show stays.
+pub(crate) fn plan_at(
+    alloc: Global,
+    objects: &mut IndexMap<OpName, Shape>,
+    object: OpName,
+    op: Op,
+) -> Result<PlannedSet, SetFault>
+    requires { (d : Drawn) × (lookup (same_name object) objects.old.entries ≡ Some d) × AreSetsOf d.drawing.creation.name (d.drawing.sets ++ op ∷ []) }
+    ensures { IsPlannedAt object op objects.old.entries objects.new.entries result }
+{
+    match objects.get_mut(&object) {
+        Some(shape) => shape.plan_set(alloc, op),
+        None => unreachable!(),
+    }
+}
+
+/// Takes a set that was planned on an object as it is.
+pub(crate) fn commit_at(objects: &mut IndexMap<OpName, Shape>, object: OpName, planned: PlannedSet)
+    requires { (d : Drawn) × (lookup (same_name object) objects.old.entries ≡ Some d) × IsPlanned d planned }
+    ensures changed { (d e : Drawn) × (lookup (same_name object) objects.old.entries ≡ Some d) × (e.drawing ≡ with_set d.drawing planned.addition.op) × (objects.new.entries ≡ set_value (same_name object) objects.old.entries e) }
+    ensures unique { IsDistinct same_name (keys_of objects.old.entries) }
+{
+    match objects.get_mut(&object) {
+        Some(shape) => shape.commit(planned),
+        None => unreachable!(),
+    }
+}
+
+/// A page of the objects with their kinds from a place on. Linear in the page.
+pub(crate) fn objects_page(
+    alloc: Global,
+    objects: &IndexMap<OpName, Shape>,
+    from: usize,
+    page: usize,
+) -> Result<ObjectList, NoMemory>
+    requires { from ≤ length objects.now.entries }
+    ensures { IfOk result (λ list. list ≡ take page (drop from (kinds_of objects.now.entries))) }
+{
+    let (_, rest) = objects.as_slice().split_at(from);
+    let count = page.min(rest.len());
+    let mut listed = Vec::with_capacity(alloc, count)?;
+    for place in 0..count {
+        let Some((name, shape)) = rest.get_index(place) else {
+            unreachable!()
+        };
+        listed.push((*name, shape.kind().copy(alloc)?))?;
+    }
+    Ok(ObjectList::from_vec(listed))
+}

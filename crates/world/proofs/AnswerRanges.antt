@@ -1,0 +1,225 @@
+-- A room whose entries are in range answers requests in range with replies in range, and stays so.
+use Rattle.std.proofs.Common.{◌≡◌, ◌+◌, ◌≤◌, ℕ, Bool, true, false, not, cond, eqb, leb, ltb, List, [], ◌∷◌, ◌++◌, append_assoc, append-nil, length, map, Option, Some, None, IfSome, Result, Ok, Err, OnOk, OnErr, refl, sym, ap, ◌∙◌, subst, ◌&&◌, arith}
+use Rattle.std.specs.Prelude.{is_none}
+use Rattle.std.specs.List.{AllByRecursion}
+use Rattle.std.proofs.lemmas.Bool.{and_from, and_parts, eq-eqb, le-leb, leb-true}
+use Rattle.std.proofs.lemmas.List.{length_push}
+use Rattle.std.proofs.lemmas.List.Sums.{length-filter, count_by-le-length}
+use Rattle.op_names.specs.Names.{Name, is_site, is_seq, is_op_name}
+use Rattle.op_names.specs.Texts.{Bytes}
+use Rattle.rules.specs.declared.history.Op.{Op}
+use Rattle.rules.specs.declared.history.Entry.{Entry}
+use Rattle.rules.specs.declared.history.Entry.TheVariants.{Join, Operation}
+use Rattle.rules.specs.declared.history.Body.TheVariants as body
+use Rattle.rules.specs.declared.refusal.Refusal.{Refusal}
+use Rattle.rules.specs.declared.refusal.Refusal.TheVariants.{NotJoined, TooFar}
+use Rattle.rules.specs.declared.version.Version.{Version}
+use Rattle.rules.specs.Bounds.{Bounds}
+use Rattle.rules.specs.Bodies.{is_set_body, kind_in}
+use Rattle.rules.specs.Operations.{IsHistory, creation_of, is_creation_of, object_of}
+use Rattle.rules.specs.Records.{admits, objects, operations, refusal, sites, IsLegal, IsLegalAfter}
+use Rattle.rules.specs.Versions.{versions}
+use Rattle.rules.proofs.Lists.{In, In-filter_back, In-map_back, find_is}
+use Rattle.rules.proofs.Records.{legal_push, operations-push, sites-join, sites-operation}
+use Rattle.rules.proofs.Conditions.{room_for_join, room_for_operation}
+use Rattle.rules.proofs.Founded.{history_if_legal}
+use Rattle.wire.specs.declared.request.Request.{Request}
+use Rattle.wire.specs.declared.request.Request.TheVariants as request
+use Rattle.wire.specs.declared.reply.Reply.{Reply}
+use Rattle.wire.specs.declared.reply.Reply.TheVariants.{Joined, Made, Taken, Objects, Entries, No}
+use Rattle.wire.specs.Form.{IsEntry, IsObject, IsReply, IsRequest, is_at, is_from}
+use Rattle.room_core.specs.Room.{Room, all_objects, with_entry}
+use Rattle.room_core.specs.Answers.{Outcome, answer, decided, has_site, join_answer, page, shown, site_answer, told}
+use Rattle.world.specs.Alone.{asked}
+use Rattle.world.proofs.Ranges.{IsOp, all_if, all_take, all_drop, all_push, ops_in_range, kind_in_range, versions_in_range, ids_in_range}
+
+-- ---- a legal record is within its limits
+
+record IsWithin (b : Bounds) (r : List Entry) : Type 0 where
+  joins : sites r ≤ b.joins
+  short : length r ≤ b.entries
+
+within_push : (b : Bounds) (r : List Entry) (e : Entry) → IsWithin b r → admits b r e ≡ true → IsWithin b (r ++ e ∷ [])
+within_push b r (Join site) w a =
+    let room = room_for_join b r site a in
+    let one = sites-join r site in
+    let more = length_push r (Join site) in
+    let free = room.0 in
+    let place = room.1 in
+    record { joins = omega (arith, one, free); short = omega (arith, more, place) }
+within_push b r (Operation op) w a =
+    let room = room_for_operation b r op a in
+    let same = sites-operation r op in
+    let more = length_push r (Operation op) in
+    let few = w.joins in
+    let place = room.0 in
+    record { joins = omega (arith, same, few); short = omega (arith, more, place) }
+
+within_after : (b : Bounds) (r rest : List Entry) → IsWithin b r → IsLegalAfter b r rest → IsWithin b (r ++ rest)
+within_after b r [] w legal = subst (IsWithin b) (sym (append-nil r)) w
+within_after b r (e ∷ rest) w legal = subst (IsWithin b) (append_assoc r (e ∷ []) rest) (within_after b (r ++ e ∷ []) rest (within_push b r e w legal.0) legal.1)
+
+within : (b : Bounds) (r : List Entry) → IsLegal b r → IsWithin b r
+within b r legal = within_after b [] r (record { joins = omega arith; short = omega arith }) legal
+
+length-operations : (r : List Entry) → length (operations r) ≤ length r
+length-operations [] = omega arith
+length-operations (Join n ∷ r) = omega (arith, length-operations r)
+length-operations (Operation op ∷ r) = omega (arith, length-operations r)
+
+-- ---- answers
+
+-- a room's record is legal and in range, and its limits are at most the full ones
+pub record IsSound (room : Room) : Type 0 where
+  pub legal : IsLegal room.limits room.entries
+  pub joins : room.limits.joins ≤ 256
+  pub short : room.limits.entries ≤ 16384
+  pub entries : AllByRecursion IsEntry room.entries
+
+pub sound_room : (room : Room) (limits : Bounds) → limits ≡ room.limits → limits.joins ≤ 256 → limits.entries ≤ 16384 → IsLegal room.limits room.entries → AllByRecursion IsEntry room.entries → IsSound room
+sound_room room limits same joins short legal entries = record { legal = legal; joins = rw same at joins; short = rw same at short; entries = entries }
+
+-- the reply is in range, and so is the entry that is added
+pub record InRange (outcome : Outcome) : Type 0 where
+  pub reply : IsReply outcome.0
+  pub added : IfSome outcome.1 IsEntry
+
+module _ (room : Room) (sound : IsSound room) where
+  at_most : length room.entries ≤ 16384
+  at_most = let w = (within room.limits room.entries sound.legal).short in let s = sound.short in omega (arith, w, s)
+
+  at_in_range : is_at (length room.entries) ≡ true
+  at_in_range = le-leb (length room.entries) 16384 at_most
+
+  site_at_most : sites room.entries ≤ 256
+  site_at_most = let w = (within room.limits room.entries sound.legal).joins in let s = sound.joins in omega (arith, w, s)
+
+  history : IsHistory (operations room.entries)
+  history = history_if_legal room.limits room.entries sound.legal
+
+  ops : (op : Op) → In op (operations room.entries) → IsOp op
+  ops = ops_in_range room.entries sound.entries
+
+  refused_in_range : (why : Refusal) → InRange (told (No (length room.entries) why))
+  refused_in_range why = record { reply = at_in_range; added = tt }
+
+  lone_in_range : (why : Refusal) → InRange (told (No 0 why))
+  lone_in_range why = record { reply = refl; added = tt }
+
+  told_in_range : (reply : Reply) → IsReply reply → InRange (told reply)
+  told_in_range reply range = record { reply = range; added = tt }
+
+  -- an entry that is added or refused
+  decided_in_range : (o : Option Refusal) (entry : Entry) (reply : Reply) → refusal room.limits room.entries entry ≡ o
+      → (refusal room.limits room.entries entry ≡ None → IsReply reply × IsEntry entry) → InRange (decided room o entry reply)
+  decided_in_range None entry reply e range = let both = range e in record { reply = both.0; added = both.1 }
+  decided_in_range (Some why) entry reply e range = refused_in_range why
+
+  joins_next : refusal room.limits room.entries (Join (sites room.entries + 1)) ≡ None → is_site (sites room.entries + 1) ≡ true
+  joins_next e =
+      let admitted : admits room.limits room.entries (Join (sites room.entries + 1)) ≡ true = and_from (eqb (sites room.entries + 1) (sites room.entries + 1)) _ (eq-eqb _ _ refl) (ap is_none e) in
+      let free = (room_for_join room.limits room.entries (sites room.entries + 1) admitted).0 in
+      let most = sound.joins in
+      and_from _ _ (le-leb 1 (sites room.entries + 1) (omega arith)) (le-leb (sites room.entries + 1) 256 (omega (arith, free, most)))
+
+  join_in_range : InRange (join_answer room)
+  unfolding join_answer
+  join_in_range =
+      decided_in_range (refusal room.limits room.entries (Join (sites room.entries + 1))) (Join (sites room.entries + 1)) (Joined (length room.entries) (sites room.entries + 1)) refl
+      (λ e. let next = joins_next e in ((at_in_range, next), next))
+
+  module _ (site : ℕ) (has : has_site room site ≡ true) where
+    site_in_range : is_site site ≡ true
+    site_in_range =
+        let parts = and_parts (leb 1 site) (leb site (sites room.entries)) has in
+        let low = parts.0 in
+        let high = leb-true site (sites room.entries) parts.1 in
+        let most = site_at_most in
+        and_from (leb 1 site) (leb site 256) low (le-leb site 256 (omega (arith, high, most)))
+
+    creation_in_range : (op : Op) → op.name.0 ≡ site → IsOp op → InRange (decided room (refusal room.limits room.entries (Operation op)) (Operation op) (Made (length room.entries) op.name))
+    creation_in_range op e range =
+        decided_in_range (refusal room.limits room.entries (Operation op)) (Operation op) (Made (length room.entries) op.name) refl (λ none. ((at_in_range, range.0), range))
+
+    history_with : (op : Op) → op.name.0 ≡ site → IsOp op → refusal room.limits room.entries (Operation op) ≡ None → IsHistory (operations room.entries ++ op ∷ [])
+    history_with op e range none =
+        let joined : leb 1 op.name.0 && leb op.name.0 (sites room.entries) ≡ true = ap (λ s. leb 1 s && leb s (sites room.entries)) e ∙ has in
+        let admitted : admits room.limits room.entries (Operation op) ≡ true = and_from _ _ (and_from _ _ joined range.1) (ap is_none none) in
+        subst IsHistory (operations-push room.entries op) (history_if_legal room.limits (room.entries ++ Operation op ∷ []) (legal_push room.limits room.entries (Operation op) sound.legal admitted))
+
+    ops_with : (op : Op) → IsOp op → (x : Op) → In x (operations room.entries ++ op ∷ []) → IsOp x
+    ops_with op range = subst (λ (h : List Op). (x : Op) → In x h → IsOp x) (operations-push room.entries op) (ops_in_range (room.entries ++ Operation op ∷ []) (all_push IsEntry room.entries (Operation op) sound.entries range))
+
+    set_in_range : (op : Op) → op.name.0 ≡ site → IsOp op
+        → InRange (decided room (refusal room.limits room.entries (Operation op)) (Operation op) (Taken (length room.entries) (map (λ (v : Version). v.id) (versions (operations room.entries ++ op ∷ []) (object_of op)))))
+    set_in_range op e range =
+        decided_in_range (refusal room.limits room.entries (Operation op)) (Operation op) (Taken (length room.entries) (map (λ (v : Version). v.id) (versions (operations room.entries ++ op ∷ []) (object_of op)))) refl
+        (λ none. ((at_in_range, ids_in_range (operations room.entries ++ op ∷ []) (history_with op e range none) (ops_with op range) (object_of op)), range))
+
+  shown_in_range : (name : Name) (o : Option Op) → is_op_name name ≡ true → creation_of (operations room.entries) name ≡ o → InRange (told (shown room name o))
+  shown_in_range name None range e = refused_in_range _
+  shown_in_range name (Some op) range e =
+      let c = find_is (is_creation_of name) op (operations room.entries) e in
+      told_in_range _ (at_in_range, range, kind_in_range op (and_parts (not (is_set_body op.body)) _ c.1).0 (ops op c.0), versions_in_range (operations room.entries) history ops name)
+
+  object_in_range : (o : Name × Bytes) → In o (all_objects room.entries) → IsObject o
+  object_in_range o m =
+      let c = In-map_back (λ (op : Op). (op.name, kind_in op.body)) o (objects room.entries) m in
+      let d = In-filter_back (λ (op : Op). not (is_set_body op.body)) c.0 (operations room.entries) c.1 in
+      subst IsObject (sym c.2) ((ops c.0 d.0).0, kind_in_range c.0 d.1 (ops c.0 d.0))
+
+  total_in_range : is_at (length (objects room.entries)) ≡ true
+  total_in_range =
+      let creates : Op → Bool = λ op. not (is_set_body op.body) in
+      let counted = length-filter creates (operations room.entries) in
+      let fewer = count_by-le-length creates (operations room.entries) in
+      let few = length-operations room.entries in
+      let most = at_most in
+      le-leb (length (objects room.entries)) 16384 (omega (arith, counted, fewer, few, most))
+
+  list_in_range : (from : ℕ) (far : Bool) → is_from from ≡ true
+      → InRange (told (cond far (No (length room.entries) TooFar) (Objects (length room.entries) from (length (objects room.entries)) (page room from (all_objects room.entries)))))
+  list_in_range from true range = refused_in_range TooFar
+  list_in_range from false range =
+      told_in_range _ (at_in_range, range, total_in_range, all_take IsObject room.limits.page _ (all_drop IsObject from _ (all_if IsObject (all_objects room.entries) object_in_range)))
+
+  pull_in_range : (from : ℕ) (far : Bool) → is_from from ≡ true
+      → InRange (told (cond far (No (length room.entries) TooFar) (Entries (length room.entries) from (page room from room.entries))))
+  pull_in_range from true range = refused_in_range TooFar
+  pull_in_range from false range = told_in_range _ (at_in_range, range, all_take IsEntry room.limits.page _ (all_drop IsEntry from room.entries sound.entries))
+
+  answer_of_site : (site : ℕ) → has_site room site ≡ true → (asks : Request) → IsRequest asks → InRange (site_answer room site asks)
+  answer_of_site site has (request.Join name) range = lone_in_range _
+  answer_of_site site has (request.New seq seen kind attrs) range =
+      creation_in_range site has (record { name = (site, seq); seen = seen; body = body.New kind attrs }) refl
+      (and_from (is_site site) (is_seq seq) (site_in_range site has) range.0, range.1, (range.2, range.3))
+  answer_of_site site has (request.Set seq seen object version key value) range =
+      set_in_range site has (record { name = (site, seq); seen = seen; body = body.Set object version key value }) refl
+      (and_from (is_site site) (is_seq seq) (site_in_range site has) range.0, range.1, (range.2, range.3, range.4, range.5))
+  answer_of_site site has (request.Show name) range = shown_in_range name (creation_of (operations room.entries) name) range refl
+  answer_of_site site has (request.List from) range = list_in_range from (ltb (length (objects room.entries)) from) range
+  answer_of_site site has (request.Pull from) range = pull_in_range from (ltb (length room.entries) from) range
+  answer_of_site site has request.Leave range = told_in_range _ at_in_range
+
+  of_anyone : (b : Bool) (site : ℕ) → has_site room site ≡ b → (asks : Request) → IsRequest asks → InRange (cond b (site_answer room site asks) (told (No 0 NotJoined)))
+  of_anyone true site e asks range = answer_of_site site e asks range
+  of_anyone false site e asks range = lone_in_range NotJoined
+
+  full_answer_in_range : (site : ℕ) (asks : Request) → IsRequest asks → InRange (answer room site asks)
+  unfolding answer
+  full_answer_in_range site asks range = of_anyone (has_site room site) site refl asks range
+
+  pub answer_in_range : (who : Option ℕ) (asks : Request) → IsRequest asks → InRange (asked room who asks)
+  answer_in_range None asks range = join_in_range
+  answer_in_range (Some site) asks range = full_answer_in_range site asks range
+
+  pub still_in_range : (added : Option Entry) → IfSome added IsEntry → AllByRecursion IsEntry (with_entry room added).entries
+  still_in_range None range = sound.entries
+  still_in_range (Some entry) range = all_push IsEntry room.entries entry sound.entries range
+
+-- the room as it is planned for, and after the answer was put in place or not
+pub in_range_after : {T E : Type 0} (r : Result T E) (room planned after : Room) (added : Option Entry) → IsSound room → IfSome added IsEntry → planned ≡ room
+    → OnOk r (after ≡ with_entry planned added) → OnErr r (after ≡ planned) → AllByRecursion IsEntry after.entries
+in_range_after (Ok x) room planned after added sound range same made kept =
+    subst (λ (room : Room). AllByRecursion IsEntry room.entries) (sym (made ∙ ap (λ (room : Room). with_entry room added) same)) (still_in_range room sound added range)
+in_range_after (Err y) room planned after added sound range same made kept = subst (λ (room : Room). AllByRecursion IsEntry room.entries) (sym (kept ∙ same)) sound.entries

@@ -23,7 +23,6 @@ pub mod Attributes
 pub mod Decided
 pub mod Shown
 pub mod Founded
-pub mod Unset
 pub mod Ordered
 pub mod Reordered
 pub mod Permutations

@@ -1,4 +1,3 @@
 pub mod Pairs
 pub mod Members
 pub mod Shown
-pub mod Example

@@ -120,6 +120,3 @@ fn sort_by_key(pairs: &mut Vec<(Key, Value)>)
 {
     pairs.sort_unstable_by(|a, b| a.0.cmp(&b.0));
 }
-
-#[cfg(test)]
-mod tests;

@@ -250,6 +250,3 @@ impl Past {
         Ok(())
     }
 }
-
-#[cfg(test)]
-mod tests;

@@ -5,4 +5,3 @@ pub mod Rows
 pub mod Images
 pub mod NamedGroup
 pub mod ObjectGroups
-pub mod Example

@@ -1,4 +1,3 @@
 pub mod Members
 pub mod Relations
 pub mod Sets
-pub mod Example

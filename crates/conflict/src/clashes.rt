@@ -42,21 +42,18 @@ impl Model for Clashes {
 fn differ_on_a_key(a: &Body, b: &Body) -> bool
     ensures { result ≡ differ_on_a_key a.now b.now }
 {
-    match (a, b) {
-        (
-            Body::Set {
-                key: first_key,
-                value: first,
-                ..
-            },
-            Body::Set {
-                key: second_key,
-                value: second,
-                ..
-            },
-        ) => first_key == second_key && first != second,
-        _ => false,
-    }
+    let Body::Set { key, value, .. } = a else {
+        return false;
+    };
+    let Body::Set {
+        key: other_key,
+        value: other,
+        ..
+    } = b
+    else {
+        return false;
+    };
+    key == other_key && value != other
 }
 
 impl Clashes {
@@ -320,6 +317,3 @@ impl Relation for Clashes {
         self.conflicts(i, j)
     }
 }
-
-#[cfg(test)]
-mod tests;

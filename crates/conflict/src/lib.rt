@@ -11,6 +11,3 @@ pub use addition::{Addition, Longer};
 pub use clashes::Clashes;
 pub use members::Members;
 pub use relation::Relation;
-
-#[cfg(test)]
-mod tests;

@@ -18,6 +18,3 @@ pub use op_name::OpName;
 pub use room_name::RoomName;
 pub use value::{Value, ValueText};
 pub use version_id::VersionId;
-
-#[cfg(test)]
-mod tests;

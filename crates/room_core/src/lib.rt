@@ -13,6 +13,3 @@ pub use fault::RoomsFault;
 pub use planned::Planned;
 pub use room::RoomState;
 pub use rules::Limits;
-
-#[cfg(test)]
-mod tests;

@@ -3,11 +3,14 @@
 ghost use Rattle.std.specs.Prelude.{◌≡◌, IfOk, true};
 ghost use Rattle.rules.specs.Operations.{object_of};
 ghost use Rattle.state_vector.specs.Vectors.{is_vector};
+ghost use Rattle.std.specs.Arc.{arc_value};
+ghost use Rattle.rules.specs.declared.history.Entry.TheVariants.{Operation};
 
 use op_names::{Key, Kind, NoMemory, OpName, Value, VersionId};
-use rules::{Attrs, Body, Op};
+use rules::{Attrs, Body, Entry, Op};
 use state_vector::StateVector;
 use std::alloc::Global;
+use std::sync::Arc;
 
 /// A creation of an object of this kind, with these attributes.
 pub(crate) fn creation(alloc: Global, kind: &Kind, attrs: &Attrs) -> Result<Body, NoMemory>
@@ -53,6 +56,16 @@ pub(crate) fn operation(
         seen: seen.copy(alloc)?,
         body,
     })
+}
+
+/// The entry of an operation, and a copy of the operation.
+pub(crate) fn recorded(alloc: Global, op: &Op) -> Result<(Arc<Entry>, Op), NoMemory>
+    ensures entry { IfOk result (λ both. arc_value both.0 ≡ Operation op.now) }
+    ensures kept { IfOk result (λ both. both.1 ≡ op.now) }
+{
+    let entry = Entry::Operation(op.copy(alloc)?);
+    let entry = Arc::new(alloc, entry)?;
+    Ok((entry, op.copy(alloc)?))
 }
 
 /// The object that an operation creates or changes.

@@ -26,7 +26,7 @@ ghost use Rattle.room_core.specs.Answers.{join_answer, creation_answer, set_answ
 ghost use Rattle.room_core.specs.Plans.{outcome, unasked_refusal, entry_in, IsReady, CanJoin, CanCreate, CanSet};
 
 use crate::objects::{commit_at, insert_reserved, objects_page, plan_at};
-use crate::operations::{creation, object_of, operation, set};
+use crate::operations::{creation, object_of, operation, recorded, set};
 use crate::pages::entries_page;
 use crate::planned::{Change, Planned};
 use causal::Past;
@@ -220,9 +220,8 @@ impl RoomState {
         if let Some(refusal) = self.creation_refusal(&op) {
             return Ok(self.refused(refusal));
         }
-        let shape = Shape::create(alloc, op.copy(alloc)?, self.limits)?;
-        let kept = op.copy(alloc)?;
-        let entry = Arc::new(alloc, Entry::Operation(op))?;
+        let (entry, kept) = recorded(alloc, &op)?;
+        let shape = Shape::create(alloc, op, self.limits)?;
         self.made(entry, kept, shape)
     }
 
@@ -358,8 +357,7 @@ impl RoomState {
         ensures ready { IfOk result (λ p. IsReady self.new p.change) }
         ensures room { self.new.room ≡ self.old.room }
     {
-        let kept = op.copy(alloc)?;
-        let entry = Arc::new(alloc, Entry::Operation(op.copy(alloc)?))?;
+        let (entry, kept) = recorded(alloc, &op)?;
         match self.plan_at_object(alloc, op) {
             Ok(planned) => self.taken(alloc, entry, kept, planned),
             Err(fault) => self.not_taken(fault),

@@ -14,6 +14,3 @@ pub use history::{Body, Entry, Op};
 pub use limits::Limits;
 pub use refusal::Refusal;
 pub use version::{AttrList, Version};
-
-#[cfg(test)]
-mod tests;

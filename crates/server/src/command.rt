@@ -7,6 +7,9 @@ use clap::{Arg, ArgAction, ArgMatches, Command, Error};
 use std::alloc::{AllocError, Global};
 use std::io::{Read, Write};
 
+/// What `--version` shows: what the number means stands in docs/DECISIONS.md.
+pub(crate) const VERSION: &str = "0.1.0";
+
 /// The commands of the program.
 fn grace<'a>(alloc: Global) -> Result<Command<'a>, AllocError> {
     let rooms = Arg::new(alloc, "ROOM")
@@ -19,6 +22,7 @@ fn grace<'a>(alloc: Global) -> Result<Command<'a>, AllocError> {
         .arg(rooms)?;
     Command::new(alloc, "grace")
         .about("A group drawing server with object versions")
+        .version(VERSION)
         .subcommand_required(true)
         .subcommand(script)
 }

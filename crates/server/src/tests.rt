@@ -1,8 +1,9 @@
 use super::*;
+use crate::command::VERSION;
 use std::alloc::Global;
 use std::io;
 use std::io::{ErrorKind, Read, Write};
-use std::test::Fail;
+use std::process::Abort;
 
 /// A reader that gives these bytes, and then fails.
 #[derive(Drop)]
@@ -45,88 +46,101 @@ struct Outcome {
     errors: Vec<u8>,
 }
 
+impl Outcome {
+    /// Are these the status and the texts?
+    fn is(&self, status: u8, output: &str, errors: &str) -> bool {
+        self.status == status
+            && self.output.as_slice() == output.as_bytes()
+            && self.errors.as_slice() == errors.as_bytes()
+    }
+}
+
 /// Runs the program with these words, which stand with commas between them.
-fn run_words(alloc: Global, words: &str, input: &str) -> Result<Outcome, Fail> {
-    let mut line = Vec::new(alloc);
+fn run_words(rt: &(impl Abort + AllocGlobal), words: &str, input: &str) -> Outcome {
+    let mut line = Vec::new(rt.alloc());
     for word in words.split(',') {
-        line.push(word.to_string(alloc)?)?;
+        let word = word.to_string(rt.alloc()).expect(rt, "memory");
+        line.push(word).expect(rt, "memory");
     }
     let mut reader = input.as_bytes();
-    let mut output = Vec::new(alloc);
-    let mut errors = Vec::new(alloc);
-    let status = run(alloc, &line, &mut reader, &mut output, &mut errors);
-    Ok(Outcome {
+    let mut output = Vec::new(rt.alloc());
+    let mut errors = Vec::new(rt.alloc());
+    let status = run(rt.alloc(), &line, &mut reader, &mut output, &mut errors);
+    Outcome {
         status,
         output,
         errors,
-    })
-}
-
-#[test]
-fn faults_of_the_command_line(rt: HostRuntime) -> Result<(), Fail> {
-    for (words, line) in [
-        (
-            "grace",
-            "error: 'grace' requires a subcommand but one was not provided\n",
-        ),
-        ("grace,draw", "error: unrecognized subcommand 'draw'\n"),
-        (
-            "grace,script",
-            "error: the following required arguments were not provided:\n",
-        ),
-        (
-            "grace,script,r,--x",
-            "error: unexpected argument '--x' found\n",
-        ),
-        ("grace,script,R", "grace: bad room name\n"),
-        ("grace,script,r,r", "grace: room named twice\n"),
-        ("grace,script,r,r,", "grace: bad room name\n"),
-    ] {
-        let ran = run_words(rt.alloc(), words, "0 [\"leave\"]\n")?;
-        assert_eq!(rt; ran.status, 2, "{words}");
-        assert_eq!(rt; ran.output.len(), 0, "{words}");
-        assert!(rt;
-            ran.errors.as_slice().starts_with(line.as_bytes()),
-            "{words}"
-        );
     }
-    Ok(())
+}
+
+/// Words => the first line on standard error.
+const MISTAKES: &str = r#"grace => error: 'grace' requires a subcommand but one was not provided
+grace,draw => error: unrecognized subcommand 'draw'
+grace,script => error: the following required arguments were not provided:
+grace,script,r,--x => error: unexpected argument '--x' found
+grace,script,R => grace: bad room name
+grace,script,r,r => grace: room named twice
+grace,script,r,r, => grace: bad room name"#;
+
+/// Is this the first line of the bytes, and is it ended?
+fn begins_with_line(bytes: &[u8], line: &str) -> bool {
+    match bytes.strip_prefix(line.as_bytes()) {
+        Some(rest) => rest.starts_with(b"\n"),
+        None => false,
+    }
+}
+
+fn is_mistake(rt: &(impl Abort + AllocGlobal), words: &str, line: &str) -> bool {
+    let ran = run_words(rt, words, "0 [\"leave\"]\n");
+    ran.status == 2 && ran.output.is_empty() && begins_with_line(ran.errors.as_slice(), line)
 }
 
 #[test]
-fn help_is_shown_on_output(rt: HostRuntime) -> Result<(), Fail> {
-    for (words, line) in [
-        (
+fn faults_of_the_command_line(rt: HostRuntime) {
+    for row in MISTAKES.lines() {
+        let (words, line) = row.split_once(" => ").expect(&rt, "an arrow");
+        assert!(rt; is_mistake(&rt, words, line), "{words}");
+    }
+}
+
+/// Is this how the output begins, and is nothing else written?
+fn shows(rt: &(impl Abort + AllocGlobal), words: &str, start: &str) -> bool {
+    let ran = run_words(rt, words, "");
+    ran.status == 0 && ran.errors.is_empty() && ran.output.starts_with(start.as_bytes())
+}
+
+#[test]
+fn help_is_shown_on_output(rt: HostRuntime) {
+    assert!(rt;
+        shows(
+            &rt,
             "grace,--help",
             "A group drawing server with object versions\n\nUsage: grace <COMMAND>\n",
-        ),
-        (
+        )
+    );
+    assert!(rt;
+        shows(
+            &rt,
             "grace,script,--help",
             "Answers a script: lines SESSION MESSAGE from standard input\n\nUsage: grace script <ROOM>...\n",
-        ),
-    ] {
-        let ran = run_words(rt.alloc(), words, "")?;
-        assert_eq!(rt; ran.status, 0, "{words}");
-        assert_eq!(rt; ran.errors.len(), 0, "{words}");
-        assert!(rt;
-            ran.output.as_slice().starts_with(line.as_bytes()),
-            "{words}"
-        );
-    }
-    Ok(())
+        )
+    );
 }
 
 #[test]
-fn a_script_is_answered(rt: HostRuntime) -> Result<(), Fail> {
-    let ran = run_words(rt.alloc(), "grace,script,a,b", "1 [\"join\",\"b\"]\n?")?;
-    assert_eq!(rt; ran.status, 0);
-    assert_eq!(rt;
-        ran.output.as_slice(),
-        b"1 [\"joined\",0,1]\n?\n".as_slice()
-    );
-    assert_eq!(rt; ran.errors.len(), 0);
-    Ok(())
+fn version_is_shown_on_output(rt: HostRuntime) {
+    let line = format!(in rt.alloc(); "grace {VERSION}\n").expect(&rt, "memory");
+    assert!(rt; run_words(&rt, "grace,--version", "").is(0, line.as_str(), ""));
 }
+
+#[test]
+fn a_script_is_answered(rt: HostRuntime) {
+    let ran = run_words(&rt, "grace,script,a,b", "1 [\"join\",\"b\"]\n?");
+    assert!(rt; ran.is(0, "1 [\"joined\",0,1]\n?\n", ""));
+}
+
+/// A script that is answered by a line.
+const LEAVE: &str = "0 [\"leave\"]\n";
 
 #[test]
 fn input_that_fails(rt: HostRuntime) {
@@ -136,22 +150,36 @@ fn input_that_fails(rt: HostRuntime) {
         bytes: b"0 [\"leave\"]\n0",
     };
     let status = script_over(rt.alloc(), &["r"], &mut failing, &mut output, &mut errors);
-    assert_eq!(rt; status, 3);
-    assert_eq!(rt;
-        output.as_slice(),
-        b"0 [\"no\",0,2,\"not-joined\"]\n".as_slice()
+    let ran = Outcome {
+        status,
+        output,
+        errors,
+    };
+    assert!(rt;
+        ran.is(
+            3,
+            "0 [\"no\",0,2,\"not-joined\"]\n",
+            "grace: input failed\n"
+        )
     );
-    assert_eq!(rt; errors.as_slice(), b"grace: input failed\n".as_slice());
 }
 
 #[test]
 fn output_that_fails(rt: HostRuntime) {
     let mut errors = Vec::new(rt.alloc());
-    let mut input = b"0 [\"leave\"]\n".as_slice();
+    let mut input = LEAVE.as_bytes();
     let status = script_over(rt.alloc(), &["r"], &mut input, &mut Closed, &mut errors);
-    assert_eq!(rt; status, 3);
-    assert_eq!(rt; errors.as_slice(), b"grace: output failed\n".as_slice());
-    let mut input = b"0 [\"leave\"]\n".as_slice();
+    let ran = Outcome {
+        status,
+        output: Vec::new(rt.alloc()),
+        errors,
+    };
+    assert!(rt; ran.is(3, "", "grace: output failed\n"));
+}
+
+#[test]
+fn output_and_errors_that_fail(rt: HostRuntime) {
+    let mut input = LEAVE.as_bytes();
     let status = script_over(rt.alloc(), &["r"], &mut input, &mut Closed, &mut Closed);
     assert_eq!(rt; status, 3);
 }

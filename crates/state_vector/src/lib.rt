@@ -171,6 +171,3 @@ impl PartialEq for StateVector {
 impl Eq for StateVector {
     ghost laws = { Prim.search (comparing, rules) };
 }
-
-#[cfg(test)]
-mod tests;

@@ -15,8 +15,6 @@ use op_names::{ListFault, NoMemory, OpName};
 use std::alloc::Global;
 
 pub mod laws;
-#[cfg(test)]
-mod tests;
 
 /// The identifier of a group of a relation's places: the rising list of the names of those members
 /// that are in conflict with some place. It asks the relation at most once for each member and each

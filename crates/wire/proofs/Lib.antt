@@ -1,5 +1,6 @@
 pub mod Parts
 pub mod Maps
+pub mod Fields
 pub mod Exact
 pub mod PartForms
 pub mod Requests

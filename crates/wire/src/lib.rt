@@ -16,6 +16,3 @@ pub use reply::Reply;
 pub use request::Request;
 pub use rules::Refusal;
 pub use write::{write_entry, write_reply, write_request};
-
-#[cfg(test)]
-mod tests;

@@ -191,6 +191,3 @@ impl World {
         Ok(answers)
     }
 }
-
-#[cfg(test)]
-mod tests;

@@ -102,6 +102,25 @@ fn plan(
     }
 }
 
+/// Writes the text of a planned answer of the room at this place, and moves the session by it.
+fn tell(
+    alloc: Global,
+    seats: &mut BTreeMap<u32, Seat>,
+    asker: Asker,
+    planned: &Planned,
+) -> Result<String, NoMemory>
+    requires { IsReply planned.now.reply }
+    ensures text { IfOk result (λ text. string_bytes text ≡ reply_text planned.now.reply) }
+    ensures read { IfOk result (λ text. reply_read (string_bytes text) ≡ Some planned.now.reply) }
+    ensures seats { OnOk result (IsMoved seats.old.entries seats.new.entries planned.now.reply asker.session asker.place) }
+    ensures err { OnErr result (seats.new.entries ≡ seats.old.entries) }
+{
+    let reply = planned.reply();
+    let text = write_reply(alloc, reply)?;
+    move_seat(seats, asker.session, asker.place, reply)?;
+    Ok(text)
+}
+
 /// Puts a planned answer in place, once its text is written and the session is moved.
 fn put_in_place(
     alloc: Global,
@@ -118,10 +137,17 @@ fn put_in_place(
     ensures seats { OnOk result (IsMoved seats.old.entries seats.new.entries planned.reply asker.session asker.place) }
     ensures err { OnErr result ((room.new ≡ room.old) × (seats.new.entries ≡ seats.old.entries)) }
 {
-    let text = write_reply(alloc, planned.reply())?;
-    move_seat(seats, asker.session, asker.place, planned.reply())?;
-    let _reply = room.commit(planned);
-    Ok(text)
+    match tell(alloc, seats, asker, &planned) {
+        Ok(text) => {
+            let _reply = room.commit(planned);
+            Ok(text)
+        }
+        Err(NoMemory) => {
+            // By a call, which is proved once: where a plan goes out of scope is long to prove.
+            drop(planned);
+            Err(NoMemory)
+        }
+    }
 }
 
 impl NamedRoom {

@@ -45,12 +45,13 @@ impl Ranked for (Key, Value) {
 fn do_rise<T: Ranked>(items: &[T]) -> bool
     ensures { result ≡ rise T.before items.now }
 {
-    match items {
-        [first, others @ ..] if !others.is_empty() => {
-            first.is_before(&others[0]) && do_rise(others)
-        }
-        _ => true,
-    }
+    let [first, others @ ..] = items else {
+        return true;
+    };
+    let [second, ..] = others else {
+        return true;
+    };
+    first.is_before(second) && do_rise(others)
 }
 
 /// These items, where they rise.

@@ -1,0 +1,4 @@
+pub mod Three
+pub mod Tables
+pub mod Parities
+pub mod Chain

@@ -1,0 +1,7 @@
+//! What no clause says of names, vectors, operations and their order.
+
+mod data;
+mod names;
+mod order;
+mod parse;
+mod vectors;

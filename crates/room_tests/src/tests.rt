@@ -1,0 +1,178 @@
+//! The worked rows of one room.
+
+mod rows;
+
+use self::rows::{EXAMPLES, LIMITED};
+use op_names::Kind;
+use room_core::{Limits, RoomState};
+use rules::Attrs;
+use state_vector::StateVector;
+use std::process::Abort;
+use wire::{Reply, Request, read_request, write_reply};
+
+/// Lines that a room of these limits answers one after the other.
+pub struct Example {
+    pub name: &'static str,
+    /// Joins, entries, objects, sets on an object, keys, versions, a page.
+    pub limits: [u32; 7],
+    /// Lines SITE REQUEST => REPLY, or join => REPLY where the next site joins.
+    pub parts: &'static [&'static str],
+}
+
+fn text(rt: &(impl Abort + AllocGlobal), reply: &Reply) -> String {
+    write_reply(rt.alloc(), reply).expect(rt, "memory")
+}
+
+fn room_of(rt: &(impl Abort + AllocGlobal), limits: [u32; 7]) -> RoomState {
+    let [joins, entries, objects, sets, keys, versions, page] = limits;
+    let limits = Limits::new(joins, entries, objects, sets, keys, versions, page);
+    RoomState::new(rt.alloc(), limits.expect(rt, "limits")).expect(rt, "memory")
+}
+
+fn joined(rt: &(impl Abort + AllocGlobal), room: &mut RoomState) -> String {
+    let reply = room.join(rt.alloc()).expect(rt, "memory");
+    text(rt, &reply)
+}
+
+fn answered(
+    rt: &(impl Abort + AllocGlobal),
+    room: &mut RoomState,
+    site: u32,
+    request: &Request,
+) -> String {
+    let reply = room.answer(rt.alloc(), site, request).expect(rt, "memory");
+    text(rt, &reply)
+}
+
+fn request_of(rt: &(impl Abort + AllocGlobal), text: &str) -> Request {
+    read_request(rt.alloc(), text.as_bytes()).expect(rt, "a request")
+}
+
+/// Does the room answer the line as the line says?
+fn answers(rt: &(impl Abort + AllocGlobal), room: &mut RoomState, line: &str) -> bool {
+    let (asked, expected) = line.split_once(" => ").expect(rt, "an arrow");
+    let reply = match asked.split_once(' ') {
+        None => joined(rt, room),
+        Some((site, request)) => {
+            let site = site.parse().expect(rt, "a site");
+            answered(rt, room, site, &request_of(rt, request))
+        }
+    };
+    reply.as_str() == expected
+}
+
+fn holds(rt: &(impl Abort + AllocGlobal), example: &Example) -> bool {
+    let mut room = room_of(rt, example.limits);
+    for part in example.parts {
+        for line in part.lines() {
+            if !answers(rt, &mut room, line) {
+                return false;
+            }
+        }
+    }
+    true
+}
+
+#[test]
+fn rooms_answer(rt: HostRuntime) {
+    for example in EXAMPLES {
+        assert!(rt; holds(&rt, example), "{}", example.name);
+    }
+}
+
+#[test]
+fn limits_are_kept(rt: HostRuntime) {
+    for example in LIMITED {
+        assert!(rt; holds(&rt, example), "{}", example.name);
+    }
+}
+
+/// A creation of this number, which may be out of range.
+fn numbered(rt: &(impl Abort + AllocGlobal), seq: u32) -> Request {
+    let kind = Kind::parse(rt.alloc(), b"rect").expect(rt, "a kind");
+    let attrs = Attrs::from_pairs(Vec::new(rt.alloc())).expect(rt, "attributes");
+    Request::New {
+        seq,
+        seen: StateVector::empty(rt.alloc()),
+        kind,
+        attrs,
+    }
+}
+
+fn answers_number(
+    rt: &(impl Abort + AllocGlobal),
+    room: &mut RoomState,
+    seq: u32,
+    expected: &str,
+) -> bool {
+    answered(rt, room, 1, &numbered(rt, seq)).as_str() == expected
+}
+
+/// Is a creation of a number that is out of range answered so, by a room of these limits?
+fn answers_numbers(rt: &(impl Abort + AllocGlobal), limits: [u32; 7], expected: &str) -> bool {
+    let mut room = room_of(rt, limits);
+    let _ = joined(rt, &mut room);
+    answers_number(rt, &mut room, 0, expected)
+        && answers_number(rt, &mut room, 16385, expected)
+        && answers_number(rt, &mut room, 4294967295, expected)
+}
+
+// No text of a request has such numbers.
+#[test]
+fn numbers_out_of_range(rt: HostRuntime) {
+    let few = [9, 1, 9, 9, 9, 9, 9];
+    assert!(rt; answers_numbers(&rt, rows::FULL, r#"["no",1,7,"wrong-seq"]"#));
+    assert!(rt; answers_numbers(&rt, few, r#"["no",1,6,"record-full"]"#));
+}
+
+/// Have so many sites joined, and is there nothing else in the record?
+fn has_only_joins(room: &RoomState, joins: u32) -> bool {
+    room.sites() == joins && room.entries().len() == joins as usize
+}
+
+#[test]
+fn a_plan_changes_nothing_until_it_is_committed(rt: HostRuntime) {
+    let mut room = room_of(&rt, rows::FULL);
+    let planned = room.plan_join(rt.alloc()).expect(&rt, "memory");
+    assert!(rt; has_only_joins(&room, 0));
+    assert_eq!(rt; text(&rt, planned.reply()).as_str(), r#"["joined",0,1]"#);
+    let reply = room.commit(planned);
+    assert_eq!(rt; text(&rt, &reply).as_str(), r#"["joined",0,1]"#);
+    assert!(rt; has_only_joins(&room, 1));
+    assert_eq!(rt; room.limits(), Limits::full());
+}
+
+/// What the only site asks for after so many: 512 creations, then sets on each of these objects in
+/// turn.
+fn next_request(rt: &(impl Abort + AllocGlobal), seen: u32, seq: u32) -> String {
+    let text = if seen == 0 {
+        format!(in rt.alloc(); "[\"new\",1,[],\"rect\",[]]")
+    } else if seq <= 512 {
+        format!(in rt.alloc(); "[\"new\",{seq},[[1,{seen}]],\"rect\",[]]")
+    } else {
+        let object = seq % 512 + 1;
+        format!(in rt.alloc(); "[\"set\",{seq},[[1,{seen}]],[1,{object}],[],\"x\",{seq}]")
+    };
+    text.expect(rt, "memory")
+}
+
+/// Asks for the next operation of the only site.
+fn ask_next(rt: &(impl Abort + AllocGlobal), room: &mut RoomState, seen: u32, seq: u32) {
+    let text = next_request(rt, seen, seq);
+    let request = request_of(rt, &text);
+    room.answer(rt.alloc(), 1, &request).expect(rt, "memory");
+}
+
+#[test]
+fn a_full_room_still_shows(rt: HostRuntime) {
+    let mut room = room_of(&rt, rows::FULL);
+    let _ = joined(&rt, &mut room);
+    for seen in 0..16383 {
+        ask_next(&rt, &mut room, seen, seen + 1);
+    }
+    assert_eq!(rt; room.entries().len(), 16384);
+    for line in rows::AT_THE_END.lines() {
+        assert!(rt; answers(&rt, &mut room, line), "{line}");
+    }
+    assert_eq!(rt; room.entries().len(), 16384);
+}

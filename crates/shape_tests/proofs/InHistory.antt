@@ -1,0 +1,46 @@
+-- An object stays in the history of its room as the history grows.
+use Rattle.std.proofs.Common.{◌≡◌, true, false, ◌&&◌, [], ◌∷◌, ◌++◌, refl, ap, ◌∙◌, subst, None}
+use Rattle.state_vector.specs.Vectors.{is_vector}
+use Rattle.rules.specs.declared.history.Op.{Op}
+use Rattle.rules.specs.Bounds.{Bounds}
+use Rattle.rules.specs.Bodies.{is_set_body}
+use Rattle.rules.specs.Operations.{is_on, is_set_on}
+use Rattle.rules.specs.Admission.{causal_refusal}
+use Rattle.rules.proofs.Lists.{In-from_Contains}
+use Rattle.rules.proofs.Histories.{history_push, numbered_empty}
+use Rattle.conflict.specs.Sets.{AreSetsOf}
+use Rattle.shape.specs.Drawing.{with_set}
+use Rattle.shape_tests.specs.InHistory.{ObjectIn, IsInHistory, MayFollow}
+use Rattle.shape.proofs.Next.{next_history, next_ordered, next_set, object_with_set, object_beside, object_alone}
+
+module _ (s : ObjectIn) (i : IsInHistory s) (o : Op) (f : MayFollow s.history o) where
+  -- a set on the object may be drawn
+  pub may_draw : is_set_on s.name o ≡ true → AreSetsOf s.drawing.creation.name (s.drawing.sets ++ o ∷ [])
+  may_draw t =
+      subst (λ k. AreSetsOf s.drawing.creation.name (k ++ o ∷ [])) i.object.all
+      (next_set s.history o i.is_history i.ordered f.admitted f.vector s.drawing.creation.name (ap (λ n. is_set_on n o) i.named ∙ t))
+
+  pub drawn : is_set_on s.name o ≡ true → IsInHistory (record { name = s.name; history = s.history ++ o ∷ []; drawing = with_set s.drawing o })
+  drawn t = record {
+    is_history = next_history s.history o i.is_history i.ordered f.admitted f.vector;
+    ordered = next_ordered s.history o i.is_history i.ordered f.admitted f.vector;
+    object = object_with_set s.history o s.drawing i.object (ap (λ n. is_set_on n o) i.named ∙ t);
+    named = i.named;
+  }
+
+  pub beside : is_set_body o.body ≡ false → IsInHistory (record { name = s.name; history = s.history ++ o ∷ []; drawing = s.drawing })
+  beside t = record {
+    is_history = next_history s.history o i.is_history i.ordered f.admitted f.vector;
+    ordered = next_ordered s.history o i.is_history i.ordered f.admitted f.vector;
+    object = object_beside s.history o s.drawing i.object (ap (λ b. b && is_on s.drawing.creation.name o) t);
+    named = i.named;
+  }
+
+-- a creation alone
+pub alone : (o : Op) (limits : Bounds) → is_set_body o.body ≡ false → causal_refusal [] o.name o.seen ≡ None → is_vector o.seen ≡ true → IsInHistory (record { name = o.name; history = o ∷ []; drawing = record { limits = limits; creation = o; sets = [] } })
+alone o limits t e v = record {
+  is_history = history_push [] o numbered_empty e v;
+  ordered = ((λ y m. absurd (In-from_Contains y [] m)), tt);
+  object = object_alone o limits t;
+  named = refl;
+}

@@ -1,0 +1,14 @@
+use Rattle.std.proofs.Common.{◌∙◌}
+use Rattle.shape.specs.Drawing.{with_set}
+use Rattle.shape_tests.proofs.tests.object.in_two_steps.Goals as goal
+
+pub plan_set-requires : goal.plan_set-requires
+plan_set-requires g c = c.requires
+
+pub commit-requires : goal.commit-requires
+commit-requires g c = rw c.expect-planned.ensures at c.plan_set.ensures.planned
+
+pub returns : goal.returns
+returns g c =
+    let op = rw c.expect-planned.ensures at c.plan_set.ensures.op in
+    c.commit.ensures ∙ (λ i. with_set (c.plan_set.ensures.drawing i) (op i))

@@ -1,0 +1,247 @@
+//! An object, and all operations of the history that it is in.
+
+ghost use Rattle.std.specs.Prelude.{◌≡◌, ◌<◌, ◌∷◌, ◌++◌, [], true, false, None, filter, OnOk, OnErr};
+ghost use Rattle.state_vector.specs.Vectors.{is_vector};
+ghost use Rattle.rules.specs.Admission.{causal_refusal};
+ghost use Rattle.rules.specs.Bodies.{is_set_body};
+ghost use Rattle.rules.specs.Operations.{is_set_on};
+ghost use Rattle.conflict.specs.Sets.{AreSetsOf};
+ghost use Rattle.shape.specs.Drawing.{with_set};
+ghost use Rattle.shape_tests.specs.InHistory.{IsNextSet};
+
+use super::table::{ids_of, name_of, set_of, text_of_ids, text_of_versions, vector_of};
+use causal::{NotAdmitted, Past};
+use op_names::{Key, Kind, NoMemory, OpName, Value, VersionId};
+use rules::{Attrs, Body, Op, Refusal};
+use shape::{Limits, SetFault, Shape};
+use state_vector::StateVector;
+use std::alloc::Global;
+use std::marker::Model;
+use std::process::Abort;
+
+/// Why an operation is not taken.
+#[derive(Clone, Copy, Debug, PartialEq, Eq)]
+pub enum Fault {
+    NotAdmitted(NotAdmitted),
+    /// It is no set on the object.
+    NotOnObject,
+    NotTaken(SetFault),
+}
+
+impl Fault {
+    /// The word of the refusal.
+    fn word(self) -> &'static str {
+        match self {
+            Fault::NotAdmitted(fault) => Refusal::from(fault).word(),
+            Fault::NotOnObject => "not on the object",
+            Fault::NotTaken(fault) => fault.refusal().map_or("no memory", Refusal::word),
+        }
+    }
+}
+
+impl From<NotAdmitted> for Fault {
+    fn from(fault: NotAdmitted) -> Fault {
+        Fault::NotAdmitted(fault)
+    }
+}
+
+impl From<SetFault> for Fault {
+    fn from(fault: SetFault) -> Fault {
+        Fault::NotTaken(fault)
+    }
+}
+
+impl From<NoMemory> for Fault {
+    fn from(_fault: NoMemory) -> Fault {
+        Fault::NotTaken(SetFault::NoMemory)
+    }
+}
+
+/// An object as a shape, and the history of its room.
+#[derive(Drop)]
+pub struct Object {
+    name: OpName,
+    past: Past,
+    shape: Shape,
+}
+
+impl Model for Object {
+    ghost use Rattle.shape_tests.specs.InHistory.{ObjectIn, IsInHistory};
+
+    ghost Value = { ObjectIn };
+
+    ghost view = { λ object. record { name = object.name; history = object.past.history; drawing = object.shape.drawing } };
+
+    ghost invariant = { λ object. IsInHistory (record { name = object.name; history = object.past.history; drawing = object.shape.drawing }) };
+}
+
+fn initial(rt: &(impl Abort + AllocGlobal)) -> Attrs {
+    let mut pairs = Vec::new(rt.alloc());
+    let x = Key::parse(rt.alloc(), b"x").expect(rt, "a key");
+    pairs.push((x, Value::Number(0))).expect(rt, "memory");
+    Attrs::from_pairs(pairs).expect(rt, "attributes")
+}
+
+fn creation(rt: &(impl Abort + AllocGlobal), name: &str, seen: &str) -> Op
+    ensures creation { is_set_body result.body ≡ false }
+    ensures vector { is_vector result.seen ≡ true }
+{
+    let kind = Kind::parse(rt.alloc(), b"rect").expect(rt, "a kind");
+    Op {
+        name: name_of(rt, name),
+        seen: vector_of(rt, seen),
+        body: Body::New {
+            kind,
+            attrs: initial(rt),
+        },
+    }
+}
+
+/// The object (1, 1), with `x` 0, and nothing else.
+pub fn created(rt: &(impl Abort + AllocGlobal), limits: Limits) -> Object {
+    let creation = creation(rt, "1,1", "-");
+    let name = creation.name;
+    let mut past = Past::new(rt.alloc()).expect(rt, "memory");
+    past.admit(name, &creation.seen).expect(rt, "admitted");
+    let copy = creation.copy(rt.alloc()).expect(rt, "memory");
+    past.add(copy).expect(rt, "memory");
+    let shape = Shape::create(rt.alloc(), creation, limits).expect(rt, "memory");
+    Object { name, past, shape }
+}
+
+/// Plans a set and commits it. Are the identifiers those before until then, and the planned ones
+/// those after?
+fn in_two_steps(
+    rt: &(impl Abort + AllocGlobal),
+    shape: &mut Shape,
+    op: Op,
+    before: &[VersionId],
+    after: &[VersionId],
+) -> bool
+    requires { AreSetsOf shape.old.drawing.creation.name (shape.old.drawing.sets ++ op ∷ []) }
+    ensures { shape.new.drawing ≡ with_set shape.old.drawing op }
+{
+    let planned = shape.plan_set(rt.alloc(), op).expect(rt, "planned");
+    let is_planned = planned.ids() == after;
+    let ids = shape.ids(rt.alloc()).expect(rt, "memory");
+    let is_before = ids.as_slice() == before;
+    shape.commit(planned);
+    is_planned && is_before
+}
+
+impl Object {
+    fn is_set_on(&self, op: &Op) -> bool
+        ensures { result ≡ is_set_on self.now.name op.now }
+    {
+        match &op.body {
+            Body::Set { object, .. } => *object == self.name,
+            Body::New { .. } => false,
+        }
+    }
+
+    /// Whether an operation is admitted, and a set on the object.
+    fn check(&self, op: &Op) -> Result<(), Fault>
+        ensures { OnOk result (IsNextSet self.now op.now) }
+    {
+        let _ = op.seen.pairs();
+        self.past.admit(op.name, &op.seen)?;
+        if !self.is_set_on(op) {
+            return Err(Fault::NotOnObject);
+        }
+        Ok(())
+    }
+
+    fn set(&mut self, alloc: Global, op: Op) -> Result<(), Fault> {
+        self.check(&op)?;
+        let copy = op.copy(alloc)?;
+        self.past.reserve(op.name.site())?;
+        self.shape.set(alloc, op)?;
+        let Ok(()) = self.past.add(copy) else {
+            unreachable!()
+        };
+        Ok(())
+    }
+
+    /// The identifiers of its versions.
+    pub fn ids(&self, rt: &(impl Abort + AllocGlobal)) -> String {
+        let ids = self.shape.ids(rt.alloc()).expect(rt, "memory");
+        text_of_ids(rt, &ids)
+    }
+
+    /// Is the set of a line answered as the line says?
+    pub fn answers(&mut self, rt: &(impl Abort + AllocGlobal), line: &str) -> bool {
+        let (set, expected) = line.split_once(" => ").expect(rt, "an arrow");
+        match self.set(rt.alloc(), set_of(rt, set)) {
+            Ok(()) => self.ids(rt).as_str() == expected,
+            Err(fault) => fault.word() == expected,
+        }
+    }
+
+    /// Is the set of a line taken? Otherwise memory is wanting.
+    fn is_taken(&mut self, rt: &(impl Abort + AllocGlobal), line: &str) -> bool {
+        let (set, _) = line.split_once(" => ").expect(rt, "an arrow");
+        match self.set(rt.alloc(), set_of(rt, set)) {
+            Err(Fault::NotTaken(SetFault::NoMemory)) => false,
+            answer => {
+                answer.expect(rt, "taken");
+                true
+            }
+        }
+    }
+
+    /// Is the set of a line taken, at the second time where memory is wanting at the first? The
+    /// versions are these until it is.
+    pub fn takes(&mut self, rt: &(impl Abort + AllocGlobal), line: &str, before: &str) -> bool {
+        self.is_taken(rt, line) || (self.shows(rt, before) && self.is_taken(rt, line))
+    }
+
+    /// Another object is created.
+    pub fn create_another(&mut self, rt: &(impl Abort + AllocGlobal), name: &str, seen: &str) {
+        let creation = creation(rt, name, seen);
+        self.past
+            .admit(creation.name, &creation.seen)
+            .expect(rt, "admitted");
+        self.past.add(creation).expect(rt, "memory");
+    }
+
+    /// Takes the set of a line in two steps. Are the identifiers those before until it is committed,
+    /// and are those that are planned the ones of the line?
+    pub fn plans(&mut self, rt: &(impl Abort + AllocGlobal), line: &str, before: &str) -> bool {
+        let (set, after) = line.split_once(" => ").expect(rt, "an arrow");
+        let (before, after) = (ids_of(rt, before), ids_of(rt, after));
+        self.set_in_steps(rt, set_of(rt, set), &before, &after)
+    }
+
+    fn set_in_steps(
+        &mut self,
+        rt: &(impl Abort + AllocGlobal),
+        op: Op,
+        before: &[VersionId],
+        after: &[VersionId],
+    ) -> bool {
+        self.check(&op)
+            .expect(rt, "a set on the object that is admitted");
+        let copy = op.copy(rt.alloc()).expect(rt, "memory");
+        self.past.reserve(op.name.site()).expect(rt, "memory");
+        let is_right = in_two_steps(rt, &mut self.shape, op, before, after);
+        self.past.add(copy).expect(rt, "memory");
+        is_right
+    }
+
+    /// The kind of the object.
+    pub fn kind(&self) -> &str {
+        self.shape.kind().text()
+    }
+
+    /// Are these the versions, and their identifiers the object's?
+    pub fn shows(&self, rt: &(impl Abort + AllocGlobal), expected: &str) -> bool {
+        let versions = self.shape.show(rt.alloc()).expect(rt, "memory");
+        let ids = self.shape.ids(rt.alloc()).expect(rt, "memory");
+        let are_ids = versions.len() == ids.len()
+            && versions
+                .iter()
+                .zip(&ids)
+                .all(|(version, id)| version.id == *id);
+        are_ids && text_of_versions(rt, &versions).as_str() == expected
+    }
+}

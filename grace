@@ -35,7 +35,7 @@ build() {
     mapfile -t names < <(crates | cut -d: -f1)
     log=$(mktemp) || exit 1
     trap 'rm -f "$log"' EXIT
-    echo "grace: ${#names[@]} crates are proved and built first; from nothing that takes about 23 minutes on 4 cores" >&2
+    echo "grace: ${#names[@]} crates are proved and built first; from nothing that takes about 24 minutes on 4 cores" >&2
     for crate in "${names[@]}"; do
         place=$((place + 1))
         if ! prove "$crate"; then

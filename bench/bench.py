@@ -1,107 +1,396 @@
 #!/usr/bin/env python3
-"""Times `grace script` on long scripts: messages a second, microseconds a message, and how much a
-message costs more than at a quarter of the size. Run it from anywhere; the program is built first
-where it isn't. Each figure is the best of the runs; the spread says how noisy they were."""
+"""Times `grace script` on scripts that are made here, and prints a table in Markdown: microseconds of
+processor time a message, without what starting the program takes, and the peak memory. With
+`--against PROGRAM` a second build runs the same scripts in turn with the first, must give the same
+bytes, and stands beside it. Each figure is the least of the runs. Run it from anywhere; the program
+is built first where it isn't."""
 
 import argparse
 import json
 import pathlib
 import subprocess
 import sys
-import time
+import tempfile
 
 ROOT = pathlib.Path(__file__).resolve().parent.parent
 PROGRAM = ROOT / "crates/grace/out/grace"
 
+# Runs a command on a file, and tells its status, processor seconds and peak memory. It is a process
+# of its own since a child's peak memory is told as no less than its parent's at the fork.
+STARTER = """
+import os, sys
+source, answers, *command = sys.argv[1:]
+child = os.fork()
+if child == 0:
+    os.dup2(os.open(source, os.O_RDONLY), 0)
+    os.dup2(os.open(answers, os.O_WRONLY | os.O_CREAT | os.O_TRUNC, 0o600), 1)
+    os.execv(command[0], command)
+usage = os.wait4(child, 0)
+print(usage[1], usage[2].ru_utime + usage[2].ru_stime, usage[2].ru_maxrss)
+"""
 
-def line(session, message):
-    return f"{session} {json.dumps(message, separators=(',', ':'))}\n"
+
+# ---- what scripts are made of
 
 
-def vector(counts):
-    return [[site, count] for site, count in sorted(counts.items()) if count > 0]
+class Script:
+    """The rooms and the lines of a script, and how many of these are refused."""
+
+    def __init__(self):
+        self.rooms = []
+        self.lines = []
+        self.refused = 0
+        self.setup = 0
+
+    def room(self, sites):
+        """A further room, that so many sites have joined."""
+        return Room(self, len(self.rooms), sites)
+
+    def say(self, session, message):
+        """A line with a message, which is a value or a text."""
+        text = message if isinstance(message, str) else json.dumps(message, separators=(",", ":"))
+        self.lines.append(f"{session} {text}\n")
+
+    def setup_ends(self):
+        """What comes now is what the script is made for."""
+        self.setup = len(self.lines)
+
+    def front(self, part):
+        """The lines as bytes: the first ones, and this part of the others."""
+        count = self.setup + round(part * (len(self.lines) - self.setup))
+        return "".join(self.lines[:count]).encode()
 
 
-def creations(size):
-    """A site in each of `size` / 500 rooms creates 500 objects; a room has at most 512."""
-    rooms = [f"room-{number}" for number in range(max(1, size // 500))]
-    lines = []
-    for session, room in enumerate(rooms):
-        lines.append(line(session, ["join", room]))
-    for seq in range(1, size // len(rooms) + 1):
-        for session in range(len(rooms)):
-            lines.append(line(session, ["new", seq, vector({1: seq - 1}), "rect", [["x", seq]]]))
-    return rooms, lines
+class Room:
+    """One room of a script, and how many operations each of its sites has done."""
+
+    def __init__(self, script, number, sites):
+        self.script = script
+        self.number = number
+        self.done = {site: 0 for site in range(1, sites + 1)}
+        script.rooms.append(f"room-{number}")
+        for site in self.done:
+            self.ask(site, ["join", script.rooms[number]])
+
+    def ask(self, site, message):
+        """The session of the site sends a message that is no operation."""
+        self.script.say(self.number * 1000 + site, message)
+
+    def everything(self):
+        """A vector that counts all operations so far."""
+        return dict(self.done)
+
+    def own(self, site, created):
+        """A vector that counts so many operations of site 1 and all of the site's own."""
+        return {1: created} | {site: self.done[site]}
+
+    def operation(self, site, word, seen, *parts):
+        """The site does its next operation; the name of it."""
+        self.done[site] += 1
+        counts = [[other, count] for other, count in sorted(seen.items()) if count > 0]
+        self.ask(site, [word, self.done[site], counts, *parts])
+        return [site, self.done[site]]
+
+    def new(self, site, seen, attrs=()):
+        """The site creates an object; the name of it."""
+        return self.operation(site, "new", seen, "rect", attrs)
+
+    def set(self, site, seen, target, key, value, version=()):
+        """The site sets a key of an object, starting from a version; the name of the operation."""
+        return self.operation(site, "set", seen, target, version, key, value)
+
+
+def five_pairs(room):
+    """Site 1 creates an object, and ten sites that have seen that much alone give five keys two
+    values each, which makes 32 versions. The object, how many operations of site 1 had been done
+    when it was created, and the sets: two for each key."""
+    target = room.new(1, room.own(1, 0))
+    created = room.done[1]
+    sets = [room.set(site, room.own(site, created), target, f"key{(site - 1) // 2}", site) for site in range(1, 11)]
+    return target, created, [sets[place : place + 2] for place in range(0, 10, 2)]
+
+
+# ---- scripts
+
+
+def one_site(size):
+    """One site creates 500 objects and sets a key of one after the other; all is in order."""
+    script = Script()
+    room = script.room(1)
+    objects = []
+    for turn in range(size):
+        if turn % 32 == 0:
+            objects.append(room.new(1, room.everything(), [["x", turn]]))
+        else:
+            room.set(1, room.everything(), objects[turn % len(objects)], "x", turn)
+    return script
 
 
 def disjoint_keys(size):
     """Eight sites each set a key of their own on 500 objects, in turn; all sets of different sites
     are concurrent, and none conflict."""
-    objects, sites = 500, 8
-    lines = [line(1, ["join", "r"])]
-    for seq in range(1, objects + 1):
-        lines.append(line(1, ["new", seq, vector({1: seq - 1}), "rect", []]))
-    for site in range(2, sites + 1):
-        lines.append(line(site, ["join", "r"]))
-    done = {site: (objects if site == 1 else 0) for site in range(1, sites + 1)}
-    for turn in range(size // sites):
-        for site in range(1, sites + 1):
-            seen = vector({1: objects, site: done[site]} if site > 1 else {1: done[1]})
-            done[site] += 1
-            set_key = ["set", done[site], seen, [1, turn % objects + 1], [], f"key{site}", turn]
-            lines.append(line(site, set_key))
-    return ["r"], lines
+    script = Script()
+    room = script.room(8)
+    objects = [room.new(1, room.everything()) for _ in range(500)]
+    for turn in range(size // 8):
+        for site in room.done:
+            room.set(site, room.own(site, 500), objects[turn % 500], f"key{site}", turn)
+    return script
+
+
+def full_vectors(size):
+    """256 sites create and set in turn; each vector counts all that was done."""
+    script = Script()
+    room = script.room(256)
+    objects = [room.new(site, room.everything()) for site in room.done]
+    for turn in range(size - len(script.lines)):
+        site = turn % 256 + 1
+        if turn % 12 == 0:
+            objects.append(room.new(site, room.everything()))
+        else:
+            room.set(site, room.everything(), objects[turn % len(objects)], "x", turn)
+    return script
+
+
+def chains(size):
+    """An object in each of 16 rooms, and a chain of sets on it by one site; the rooms in step."""
+    script = Script()
+    rooms = [script.room(1) for _ in range(16)]
+    objects = [room.new(1, {}) for room in rooms]
+    script.setup_ends()
+    for turn in range(size):
+        for room, target in zip(rooms, objects):
+            room.set(1, room.everything(), target, "x", turn)
+    return script
+
+
+def compatible(size, lag):
+    """An object in each of eight rooms, on which eight sites set a key of their own. Each has seen its
+    own sets and those of the others up to `lag` turns before; with a lag of `size` it sees none."""
+    script = Script()
+    rooms = [script.room(8) for _ in range(8)]
+    objects = [room.new(1, {}) for room in rooms]
+    for turn in range(size // 8):
+        late = max(0, turn - lag)
+        for room, target in zip(rooms, objects):
+            for site in room.done:
+                others = {other: late + (other == 1) for other in room.done}
+                room.set(site, others | {site: room.done[site]}, target, f"key{site}", turn)
+    return script
+
+
+def fans(size):
+    """On each object 32 sites that have seen its creation alone give one key 32 values."""
+    script = Script()
+    room = script.room(32)
+    for _ in range(size):
+        target = room.new(1, room.own(1, 0))
+        created = room.done[1]
+        for site in room.done:
+            room.set(site, room.own(site, created), target, "x", site)
+    return script
+
+
+def pairs(size):
+    """Each object gets 32 versions by five pairs, and then 40 sets of an eleventh site that has seen
+    none of these: each is in every version."""
+    script = Script()
+    room = script.room(11)
+    for _ in range(size):
+        target, created, _ = five_pairs(room)
+        for turn in range(40):
+            room.set(11, room.own(11, created), target, "more", turn)
+    return script
+
+
+def built_on_pairs(size):
+    """Each object gets 32 versions by five pairs. Then an eleventh site, which has seen all, builds on
+    each version twice. What is built on a version is in that one alone, so each identifier is the
+    names of one set of each pair and of what was built on them, in order."""
+    script = Script()
+    room = script.room(11)
+    for _ in range(size):
+        target, _, sets = five_pairs(room)
+        versions = [[pair[number >> place & 1] for place, pair in enumerate(sets)] for number in range(32)]
+        for turn in range(64):
+            version = versions[turn * 13 % 32]
+            version.append(room.set(11, room.everything(), target, "more", turn, sorted(version)))
+    return script
+
+
+def many_rooms(size):
+    """So many rooms, each with one site that creates two objects and sets four keys of each."""
+    script = Script()
+    rooms = [script.room(1) for _ in range(size)]
+    objects = [[room.new(1, room.everything(), [["x", 1], ["y", 2]]) for _ in range(2)] for room in rooms]
+    for turn in range(8):
+        for room, targets in zip(rooms, objects):
+            room.set(1, room.everything(), targets[turn % 2], f"key{turn // 2}", turn)
+    return script
+
+
+def shows_and_pulls(size):
+    """A site asks in turn for an object, a page of the objects and a page of the record. There are 65
+    objects of eight attributes, but for the first, which has 32 versions."""
+    script = Script()
+    room = script.room(10)
+    five_pairs(room)
+    attrs = [[f"key{place}", "twenty bytes of text"] for place in range(8)]
+    for _ in range(64):
+        room.new(1, room.own(1, 0), attrs)
+    requests = [["show", [1, 1]], ["list", 0], ["pull", 0], ["show", [1, 20]], ["pull", 21]]
+    for turn in range(size):
+        room.ask(1, requests[turn % len(requests)])
+    return script
 
 
 def refusals(size):
     """A site asks for operations with a number that is not its next one."""
-    lines = [line(1, ["join", "r"])]
+    script = Script()
+    room = script.room(1)
+    script.refused = size
     for _ in range(size):
-        lines.append(line(1, ["new", 7, [], "rect", []]))
-    return ["r"], lines
+        room.ask(1, ["new", 7, [], "rect", []])
+    return script
+
+
+def long_messages(size):
+    """Creations of 10,000 bytes: sixteen texts of 256 bytes, some of these as escapes, and spaces."""
+    script = Script()
+    rooms = [script.room(1) for _ in range(4)]
+    text = "\\u0061" * 70 + "b" * 186
+    attrs = ",".join(f'["key{place}","{text}"]' for place in range(16))
+    for turn in range(size // 4):
+        seen = f"[[1,{turn}]]" if turn else "[]"
+        message = f'["new",{turn + 1},{seen},"rect",[{attrs}]]'
+        for room in rooms:
+            room.ask(1, message.ljust(10000))
+    return script
 
 
 CASES = [
-    ("creations, 500 in each of 32 rooms", creations, 16000),
-    ("sets of eight sites on 500 objects, each of a key of its own", disjoint_keys, 12000),
-    ("refusals", refusals, 1000),
+    ("one site creates and sets", one_site, 16000),
+    ("eight sites, 500 objects, a key each", disjoint_keys, 12000),
+    ("vectors of 256 sites", full_vectors, 3000),
+    ("a chain of 1,024 sets, 16 rooms", chains, 1024),
+    ("compatible sets, unseen, 1,024 an object", lambda size: compatible(size, size), 1024),
+    ("compatible sets, seen late, 1,024 an object", lambda size: compatible(size, 8), 1024),
+    ("32 versions by a fan", fans, 200),
+    ("32 versions by five pairs, sets in all", pairs, 200),
+    ("32 versions by five pairs, sets on one", built_on_pairs, 100),
+    ("500 rooms", many_rooms, 500),
+    ("shows and pages", shows_and_pulls, 3000),
+    ("refusals", refusals, 100000),
+    ("messages of 10,000 bytes", long_messages, 2000),
 ]
 
 
-def seconds(rooms, lines, refused):
-    data = "".join(lines).encode()
-    start = time.perf_counter()
-    ran = subprocess.run([PROGRAM, "script", *rooms], input=data, capture_output=True, check=True)
-    took = time.perf_counter() - start
-    answers = ran.stdout.decode().splitlines()
-    no = sum(' ["no",' in answer for answer in answers)
-    if len(answers) != len(lines) or no != refused:
-        sys.exit(f"bench: {len(lines)} lines, {len(answers)} answers, {no} refusals")
-    return took
+# ---- measures
 
 
-def measure(make, size, runs):
-    """The runs' times for this size, without what starting the program takes."""
-    rooms, lines = make(size)
-    refused = size if make is refusals else 0
-    empty = min(seconds(rooms, [], 0) for _ in range(runs))
-    times = sorted(seconds(rooms, lines, refused) - empty for _ in range(runs))
-    return len(lines), times
+class Figures:
+    """The least processor seconds and peak memory of a program's runs, for each part of a script."""
+
+    def __init__(self):
+        self.seconds = {}
+        self.peak = float("inf")
+
+    def add(self, part, seconds, peak):
+        """A run of this part of the script."""
+        self.seconds[part] = min(seconds, self.seconds.get(part, seconds))
+        if part == 1:
+            self.peak = min(peak, self.peak)
+
+    def a_message(self, count):
+        """Microseconds a message, without what starting takes."""
+        return (self.seconds[1] - self.seconds[0]) / count * 1e6
+
+    def growth(self):
+        """The time of the last quarter over that of the second."""
+        return (self.seconds[1] - self.seconds[0.75]) / (self.seconds[0.5] - self.seconds[0.25])
+
+
+def run(program, rooms, folder, data):
+    """Runs a program once on these bytes: processor seconds, peak memory in MiB, and the answers."""
+    source, answers = folder / "source", folder / "answers"
+    source.write_bytes(data)
+    command = [sys.executable, "-I", "-S", "-c", STARTER, source, answers, program, "script", *rooms]
+    told = subprocess.run(command, capture_output=True, check=True).stdout.split()
+    if told[0] != b"0":
+        sys.exit(f"bench: {program} ended with {told[0].decode()}")
+    return float(told[1]), int(told[2]) / 1024, answers.read_bytes()
+
+
+def check(script, name, answers):
+    """Each line has an answer, and as many are refused as are to be."""
+    lines, no = answers.count(b"\n"), answers.count(b' ["no",')
+    if lines != len(script.lines) or no != script.refused:
+        sys.exit(f"bench: {name}: {len(script.lines)} lines, {lines} answers, {no} refused")
+
+
+def measure(name, script, programs, runs):
+    """The figures of each program: the programs in turn, and in each turn all parts of the script."""
+    parts = [0, 0.25, 0.5, 0.75, 1] if script.setup else [0, 1]
+    figures = [Figures() for _ in programs]
+    first = None
+    with tempfile.TemporaryDirectory() as folder:
+        for _ in range(runs):
+            for program, figure in zip(programs, figures):
+                for part in parts:
+                    data = script.front(part) if part else b""
+                    seconds, peak, answers = run(program, script.rooms, pathlib.Path(folder), data)
+                    figure.add(part, seconds, peak)
+                if first is None:
+                    check(script, name, answers)
+                    first = answers
+                if answers != first:
+                    sys.exit(f"bench: {name}: {program} gives other bytes")
+    return figures
+
+
+# ---- the table
+
+
+def row(cells):
+    """A row of the table."""
+    print("| " + " | ".join(cells) + " |", flush=True)
+
+
+def heads(count):
+    """The heads of the columns, of one program or of two."""
+    more = ["The other's", "Ratio"] if count == 2 else []
+    return ["Script", "Messages", "Microseconds a message", *more, "MiB", *more]
+
+
+def beside(values, digits):
+    """The values of one program, or of two and their ratio."""
+    cells = [f"{value:.{digits}f}" for value in values]
+    return cells + [f"{values[0] / values[1]:.2f}"] if len(values) == 2 else cells
 
 
 def main():
     parser = argparse.ArgumentParser(description=__doc__)
     parser.add_argument("--runs", type=int, default=9)
-    runs = parser.parse_args().runs
+    parser.add_argument("--against", type=pathlib.Path, metavar="PROGRAM")
+    parser.add_argument("--only", default="", metavar="WORD", help="the scripts with this in their names")
+    options = parser.parse_args()
     subprocess.run([ROOT / "grace", "script", "r"], input=b"", check=True)
-    print("| Script | Lines | Lines a second | Microseconds a line | Slowest run | At a quarter of the size |")
-    print("|---|---|---|---|---|---|")
+    programs = [PROGRAM] + ([options.against.resolve()] if options.against else [])
+    row(heads(len(programs)))
+    row(["---"] * len(heads(len(programs))))
+    growths = []
     for name, make, size in CASES:
-        quarter_lines, quarter = measure(make, size // 4, runs)
-        count, times = measure(make, size, runs)
-        best, worst = (times[0] / count * 1e6, times[-1] / count * 1e6)
-        small = quarter[0] / quarter_lines * 1e6
-        print(f"| {name} | {count:,} | {count / times[0]:,.0f} | {best:.1f} | {worst:.1f} | {small:.1f} |")
+        if options.only not in name:
+            continue
+        script = make(size)
+        figures = measure(name, script, programs, options.runs)
+        count = len(script.lines)
+        times = beside([figure.a_message(count) for figure in figures], 2)
+        row([name, f"{count:,}", *times, *beside([figure.peak for figure in figures], 1)])
+        if script.setup:
+            growths.append((name, [f"{figure.growth():.2f}" for figure in figures]))
+    for name, values in growths:
+        print(f"\n{name}: the last quarter takes {' and '.join(values)} times as long as the second")
 
 
 if __name__ == "__main__":

@@ -2,7 +2,7 @@
 use Rattle.std.proofs.Common.{◌≡◌, ℕ, ◌<◌, true, false, cond, List, [], ◌∷◌, ◌++◌, length, map, reverse, refl, sym, ap, ◌∙◌, subst, inl, inr, Option, Some, None, is_some}
 use Rattle.std.specs.Prelude.{All, filter_map, find, flat_map, bytes_eq, option_map}
 use Rattle.std.specs.Option.{option_or}
-use Rattle.std.specs.List.Sorted.{IsPermutation, IsSorted}
+use Rattle.std.specs.List.Sorted.{IsPermutation, IsSorted, IsStrictlyIncreasing}
 use Rattle.std.proofs.lemmas.Bool.{cases_Bool, true≢false}
 use Rattle.std.proofs.lemmas.List.Sorted.{Contains-permutation, IsPermutation-sym}
 use Rattle.std.proofs.lemmas.Slice.Eq.{bytes_eq-Decides}
@@ -26,9 +26,9 @@ use Rattle.rules.proofs.Decided.{value_is_last}
 use Rattle.rules.proofs.Reordered.{In-each_once, Once-each_once, key_cmp_total, one_key, same_key_is, same_key_itself, untied_with_values}
 use Rattle.rules.proofs.Sorted.{sorted_rises}
 use Rattle.conflict.specs.Sets.{at, AreSetsOn}
-use Rattle.attributes.specs.Pairs.{given_below, given_by, members_below, with_all}
+use Rattle.attributes.specs.Pairs.{given_backwards, given_by, with_all}
 use Rattle.attributes.proofs.Pairs.{Apart, Apart-all, attr_of, attr_of-all, attr_if_in}
-use Rattle.attributes.proofs.Members.{there, back, is_set, members_ordered, not_before_itself}
+use Rattle.attributes.proofs.Members.{is_set, members_ordered, not_before_itself}
 
 -- ---- a sort keeps keys apart
 
@@ -140,18 +140,18 @@ with_value key attrs v e = go (attr_of key attrs) refl e
 
 -- the pairs that the program ends with
 pub attributes_are : {object : Name} (k : List Op) (members : List ℕ) (initial : List Attr) (first all pairs : List Attr) → AreSetsOn object k
-    → All (λ place. place < length k) members → is_compatible (conflict k) (map (at k) members) ≡ true
-    → first ≡ with_all [] (given_below k members (length k)) → all ≡ with_all first initial → IsPermutation all pairs → IsSorted key_cmp pairs
+    → IsStrictlyIncreasing members → All (λ place. place < length k) members → is_compatible (conflict k) (map (at k) members) ≡ true
+    → first ≡ with_all [] (given_backwards (map (at k) members)) → all ≡ with_all first initial → IsPermutation all pairs → IsSorted key_cmp pairs
     → pairs ≡ attributes initial (map (at k) members)
-attributes_are k members initial first all pairs w within compatible e f p s =
-    let l : List Op = members_below k members (length k) in
+attributes_are k members initial first all pairs w rises within compatible e f p s =
+    let l : List Op = map (at k) members in
     let apart : Apart all = subst Apart (sym (f ∙ ap (λ z. with_all z initial) e)) (Apart-all (with_all [] (given (reverse l))) initial (Apart-all [] (given (reverse l)) tt)) in
     let looked : (key : Bytes) → attr_of key all ≡ option_or (attr_of key (given (reverse l))) (attr_of key initial) =
     λ key. ap (attr_of key) (f ∙ ap (λ z. with_all z initial) e) ∙ attr_of-all key (with_all [] (given (reverse l))) initial ∙ ap (λ o. option_or o (attr_of key initial)) (attr_of-all key [] (given (reverse l))) in
-    let valued : (key : Bytes) → option_map (λ (attr : Attr). attr.1) (attr_of key all) ≡ value_of_key initial (map (at k) members) key =
+    let valued : (key : Bytes) → option_map (λ (attr : Attr). attr.1) (attr_of key all) ≡ value_of_key initial l key =
     λ key. ap (option_map (λ (attr : Attr). attr.1)) (looked key) ∙ first_given initial key (reverse l)
-    ∙ sym (value_is_last k (map (at k) members) l compatible (λ x m. there k members x within m) (back k members) (members_ordered k members w.listed.ordered) (λ x m. not_before_itself w.listed x (is_set k members x m)) initial key) in
-    are_attributes initial (map (at k) members) pairs (rises_if_sorted all pairs apart p s)
+    ∙ sym (value_is_last k l l compatible (λ x m. m) (λ x m. m) (members_ordered k members w.listed.ordered rises within) (λ x m. not_before_itself w.listed x (is_set k members within x m)) initial key) in
+    are_attributes initial l pairs (rises_if_sorted all pairs apart p s)
     (λ z m.
     let n = In-from_Contains z all (Contains-permutation pairs all z (IsPermutation-sym all pairs p) (Contains-from_In z pairs m)) in
     sym (valued z.0) ∙ ap (option_map (λ (attr : Attr). attr.1)) (attr_if_in all apart z n))

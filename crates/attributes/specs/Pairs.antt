@@ -1,12 +1,10 @@
 -- Attributes of which each key is kept once: where it comes first.
-use Rattle.std.specs.Prelude.{ℕ, List, [], ◌∷◌, ◌++◌, filter, flat_map, map, reverse, if◌then◌else◌}
+use Rattle.std.specs.Prelude.{List, [], ◌∷◌, ◌++◌, flat_map, reverse, if◌then◌else◌}
 use Rattle.std.specs.List.{list_any}
 use Rattle.rules.specs.declared.history.Op.{Op}
 use Rattle.rules.specs.declared.history.Body.{Body}
 use Rattle.rules.specs.declared.history.Body.TheVariants.{New, Set}
 use Rattle.rules.specs.AttrLists.{Attr, same_key}
-use Rattle.conflict.specs.Members.{has, places}
-use Rattle.conflict.specs.Sets.{at}
 
 -- with an attribute more, if its key isn't there yet
 abbrev pub with_new : Attr → List Attr → List Attr
@@ -22,10 +20,6 @@ abbrev pub given_by : Body → List Attr
 given_by (New kind attrs) = []
 given_by (Set object version key value) = (key, value) ∷ []
 
--- the sets at those of the first n places that are members
-abbrev pub members_below : List Op → List ℕ → ℕ → List Op
-members_below ops members n = map (at ops) (filter (has members) (places n))
-
--- what they give, the last one first
-abbrev pub given_below : List Op → List ℕ → ℕ → List Attr
-given_below ops members n = flat_map (λ op. given_by op.body) (reverse (members_below ops members n))
+-- what sets give, the last one first
+abbrev pub given_backwards : List Op → List Attr
+given_backwards ops = flat_map (λ op. given_by op.body) (reverse ops)

@@ -9,23 +9,23 @@ ghost use Rattle.rules.specs.Groups.{is_compatible};
 ghost use Rattle.rules.specs.Conflicts.{conflict};
 ghost use Rattle.rules.specs.Versions.{attributes, key_cmp};
 ghost use Rattle.conflict.specs.Sets.{at, AreSetsOn};
-ghost use Rattle.attributes.specs.Pairs.{given_below, given_by, with_all, with_new};
+ghost use Rattle.attributes.specs.Pairs.{given_backwards, given_by, with_all, with_new};
 
 use conflict::Members;
 use op_names::{Key, NoMemory, Value};
-use rules::{Attrs, Body, Op};
+use rules::{Attrs, Body, SharedOp};
 use std::alloc::Global;
 
 /// The attributes of an object that was created with these initial attributes and changed by the
 /// sets at these places: each key with its value, in order of key. A key has the value that the
 /// last set on it gives; without one, the initial value. Fails only with `NoMemory`.
 ///
-/// Takes time with the number of all the sets, and for each of those at the places and each initial
-/// attribute with the number of keys. Copies only what it gives.
+/// Takes time with the number of the places and of the initial attributes, and for each of them with
+/// the number of keys. Copies only what it gives.
 pub fn attributes_of(
     alloc: Global,
     initial: &Attrs,
-    ops: &[Op],
+    ops: &[SharedOp],
     members: &Members,
 ) -> Result<Vec<(Key, Value)>, NoMemory>
     requires sets { (object : Name) × AreSetsOn object ops.now }
@@ -33,6 +33,8 @@ pub fn attributes_of(
     requires compatible { is_compatible (conflict ops.now) (map (at ops.now) members.now) ≡ true }
     ensures { IfOk result (λ pairs. pairs.items ≡ attributes initial.now (map (at ops.now) members.now)) }
 {
+    // With the count of a set comes that its places rise.
+    let _ = members.count();
     let mut pairs = last_given(alloc, ops, members)?;
     add_missing(alloc, &mut pairs, initial.pairs())?;
     sort_by_key(&mut pairs);
@@ -41,30 +43,21 @@ pub fn attributes_of(
 
 /// For each key that the sets at these places give, what the last one of them gives: so they are
 /// gone over from the last to the first.
-fn last_given(alloc: Global, ops: &[Op], members: &Members) -> Result<Vec<(Key, Value)>, NoMemory>
-    requires { (object : Name) × AreSetsOn object ops.now }
-    ensures { IfOk result (λ pairs. pairs.items ≡ with_all [] (given_below ops.now members.now (length ops.now))) }
+fn last_given(
+    alloc: Global,
+    ops: &[SharedOp],
+    members: &Members,
+) -> Result<Vec<(Key, Value)>, NoMemory>
+    requires { All (λ place. place < length ops.now) members.now }
+    ensures { IfOk result (λ pairs. pairs.items ≡ with_all [] (given_backwards (map (at ops.now) members.now))) }
 {
+    let places = members.list(alloc)?;
     let mut pairs = Vec::new(alloc);
-    for place in (0..count(ops)).rev() {
-        if members.has(place) {
-            add_given(alloc, &mut pairs, &ops[place as usize].body)?;
-        }
+    for index in (0..places.len()).rev() {
+        let place = places[index] as usize;
+        add_given(alloc, &mut pairs, &ops[place].body)?;
     }
     Ok(pairs)
-}
-
-/// The number of sets.
-fn count(ops: &[Op]) -> u32
-    requires { (object : Name) × AreSetsOn object ops.now }
-    ensures { result ≡ length ops.now }
-{
-    // No two sets have one name, and names are in range: so there are few of them.
-    for op in ops {
-        let _ = op.name.site();
-        let _ = op.name.seq();
-    }
-    ops.len() as u32
 }
 
 /// Adds what a set gives, if its key isn't there yet.

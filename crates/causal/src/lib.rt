@@ -1,17 +1,17 @@
 //! A room's operations so far, and which operation may come next.
 #![tactic(auto)]
 
-ghost use Rattle.std.specs.Prelude.{◌≡◌, ◌-◌, ◌<◌, ◌≤◌, ◌==◌, ◌++◌, ◌∷◌, [], ℕ, true, false, map, position, nat_lt, None, Some, IfOk, IfErr, OnOk, OnErr, IsOk, vec_len, slice_get, slice_index, slice_index_or, length, if◌then◌else◌};
+ghost use Rattle.std.specs.Prelude.{◌≡◌, ◌-◌, ◌<◌, ◌≤◌, ◌==◌, ◌++◌, ◌∷◌, ◌&&◌, ◌||◌, [], ℕ, true, false, not, map, position, nat_lt, None, Some, IfSome, IfOk, IfErr, OnOk, OnErr, IsOk, Contains, vec_len, slice_get, slice_index, slice_index_or, length, if◌then◌else◌};
 ghost use Rattle.std.specs.Option.{option_copied};
 ghost use Rattle.std.specs.List.{list_any};
 ghost use Rattle.op_names.specs.Names.{is_site, same_name};
 ghost use Rattle.rules.specs.Operations.{IsHistory, operation};
 ghost use Rattle.rules.specs.Admission.{count_at_site, is_ahead, is_not_closed, causal_refusal};
-ghost use Rattle.causal.specs.Past.{places_of, lacks};
+ghost use Rattle.causal.specs.Past.{places_of, lacks, knows};
 
 use op_names::{NoMemory, OpName};
 use rules::Refusal;
-pub use rules::{AttrList, Attrs, AttrsFault, Body, Entry, Op, Version};
+pub use rules::{AttrList, Attrs, AttrsFault, Body, Entry, Op, SharedOp, Version};
 use state_vector::StateVector;
 use std::alloc::Global;
 use std::marker::Model;
@@ -58,7 +58,7 @@ impl From<NotAdmitted> for Refusal {
 /// the same time however many there are.
 #[derive(Debug, Drop)]
 pub struct Past {
-    operations: Vec<Op>,
+    operations: Vec<SharedOp>,
     /// For each site, from site 1 on, the places of its operations, by their numbers.
     places: Vec<Vec<usize>>,
 }
@@ -136,7 +136,8 @@ impl Past {
     fn operation(&self, site: u32, seq: u32) -> Option<&Op>
         ensures { option_copied result ≡ operation self.now.history (site, seq) }
     {
-        self.operations.get(self.place(site, seq)?)
+        let op = self.operations.get(self.place(site, seq)?)?;
+        Some(op)
     }
 
     /// The operation of this name, or `None` where it is not there.
@@ -162,7 +163,8 @@ impl Past {
         self.has_fewer(seen.pairs())
     }
 
-    /// Does the vector lack something that the operation of this pair counts?
+    /// Does the vector lack something that the operation of this pair counts? Goes along both
+    /// vectors once.
     fn lacks_one(&self, seen: &StateVector, pair: (u32, u32)) -> bool
         ensures { result ≡ lacks self.now.history seen.now pair }
     {
@@ -172,27 +174,79 @@ impl Past {
         }
     }
 
-    /// Does the vector lack something that the operation of one of these pairs counts?
-    fn lacks_some(&self, seen: &StateVector, pairs: &[(u32, u32)]) -> bool
-        ensures { result ≡ list_any (lacks self.now.history seen.now) pairs.now }
+    /// Does the operation of the one pair count that of the other? Two binary searches at most.
+    fn knows(&self, pair: (u32, u32), other: (u32, u32)) -> bool
+        ensures { result ≡ knows self.now.history pair other }
     {
-        pairs.iter().any(|pair| self.lacks_one(seen, *pair))
+        match self.operation(pair.0, pair.1) {
+            Some(op) => other.1 <= op.seen.count(other.0),
+            None => false,
+        }
     }
 
-    /// Does the vector lack something that an operation which it counts counts?
-    fn is_not_closed(&self, seen: &StateVector) -> bool
+    /// Of these pairs the one whose operation was added last. Looks up each of them.
+    fn latest(&self, pairs: &[(u32, u32)]) -> Option<(u32, u32)>
+        ensures { IfSome result (Contains pairs.now) }
+    {
+        pairs
+            .iter()
+            .copied()
+            .max_by_key(|pair| self.place(pair.0, pair.1))
+    }
+
+    /// Does the vector lack something that the operation of one of these pairs counts, of those
+    /// that the operations of two pairs don't count? Goes along two vectors for each of those, and
+    /// takes two binary searches for each of the others.
+    fn lacks_beyond(
+        &self,
+        seen: &StateVector,
+        own: (u32, u32),
+        latest: (u32, u32),
+        pairs: &[(u32, u32)],
+    ) -> bool
+        ensures { result ≡ list_any (λ pair. not (knows self.now.history own pair) && (not (knows self.now.history latest pair) && lacks self.now.history seen.now pair)) pairs.now }
+    {
+        pairs.iter().any(|pair| {
+            !self.knows(own, *pair) && !self.knows(latest, *pair) && self.lacks_one(seen, *pair)
+        })
+    }
+
+    /// Does the vector lack something that the operation of one of these pairs counts, where it is
+    /// looked up for two of them first?
+    fn lacks_some(
+        &self,
+        seen: &StateVector,
+        own: (u32, u32),
+        latest: (u32, u32),
+        pairs: &[(u32, u32)],
+    ) -> bool
+        ensures { result ≡ (lacks self.now.history seen.now own || (lacks self.now.history seen.now latest || list_any (λ pair. not (knows self.now.history own pair) && (not (knows self.now.history latest pair) && lacks self.now.history seen.now pair)) pairs.now)) }
+    {
+        self.lacks_one(seen, own)
+            || self.lacks_one(seen, latest)
+            || self.lacks_beyond(seen, own, latest, pairs)
+    }
+
+    /// Does the vector lack something that an operation which it counts counts? The site is that of
+    /// the vector's author. Goes along two vectors for its last operation, for the latest of all
+    /// that the vector counts, and then only for each site whose last operation neither of these
+    /// two counts.
+    fn is_not_closed(&self, seen: &StateVector, site: u32) -> bool
         requires { is_ahead self.now.history seen.now ≡ false }
         ensures { result ≡ is_not_closed self.now.history seen.now }
     {
-        // What stays true of a past: the last operation of a site counts all that the site's
-        // earlier ones count.
+        // What stays true of a past: an operation counts all that the operations count which it
+        // counts, and the last operation of a site all that the site's earlier ones count.
         let _ = &self.places;
-        self.lacks_some(seen, seen.pairs())
+        let own = (site, seen.count(site));
+        let latest = self.latest(seen.pairs()).unwrap_or(own);
+        self.lacks_some(seen, own, latest, seen.pairs())
     }
 
     /// Whether an operation of this name and this vector may come next. Otherwise `WrongSeq`,
     /// `OwnCount`, `Ahead` or `NotClosed`, the first that applies. Takes time with the vector's
-    /// length, and none with the length of the history.
+    /// length, and that again for each site of which neither its author's last operation nor the
+    /// latest that it counts has counted as much; none with the length of the history.
     #[tactic(auto, unfolding(rules::specs::Admission::causal_refusal))]
     pub fn admit(&self, name: OpName, seen: &StateVector) -> Result<(), NotAdmitted>
         ensures admitted { OnOk result (causal_refusal self.now.history name seen.now ≡ None) }
@@ -208,7 +262,7 @@ impl Past {
         if self.is_ahead(seen) {
             return Err(NotAdmitted::Ahead);
         }
-        if self.is_not_closed(seen) {
+        if self.is_not_closed(seen, name.site()) {
             return Err(NotAdmitted::NotClosed);
         }
         Ok(())
@@ -231,7 +285,7 @@ impl Past {
 
     /// Adds an operation that is admitted. `NoMemory` only where none was reserved for it, and then
     /// the history stays.
-    pub fn add(&mut self, op: Op) -> Result<(), NoMemory>
+    pub fn add(&mut self, op: SharedOp) -> Result<(), NoMemory>
         requires admitted { causal_refusal self.old.history op.name op.seen ≡ None }
         ensures ok { OnOk result (self.new.history ≡ self.old.history ++ op ∷ []) }
         ensures err { OnErr result (self.new.history ≡ self.old.history) }

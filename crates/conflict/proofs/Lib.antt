@@ -1,7 +1,15 @@
 pub mod Inserts
 pub mod Places
+pub mod Rising
+pub mod Listed
+pub mod Counted
+pub mod Opposed
 pub mod Growth
+pub mod Indexed
+pub mod Sited
+pub mod Keyed
 pub mod Rows
+pub mod Direct
 pub mod Images
 pub mod NamedGroup
 pub mod ObjectGroups

@@ -8,7 +8,7 @@ use Rattle.std.proofs.lemmas.List.FromFn.{length-range_with_len}
 use Rattle.std.proofs.lemmas.List.Elements.{filter-append, All-nil, All-cons}
 use Rattle.rules.specs.declared.history.Op.{Op}
 use Rattle.rules.specs.Operations.{same_op, name_of}
-use Rattle.rules.proofs.Lists.{In, In-filter, In-filter_back, In-map_back, In-range, In-range_back, any_from, any_back}
+use Rattle.rules.proofs.Lists.{In, Contains-from_In, In-filter, In-filter_back, In-map_back, In-range, In-range_back, any_from, any_back}
 use Rattle.rules.proofs.Once.{Once, Once-map, length_within}
 use Rattle.rules.proofs.Relation.{same_answer}
 use Rattle.rules.proofs.Counted.{same_name-true, same_name-refl}
@@ -55,7 +55,7 @@ pub has-filter_past : (p : ℕ → Bool) (n x : ℕ) → n ≤ x → has (filter
 has-filter_past p n x l = false_from_ne_true (has (filter p (places n)) x) (λ e.
     let b = below n x (In-filter_back p x (places n) (in_if_has (filter p (places n)) x e)).0 in absurd (omega arith))
 
-kept_next : (p : ℕ → Bool) (n : ℕ) → p n ≡ true → filter p (places (n + 1)) ≡ filter p (places n) ++ n ∷ []
+pub kept_next : (p : ℕ → Bool) (n : ℕ) → p n ≡ true → filter p (places (n + 1)) ≡ filter p (places n) ++ n ∷ []
 kept_next p n e = ap (filter p) (places_push n) ∙ filter-append p (places n) (n ∷ []) ∙ (let f : filter p (n ∷ []) ≡ n ∷ [] = rw e refl in ap (λ l. filter p (places n) ++ l) f)
 
 pub left_next : (p : ℕ → Bool) (n : ℕ) → p n ≡ false → filter p (places (n + 1)) ≡ filter p (places n)
@@ -74,13 +74,16 @@ push_next p n old new e t q = q ∙ ap (λ l. l ++ n ∷ []) e ∙ sym (kept_nex
 pub skip_next : (p : ℕ → Bool) (n : ℕ) (old new : List ℕ) → old ≡ filter p (places n) → p n ≡ false → new ≡ old → new ≡ filter p (places (n + 1))
 skip_next p n old new e t q = q ∙ e ∙ sym (left_next p n t)
 
+pub all_in : (P : ℕ → Type 0) (xs : List ℕ) → ((x : ℕ) → In x xs → P x) → All P xs
+all_in P [] f = All-nil P
+all_in P (x ∷ xs) f = All-cons P x xs (f x (inl refl)) (all_in P xs (λ y m. f y (inr m)))
+
+pub in_all : (P : ℕ → Type 0) (xs : List ℕ) → All P xs → (x : ℕ) → In x xs → P x
+in_all P xs a x m = let c = Contains-from_In x xs m in subst P c.2 (a c.0 x c.1)
+
 -- what is kept is below n
 pub all_below : (p : ℕ → Bool) (n : ℕ) (xs : List ℕ) → xs ≡ filter p (places n) → All (λ x. x < n) xs
-all_below p n xs e = each xs (λ x m. below n x (In-filter_back p x (places n) (subst (λ l. In x l) e m)).0)
-  where
-    each : (l : List ℕ) → ((x : ℕ) → In x l → x < n) → All (λ x. x < n) l
-    each [] f = All-nil (λ x. x < n)
-    each (x ∷ l) f = All-cons (λ x. x < n) x l (f x (inl refl)) (each l (λ y m. f y (inr m)))
+all_below p n xs e = all_in (λ x. x < n) xs (λ x m. below n x (In-filter_back p x (places n) (subst (λ l. In x l) e m)).0)
 
 -- ---- the operations at places
 

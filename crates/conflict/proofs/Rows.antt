@@ -1,8 +1,8 @@
 -- The row of a set that comes after all others, and what is stored once it is added.
-use Rattle.std.proofs.Common.{◌≡◌, ℕ, ◌+◌, ◌^◌, ◌<◌, ◌≤◌, Bool, true, false, not, ◌&&◌, ◌||◌, List, [], ◌∷◌, ◌++◌, length, map, get_or, refl, sym, ap, ◌∙◌, subst, arith, inl, inr, eqb}
-use Rattle.std.specs.Prelude.{filter, Contains}
+use Rattle.std.proofs.Common.{◌≡◌, ℕ, ◌+◌, ◌^◌, ◌<◌, ◌≤◌, Bool, true, false, not, ◌&&◌, ◌||◌, List, [], ◌∷◌, ◌++◌, length, map, get_or, refl, sym, ap, ◌∙◌, subst, arith, inl, inr, eqb, cond}
+use Rattle.std.specs.Prelude.{filter, nat_lt, Contains}
 use Rattle.std.specs.List.{list_any}
-use Rattle.std.proofs.lemmas.Bool.{true≢false, false_from_ne_true, or_cases, or_left, or_right, eqb-true, eq-eqb, cases_lt}
+use Rattle.std.proofs.lemmas.Bool.{true≢false, false_from_ne_true, or_cases, or_left, or_right, eqb-true, eq-eqb, cases_lt, cases_Bool}
 use Rattle.std.proofs.lemmas.List.{length-append, map-append}
 use Rattle.std.proofs.lemmas.List.FromFn.{map-range_with_len_more, get_or-map-range_with_len, length-map-range_with_len}
 use Rattle.state_vector.specs.Vectors.{counts}
@@ -17,8 +17,12 @@ use Rattle.rules.proofs.Counted.{same_name-true, same_name-refl}
 use Rattle.rules.proofs.Sets.{in_known_back}
 use Rattle.conflict.specs.Members.{has, places}
 use Rattle.conflict.specs.Relations.{IsRelation}
-use Rattle.conflict.specs.Sets.{AreSetsOf, AreSetsOn, AreStored, Added, IsAddition, at, places_of, base_places, earlier_conflicts, new_conflicts, is_in_row}
-use Rattle.conflict.proofs.Places.{In-places, below, has-filter, has-filter_past, left_next, at_in, place_of, one_place_each, at_push, at_last, has-places_of, any-places_of}
+use Rattle.conflict.specs.Indexes.{SiteIndex, KeyIndex}
+use Rattle.conflict.specs.Stored.{AreStored}
+use Rattle.conflict.specs.Sets.{AreSetsOf, AreSetsOn, Added, IsAddition, at, places_of, base_places, earlier_conflicts, new_conflicts, is_in_row, is_clashing, clashing_places}
+use Rattle.conflict.proofs.Places.{In-places, below, has-filter, has-filter_past, kept_next, left_next, at_in, place_of, one_place_each, at_push, at_last, has-places_of, any-places_of}
+use Rattle.conflict.proofs.Sited.{by_site_push}
+use Rattle.conflict.proofs.Keyed.{by_key_push}
 use Rattle.conflict.proofs.Growth.{apart, once, few_sets, base_inside, base_within, never_alone, conflict_from_base_on, stays, is_there, apart_before, before_none, base_grows, conflict_grows}
 
 -- ---- direct conflict with a later set
@@ -90,7 +94,7 @@ module _ {object : Name} (k : List Op) (o : Op) (w : AreSetsOf object (k ++ o �
             any_from (has (j ∷ base_places k b)) p.place (filter kept (places (length k))) (In-filter kept p.place (places (length k)) (In-places (length k) p.place p.within) (ap f p.is ∙ c.2)) (or_right (eqb j p.place) (has (base_places k b) p.place) t))
       ])
 
-  listed_is : filter (has (base_places k o)) (places (length k)) ≡ base_places k o
+  pub listed_is : filter (has (base_places k o)) (places (length k)) ≡ base_places k o
   listed_is = filter_agree (has (base_places k o)) (λ p. list_any (same_op (at k p)) (members (base k o))) (places (length k)) (λ p m. has-places_of k (members (base k o)) p (below (length k) p m))
 
   joined : (b : Op) → In b k → list_any (λ p. conflict k (at k p) b) (base_places k o) ≡ list_any (λ x. conflict grown x b) (members (base grown o))
@@ -161,6 +165,19 @@ module _ {object : Name} (k : List Op) (o : Op) (w : AreSetsOf object (k ++ o �
       ∙ map-range_with_len_more (earlier_conflicts grown) 0 (length k) (length k) (omega arith)
       ∙ (λ i. map_agree (earlier_conflicts grown) (earlier_conflicts k) (places (length k)) (λ p m. row_stays p (below (length k) p m)) i ++ last_row i ∷ [])
 
+  -- the places of those in conflict with an earlier one
+  clashing_stay : filter (is_clashing grown) (places (length k)) ≡ clashing_places k
+  clashing_stay = filter_agree (is_clashing grown) (is_clashing k) (places (length k)) (λ p m. ap (λ (r : List ℕ). nat_lt 0 (length r)) (row_stays p (below (length k) p m)))
+
+  clashing_grow : cond (nat_lt 0 (length (new_conflicts k o))) (clashing_places k ++ length k ∷ []) (clashing_places k) ≡ clashing_places grown
+  clashing_grow =
+      let last : is_clashing grown (length k) ≡ nat_lt 0 (length (new_conflicts k o)) = ap (λ (r : List ℕ). nat_lt 0 (length r)) last_row in
+      let more : clashing_places grown ≡ filter (is_clashing grown) (places (length k + 1)) = ap (λ n. filter (is_clashing grown) (places n)) one_more in
+      elim (cases_Bool (nat_lt 0 (length (new_conflicts k o)))) [
+        | inl t ↦ rw t (sym (more ∙ kept_next (is_clashing grown) (length k) (last ∙ t) ∙ ap (λ (l : List ℕ). l ++ length k ∷ []) clashing_stay))
+        | inr t ↦ rw t (sym (more ∙ left_next (is_clashing grown) (length k) (last ∙ t) ∙ clashing_stay))
+      ]
+
 -- there are few sets, also with one more
 module _ (k : List Op) (o : Op) (named : (x : Op) → Contains k x → is_op_name x.name ≡ true) (name : is_op_name o.name ≡ true) where
   all_named : (x : Op) → In x (k ++ o ∷ []) → is_op_name x.name ≡ true
@@ -175,14 +192,17 @@ module _ (k : List Op) (o : Op) (named : (x : Op) → Contains k x → is_op_nam
   pub few_with_one_more : {object : Name} → AreSetsOf object (k ++ o ∷ []) → length k + 1 < 2 ^ 32
   few_with_one_more w = omega (arith, few_after w, length-append k (o ∷ []))
 
-pub stored_push : {object : Name} (k : List Op) (bases rows : List (List ℕ)) (a : Added) → AreStored object k bases rows → IsAddition object k a → is_op_name a.op.name ≡ true
-    → AreStored object (k ++ a.op ∷ []) (bases ++ a.base ∷ []) (rows ++ a.row ∷ [])
-stored_push {object} k bases rows a s w name = record {
+pub stored_push : {object : Name} (k : List Op) (bases rows : List (List ℕ)) (clashing : List ℕ) (sites : SiteIndex) (keys : KeyIndex) (a : Added) → AreStored object k bases rows clashing sites keys → IsAddition object k a → is_op_name a.op.name ≡ true
+    → AreStored object (k ++ a.op ∷ []) (bases ++ a.base ∷ []) (rows ++ a.row ∷ []) (cond (nat_lt 0 (length a.row)) (clashing ++ length k ∷ []) clashing) sites keys
+stored_push {object} k bases rows clashing sites keys a s w name = record {
   sets = w.sets;
   named = λ x m. all_named k a.op s.named name x (In-from_Contains x (k ++ a.op ∷ []) m);
   few = few_after k a.op s.named name w.sets.listed;
   bases_are = (λ i. s.bases_are i ++ w.base i ∷ []) ∙ sym (bases_grow k a.op w.sets.listed);
   rows_are = (λ i. s.rows_are i ++ w.row i ∷ []) ∙ sym (rows_grow k a.op w.sets.listed);
+  clashing_are = (λ i. cond (nat_lt 0 (length (w.row i))) (s.clashing_are i ++ length k ∷ []) (s.clashing_are i)) ∙ clashing_grow k a.op w.sets.listed;
+  by_site = by_site_push k a.op sites s.by_site;
+  by_key = by_key_push k a.op keys s.by_key;
 }
 
 -- ---- look-ups

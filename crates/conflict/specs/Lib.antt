@@ -1,3 +1,6 @@
 pub mod Members
+pub mod Words
 pub mod Relations
 pub mod Sets
+pub mod Indexes
+pub mod Stored

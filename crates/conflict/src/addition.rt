@@ -5,15 +5,16 @@ ghost use Rattle.rules.specs.declared.history.Op.{Op};
 ghost use Rattle.conflict.specs.Sets.{IsAddition};
 
 use crate::{Clashes, Members, Relation};
-use op_names::OpName;
-use rules::Op;
+use op_names::{NoMemory, OpName};
+use rules::SharedOp;
+use std::alloc::Global;
 use std::marker::Model;
 
 /// A set that `Clashes` has prepared, with the places of its base and of the sets that it is in
 /// conflict with.
 #[derive(Debug, Drop)]
 pub struct Addition {
-    op: Op,
+    op: SharedOp,
     base: Members,
     row: Members,
 }
@@ -27,14 +28,14 @@ impl Model for Addition {
 }
 
 impl Addition {
-    pub(crate) fn new(op: Op, base: Members, row: Members) -> Addition
+    pub(crate) fn new(op: SharedOp, base: Members, row: Members) -> Addition
         ensures { result ≡ record { op = op; base = base; row = row } }
     {
         Addition { op, base, row }
     }
 
     /// The set.
-    pub fn op(&self) -> &Op
+    pub fn op(&self) -> &SharedOp
         ensures { result.now ≡ self.now.op }
     {
         &self.op
@@ -47,7 +48,7 @@ impl Addition {
         &self.row
     }
 
-    pub(crate) fn into_parts(self) -> (Op, Members, Members)
+    pub(crate) fn into_parts(self) -> (SharedOp, Members, Members)
         ensures { result ≡ (self.op, self.base, self.row) }
     {
         (self.op, self.base, self.row)
@@ -117,5 +118,11 @@ impl<'a> Relation for Longer<'a> {
         } else {
             self.sets.clash(i, j)
         }
+    }
+
+    fn in_conflict_with(&self, alloc: Global, scope: &Members) -> Result<Members, NoMemory> {
+        let mut opposed = self.sets.opposed(alloc, scope)?;
+        opposed.add_row(scope, self.addition.row(), self.sets.len())?;
+        Ok(opposed)
     }
 }

@@ -2,10 +2,13 @@
 #![tactic(auto)]
 
 mod addition;
+mod by_key;
+mod by_site;
 mod clashes;
 pub mod laws;
 mod members;
 mod relation;
+mod words;
 
 pub use addition::{Addition, Longer};
 pub use clashes::Clashes;

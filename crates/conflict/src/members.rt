@@ -1,10 +1,13 @@
 //! Sets of places.
 
-ghost use Rattle.std.specs.Prelude.{◌≡◌, ℕ, List, [], true, false, length, IfOk, IfErr, OnOk, OnErr, filter, ◌≤◌};
-ghost use Rattle.std.specs.List.{insert};
+ghost use Rattle.std.specs.Prelude.{◌≡◌, ◌≤◌, ℕ, List, [], length, not, All, IfOk, OnOk, OnErr, MatchOption, filter};
+ghost use Rattle.std.specs.List.{list_any};
 ghost use Rattle.std.specs.List.Sorted.{IsStrictlyIncreasing};
-ghost use Rattle.conflict.specs.Members.{has, is_within, inserted, set_of};
+ghost use Rattle.conflict.specs.Members.{has, is_within, inserted, places, set_of, with_all, with_row};
 
+use crate::words::{
+    both, count_bits, first_places, has_bit, is_within, join, list, lowest, meet, minus, set_bit,
+};
 use op_names::NoMemory;
 use std::alloc::Global;
 use std::marker::Model;
@@ -12,29 +15,41 @@ use std::marker::Model;
 /// A set of places. Contracts see the rising list of them.
 #[derive(Debug, Drop)]
 pub struct Members {
-    places: Vec<u32>,
+    /// Place p is in the set where bit p % 64 of word p / 64 is 1. The last word isn't 0.
+    words: Vec<u64>,
 }
 
 impl Model for Members {
+    ghost use Rattle.std.specs.Prelude.{◌≤◌, ◌^◌, List, ℕ, length};
+    ghost use Rattle.conflict.specs.Words.{listed};
+
     ghost Value = { List ℕ };
 
-    ghost view = { λ members. members.places.items };
+    ghost view = { λ members. listed members.words.items };
 
-    ghost invariant = { λ members. IsStrictlyIncreasing members.places.items };
+    ghost invariant = { λ members. length members.words.items ≤ 2 ^ 26 };
 }
 
 impl Members {
     /// The set without a place.
+    #[tactic(auto, using(crate::proofs::Listed::listed_none))]
     pub fn empty(alloc: Global) -> Members
         ensures { result ≡ [] }
     {
         Members {
-            places: Vec::new(alloc),
+            words: Vec::new(alloc),
         }
     }
 
-    /// The set of these places, which may come in any order and more than once. Each is put in by
-    /// `insert`: quick where they rise.
+    /// The first places, as many as are given.
+    pub fn first(alloc: Global, len: u32) -> Result<Members, NoMemory>
+        ensures { IfOk result (λ members. members ≡ places len) }
+    {
+        let words = first_places(alloc, len)?;
+        Ok(Members { words })
+    }
+
+    /// The set of these places, which may come in any order and more than once.
     pub fn from_places(alloc: Global, places: &[u32]) -> Result<Members, NoMemory>
         ensures { IfOk result (λ members. members ≡ set_of places.now) }
     {
@@ -45,11 +60,11 @@ impl Members {
         Ok(members)
     }
 
-    /// Is the place in the set? A binary search.
+    /// Is the place in the set?
     pub fn has(&self, place: u32) -> bool
         ensures { result ≡ has self.now place }
     {
-        self.search(place).is_ok()
+        has_bit(&self.words, place)
     }
 
     /// The number of places.
@@ -57,16 +72,54 @@ impl Members {
         ensures count { result ≡ length self.now }
         ensures rises { IsStrictlyIncreasing self.now }
     {
-        self.places.len()
+        count_bits(&self.words)
     }
 
-    /// Puts a place in. A binary search, and one move for each place above it.
+    /// The places, in rising order.
+    pub fn list(&self, alloc: Global) -> Result<Vec<u32>, NoMemory>
+        ensures { IfOk result (λ listed. listed.items ≡ self.now) }
+    {
+        list(alloc, &self.words)
+    }
+
+    /// The lowest place, if there is one.
+    pub(crate) fn lowest(&self) -> Option<u32>
+        ensures { MatchOption result (self.now ≡ []) (λ lowest. All (λ place. lowest ≤ place) self.now) }
+    {
+        lowest(&self.words)
+    }
+
+    /// Puts a place in.
     pub fn insert(&mut self, place: u32) -> Result<(), NoMemory>
         ensures ok { OnOk result (self.new ≡ inserted place self.old) }
         ensures err { OnErr result (self.new ≡ self.old) }
     {
-        if let Err(at) = self.search(place) {
-            self.places.insert(at, place)?;
+        set_bit(&mut self.words, place)
+    }
+
+    /// Puts the places of another set in.
+    pub fn insert_all(&mut self, other: &Members) -> Result<(), NoMemory>
+        ensures ok { OnOk result (self.new ≡ with_all self.old other.now) }
+        ensures err { OnErr result (self.new ≡ self.old) }
+    {
+        join(&mut self.words, &other.words)
+    }
+
+    /// Puts in the places of the row of a place, where that place is in the scope, and the place
+    /// itself, where the row has one of the scope.
+    pub(crate) fn add_row(
+        &mut self,
+        scope: &Members,
+        row: &Members,
+        place: u32,
+    ) -> Result<(), NoMemory>
+        ensures { OnOk result (self.new ≡ with_row scope.now row.now place self.old) }
+    {
+        if scope.has(place) {
+            self.insert_all(row)?;
+        }
+        if row.meets(scope) {
+            self.insert(place)?;
         }
         Ok(())
     }
@@ -75,39 +128,37 @@ impl Members {
     pub fn copy(&self, alloc: Global) -> Result<Members, NoMemory>
         ensures { IfOk result (λ members. members ≡ self.now) }
     {
-        let places = Vec::from_slice(alloc, &self.places)?;
-        Ok(Members { places })
+        let words = Vec::from_slice(alloc, &self.words)?;
+        Ok(Members { words })
     }
 
-    /// Is each of these places in the other set? A binary search in the other for each.
+    /// Is each of these places in the other set?
     pub fn is_subset(&self, other: &Members) -> bool
         ensures { result ≡ is_within self.now other.now }
     {
-        self.places.iter().all(|place| other.has(*place))
+        is_within(&self.words, &other.words)
     }
 
-    /// The places that are in both sets. A binary search in the other for each of these.
+    /// Is one of these places in the other set?
+    pub fn meets(&self, other: &Members) -> bool
+        ensures { result ≡ list_any (has other.now) self.now }
+    {
+        meet(&self.words, &other.words)
+    }
+
+    /// The places that are in both sets.
     pub fn intersection(&self, alloc: Global, other: &Members) -> Result<Members, NoMemory>
         ensures { IfOk result (λ members. members ≡ filter (has other.now) self.now) }
     {
-        let places = self
-            .places
-            .iter()
-            .copied()
-            .filter(|place| other.has(*place))
-            .collect(alloc)?;
-        Ok(Members { places })
+        let words = both(alloc, &self.words, &other.words)?;
+        Ok(Members { words })
     }
 
-    /// Where the place stands, or where it would go.
-    fn search(&self, place: u32) -> Result<usize, usize>
-        ensures there { OnOk result (has self.now place ≡ true) }
-        ensures same { OnOk result (inserted place self.now ≡ self.now) }
-        ensures absent { OnErr result (has self.now place ≡ false) }
-        ensures range { IfErr result (λ at. at ≤ length self.now) }
-        ensures grown { IfErr result (λ at. insert self.now at place ≡ inserted place self.now) }
-        ensures rises { IfErr result (λ at. IsStrictlyIncreasing (insert self.now at place)) }
+    /// The places that are in this set and not in the other.
+    pub fn without(&self, alloc: Global, other: &Members) -> Result<Members, NoMemory>
+        ensures { IfOk result (λ members. members ≡ filter (λ place. not (has other.now place)) self.now) }
     {
-        self.places.binary_search(&place)
+        let words = minus(alloc, &self.words, &other.words)?;
+        Ok(Members { words })
     }
 }

@@ -1,10 +1,14 @@
 //! Relations between places.
 
-ghost use Rattle.std.specs.Prelude.{◌≡◌, ℕ, ◌<◌, Bool};
+ghost use Rattle.std.specs.Prelude.{◌≡◌, ℕ, ◌<◌, Bool, filter, All, IfOk};
 ghost use Rattle.op_names.specs.Names.{Name};
+ghost use Rattle.rules.specs.Groups.{meets};
+ghost use Rattle.conflict.specs.Members.{places};
 ghost use Rattle.conflict.specs.Relations.{IsRelation};
 
-use op_names::OpName;
+use crate::Members;
+use op_names::{NoMemory, OpName};
+use std::alloc::Global;
 
 /// Operations by their places, which count from 0, and which two of them are in conflict.
 pub trait Relation {
@@ -33,4 +37,9 @@ pub trait Relation {
         requires first { i < size self.now }
         requires second { j < size self.now }
         ensures { result ≡ clashes self.now i j };
+
+    /// The places of the operations that are in conflict with one of those at some places.
+    fn in_conflict_with(&self, alloc: Global, scope: &Members) -> Result<Members, NoMemory>
+        requires { All (λ place. place < size self.now) scope.now }
+        ensures { IfOk result (λ opposed. opposed ≡ filter (meets (clashes self.now) scope.now) (places (size self.now))) };
 }

@@ -7,7 +7,7 @@ use Rattle.rules.specs.declared.history.Entry.{Entry}
 use Rattle.rules.specs.declared.history.Entry.TheVariants.{Join, Operation}
 use Rattle.rules.specs.declared.refusal.Refusal.{Refusal}
 use Rattle.rules.specs.declared.refusal.Refusal.TheVariants.{NotJoined, AlreadyJoined, NoSuchObject, TooFar}
-use Rattle.rules.specs.Bodies.{kind_in}
+use Rattle.rules.specs.Bodies.{is_set_body, kind_in}
 use Rattle.rules.specs.Operations.{creation_of, object_of}
 use Rattle.rules.specs.Records.{operations, objects, sites, refusal}
 use Rattle.rules.specs.Versions.{versions}
@@ -45,6 +45,10 @@ creation_answer room op = proposed room (Operation op) (Made (length room.entrie
 -- a set is taken, and the object's versions then have these identifiers
 abbrev pub set_answer : Room → Op → Outcome
 set_answer room op = proposed room (Operation op) (Taken (length room.entries) (map (λ version. version.id) (versions (operations room.entries ++ op ∷ []) (object_of op))))
+
+-- the answer to either
+abbrev pub operation_answer : Room → Op → Outcome
+operation_answer room op = if is_set_body op.body then set_answer room op else creation_answer room op
 
 -- the versions of an object, by its creation
 abbrev pub shown : Room → Name → Option Op → Reply

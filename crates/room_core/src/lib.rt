@@ -4,7 +4,6 @@
 pub mod examples;
 mod fault;
 mod objects;
-mod operations;
 mod pages;
 mod planned;
 mod room;

@@ -5,6 +5,7 @@ ghost use Rattle.std.specs.Map.{keys_of, lookup, set_value};
 ghost use Rattle.std.specs.List.{IsDistinct};
 ghost use Rattle.indexmap.specs.IndexMap.{spare};
 ghost use Rattle.op_names.specs.Names.{same_name};
+ghost use Rattle.rules.specs.Operations.{object_of};
 ghost use Rattle.conflict.specs.Sets.{AreSetsOf};
 ghost use Rattle.shape.specs.Drawing.{Drawn, with_set};
 ghost use Rattle.shape.specs.Planned.{IsPlanned};
@@ -13,10 +14,20 @@ ghost use Rattle.room_core.specs.Plans.{IsPlannedAt};
 
 use indexmap::IndexMap;
 use op_names::{NoMemory, OpName};
-use rules::Op;
+use rules::{Body, Op, SharedOp};
 use shape::{PlannedSet, SetFault, Shape};
 use std::alloc::Global;
 use wire::ObjectList;
+
+/// The object that an operation creates or changes.
+pub(crate) fn object_of(op: &Op) -> OpName
+    ensures { result ≡ object_of op.now }
+{
+    match &op.body {
+        Body::New { .. } => op.name,
+        Body::Set { object, .. } => *object,
+    }
+}
 
 /// Adds an object under a new name where there is memory for it.
 pub(crate) fn insert_reserved(objects: &mut IndexMap<OpName, Shape>, name: OpName, shape: Shape)
@@ -35,7 +46,7 @@ pub(crate) fn plan_at(
     alloc: Global,
     objects: &mut IndexMap<OpName, Shape>,
     object: OpName,
-    op: Op,
+    op: SharedOp,
 ) -> Result<PlannedSet, SetFault>
     requires { (d : Drawn) × (lookup (same_name object) objects.old.entries ≡ Some d) × AreSetsOf d.drawing.creation.name (d.drawing.sets ++ op ∷ []) }
     ensures { IsPlannedAt object op objects.old.entries objects.new.entries result }

@@ -3,7 +3,7 @@
 ghost use Rattle.std.specs.Prelude.{◌≡◌};
 ghost use Rattle.room_core.specs.declared.planned.Change.TheVariants.{Nothing};
 
-use rules::{Entry, Op};
+use rules::{Entry, SharedOp};
 use shape::{PlannedSet, Shape};
 use std::marker::Model;
 use std::sync::Arc;
@@ -17,10 +17,10 @@ pub(crate) enum Change {
     Joins(Arc<Entry>),
     /// The entry of a creation is added, the creation to the operations so far, and its object to the
     /// objects.
-    Creates(Arc<Entry>, Op, Shape),
+    Creates(Arc<Entry>, SharedOp, Shape),
     /// The entry of a set is added, the set to the operations so far, and what is planned to its
     /// object.
-    Sets(Arc<Entry>, Op, PlannedSet),
+    Sets(Arc<Entry>, SharedOp, PlannedSet),
 }
 
 /// A reply that is built, and the change that goes with it.

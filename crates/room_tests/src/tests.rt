@@ -38,7 +38,7 @@ fn answered(
     rt: &(impl Abort + AllocGlobal),
     room: &mut RoomState,
     site: u32,
-    request: &Request,
+    request: Request,
 ) -> String {
     let reply = room.answer(rt.alloc(), site, request).expect(rt, "memory");
     text(rt, &reply)
@@ -55,7 +55,7 @@ fn answers(rt: &(impl Abort + AllocGlobal), room: &mut RoomState, line: &str) ->
         None => joined(rt, room),
         Some((site, request)) => {
             let site = site.parse().expect(rt, "a site");
-            answered(rt, room, site, &request_of(rt, request))
+            answered(rt, room, site, request_of(rt, request))
         }
     };
     reply.as_str() == expected
@@ -105,7 +105,7 @@ fn answers_number(
     seq: u32,
     expected: &str,
 ) -> bool {
-    answered(rt, room, 1, &numbered(rt, seq)).as_str() == expected
+    answered(rt, room, 1, numbered(rt, seq)).as_str() == expected
 }
 
 /// Is a creation of a number that is out of range answered so, by a room of these limits?
@@ -160,7 +160,7 @@ fn next_request(rt: &(impl Abort + AllocGlobal), seen: u32, seq: u32) -> String 
 fn ask_next(rt: &(impl Abort + AllocGlobal), room: &mut RoomState, seen: u32, seq: u32) {
     let text = next_request(rt, seen, seq);
     let request = request_of(rt, &text);
-    room.answer(rt.alloc(), 1, &request).expect(rt, "memory");
+    room.answer(rt.alloc(), 1, request).expect(rt, "memory");
 }
 
 #[test]

@@ -14,4 +14,5 @@ pub mod Groups
 pub mod Conflicts
 pub mod Versions
 pub mod Records
+pub mod Shared
 pub mod Examples

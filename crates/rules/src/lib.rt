@@ -7,10 +7,12 @@ mod history;
 pub mod laws;
 mod limits;
 mod refusal;
+mod shared;
 mod version;
 
 pub use attrs::{Attrs, AttrsFault};
 pub use history::{Body, Entry, Op};
 pub use limits::Limits;
 pub use refusal::Refusal;
+pub use shared::SharedOp;
 pub use version::{AttrList, Version};

@@ -9,6 +9,7 @@ ghost use Rattle.rules.specs.Versions.{by_id};
 ghost use Rattle.conflict.specs.Members.{places};
 ghost use Rattle.version_groups.specs.Kept.{AreGroups};
 ghost use Rattle.shape.specs.Kept.{clash, version_at};
+ghost use Rattle.version_ids.specs.Scopes.{in_conflict};
 
 use attributes::attributes_of;
 use conflict::{Clashes, Members, Relation};
@@ -16,7 +17,7 @@ use op_names::{NoMemory, VersionId};
 use rules::{AttrList, Body, Op, Version};
 use std::alloc::Global;
 use version_groups::Groups;
-use version_ids::id_of;
+use version_ids::{id_by, in_conflict};
 
 /// The identifiers of groups, in the order of the groups.
 fn listed_ids<R: Relation>(
@@ -27,9 +28,10 @@ fn listed_ids<R: Relation>(
     requires { All (All (λ place. place < R.size relation.now)) groups.now.groups }
     ensures { IfOk result (λ ids. ids.items ≡ map (identifier (R.clashes relation.now) (R.name_at relation.now) (places (R.size relation.now))) groups.now.groups) }
 {
+    let opposed = in_conflict(alloc, relation)?;
     let mut ids = Vec::with_capacity(alloc, groups.count())?;
     for group in 0..groups.count() {
-        ids.push(id_of(alloc, relation, groups.members(group))?)?;
+        ids.push(id_by(alloc, relation, &opposed, groups.members(group))?)?;
     }
     Ok(ids)
 }
@@ -49,21 +51,23 @@ pub(crate) fn sorted_ids<R: Relation>(
     Ok(ids)
 }
 
-/// A group as it is shown.
+/// A group as it is shown, by the places that are in conflict with some place.
 fn version_of(
     alloc: Global,
     creation: &Op,
     sets: &Clashes,
+    opposed: &Members,
     group: &Members,
 ) -> Result<Version, NoMemory>
     requires creation { is_set_body creation.now.body ≡ false }
+    requires opposed { opposed.now ≡ in_conflict (clash sets.now.ops) (length sets.now.ops) }
     requires group { Contains (groups_of (clash sets.now.ops) (places (length sets.now.ops))) group.now }
     ensures { IfOk result (λ version. version ≡ version_at creation.now sets.now.ops group.now) }
 {
     let Body::New { attrs, .. } = &creation.body else {
         unreachable!()
     };
-    let id = id_of(alloc, sets, group)?;
+    let id = id_by(alloc, sets, opposed, group)?;
     let attrs = attributes_of(alloc, attrs, sets.ops(), group)?;
     Ok(Version {
         id,
@@ -82,9 +86,10 @@ fn listed_versions(
     requires groups { AreGroups (clash sets.now.ops) (places (length sets.now.ops)) groups.now.groups }
     ensures { IfOk result (λ versions. versions.items ≡ map (version_at creation.now sets.now.ops) groups.now.groups) }
 {
+    let opposed = in_conflict(alloc, sets)?;
     let mut versions = Vec::with_capacity(alloc, groups.count())?;
     for group in 0..groups.count() {
-        versions.push(version_of(alloc, creation, sets, groups.members(group))?)?;
+        versions.push(version_of(alloc, creation, sets, &opposed, groups.members(group))?)?;
     }
     Ok(versions)
 }

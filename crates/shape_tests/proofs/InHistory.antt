@@ -1,5 +1,5 @@
 -- An object stays in the history of its room as the history grows.
-use Rattle.std.proofs.Common.{◌≡◌, true, false, ◌&&◌, [], ◌∷◌, ◌++◌, refl, ap, ◌∙◌, subst, None}
+use Rattle.std.proofs.Common.{◌≡◌, true, false, ◌&&◌, List, [], ◌∷◌, ◌++◌, refl, sym, ap, ◌∙◌, subst, None}
 use Rattle.state_vector.specs.Vectors.{is_vector}
 use Rattle.rules.specs.declared.history.Op.{Op}
 use Rattle.rules.specs.Bounds.{Bounds}
@@ -12,6 +12,10 @@ use Rattle.conflict.specs.Sets.{AreSetsOf}
 use Rattle.shape.specs.Drawing.{with_set}
 use Rattle.shape_tests.specs.InHistory.{ObjectIn, IsInHistory, MayFollow}
 use Rattle.shape.proofs.Next.{next_history, next_ordered, next_set, object_with_set, object_beside, object_alone}
+
+-- an operation that was asked for by two owners
+pub admitted_itself : (h : List Op) (op first second : Op) → first ≡ op → second ≡ op → causal_refusal h first.name second.seen ≡ None → causal_refusal h op.name op.seen ≡ None
+admitted_itself h op first second e f admitted = ap (λ (o : Op). causal_refusal h o.name op.seen) (sym e) ∙ ap (λ (o : Op). causal_refusal h first.name o.seen) (sym f) ∙ admitted
 
 module _ (s : ObjectIn) (i : IsInHistory s) (o : Op) (f : MayFollow s.history o) where
   -- a set on the object may be drawn

@@ -83,6 +83,31 @@ fn vector_fault(pairs: &[(u32, u32)]) -> Option<VectorFault>
     None
 }
 
+/// Are the pairs of some sites covered by those of others? Goes along both once.
+fn covers(pairs: &[(u32, u32)], others: &[(u32, u32)]) -> bool
+    requires pairs { is_vector pairs.now ≡ true }
+    requires others { is_vector others.now ≡ true }
+    ensures { result ≡ covers pairs.now others.now }
+{
+    let mut covered = 0;
+    for pair in pairs {
+        if covered == others.len() {
+            return true;
+        }
+        let other = others[covered];
+        if other.0 < pair.0 {
+            return false;
+        }
+        if other.0 == pair.0 {
+            if other.1 > pair.1 {
+                return false;
+            }
+            covered += 1;
+        }
+    }
+    covered == others.len()
+}
+
 impl StateVector {
     /// The vector that counts nothing.
     #[tactic(auto, unfolding(crate::specs::Vectors::vector_fault))]
@@ -134,11 +159,11 @@ impl StateVector {
         name.seq() <= self.count(name.site())
     }
 
-    /// Does it count all that the other counts?
+    /// Does it count all that the other counts? Goes along both once.
     pub fn covers(&self, other: &StateVector) -> bool
         ensures { result ≡ covers self.now other.now }
     {
-        other.pairs.iter().all(|pair| pair.1 <= self.count(pair.0))
+        covers(&self.pairs, &other.pairs)
     }
 
     /// Its pairs of a site and a count, with the sites rising.

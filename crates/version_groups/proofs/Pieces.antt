@@ -1,13 +1,19 @@
 -- The pieces of the step, as the functions of the code have them.
-use Rattle.std.proofs.Common.{◌≡◌, ℕ, ◌+◌, ◌<◌, Bool, true, false, not, List, [], ◌∷◌, ◌++◌, map, length, sym, ◌∙◌, ap, take, get_or}
+use Rattle.std.proofs.Common.{◌≡◌, ℕ, ◌+◌, ◌<◌, Bool, true, false, not, ◌||◌, arith, refl, List, [], ◌∷◌, ◌++◌, map, length, ◌∙◌, ap, take, get_or}
 use Rattle.std.specs.List.{list_all, filter}
 use Rattle.std.proofs.lemmas.List.{append-nil, take_more, map-append}
 use Rattle.std.proofs.lemmas.List.Elements.{filter-append}
-use Rattle.rules.proofs.Lists.{In-filter_back}
+use Rattle.std.specs.Prelude.{All}
+use Rattle.std.proofs.lemmas.List.Elements.{All-nil, All-cons, All-same}
+use Rattle.op_names.specs.Names.{Name}
+use Rattle.rules.specs.Groups.{meets}
+use Rattle.rules.proofs.Lists.{In-filter_back, filter_agree}
+use Rattle.conflict.specs.Relations.{IsRelation}
+use Rattle.conflict.proofs.Places.{below, has-filter}
 use Rattle.conflict.specs.Members.{has, is_within, inserted, places}
 use Rattle.conflict.proofs.Inserts.{inserted_last}
 use Rattle.version_groups.specs.Steps.{AreBelow, grown, candidate, unfit}
-use Rattle.version_groups.proofs.Places.{in_from_has, has_from_in, places_more, places_below}
+use Rattle.version_groups.proofs.Places.{in_from_has, has_from_in}
 
 -- what a test keeps of places below n is below n
 filtered_below : (p : ℕ → Bool) (n : ℕ) (g : List ℕ) → AreBelow n g → AreBelow n (filter p g)
@@ -22,13 +28,25 @@ grown_as fits o g m t e = rw t e
 pub candidate_is : (fits : List ℕ) (o : ℕ) (g m : List ℕ) → AreBelow o g → m ≡ inserted o (filter (has fits) g) → m ≡ candidate (has fits) o g
 candidate_is fits o g m below e = e ∙ inserted_last o (filter (has fits) g) (filtered_below (has fits) o g below)
 
-pub fitting_more : (p : ℕ → Bool) (i : ℕ) (m n : List ℕ) → p i ≡ true → m ≡ filter p (places i) → n ≡ inserted i m → n ≡ filter p (places (i + 1))
-fitting_more p i m n t e f =
-    rw (places_more i) (f ∙ ap (inserted i) e ∙ inserted_last i (filter p (places i)) (filtered_below p i (places i) (λ x t. places_below i x (in_from_has x (places i) t)))
-    ∙ sym (filter-append p (places i) (i ∷ []) ∙ rw t))
+-- a set of one place
+pub one_low : (n place : ℕ) (one : List ℕ) → one ≡ place ∷ [] → place < n → All (λ x. x < n) one
+one_low n place one e l = All-same (λ x. x < n) one (place ∷ []) e (All-cons (λ x. x < n) place [] l (All-nil (λ x. x < n)))
 
-pub fitting_skip : (p : ℕ → Bool) (i : ℕ) (m : List ℕ) → p i ≡ false → m ≡ filter p (places i) → m ≡ filter p (places (i + 1))
-fitting_skip p i m t e = rw (places_more i) (e ∙ sym (filter-append p (places i) (i ∷ []) ∙ rw t (append-nil (filter p (places i)))))
+-- the places below one without those that it is in conflict with
+pub fits_is : (n : ℕ) (name : ℕ → Name) (clash : ℕ → ℕ → Bool) → IsRelation n name clash → (place : ℕ) → place < n → (one met first fits : List ℕ)
+    → one ≡ place ∷ [] → met ≡ filter (meets clash one) (places n) → first ≡ places place → fits ≡ filter (λ x. not (has met x)) first
+    → fits ≡ filter (λ x. not (clash place x)) (places place)
+fits_is n name clash r place l one met first fits o m f e =
+    e
+    ∙ ap (filter (λ x. not (has met x))) f
+    ∙ filter_agree (λ x. not (has met x)) (λ x. not (clash place x)) (places place) (λ x i.
+    let b : x < place = below place x i in
+    let w : x < n = omega arith in
+    ap not (ap (λ (v : List ℕ). has v x) m ∙ has-filter (meets clash one) n x w ∙ ap (λ (v : List ℕ). meets clash v x) o ∙ or_none (clash x place) ∙ r.both_ways x place w l))
+  where
+    or_none : (b : Bool) → (b || false) ≡ b
+    or_none true = refl
+    or_none false = refl
 
 pub unfit_more : (p : ℕ → Bool) (f : List ℕ → List ℕ) (xs ys : List (List ℕ)) (i : ℕ) (y : List ℕ) → i < length xs → list_all p (get_or xs i []) ≡ false
     → ys ≡ map f (unfit p (take i xs)) → y ≡ f (get_or xs i []) → ys ++ y ∷ [] ≡ map f (unfit p (take (i + 1) xs))

@@ -29,18 +29,17 @@ pub(crate) fn longer<R: Relation>(
 }
 
 /// The places below one that are not in conflict with it.
-#[tactic(auto, using(crate::proofs::Pieces::fitting_more, crate::proofs::Pieces::fitting_skip))]
 fn fitting<R: Relation>(alloc: Global, relation: &R, place: u32) -> Result<Members, NoMemory>
     requires { place < R.size relation.now }
     ensures { IfOk result (λ fits. fits ≡ filter (λ x. not (R.clashes relation.now place x)) (places place)) }
 {
-    let mut fits = Members::empty(alloc);
-    for below in 0..place {
-        if !relation.clash(place, below) {
-            fits.insert(below)?;
-        }
-    }
-    Ok(fits)
+    // With the length of a relation comes that conflict goes both ways.
+    let _ = relation.len();
+    let mut one = Members::empty(alloc);
+    one.insert(place)?;
+    let opposed = relation.in_conflict_with(alloc, &one)?;
+    let below = Members::first(alloc, place)?;
+    below.without(alloc, &opposed)
 }
 
 /// The groups with one place more.

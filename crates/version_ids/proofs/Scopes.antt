@@ -1,52 +1,17 @@
 -- Some of the places of a relation, gone over place by place.
-use Rattle.std.proofs.Common.{◌≡◌, ℕ, ◌+◌, ◌<◌, Bool, true, false, List, [], ◌∷◌, ◌++◌, map, refl, sym, ap, ◌∙◌, subst, inl, inr, ◌&&◌, arith}
+use Rattle.std.proofs.Common.{◌≡◌, ℕ, ◌+◌, ◌<◌, Bool, false, List, [], ◌∷◌, map, not, refl, sym, ap, ◌∙◌, subst, inl, inr, ◌&&◌, arith}
 use Rattle.std.specs.Prelude.{All, filter}
-use Rattle.std.specs.List.{list_any, range_with_len, AllByRecursion}
-use Rattle.std.specs.List.Sorted.{IsStrictlyIncreasing, IsStrictlySortedBy}
-use Rattle.std.specs.Ordering.{nat_cmp}
-use Rattle.std.specs.declared.cmp.Ordering.{Ordering}
-use Rattle.std.specs.declared.cmp.Ordering.TheVariants.{Less}
-use Rattle.std.specs.Cmp.{IsTotalOrder}
-use Rattle.std.proofs.lemmas.Bool.{cases_Bool, cases_eq, and_from, true≢false, false_from_ne_true}
-use Rattle.std.proofs.lemmas.Cmp.{nat_cmp_total}
-use Rattle.std.proofs.lemmas.List.{map-append}
-use Rattle.std.proofs.lemmas.List.Kept.{IsStrictlySortedBy-filter}
+use Rattle.std.proofs.lemmas.Bool.{cases_Bool}
 use Rattle.std.proofs.lemmas.List.FromFn.{length-range_with_len, get_or-range_with_len}
-use Rattle.std.proofs.lemmas.Map.Keys.{sorted_from_strictly_increasing}
-use Rattle.rules.proofs.Lists.{In, Contains-from_In, In-filter, In-filter_back, any_from, any_back, filter_agree}
+use Rattle.rules.proofs.Lists.{In, In-filter_back, filter_agree}
 use Rattle.rules.proofs.Once.{Once, Once-filter}
-use Rattle.rules.proofs.Sorting.{Rises, rises_same}
-use Rattle.conflict.specs.Members.{has, inserted, places}
-use Rattle.conflict.proofs.Inserts.{inserted_last}
-use Rattle.conflict.proofs.Places.{In-places, Once-places, below, places_push, has_if_in, in_if_has, has-filter, all_below, push_next, skip_next}
-use Rattle.version_ids.specs.Scopes.{AreAmong}
-
--- ---- rising places
-
-each_in : {X : Type 0} (P : X → Type 0) (xs : List X) → AllByRecursion P xs → (x : X) → In x xs → P x
-each_in P [] a x m = absurd m
-each_in P (y ∷ ys) a x m = elim m [ inl e ↦ subst P (sym e) a.0 | inr r ↦ each_in P ys a.1 x r ]
-
-rises : {X : Type 0} (cmp : X → X → Ordering) (o : IsTotalOrder cmp) (xs : List X) → IsStrictlySortedBy cmp xs → Rises cmp o xs
-unfolding IsStrictlySortedBy
-rises cmp o [] s = tt
-rises cmp o (x ∷ xs) s = (each_in (λ y. cmp x y ≡ Less) xs s.0, rises cmp o xs s.1)
-
-range_rises : (a n : ℕ) → IsStrictlyIncreasing (range_with_len a n)
-range_rises a n k l =
-    let h = length-range_with_len a n in
-    let p = get_or-range_with_len a n k 0 (omega (arith, h, l)) in
-    let q = get_or-range_with_len a n (k + 1) 0 (omega (arith, h, l)) in
-    omega (arith, p, q)
-
--- a set of places below n has some of the first n
-pub among : (n : ℕ) (s : List ℕ) → IsStrictlyIncreasing s → All (λ place. place < n) s → AreAmong n s
-among n s up low =
-    rises_same nat_cmp nat_cmp_total (filter (has s) (places n)) s
-    (rises nat_cmp nat_cmp_total (filter (has s) (places n)) (IsStrictlySortedBy-filter nat_cmp (has s) (places n) (sorted_from_strictly_increasing (places n) (range_rises 0 n))))
-    (rises nat_cmp nat_cmp_total s (sorted_from_strictly_increasing s up))
-    (λ x m. in_if_has s x (In-filter_back (has s) x (places n) m).1)
-    (λ x m. let c = Contains-from_In x s m in In-filter (has s) x (places n) (In-places n x (subst (λ z. z < n) c.2 (low c.0 x c.1))) (has_if_in s x m))
+use Rattle.conflict.specs.Members.{has, places}
+use Rattle.conflict.proofs.Rising.{among_places, range_rises}
+use Rattle.conflict.proofs.Places.{Once-places, below, has-filter, all_below, skip_next}
+use Rattle.op_names.specs.Names.{Name, name_cmp}
+use Rattle.rules.specs.Lists.{sort_by}
+use Rattle.rules.specs.Groups.{identifier, meets}
+use Rattle.version_ids.specs.Scopes.{in_conflict, AreAmong}
 
 pub low : (n : ℕ) (s : List ℕ) → AreAmong n s → (x : ℕ) → In x s → x < n
 low n s w x m = below n x (In-filter_back (has s) x (places n) (subst (λ l. In x l) (sym w) m)).0
@@ -78,41 +43,38 @@ pub kept_low : (n : ℕ) (s kept listed : List ℕ) (test : ℕ → Bool) → Ar
 kept_low n s kept listed test w e f = all_below (λ x. has s x && test x) n listed (f ∙ e ∙ sym (sifted n s w test))
 
 pub all_among : (n m : ℕ) (all : List ℕ) → m ≡ n → all ≡ places m → AreAmong n all
-all_among n m all q e = subst (AreAmong n) (sym (e ∙ ap places q)) (among n (places n) (range_rises 0 n) (λ k d l.
+all_among n m all q e = subst (AreAmong n) (sym (e ∙ ap places q)) (among_places n (places n) (range_rises 0 n) (λ k d l.
     let h = length-range_with_len 0 n in
     let p = get_or-range_with_len 0 n k d (omega (arith, h, l)) in
     omega (arith, h, l, p)))
 
--- ---- the loops
+-- ---- the loop
 
-pub one_more_place : (n : ℕ) (old new : List ℕ) → old ≡ places n → new ≡ inserted n old → new ≡ places (n + 1)
-one_more_place n old new e q = q ∙ ap (inserted n) e ∙ inserted_last n (places n) (λ y h. below n y (in_if_has (places n) y h)) ∙ sym (places_push n)
-
--- a place meets one of a set
-pub one_met : (clash : ℕ → Bool) (s : List ℕ) (other : ℕ) → clash other ≡ true → has s other ≡ true → true ≡ list_any clash s
-one_met clash s other t h = sym (any_from clash other s (in_if_has s other h) t)
-
--- none of those before it
-abbrev pub NoneMet : (ℕ → Bool) → List ℕ → ℕ → Type 0
-NoneMet clash s n = (x : ℕ) → x < n → (clash x && has s x) ≡ false
-
-pub none_yet : (clash : ℕ → Bool) (s : List ℕ) (n : ℕ) → NoneMet clash s n → (clash n && has s n) ≡ false → NoneMet clash s (n + 1)
-none_yet clash s n f e x l = elim (cases_eq x n) [ inl q ↦ ap (λ y. clash y && has s y) q ∙ e | inr d ↦ f x (omega arith) ]
-
-pub none_met : (clash : ℕ → Bool) (s : List ℕ) (n : ℕ) → AreAmong n s → NoneMet clash s n → false ≡ list_any clash s
-none_met clash s n w f = sym (false_from_ne_true (list_any clash s) (λ e.
-    let c = any_back clash s e in
-    true≢false (sym (and_from (clash c.0) (has s c.0) c.2 (has_if_in s c.0 c.1)) ∙ f c.0 (low n s w c.0 c.1))))
-
--- a loop over the places: what it has so far, where the test keeps the next one, and where it doesn't
-pub push_kept : (test : ℕ → Bool) (n : ℕ) (old : List ℕ) → test n ≡ true → old ≡ filter test (places n) → old ++ n ∷ [] ≡ filter test (places (n + 1))
-push_kept test n old t e = push_next test n old (old ++ n ∷ []) e t refl
-
+-- a loop over the places, where the test doesn't keep the next one
 pub leave : (test : ℕ → Bool) (n : ℕ) (old : List ℕ) → test n ≡ false → old ≡ filter test (places n) → old ≡ filter test (places (n + 1))
 leave test n old t e = skip_next test n old old e t refl
 
-pub push_name : {X : Type 0} (name : ℕ → X) (test : ℕ → Bool) (n : ℕ) (old : List X) → test n ≡ true → old ≡ map name (filter test (places n)) → old ++ name n ∷ [] ≡ map name (filter test (places (n + 1)))
-push_name name test n old t e = ap (λ l. l ++ name n ∷ []) e ∙ sym (map-append name (filter test (places n)) (n ∷ [])) ∙ ap (map name) (push_kept test n (filter test (places n)) t refl)
+-- ---- places in conflict with some
 
-pub leave_name : {X : Type 0} (name : ℕ → X) (test : ℕ → Bool) (n : ℕ) (old : List X) → test n ≡ false → old ≡ map name (filter test (places n)) → old ≡ map name (filter test (places (n + 1)))
-leave_name name test n old t e = e ∙ ap (map name) (leave test n (filter test (places n)) t refl)
+-- what a set has of the first places that pass a test passes it
+pub kept_opposed : (n : ℕ) (s opposed kept : List ℕ) (test : ℕ → Bool) → AreAmong n s → opposed ≡ filter test (places n) → kept ≡ filter (has opposed) s → kept ≡ filter test s
+kept_opposed n s opposed kept test w e f = f ∙ filter_agree (has opposed) test s (λ x m. ap (λ (l : List ℕ). has l x) e ∙ has-filter test n x (low n s w x m))
+
+pub left_unopposed : (n : ℕ) (s opposed kept : List ℕ) (test : ℕ → Bool) → AreAmong n s → opposed ≡ filter test (places n) → kept ≡ filter (λ x. not (has opposed x)) s → kept ≡ filter (λ x. not (test x)) s
+left_unopposed n s opposed kept test w e f = f ∙ filter_agree (λ x. not (has opposed x)) (λ x. not (test x)) s (λ x m. ap (λ (l : List ℕ). not (has l x)) e ∙ ap not (has-filter test n x (low n s w x m)))
+
+pub all_low : (n : ℕ) (s : List ℕ) → AreAmong n s → All (λ place. place < n) s
+all_low n s w = all_below (has s) n s (sym w)
+
+-- all places, as many as the relation has
+pub all_places : (n m : ℕ) (all : List ℕ) → m ≡ n → all ≡ places m → All (λ place. place < n) all
+all_places n m all q e = all_low n all (all_among n m all q e)
+
+pub opposed_by_all : (clash : ℕ → ℕ → Bool) (n m : ℕ) (all opposed : List ℕ) → m ≡ n → all ≡ places m → opposed ≡ filter (meets clash all) (places n) → opposed ≡ in_conflict clash n
+opposed_by_all clash n m all opposed q e f = f ∙ ap (λ l. filter (meets clash l) (places n)) (e ∙ ap places q)
+
+-- the identifier, by the places that are in conflict with some
+pub identified : (clash : ℕ → ℕ → Bool) (name : ℕ → Name) (n : ℕ) (scope s opposed : List ℕ) (id : List Name) → AreAmong n s → opposed ≡ filter (meets clash scope) (places n)
+    → id ≡ sort_by name_cmp (map name (filter (has opposed) s)) → id ≡ identifier clash name scope s
+unfolding identifier
+identified clash name n scope s opposed id w e f = f ∙ ap (λ l. sort_by name_cmp (map name l)) (kept_opposed n s opposed (filter (has opposed) s) (meets clash scope) w e refl)

@@ -1,5 +1,5 @@
 -- The fields of a list of so many, and a part that isn't read.
-use Rattle.std.proofs.Common.{◌≡◌, ℕ, ◌<◌, ◌≤◌, List, [], ◌∷◌, length, get_or, Option, None, Result, Ok, Err, arith}
+use Rattle.std.proofs.Common.{◌≡◌, ◌<◌, ◌≤◌, List, [], ◌∷◌, length, get_or, Option, None, Result, Ok, Err, arith}
 use Rattle.std.specs.Result.{IsErrAnd}
 use Rattle.wire.specs.Reading.{Fails, Gives}
 use Rattle.wire.specs.declared.fault.ReadFault.{ReadFault}

@@ -10,4 +10,5 @@ pub mod ByForm
 pub mod RequestTexts
 pub mod EntryTexts
 pub mod ReplyTexts
-pub mod Plain
+pub mod Shallow
+pub mod Sent

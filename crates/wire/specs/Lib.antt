@@ -6,3 +6,4 @@ pub mod Entries
 pub mod Replies
 pub mod Faults
 pub mod Texts
+pub mod Sending

@@ -11,7 +11,7 @@ use std::marker::Model;
 use std::sync::Arc;
 
 /// The identifiers of an object's versions.
-#[derive(Debug, Drop)]
+#[derive(Drop)]
 pub struct IdList {
     ids: Vec<VersionId>,
 }
@@ -39,7 +39,7 @@ impl IdList {
 }
 
 /// The versions of an object.
-#[derive(Debug, Drop)]
+#[derive(Drop)]
 pub struct VersionList {
     versions: Vec<Version>,
 }
@@ -70,7 +70,7 @@ impl VersionList {
 }
 
 /// Objects with their kinds.
-#[derive(Debug, Drop)]
+#[derive(Drop)]
 pub struct ObjectList {
     objects: Vec<(OpName, Kind)>,
 }
@@ -98,7 +98,7 @@ impl ObjectList {
 }
 
 /// Entries of a record, each shared with the record that holds it.
-#[derive(Debug, Drop)]
+#[derive(Drop)]
 pub struct EntryList {
     entries: Vec<Arc<Entry>>,
 }

@@ -6,7 +6,7 @@ use rules::Refusal;
 
 /// The answer to a request. `at` is the number of the record's entries before the call, and 0 where
 /// no room was asked.
-#[derive(Debug, Drop)]
+#[derive(Drop)]
 pub enum Reply {
     /// The session is now this site of the room.
     Joined {

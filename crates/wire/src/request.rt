@@ -5,7 +5,7 @@ use rules::Attrs;
 use state_vector::StateVector;
 
 /// What a session asks for.
-#[derive(Debug, Drop)]
+#[derive(Drop)]
 pub enum Request {
     /// To be let into a room, as a new site.
     Join {

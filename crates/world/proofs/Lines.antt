@@ -1,11 +1,12 @@
 -- Lines, and what goes out for them.
 use Rattle.std.proofs.Common.{◌≡◌, ◌≢◌, ℕ, ◌+◌, ◌-◌, ◌*◌, ◌^◌, ◌<◌, ◌≤◌, ◌&&◌, ltb, eqb, List, [], ◌∷◌, ◌++◌, append-nil, length, get_or, take, drop, Option, Some, None, false, cond, zero, suc, refl, sym, ap, subst, ◌∙◌, arith}
 use Rattle.std.specs.Char.{is_ascii_digit}
-use Rattle.std.proofs.lemmas.List.{drop_more, take_rest, take-append-drop, length-take, length-drop}
+use Rattle.std.proofs.lemmas.List.{drop_more, take_all, take_rest, take-append-drop, length-take, length-drop}
 use Rattle.std.proofs.Math.Seq.{take-add}
 use Rattle.std.proofs.KnownBytes.{Appends-trans, Appends-nil}
 use Rattle.std.specs.Io.KnownBytes.{Appends}
-use Rattle.std.proofs.lemmas.Bool.{ne_eqb}
+use Rattle.std.proofs.lemmas.Bool.{ne_eqb, eqb-true, eq-eqb}
+use Rattle.memchr.specs.Find.{Nowhere, NoneBefore, Passes, is_byte}
 use Rattle.world.specs.Alone.{message_of}
 use Rattle.world.specs.State.{State, names_of, rooms_of}
 use Rattle.world.specs.Script.{number_then, lines_of, onto_first, HasNoBreak, AppendsFront, message_in, text_for, rooms_for, lines_out, lines_end, output_of, end_of}
@@ -38,9 +39,32 @@ pub lines_last : (x : ℕ) (line : List ℕ) → HasNoBreak (x ∷ line) → lin
 lines_last x [] h = rw (ne_eqb x 10 h.0) refl
 lines_last x (y ∷ line) h = rw (ne_eqb x 10 h.0) (ap (onto_first x) (lines_last y line h.1))
 
-pub no_break_push : (line : List ℕ) (x : ℕ) → HasNoBreak line → x ≢ 10 → HasNoBreak (line ++ x ∷ [])
-no_break_push [] x h ne = (ne, tt)
-no_break_push (y ∷ line) x h ne = (h.0, no_break_push line x h.1 ne)
+pub no_break_append : (a b : List ℕ) → HasNoBreak a → HasNoBreak b → HasNoBreak (a ++ b)
+no_break_append [] b h k = k
+no_break_append (x ∷ a) b h k = (h.0, no_break_append a b h.1 k)
+
+pub no_break_parts : (a b : List ℕ) → HasNoBreak (a ++ b) → HasNoBreak a × HasNoBreak b
+no_break_parts [] b h = (tt, h)
+no_break_parts (x ∷ a) b h = let parts = no_break_parts a b h.1 in ((h.0, parts.0), parts.1)
+
+-- none of the first bytes is a line break
+no_break_front : (bytes : List ℕ) (n : ℕ) → ((k : ℕ) → k < n → get_or bytes k 0 ≢ 10) → HasNoBreak (take n bytes)
+no_break_front bytes zero h = tt
+no_break_front [] (suc n) h = tt
+no_break_front (x ∷ bytes) (suc n) h = (h 0 (omega arith), no_break_front bytes n (λ k lt. h (suc k) (omega (arith, lt))))
+
+-- none was found
+pub no_break_in : (bytes : List ℕ) → Nowhere (Passes (is_byte 10) bytes) 0 (length bytes) → HasNoBreak bytes
+no_break_in bytes none =
+    subst HasNoBreak (take_all (length bytes) bytes (omega arith)) (no_break_front bytes (length bytes) (λ k lt e. none k (omega arith) lt (eq-eqb _ _ e)))
+
+-- the first was found
+pub break_at : (bytes : List ℕ) (place : ℕ) → NoneBefore (Passes (is_byte 10) bytes) 0 (length bytes) place → Passes (is_byte 10) bytes place
+    → (bytes ≡ take place bytes ++ 10 ∷ drop (place + 1) bytes) × HasNoBreak (take place bytes)
+break_at bytes place first found = (
+  sym (take-append-drop place bytes) ∙ ap (λ xs. take place bytes ++ xs) (drop_more bytes place 0 first.high ∙ ap (λ x. x ∷ drop (place + 1) bytes) (eqb-true _ _ found)),
+  no_break_front bytes place (λ k lt e. first.before k (omega arith) lt (eq-eqb _ _ e)),
+)
 
 pub output_last : (mid : State) (line : List ℕ) → HasNoBreak line → 0 < length line → output_of mid line ≡ text_for (names_of mid) (rooms_of mid) (message_in line)
 output_last mid [] h some = absurd (omega (arith, some))

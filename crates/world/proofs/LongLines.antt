@@ -14,6 +14,7 @@ use Rattle.world.specs.State.{State, names_of, rooms_of}
 use Rattle.world.specs.Script.{lines_of, onto_first, message_in, text_for, rooms_for, lines_out, lines_end, output_of, HasNoBreak}
 use Rattle.world.specs.Answered.{kept_part}
 use Rattle.world.proofs.Changed.{rooms_same, alone_same}
+use Rattle.world.proofs.Lines.{no_break_parts}
 use Rattle.world.proofs.LineForms.{line_of_message, message_of_line}
 
 -- ---- what is no request
@@ -159,6 +160,24 @@ lines_dropped (y ∷ line) x rest h ne long =
     ap (map kept_part) (lines_join y line (x ∷ rest) h ∙ ap (join (y ∷ line)) read)
     ∙ join_kept (y ∷ line) x (lines_of rest) long
     ∙ ap (map kept_part) (sym (lines_join y line rest h))
+
+lines_dropped_all : (line more rest : List ℕ) → HasNoBreak line → HasNoBreak more → 16396 ≤ length line → map kept_part (lines_of (line ++ (more ++ rest))) ≡ map kept_part (lines_of (line ++ rest))
+lines_dropped_all line [] rest h k long = refl
+lines_dropped_all line (x ∷ more) rest h k long = lines_dropped line x (more ++ rest) h k.0 long ∙ lines_dropped_all line more rest h k.1 long
+
+lines_cut_by : (b : Bool) (line rest : List ℕ) → ltb 16396 (length line) ≡ b → HasNoBreak line → map kept_part (lines_of (line ++ rest)) ≡ map kept_part (lines_of (kept_part line ++ rest))
+lines_cut_by true line rest e h =
+    let long : 16396 < length line = ltb-true 16396 (length line) e in
+    let enough : 16396 ≤ length (kept_part line) = omega (arith, length-take 16396 line, long) in
+    let parts = no_break_parts (kept_part line) (drop 16396 line) (subst HasNoBreak (sym (take-append-drop 16396 line)) h) in
+    ap (λ l. map kept_part (lines_of (l ++ rest))) (sym (take-append-drop 16396 line))
+    ∙ ap (λ l. map kept_part (lines_of l)) (append_assoc (kept_part line) (drop 16396 line) rest)
+    ∙ lines_dropped_all (kept_part line) (drop 16396 line) rest parts.0 parts.1 enough
+lines_cut_by false line rest e h = ap (λ l. map kept_part (lines_of (l ++ rest))) (sym (take_all 16396 line (ltb-false 16396 (length line) e)))
+
+-- a line that is cut at the limit
+pub lines_cut : (line rest : List ℕ) → HasNoBreak line → map kept_part (lines_of (line ++ rest)) ≡ map kept_part (lines_of (kept_part line ++ rest))
+lines_cut line rest h = lines_cut_by (ltb 16396 (length line)) line rest refl h
 
 pub output_dropped : (mid : State) (line : List ℕ) (x : ℕ) (rest : List ℕ) → HasNoBreak line → x ≢ 10 → 16396 ≤ length line → output_of mid (line ++ x ∷ rest) ≡ output_of mid (line ++ rest)
 output_dropped mid line x rest h ne long =

@@ -1,16 +1,15 @@
 -- Parts of a script that are answered one after the other.
-use Rattle.std.proofs.Common.{◌≡◌, ◌≢◌, ℕ, ◌+◌, ◌<◌, ◌≤◌, ◌⊎◌, inl, inr, ltb, List, [], ◌∷◌, ◌++◌, append_assoc, append-nil, length, get_or, take, drop, map, Option, Bool, true, false, cond, Result, Ok, Err, OnOk, OnErr, refl, sym, ap, subst, ◌∙◌, arith}
-use Rattle.std.proofs.lemmas.List.{take-append-drop, length_push, drop_more, map-append, take-map}
+use Rattle.std.proofs.Common.{◌≡◌, ℕ, ◌+◌, ◌-◌, ◌<◌, ◌≤◌, ◌⊎◌, inl, inr, min, List, [], ◌∷◌, ◌++◌, append_assoc, append-nil, length, take, drop, map, Option, Result, Ok, Err, OnOk, OnErr, refl, sym, ap, subst, ◌∙◌, arith}
+use Rattle.std.proofs.lemmas.List.{length-take, take-append-drop, take_min, map-append, take-map}
 use Rattle.std.proofs.Math.Seq.{take-append-add}
 use Rattle.std.proofs.KnownBytes.{Appends-trans, Appends-nil, Appends-kept}
 use Rattle.std.specs.Io.KnownBytes.{Appends, Keeps}
-use Rattle.std.proofs.lemmas.Bool.{ltb-true, ltb-false}
 use Rattle.world.specs.Rooms.{Rooms}
 use Rattle.world.specs.State.{State, names_of, rooms_of}
-use Rattle.world.specs.Script.{kept_line, lines_of, HasNoBreak, AppendsFront, Stops, message_in, text_for, rooms_for, lines_out, lines_end, output_of, end_of}
+use Rattle.world.specs.Script.{lines_of, HasNoBreak, AppendsFront, Stops, message_in, text_for, rooms_for, lines_out, lines_end, output_of, end_of}
 use Rattle.world.specs.Answered.{kept_part, Answered, Adds, AnswersSome, Hands, Wrote, WroteSome}
-use Rattle.world.proofs.LongLines.{lines_dropped, out_kept, end_kept}
-use Rattle.world.proofs.Lines.{lines_break, lines_last, no_break_push, no_front}
+use Rattle.world.proofs.LongLines.{lines_cut, out_kept, end_kept}
+use Rattle.world.proofs.Lines.{lines_break, lines_last, no_break_append, no_break_parts, no_front}
 
 -- ---- lines one after the other
 
@@ -101,61 +100,60 @@ module _ {from to : State} {taken held text : List ℕ} (h : Answered from to ta
   pub first_end : (n : ℕ) → lines_end (names_of from) (rooms_of from) (take (length h.lines + n) (lines_of (taken ++ rest))) ≡ lines_end (names_of to) (rooms_of to) (take n (lines_of (held ++ rest)))
   first_end n = end_by (take (length h.lines + n) (lines_of (taken ++ rest))) (take n (lines_of (held ++ rest))) (first_same n)
 
--- ---- one more byte
+-- ---- more bytes of a line
 
-kept_line_by : (s : State) (t : Bool) (line : List ℕ) (byte : ℕ) (longer : List ℕ) → ltb (length line) 16396 ≡ t → longer ≡ cond t (line ++ byte ∷ []) line → HasNoBreak line → byte ≢ 10
-    → HasNoBreak longer × (length line ≤ 16396 → length longer ≤ 16396) × Answered s s (line ++ byte ∷ []) longer []
-kept_line_by s true line byte longer et e clean ne = (
-  rw e (no_break_push line byte clean ne),
-  λ h. omega (arith, ap length e, length_push line byte, ltb-true (length line) 16396 et),
-  subst (λ l. Answered s s (line ++ byte ∷ []) l []) (sym e) (answered_none s (line ++ byte ∷ [])),
-)
-kept_line_by s false line byte longer et e clean ne = (
-  rw e clean,
-  λ h. omega (arith, ap length e),
-  subst (λ l. Answered s s (line ++ byte ∷ []) l []) (sym e) (record {
-    lines = [];
-    rooms = refl;
-    names = refl;
-    is_text = refl;
-    same = λ rest. ap (λ xs. map kept_part (lines_of xs)) (append_assoc line (byte ∷ []) rest) ∙ lines_dropped line byte rest clean ne (ltb-false (length line) 16396 et);
-  }),
-)
+-- they join it
+pub answered_kept : (s : State) (line bytes longer : List ℕ) → longer ≡ kept_part (line ++ bytes) → HasNoBreak line → HasNoBreak bytes
+    → HasNoBreak longer × (length longer ≤ 16396) × Answered s s (line ++ bytes) longer []
+answered_kept s line bytes longer e clean more =
+    let all = line ++ bytes in
+    let both = no_break_append line bytes clean more in (
+      rw e (no_break_parts (kept_part all) (drop 16396 all) (subst HasNoBreak (sym (take-append-drop 16396 all)) both)).0,
+      omega (arith, ap length e, length-take 16396 all),
+      subst (λ l. Answered s s all l []) (sym e) (record { lines = []; rooms = refl; names = refl; is_text = refl; same = λ rest. lines_cut all rest both }),
+    )
 
--- it joins the line
-pub answered_kept : (s : State) (line : List ℕ) (byte : ℕ) (longer : List ℕ) → longer ≡ kept_line line byte → HasNoBreak line → byte ≢ 10
-    → HasNoBreak longer × (length line ≤ 16396 → length longer ≤ 16396) × Answered s s (line ++ byte ∷ []) longer []
-answered_kept s line byte longer e clean ne = kept_line_by s (ltb (length line) 16396) line byte longer refl e clean ne
+-- they are as many as are kept
+pub kept_bytes : (line bytes : List ℕ) (held count : ℕ) → held ≡ length line → held ≤ 16396 → count ≡ min (16396 - held) (length bytes) → line ++ take count bytes ≡ kept_part (line ++ bytes)
+kept_bytes line bytes held count is_held short is_count =
+    let limit : length line + (16396 - held) ≡ 16396 = omega (arith, is_held, short) in
+    ap (λ n. line ++ take n bytes) is_count
+    ∙ ap (λ xs. line ++ xs) (take_min (16396 - held) bytes)
+    ∙ sym (take-append-add line bytes (16396 - held))
+    ∙ ap (λ n. take n (line ++ bytes)) limit
 
--- it ends the line
-pub answered_line : (s new : State) (line : List ℕ) (byte : ℕ) (text empty : List ℕ) → byte ≡ 10 → HasNoBreak line → empty ≡ []
-    → text ≡ text_for (names_of s) (rooms_of s) (message_in line)
-    → rooms_of new ≡ rooms_for (names_of s) (rooms_of s) (message_in line) → names_of new ≡ names_of s
-    → Answered s new (line ++ byte ∷ []) empty text
-answered_line s new line byte text empty is_break clean none is_text is_rooms is_names = record {
+-- ---- a line ends
+
+pub answered_line : (s new : State) (line text : List ℕ) → HasNoBreak line → text ≡ text_for (names_of s) (rooms_of s) (message_in line)
+    → rooms_of new ≡ rooms_for (names_of s) (rooms_of s) (message_in line) → names_of new ≡ names_of s → Answered s new (line ++ 10 ∷ []) [] text
+answered_line s new line text clean is_text is_rooms is_names = record {
   lines = line ∷ [];
   rooms = is_rooms;
   names = is_names;
   is_text = is_text ∙ sym (append-nil (text_for (names_of s) (rooms_of s) (message_in line)));
-  same = λ rest.
-      ap (λ xs. map kept_part (lines_of xs)) (append_assoc line (byte ∷ []) rest ∙ ap (λ x. line ++ x ∷ rest) is_break)
-      ∙ ap (map kept_part) (lines_break line rest clean)
-      ∙ ap (λ xs. map kept_part (line ∷ lines_of (xs ++ rest))) (sym none);
+  same = λ rest. ap (λ xs. map kept_part (lines_of xs)) (append_assoc line (10 ∷ []) rest) ∙ ap (map kept_part) (lines_break line rest clean);
 }
 
--- the line was answered, but the answer is lost, or it was not answered
-pub answered_lost : (s new : State) (line : List ℕ) (byte : ℕ) → byte ≡ 10 → HasNoBreak line → names_of new ≡ names_of s
-    → (rooms_of new ≡ rooms_of s) ⊎ (rooms_of new ≡ rooms_for (names_of s) (rooms_of s) (message_in line)) → AnswersSome s new (line ++ byte ∷ [])
-answered_lost s new line byte is_break clean is_names (inl same) = record {
-  held = line ++ byte ∷ [];
+-- it was answered, but the answer is lost, or it was not answered
+pub answered_lost : (s new : State) (line : List ℕ) → HasNoBreak line → names_of new ≡ names_of s
+    → (rooms_of new ≡ rooms_of s) ⊎ (rooms_of new ≡ rooms_for (names_of s) (rooms_of s) (message_in line)) → AnswersSome s new (line ++ 10 ∷ [])
+answered_lost s new line clean is_names (inl same) = record {
+  held = line ++ 10 ∷ [];
   text = [];
   answered = record { lines = []; rooms = same; names = is_names; is_text = refl; same = λ rest. refl };
 }
-answered_lost s new line byte is_break clean is_names (inr moved) = record {
+answered_lost s new line clean is_names (inr moved) = record {
   held = [];
   text = text_for (names_of s) (rooms_of s) (message_in line);
-  answered = answered_line s new line byte _ [] is_break clean refl refl moved is_names;
+  answered = answered_line s new line _ clean refl moved is_names;
 }
+
+-- it is the line that was held
+pub answered_end : {s0 s1 s2 : State} {taken held text : List ℕ} → Answered s0 s1 taken held [] → Answered s1 s2 (held ++ 10 ∷ []) [] text → Answered s0 s2 (taken ++ 10 ∷ []) [] text
+answered_end h k = answered_then (answered_more (10 ∷ []) h) k
+
+pub answers_end : {s0 s1 s2 : State} {taken held : List ℕ} → Answered s0 s1 taken held [] → AnswersSome s1 s2 (held ++ 10 ∷ []) → AnswersSome s0 s2 (taken ++ 10 ∷ [])
+answers_end h k = record { held = k.held; text = k.text; answered = answered_then (answered_more (10 ∷ []) h) k.answered }
 
 pub answers_nothing : (s new : State) (taken : List ℕ) → new ≡ s → AnswersSome s new taken
 answers_nothing s new taken same = subst (λ n. AnswersSome s n taken) (sym same) (record { held = taken; text = []; answered = answered_none s taken })
@@ -165,18 +163,26 @@ answers_nothing s new taken same = subst (λ n. AnswersSome s n taken) (sym same
 pub wrote_none : (a : Option (List ℕ)) (s : State) (held pending : List ℕ) → pending ≡ [] → Wrote a a s s held held pending
 wrote_none a s held pending e = record { written = []; adds = Appends-nil a; answered = subst (λ p. Answered s s held held p) (sym e) (answered_none s held) }
 
--- a byte was taken
-pub wrote_byte : {a b : Option (List ℕ)} {s0 : State} (s1 s2 : State) {taken : List ℕ} (line bytes : List ℕ) (i : ℕ) (byte : ℕ) (longer before after : List ℕ) → i < length bytes → byte ≡ get_or bytes i 0
-    → Wrote a b s0 s1 taken (line ++ drop i bytes) before → Adds s1 s2 (line ++ byte ∷ []) longer before after → Wrote a b s0 s2 taken (longer ++ drop (i + 1) bytes) after
-wrote_byte {s0 = s0} s1 s2 {taken = taken} line bytes i byte longer before after within is h k =
-    let next : line ++ drop i bytes ≡ (line ++ byte ∷ []) ++ drop (i + 1) bytes =
-    ap (λ xs. line ++ xs) (drop_more bytes i 0 within ∙ ap (λ x. x ∷ drop (i + 1) bytes) (sym is)) ∙ sym (append_assoc line (byte ∷ []) (drop (i + 1) bytes)) in
-    let more = answered_then (subst (λ xs. Answered s0 s1 taken xs (h.written ++ before)) next h.answered) (answered_more (drop (i + 1) bytes) k.answered) in
+-- a line ended
+pub wrote_line : {a b : Option (List ℕ)} {s0 : State} (s1 s2 : State) {taken : List ℕ} (line first others rest longer before after : List ℕ) → rest ≡ first ++ 10 ∷ others
+    → Wrote a b s0 s1 taken (line ++ rest) before → Adds s1 s2 (line ++ first ++ 10 ∷ []) longer before after → Wrote a b s0 s2 taken (longer ++ others) after
+wrote_line {s0 = s0} s1 s2 {taken = taken} line first others rest longer before after is h k =
+    let next : line ++ rest ≡ (line ++ first ++ 10 ∷ []) ++ others =
+    ap (λ xs. line ++ xs) is ∙ sym (append_assoc line first (10 ∷ others)) ∙ sym (append_assoc (line ++ first) (10 ∷ []) others) in
+    let more = answered_then (subst (λ xs. Answered s0 s1 taken xs (h.written ++ before)) next h.answered) (answered_more others k.answered) in
     record {
       written = h.written;
       adds = h.adds;
-      answered = subst (λ t. Answered s0 s2 taken (longer ++ drop (i + 1) bytes) t) (append_assoc h.written before k.text ∙ ap (λ t. h.written ++ t) (sym k.added)) more;
+      answered = subst (λ t. Answered s0 s2 taken (longer ++ others) t) (append_assoc h.written before k.text ∙ ap (λ t. h.written ++ t) (sym k.added)) more;
     }
+
+-- the bytes that are held were cut
+pub wrote_cut : {a b : Option (List ℕ)} {s0 s1 : State} {taken held shorter pending : List ℕ} → Wrote a b s0 s1 taken held pending → Answered s1 s1 held shorter [] → Wrote a b s0 s1 taken shorter pending
+wrote_cut {s0 = s0} {s1 = s1} {taken = taken} {shorter = shorter} {pending = pending} h k = record {
+  written = h.written;
+  adds = h.adds;
+  answered = subst (λ t. Answered s0 s1 taken shorter t) (append-nil (h.written ++ pending)) (answered_then h.answered k);
+}
 
 -- some of the answers were written
 pub wrote_hands : {a b c : Option (List ℕ)} {s0 s1 : State} {taken held before after : List ℕ} → Wrote a b s0 s1 taken held before → Hands b c before after → Wrote a c s0 s1 taken held after
@@ -201,25 +207,25 @@ some_of {held = held} {pending = pending} h = record { held = held; pending = pe
 pub hands_more : {b c : Option (List ℕ)} {before after : List ℕ} (lost : List ℕ) → Hands b c before after → Hands b c (before ++ lost) (after ++ lost)
 hands_more {after = after} lost h = record { front = h.front; adds = h.adds; whole = ap (λ t. t ++ lost) h.whole ∙ append_assoc h.front after lost }
 
--- a byte was taken, and answers up to here are there
+-- a line ended, and answers up to here are there
 pub record WroteUpTo (a b : Option (List ℕ)) (s0 s2 : State) (taken after : List ℕ) : Type 0 where
   pub held : List ℕ
   pub lost : List ℕ
   pub wrote : Wrote a b s0 s2 taken held (after ++ lost)
 
-pub wrote_up_to : {T E : Type 0} {a b : Option (List ℕ)} {s0 : State} (r : Result T E) (s1 s2 : State) {taken : List ℕ} (line bytes : List ℕ) (i : ℕ) (longer before after : List ℕ) → i < length bytes
-    → Wrote a b s0 s1 taken (line ++ drop i bytes) before → OnOk r (Adds s1 s2 (line ++ get_or bytes i 0 ∷ []) longer before after) → OnErr r (after ≡ before) → OnErr r (AnswersSome s1 s2 (line ++ get_or bytes i 0 ∷ []))
+pub wrote_up_to : {T E : Type 0} {a b : Option (List ℕ)} {s0 : State} (r : Result T E) (s1 s2 : State) {taken : List ℕ} (line first others rest longer before after : List ℕ) → rest ≡ first ++ 10 ∷ others
+    → Wrote a b s0 s1 taken (line ++ rest) before → OnOk r (Adds s1 s2 (line ++ first ++ 10 ∷ []) longer before after) → OnErr r (after ≡ before) → OnErr r (AnswersSome s1 s2 (line ++ first ++ 10 ∷ []))
     → WroteUpTo a b s0 s2 taken after
-wrote_up_to {a = a} {b = b} {s0 = s0} (Ok x) s1 s2 {taken = taken} line bytes i longer before after within h k none some = record {
-  held = longer ++ drop (i + 1) bytes;
+wrote_up_to {a = a} {b = b} {s0 = s0} (Ok x) s1 s2 {taken = taken} line first others rest longer before after is h k none some = record {
+  held = longer ++ others;
   lost = [];
-  wrote = subst (λ p. Wrote a b s0 s2 taken (longer ++ drop (i + 1) bytes) p) (sym (append-nil after)) (wrote_byte s1 s2 line bytes i (get_or bytes i 0) longer before after within refl h k);
+  wrote = subst (λ p. Wrote a b s0 s2 taken (longer ++ others) p) (sym (append-nil after)) (wrote_line s1 s2 line first others rest longer before after is h k);
 }
-wrote_up_to {a = a} {b = b} {s0 = s0} (Err y) s1 s2 {taken = taken} line bytes i longer before after within h k none some = record {
-  held = some.held ++ drop (i + 1) bytes;
+wrote_up_to {a = a} {b = b} {s0 = s0} (Err y) s1 s2 {taken = taken} line first others rest longer before after is h k none some = record {
+  held = some.held ++ others;
   lost = some.text;
-  wrote = subst (λ p. Wrote a b s0 s2 taken (some.held ++ drop (i + 1) bytes) (p ++ some.text)) (sym none)
-      (wrote_byte s1 s2 line bytes i (get_or bytes i 0) some.held before (before ++ some.text) within refl h (record { text = some.text; added = refl; answered = some.answered }));
+  wrote = subst (λ p. Wrote a b s0 s2 taken (some.held ++ others) (p ++ some.text)) (sym none)
+      (wrote_line s1 s2 line first others rest some.held before (before ++ some.text) is h (record { text = some.text; added = refl; answered = some.answered }));
 }
 
 pub up_to_hands : {a b c : Option (List ℕ)} {s0 s2 : State} {taken after left : List ℕ} → WroteUpTo a b s0 s2 taken after → Hands b c after left → WroteSome a c s0 s2 taken

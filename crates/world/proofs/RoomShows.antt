@@ -1,5 +1,5 @@
 -- Which answers of a room show an object, and that they show its groups.
-use Rattle.std.proofs.Common.{◌≡◌, ◌+◌, ℕ, Bool, true, false, cond, ◌&&◌, List, [], ◌∷◌, ◌++◌, length, map, Option, Some, None, refl}
+use Rattle.std.proofs.Common.{◌≡◌, ◌+◌, ℕ, Bool, true, false, cond, List, [], ◌∷◌, ◌++◌, length, map, Option, Some, None, refl}
 use Rattle.op_names.specs.Names.{Name}
 use Rattle.op_names.specs.Texts.{Bytes}
 use Rattle.rules.specs.declared.history.Op.{Op}

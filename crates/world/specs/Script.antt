@@ -1,5 +1,5 @@
 -- A script: lines that come in, and lines that go out.
-use Rattle.std.specs.Prelude.{ℕ, ◌+◌, ◌-◌, ◌*◌, ◌^◌, ◌==◌, ◌&&◌, ◌≡◌, ◌≢◌, ◌<◌, nat_lt, length, take, List, [], ◌∷◌, ◌++◌, Option, Some, None, if◌then◌else◌}
+use Rattle.std.specs.Prelude.{ℕ, ◌+◌, ◌-◌, ◌*◌, ◌^◌, ◌==◌, ◌&&◌, ◌≡◌, ◌≢◌, ◌<◌, nat_lt, take, List, [], ◌∷◌, ◌++◌, Option, Some, None, if◌then◌else◌}
 use Rattle.std.specs.Char.{is_ascii_digit}
 use Rattle.std.specs.Fmt.{decimal}
 use Rattle.std.specs.Io.KnownBytes.{Appends, Consumes}
@@ -95,10 +95,6 @@ pub record AnswersRead (had has old new : Option (List ℕ)) (from to : State) :
 pub record IsLineOf (line : List ℕ) (message : Message) : Type 0 where
   pub small : message.session < 2 ^ 32
   pub form : line ≡ decimal message.session ++ 32 ∷ message.bytes
-
--- a line with one more byte, of which 16396 are kept: a session, a space and one byte more than a request has
-abbrev pub kept_line : List ℕ → ℕ → List ℕ
-kept_line line byte = if nat_lt (length line) 16396 then line ++ byte ∷ [] else line
 
 -- the messages among lines, and what goes out for the lines where these are the texts of the replies to them
 abbrev pub with_message : Option Message → List Message → List Message

@@ -163,7 +163,7 @@ impl World {
         let Some(asker) = asker_of(&self.rooms, session, seat, &request) else {
             return refused(alloc, lone_refusal(&request));
         };
-        answer_at(alloc, &mut self.rooms, &mut self.seats, asker, &request)
+        answer_at(alloc, &mut self.rooms, &mut self.seats, asker, request)
     }
 
     /// Answers messages in order: for each the text of its reply, or `None` where memory was

@@ -90,9 +90,9 @@ fn plan(
     alloc: Global,
     room: &mut RoomState,
     site: Option<u32>,
-    request: &Request,
+    request: Request,
 ) -> Result<Planned, NoMemory>
-    ensures planned { IfOk result (λ planned. outcome planned ≡ asked room.old.room site request.now) }
+    ensures planned { IfOk result (λ planned. outcome planned ≡ asked room.old.room site request) }
     ensures ready { IfOk result (λ planned. IsReady room.new planned.change) }
     ensures room { room.new.room ≡ room.old.room }
 {
@@ -164,15 +164,15 @@ impl NamedRoom {
         alloc: Global,
         seats: &mut BTreeMap<u32, Seat>,
         asker: Asker,
-        request: &Request,
+        request: Request,
     ) -> Result<String, NoMemory>
-        requires { IsRequest request.now }
-        ensures text { IfOk result (λ text. string_bytes text ≡ reply_text (asked self.old.room asker.site request.now).0) }
-        ensures read { IfOk result (λ text. reply_read (string_bytes text) ≡ Some (asked self.old.room asker.site request.now).0) }
+        requires { IsRequest request }
+        ensures text { IfOk result (λ text. string_bytes text ≡ reply_text (asked self.old.room asker.site request).0) }
+        ensures read { IfOk result (λ text. reply_read (string_bytes text) ≡ Some (asked self.old.room asker.site request).0) }
         ensures legal { IsLegal self.old.room.limits self.old.room.entries }
         ensures name { self.new.name ≡ self.old.name }
-        ensures room { OnOk result (self.new.room ≡ with_entry self.old.room (asked self.old.room asker.site request.now).1) }
-        ensures seats { OnOk result (IsMoved seats.old.entries seats.new.entries (asked self.old.room asker.site request.now).0 asker.session asker.place) }
+        ensures room { OnOk result (self.new.room ≡ with_entry self.old.room (asked self.old.room asker.site request).1) }
+        ensures seats { OnOk result (IsMoved seats.old.entries seats.new.entries (asked self.old.room asker.site request).0 asker.session asker.place) }
         ensures err { OnErr result ((self.new ≡ self.old) × (seats.new.entries ≡ seats.old.entries)) }
     {
         // The record is legal and the limits are at most the full ones, so the reply is in range.
@@ -191,17 +191,17 @@ pub(crate) fn answer_at(
     rooms: &mut Vec<NamedRoom>,
     seats: &mut BTreeMap<u32, Seat>,
     asker: Asker,
-    request: &Request,
+    request: Request,
 ) -> Result<String, NoMemory>
     requires place { asker.place < length rooms.old.items }
-    requires range { IsRequest request.now }
-    ensures text { IfOk result (λ text. string_bytes text ≡ reply_text (asked (room_at rooms.old.items asker.place) asker.site request.now).0) }
-    ensures read { IfOk result (λ text. reply_read (string_bytes text) ≡ Some (asked (room_at rooms.old.items asker.place) asker.site request.now).0) }
+    requires range { IsRequest request }
+    ensures text { IfOk result (λ text. string_bytes text ≡ reply_text (asked (room_at rooms.old.items asker.place) asker.site request).0) }
+    ensures read { IfOk result (λ text. reply_read (string_bytes text) ≡ Some (asked (room_at rooms.old.items asker.place) asker.site request).0) }
     ensures legal { let room = room_at rooms.old.items asker.place in IsLegal room.limits room.entries }
     ensures names { names_in rooms.new.items ≡ names_in rooms.old.items }
     ensures rooms { let room = room_at rooms.old.items asker.place in
-        OnOk result (rooms_in rooms.new.items ≡ slice_set (rooms_in rooms.old.items) asker.place (with_entry room (asked room asker.site request.now).1)) }
-    ensures seats { OnOk result (IsMoved seats.old.entries seats.new.entries (asked (room_at rooms.old.items asker.place) asker.site request.now).0 asker.session asker.place) }
+        OnOk result (rooms_in rooms.new.items ≡ slice_set (rooms_in rooms.old.items) asker.place (with_entry room (asked room asker.site request).1)) }
+    ensures seats { OnOk result (IsMoved seats.old.entries seats.new.entries (asked (room_at rooms.old.items asker.place) asker.site request).0 asker.session asker.place) }
     ensures err { OnErr result ((rooms.new.items ≡ rooms.old.items) × (seats.new.entries ≡ seats.old.entries)) }
 {
     rooms[asker.place].answer(alloc, seats, asker, request)

@@ -1,15 +1,17 @@
 //! Scripts: lines of sessions and their messages, answered as they come.
 
-ghost use Rattle.std.specs.Prelude.{◌≡◌, ◌≢◌, ◌≤◌, ◌⊎◌, ℕ, List, [], ◌∷◌, ◌++◌, length, option_map, IfOk, IfSome, IfErr, OnOk, OnErr, IsErrOf, string_bytes};
+ghost use Rattle.std.specs.Prelude.{◌≡◌, ◌≢◌, ◌≤◌, ◌⊎◌, ℕ, List, [], ◌∷◌, ◌++◌, length, option_map, IfOk, IfSome, IfErr, OnOk, OnErr, IsErrOf, MatchOption};
 ghost use Rattle.std.specs.Fmt.{decimal};
 ghost use Rattle.std.specs.Io.KnownBytes.{Appends, IsAtEnd, Keeps};
 ghost use Rattle.world.specs.Alone.{message_of};
 ghost use Rattle.world.specs.State.{names_of, rooms_of};
-ghost use Rattle.world.specs.Script.{kept_line, message_in, text_for, rooms_for, output_of, end_of, HasNoBreak, AppendsFront, Stops, AnswersRead};
-ghost use Rattle.world.specs.Answered.{Adds, AnswersSome, Hands, Wrote, WroteSome};
+ghost use Rattle.world.specs.Script.{message_in, text_for, rooms_for, output_of, end_of, HasNoBreak, AppendsFront, Stops, AnswersRead};
+ghost use Rattle.world.specs.Answered.{kept_part, Adds, AnswersSome, Hands, Wrote, WroteSome};
 
 use crate::World;
 use crate::fault::ScriptFault;
+use itoa::Buffer;
+use memchr::memchr;
 use op_names::NoMemory;
 use std::alloc::Global;
 use std::io::{ErrorKind, Read, Write};
@@ -73,13 +75,21 @@ fn write_out<W: Write>(output: &mut W, bytes: &[u8]) -> Result<(), ScriptFault>
     Err(ScriptFault::Write)
 }
 
-/// Adds a byte to the line, as long as it can decide something.
-fn keep_byte(line: &mut Vec<u8>, byte: u8) -> Result<(), NoMemory>
-    ensures ok { OnOk result (line.new.items ≡ kept_line line.old.items byte) }
+/// The bytes before the first line break, and those after it, if there is one.
+fn split_line(bytes: &[u8]) -> Option<(&[u8], &[u8])>
+    ensures { MatchOption result (HasNoBreak bytes.now) (λ parts. (bytes.now ≡ parts.0.now ++ 10 ∷ parts.1.now) × HasNoBreak parts.0.now) }
 {
-    if line.len() < LINE_LIMIT {
-        line.push(byte)?;
-    }
+    let place = memchr(b'\n', bytes)?;
+    Some((&bytes[..place], &bytes[place + 1..]))
+}
+
+/// Adds bytes to the line, as many as can decide something.
+fn keep_bytes(line: &mut Vec<u8>, bytes: &[u8]) -> Result<(), NoMemory>
+    requires short { length line.old.items ≤ 16396 }
+    ensures ok { OnOk result (line.new.items ≡ kept_part (line.old.items ++ bytes.now)) }
+{
+    let room = LINE_LIMIT - line.len();
+    line.extend_from_slice(&bytes[..room.min(bytes.len())])?;
     Ok(())
 }
 
@@ -122,11 +132,19 @@ fn flush_out<W: Write>(output: &mut W) -> Result<(), ScriptFault>
     }
 }
 
-/// The line that goes out for a reply.
-fn line_text(alloc: Global, session: u32, reply: &str) -> Result<String, NoMemory>
-    ensures { IfOk result (λ text. string_bytes text ≡ decimal session ++ (32 ∷ reply.now) ++ 10 ∷ []) }
+/// Adds the line that goes out for a reply to the answers. On `Err` none of it is added.
+fn add_reply(answers: &mut Vec<u8>, session: u32, reply: &str) -> Result<(), NoMemory>
+    ensures ok { OnOk result (answers.new.items ≡ answers.old.items ++ (decimal session ++ (32 ∷ reply.now) ++ 10 ∷ [])) }
+    ensures err { OnErr result (answers.new.items ≡ answers.old.items) }
 {
-    Ok(format!(in alloc; "{session} {reply}\n")?)
+    let mut digits = Buffer::new();
+    let number = digits.format(session);
+    answers.reserve(number.len() + reply.len() + 2)?;
+    answers.extend_from_slice(number.as_bytes()).unwrap();
+    answers.push(b' ').unwrap();
+    answers.extend_from_slice(reply.as_bytes()).unwrap();
+    answers.push(b'\n').unwrap();
+    Ok(())
 }
 
 /// Where a read puts what it reads.
@@ -154,34 +172,65 @@ impl World {
             None => answers.extend_from_slice(b"?\n")?,
             Some((session, bytes)) => {
                 let reply = self.step(alloc, session, bytes)?;
-                let text = line_text(alloc, session, reply.as_str())?;
-                answers.extend_from_slice(text.as_bytes())?;
+                add_reply(answers, session, reply.as_str())?;
             }
         }
         Ok(())
     }
 
-    /// Takes the next byte of a script, and adds the answer to a line that it ends.
-    fn take_byte(
+    /// Takes the bytes before a line break, and adds the answer to the line that they end.
+    fn end_line(
         &mut self,
         alloc: Global,
         line: &mut Vec<u8>,
-        byte: u8,
+        bytes: &[u8],
         answers: &mut Vec<u8>,
     ) -> Result<(), NoMemory>
-        requires { HasNoBreak line.old.items }
-        ensures line { OnOk result (HasNoBreak line.new.items) }
-        ensures short { OnOk result (length line.old.items ≤ 16396 → length line.new.items ≤ 16396) }
-        ensures ok { OnOk result (Adds self.old self.new (line.old.items ++ byte ∷ []) line.new.items answers.old.items answers.new.items) }
+        requires clean { HasNoBreak line.old.items }
+        requires short { length line.old.items ≤ 16396 }
+        requires bytes { HasNoBreak bytes.now }
+        ensures empty { OnOk result (line.new.items ≡ []) }
+        ensures ok { OnOk result (Adds self.old self.new (line.old.items ++ bytes.now ++ 10 ∷ []) line.new.items answers.old.items answers.new.items) }
         ensures none { OnErr result (answers.new.items ≡ answers.old.items) }
-        ensures err { OnErr result (AnswersSome self.old self.new (line.old.items ++ byte ∷ [])) }
+        ensures err { OnErr result (AnswersSome self.old self.new (line.old.items ++ bytes.now ++ 10 ∷ [])) }
     {
-        if byte != b'\n' {
-            return keep_byte(line, byte);
+        if line.is_empty() {
+            return self.answer_line(alloc, bytes, answers);
         }
+        keep_bytes(line, bytes)?;
         self.answer_line(alloc, line.as_slice(), answers)?;
         line.clear();
         Ok(())
+    }
+
+    /// Answers each line that ends in the next bytes of a script, and gives the bytes that are
+    /// left.
+    fn answer_lines<'b, W: Write>(
+        &mut self,
+        alloc: Global,
+        line: &mut Vec<u8>,
+        bytes: &'b [u8],
+        answers: &mut Vec<u8>,
+        output: &mut W,
+    ) -> Result<&'b [u8], ScriptFault>
+        requires clean { HasNoBreak line.old.items }
+        requires short { length line.old.items ≤ 16396 }
+        requires none { answers.old.items ≡ [] }
+        ensures line { OnOk result (HasNoBreak line.new.items) }
+        ensures short { OnOk result (length line.new.items ≤ 16396) }
+        ensures rest { IfOk result (λ rest. HasNoBreak rest.now) }
+        ensures ok { IfOk result (λ rest. Wrote (W.contents output.old) (W.contents output.new) self.old self.new (line.old.items ++ bytes.now) (line.new.items ++ rest.now) answers.new.items) }
+        ensures fault { OnErr result (WroteSome (W.contents output.old) (W.contents output.new) self.old self.new (line.old.items ++ bytes.now)) }
+        ensures kind { IfErr result (λ fault. fault ≢ ScriptFault.Read) }
+    {
+        let mut rest = bytes;
+        while let Some((first, others)) = split_line(rest) {
+            let ended = self.end_line(alloc, line, first, answers);
+            hand_out_many(output, answers, ended.is_err())?;
+            ended?;
+            rest = others;
+        }
+        Ok(rest)
     }
 
     /// Takes the next bytes of a script, and answers each line that ends in them.
@@ -194,21 +243,20 @@ impl World {
         output: &mut W,
     ) -> Result<(), ScriptFault>
         requires clean { HasNoBreak line.old.items }
+        requires short { length line.old.items ≤ 16396 }
         requires none { answers.old.items ≡ [] }
         ensures line { OnOk result (HasNoBreak line.new.items) }
-        ensures short { OnOk result (length line.old.items ≤ 16396 → length line.new.items ≤ 16396) }
+        ensures short { OnOk result (length line.new.items ≤ 16396) }
         ensures none { OnOk result (answers.new.items ≡ []) }
         ensures ok { OnOk result (Wrote (W.contents output.old) (W.contents output.new) self.old self.new (line.old.items ++ bytes.now) line.new.items []) }
         ensures fault { OnErr result (WroteSome (W.contents output.old) (W.contents output.new) self.old self.new (line.old.items ++ bytes.now)) }
         ensures kind { IfErr result (λ fault. fault ≢ ScriptFault.Read) }
     {
-        for byte in bytes {
-            let taken = self.take_byte(alloc, line, *byte, answers);
-            hand_out_many(output, answers, taken.is_err())?;
-            taken?;
-        }
+        let rest = self.answer_lines(alloc, line, bytes, answers, output)?;
         hand_out(output, answers)?;
-        flush_out(output)
+        flush_out(output)?;
+        keep_bytes(line, rest)?;
+        Ok(())
     }
 
     /// Answers the line that is left when a script ends.

@@ -1,5 +1,6 @@
 //! Scripts and their answers.
 
+mod full_objects;
 mod rows;
 
 use self::rows::{FULL, LIMITED, REFUSALS, ROOMS, SETS, SHORT};

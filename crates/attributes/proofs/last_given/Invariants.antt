@@ -1,7 +1,8 @@
-use Rattle.std.proofs.Common.{◌≡◌, [], length}
-use Rattle.attributes.specs.Pairs.{with_all, given_below}
+use Rattle.std.proofs.Common.{◌≡◌, [], map, take}
+use Rattle.conflict.specs.Sets.{at}
+use Rattle.attributes.specs.Pairs.{with_all, given_backwards}
 use Rattle.attributes.proofs.last_given.Given as goal
 
 -- what there is so far with what the sets to come give
-abbrev pub invariant-loop-place : goal.invariant-loop-place
-invariant-loop-place l = with_all l.pairs.items (given_below l.ops l.members l.place) ≡ with_all [] (given_below l.ops l.members (length l.ops))
+abbrev pub invariant-loop-index : goal.invariant-loop-index
+invariant-loop-index l = with_all l.pairs.items (given_backwards (map (at l.ops) (take l.index l.places.items))) ≡ with_all [] (given_backwards (map (at l.ops) l.members))

@@ -1,12 +1,13 @@
 //! The groups of small relations.
 
 ghost use Rattle.std.specs.Prelude.{◌≡◌, ℕ, ◌+◌, ◌<◌, ◌≤◌, OnOk, OnErr};
+ghost use Rattle.std.specs.List.{list_any};
 ghost use Rattle.conflict.specs.Members.{places};
 ghost use Rattle.version_groups.specs.Kept.{AreGroups};
 ghost use Rattle.conflict_tests.specs.Tables.{pair_clash, is_paired, name_of_place};
 
 use conflict::{Members, Relation};
-use op_names::OpName;
+use op_names::{NoMemory, OpName};
 use std::alloc::Global;
 use std::process::Abort;
 use version_groups::{AddFault, Groups};
@@ -38,6 +39,27 @@ impl Relation for Table<'_> {
     fn clash(&self, i: u32, j: u32) -> bool {
         i != j && is_paired(self.pairs, i, j)
     }
+
+    #[tactic(auto, using(conflict::proofs::Places::put_next, conflict::proofs::Places::skip_next))]
+    fn in_conflict_with(&self, alloc: Global, scope: &Members) -> Result<Members, NoMemory> {
+        let others = scope.list(alloc)?;
+        let mut opposed = Members::empty(alloc);
+        for place in 0..self.len {
+            if is_met(self.pairs, &others, place) {
+                opposed.insert(place)?;
+            }
+        }
+        Ok(opposed)
+    }
+}
+
+/// Is a place in conflict with one of these?
+fn is_met(pairs: &[(u32, u32)], others: &[u32], place: u32) -> bool
+    ensures { result ≡ list_any (pair_clash pairs.now place) others.now }
+{
+    others
+        .iter()
+        .any(|other| place != *other && is_paired(pairs, place, *other))
 }
 
 /// Does a pair have the two, in one order or the other?

@@ -1,10 +1,12 @@
 //! Identifiers of the groups of five places, of which 0, 2 and 4 are in conflict, and 1 and 3.
 
-ghost use Rattle.std.specs.Prelude.{◌<◌, All};
+ghost use Rattle.std.specs.Prelude.{◌≡◌, ◌<◌, All};
+ghost use Rattle.std.specs.List.{list_any};
 ghost use Rattle.conflict_tests.specs.Parities.{parities_clash, parities_name};
 
 use conflict::{Members, Relation};
-use op_names::OpName;
+use op_names::{NoMemory, OpName};
+use std::alloc::Global;
 use std::process::Abort;
 use version_ids::{VersionId, id_of, resolve};
 
@@ -31,6 +33,27 @@ impl Relation for Parities {
     fn clash(&self, i: u32, j: u32) -> bool {
         i != j && i % 2 == j % 2
     }
+
+    #[tactic(auto, using(conflict::proofs::Places::put_next, conflict::proofs::Places::skip_next))]
+    fn in_conflict_with(&self, alloc: Global, scope: &Members) -> Result<Members, NoMemory> {
+        let others = scope.list(alloc)?;
+        let mut opposed = Members::empty(alloc);
+        for place in 0..5 {
+            if is_met(&others, place) {
+                opposed.insert(place)?;
+            }
+        }
+        Ok(opposed)
+    }
+}
+
+/// Is a place in conflict with one of these?
+fn is_met(others: &[u32], place: u32) -> bool
+    ensures { result ≡ list_any (parities_clash place) others.now }
+{
+    others
+        .iter()
+        .any(|other| place != *other && place % 2 == *other % 2)
 }
 
 /// The set of these places.

@@ -8,7 +8,7 @@ ghost use Rattle.conflict.specs.Sets.{IsAddition};
 
 use conflict::{Addition, Clashes, Members, Relation};
 use op_names::{Key, OpName, Value, VersionId};
-use rules::{Body, Op};
+use rules::{Body, Op, SharedOp};
 use state_vector::StateVector;
 use std::process::Abort;
 
@@ -19,10 +19,10 @@ fn change(
     seen: (u32, u32),
     key: &[u8],
     number: i64,
-) -> Op
+) -> SharedOp
     ensures { result ≡ record { name = name; seen = seen ∷ []; body = Set (1, 1) [] key.now (Number number) } }
 {
-    Op {
+    let op = Op {
         name: OpName::new(name.0, name.1).expect(rt, "a name"),
         seen: StateVector::from_pairs(rt.alloc(), &[seen]).expect(rt, "a vector"),
         body: Body::Set {
@@ -31,7 +31,8 @@ fn change(
             key: Key::parse(rt.alloc(), key).expect(rt, "a key"),
             value: Value::Number(number),
         },
-    }
+    };
+    SharedOp::new(rt.alloc(), op).expect(rt, "memory")
 }
 
 /// No change.
@@ -89,7 +90,10 @@ fn third_prepared(rt: &(impl Abort + AllocGlobal), clashes: &mut Clashes) -> Add
 {
     let op = change(rt, (3, 1), (1, 2), b"y", 1);
     let base = Members::from_places(rt.alloc(), &[0]).expect(rt, "memory");
-    clashes.prepare(rt.alloc(), op, base).expect(rt, "memory")
+    let known = clashes.known(rt.alloc(), &op.seen).expect(rt, "memory");
+    clashes
+        .prepare(rt.alloc(), op, base, &known)
+        .expect(rt, "memory")
 }
 
 /// Are the operations at two places in conflict, where there are two?
@@ -143,4 +147,8 @@ fn what_is_stored_is_shown(rt: HostRuntime) {
     let known = clashes.known(rt.alloc(), &seen).expect(&rt, "memory");
     assert!(rt; known.has(1));
     assert_eq!(rt; known.count(), 1);
+    let given = Key::parse(rt.alloc(), b"y").expect(&rt, "a key");
+    assert!(rt; clashes.has_key(&given));
+    let other = Key::parse(rt.alloc(), b"z").expect(&rt, "a key");
+    assert!(rt; !clashes.has_key(&other));
 }

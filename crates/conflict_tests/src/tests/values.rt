@@ -8,15 +8,15 @@ ghost use Rattle.std.specs.Prelude.{◌≡◌, ◌<◌, [], ◌∷◌, All};
 use attributes::attributes_of;
 use conflict::Members;
 use op_names::{Key, OpName, Value, VersionId};
-use rules::{Attrs, Body, Op};
+use rules::{Attrs, Body, Op, SharedOp};
 use state_vector::StateVector;
 use std::process::Abort;
 
 /// A change on the object (1, 1) by its only version, which has seen the author's earlier ones.
-fn change(rt: &(impl Abort + AllocGlobal), seq: u32, seen: u32, key: &[u8], number: i64) -> Op
+fn change(rt: &(impl Abort + AllocGlobal), seq: u32, seen: u32, key: &[u8], number: i64) -> SharedOp
     ensures { result ≡ record { name = (1, seq); seen = (1, seen) ∷ []; body = Set (1, 1) [] key.now (Number number) } }
 {
-    Op {
+    let op = Op {
         name: OpName::new(1, seq).expect(rt, "a name"),
         seen: StateVector::from_pairs(rt.alloc(), &[(1, seen)]).expect(rt, "a vector"),
         body: Body::Set {
@@ -25,11 +25,12 @@ fn change(rt: &(impl Abort + AllocGlobal), seq: u32, seen: u32, key: &[u8], numb
             key: Key::parse(rt.alloc(), key).expect(rt, "a key"),
             value: Value::Number(number),
         },
-    }
+    };
+    SharedOp::new(rt.alloc(), op).expect(rt, "memory")
 }
 
 /// Two changes of x, and then one of w.
-fn changes(rt: &(impl Abort + AllocGlobal)) -> Vec<Op>
+fn changes(rt: &(impl Abort + AllocGlobal)) -> Vec<SharedOp>
     ensures { result.items ≡ chain }
 {
     let mut ops = Vec::new(rt.alloc());

@@ -3,7 +3,7 @@
 use super::parse::{name_of, pair_of, vector_of};
 use causal::{Past, before, concurrent};
 use op_names::{Key, Kind, OpName, Value, VersionId};
-use rules::{Attrs, Body, Op, Refusal};
+use rules::{Attrs, Body, Op, Refusal, SharedOp};
 use std::process::Abort;
 
 /// The attributes `x`, a number, and `fill`, a text.
@@ -18,16 +18,17 @@ fn attrs(rt: &(impl Abort + AllocGlobal)) -> Attrs {
 }
 
 /// A creation with this name, whose author had seen these operations.
-fn creation(rt: &(impl Abort + AllocGlobal), name: &str, seen: &str) -> Op {
+fn creation(rt: &(impl Abort + AllocGlobal), name: &str, seen: &str) -> SharedOp {
     let kind = Kind::parse(rt.alloc(), b"rect").expect(rt, "a kind");
-    Op {
+    let op = Op {
         name: name_of(rt, name),
         seen: vector_of(rt, seen),
         body: Body::New {
             kind,
             attrs: attrs(rt),
         },
-    }
+    };
+    SharedOp::new(rt.alloc(), op).expect(rt, "memory")
 }
 
 /// Admits a creation, takes the memory for it and adds it.

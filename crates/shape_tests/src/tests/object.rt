@@ -12,7 +12,7 @@ ghost use Rattle.shape_tests.specs.InHistory.{IsNextSet};
 use super::table::{ids_of, name_of, set_of, text_of_ids, text_of_versions, vector_of};
 use causal::{NotAdmitted, Past};
 use op_names::{Key, Kind, NoMemory, OpName, Value, VersionId};
-use rules::{Attrs, Body, Op, Refusal};
+use rules::{Attrs, Body, Op, Refusal, SharedOp};
 use shape::{Limits, SetFault, Shape};
 use state_vector::StateVector;
 use std::alloc::Global;
@@ -82,19 +82,22 @@ fn initial(rt: &(impl Abort + AllocGlobal)) -> Attrs {
     Attrs::from_pairs(pairs).expect(rt, "attributes")
 }
 
-fn creation(rt: &(impl Abort + AllocGlobal), name: &str, seen: &str) -> Op
+fn creation(rt: &(impl Abort + AllocGlobal), name: &str, seen: &str) -> SharedOp
     ensures creation { is_set_body result.body ≡ false }
     ensures vector { is_vector result.seen ≡ true }
 {
     let kind = Kind::parse(rt.alloc(), b"rect").expect(rt, "a kind");
-    Op {
+    let op = Op {
         name: name_of(rt, name),
         seen: vector_of(rt, seen),
         body: Body::New {
             kind,
             attrs: initial(rt),
         },
-    }
+    };
+    // That a vector is in range is part of what stays true of it.
+    let _pairs = op.seen.pairs();
+    SharedOp::new(rt.alloc(), op).expect(rt, "memory")
 }
 
 /// The object (1, 1), with `x` 0, and nothing else.
@@ -103,7 +106,7 @@ pub fn created(rt: &(impl Abort + AllocGlobal), limits: Limits) -> Object {
     let name = creation.name;
     let mut past = Past::new(rt.alloc()).expect(rt, "memory");
     past.admit(name, &creation.seen).expect(rt, "admitted");
-    let copy = creation.copy(rt.alloc()).expect(rt, "memory");
+    let copy = creation.share().expect(rt, "memory");
     past.add(copy).expect(rt, "memory");
     let shape = Shape::create(rt.alloc(), creation, limits).expect(rt, "memory");
     Object { name, past, shape }
@@ -114,7 +117,7 @@ pub fn created(rt: &(impl Abort + AllocGlobal), limits: Limits) -> Object {
 fn in_two_steps(
     rt: &(impl Abort + AllocGlobal),
     shape: &mut Shape,
-    op: Op,
+    op: SharedOp,
     before: &[VersionId],
     after: &[VersionId],
 ) -> bool
@@ -151,9 +154,9 @@ impl Object {
         Ok(())
     }
 
-    fn set(&mut self, alloc: Global, op: Op) -> Result<(), Fault> {
+    fn set(&mut self, alloc: Global, op: SharedOp) -> Result<(), Fault> {
         self.check(&op)?;
-        let copy = op.copy(alloc)?;
+        let copy = op.share()?;
         self.past.reserve(op.name.site())?;
         self.shape.set(alloc, op)?;
         let Ok(()) = self.past.add(copy) else {
@@ -215,13 +218,13 @@ impl Object {
     fn set_in_steps(
         &mut self,
         rt: &(impl Abort + AllocGlobal),
-        op: Op,
+        op: SharedOp,
         before: &[VersionId],
         after: &[VersionId],
     ) -> bool {
         self.check(&op)
             .expect(rt, "a set on the object that is admitted");
-        let copy = op.copy(rt.alloc()).expect(rt, "memory");
+        let copy = op.share().expect(rt, "memory");
         self.past.reserve(op.name.site()).expect(rt, "memory");
         let is_right = in_two_steps(rt, &mut self.shape, op, before, after);
         self.past.add(copy).expect(rt, "memory");

@@ -5,7 +5,7 @@
 //! of the object then, or why the set is not taken. A version is ID: KEY=VALUE .., a line each.
 
 use op_names::{Key, OpName, Value, VersionId};
-use rules::{Body, Op, Version};
+use rules::{Body, Op, SharedOp, Version};
 use state_vector::StateVector;
 use std::process::Abort;
 
@@ -82,15 +82,16 @@ fn body_of(rt: &(impl Abort + AllocGlobal), version: &str, change: &str) -> Body
 }
 
 /// The set of a line on the object (1, 1).
-pub fn set_of(rt: &(impl Abort + AllocGlobal), line: &str) -> Op {
+pub fn set_of(rt: &(impl Abort + AllocGlobal), line: &str) -> SharedOp {
     let (name, others) = line.split_once(" | ").expect(rt, "a vector");
     let (seen, others) = others.split_once(" | ").expect(rt, "a version");
     let (version, change) = others.split_once(" | ").expect(rt, "a change");
-    Op {
+    let op = Op {
         name: name_of(rt, name),
         seen: vector_of(rt, seen),
         body: body_of(rt, version, change),
-    }
+    };
+    SharedOp::new(rt.alloc(), op).expect(rt, "memory")
 }
 
 fn write_id(rt: &impl Abort, text: &mut String, id: &VersionId) {

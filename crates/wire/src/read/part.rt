@@ -127,7 +127,7 @@ pub(crate) fn list_of<P: Part>(alloc: Global, value: &Value) -> Result<Vec<P>, R
     ensures { Gives (λ parts. map P.seen parts.items) result (list_in P.read_in (view value.now)) }
 {
     let items = items_of(value)?;
-    let mut parts = Vec::new(alloc);
+    let mut parts = Vec::with_capacity(alloc, items.len())?;
     for item in items {
         parts.push(P::read(alloc, item)?)?;
     }

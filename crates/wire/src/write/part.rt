@@ -1,112 +1,215 @@
-//! The parts of a form, to JSON.
+//! What has a form, and its text.
 
-ghost use Rattle.std.specs.Prelude.{◌≡◌, map, IfOk};
-ghost use Rattle.serde_json.specs.Data.{Data, string};
-ghost use Rattle.serde_json.specs.View.{view};
-ghost use Rattle.wire.specs.Form.{list_form, name_form, value_form, attr_form, names_form, version_form, object_form};
+ghost use Rattle.std.specs.Prelude.{◌≡◌, ◌≤◌, ◌∷◌, [], map, Some, IfOk, OnOk, string_bytes};
+ghost use Rattle.serde_json.specs.Data.{Data, string, depth};
+ghost use Rattle.serde_json.specs.Read.{read, max_depth};
+ghost use Rattle.serde_json.specs.Written.{compact_text};
+ghost use Rattle.wire.specs.Form.{list_form, whole_form, name_form, value_form, names_form, version_form};
+ghost use Rattle.wire.specs.Sending.{Sends};
 
-use op_names::{Key, Kind, OpName, VersionId};
+use op_names::{Key, Kind, NoMemory, OpName, VersionId};
 use rules::Version;
-use serde_json::Value;
-use std::alloc::{AllocError, Global};
+use serde::{Described, Serialize, Serializer};
+use serde_json::Number;
+use std::alloc::Global;
 
-/// What has a form.
+/// What has a form. It isn't serde's `Serialize`, since that can't say the form of a tuple or of a
+/// type of another crate.
 pub(crate) trait Written {
     ghost form: { Self → Data };
 
-    fn to_json(&self, alloc: Global) -> Result<Value, AllocError>
-        ensures { IfOk result (λ value. view value ≡ form self.now) };
+    fn send<S: Serializer>(&self, out: &mut S) -> Result<(), S::Error>
+        ensures { OnOk result (Sends (form self.now) (S.written out.old) (S.written out.new)) };
 }
 
-pub(crate) fn text_to_json(alloc: Global, text: &str) -> Result<Value, AllocError>
-    ensures { IfOk result (λ value. view value ≡ string text.now) }
-{
-    Value::try_from_str(alloc, text)
+/// A part as serde's data.
+#[derive(Drop)]
+struct Form<'a, W>(&'a W);
+
+impl<W: Written> Described for Form<'_, W> {
+    ghost writes = { λ part. Sends (W.form part.0.now) };
 }
 
-/// A list of these values.
-pub(crate) fn values_to_json<const N: usize>(
-    alloc: Global,
-    values: [Value; N],
-) -> Result<Value, AllocError>
-    ensures { IfOk result (λ value. view value ≡ list_form (map view values.entry)) }
-{
-    Ok(Value::Array(Vec::from_array(alloc, values)?))
-}
-
-/// A list of the forms of these parts.
-pub(crate) fn list_to_json<W: Written>(alloc: Global, parts: &[W]) -> Result<Value, AllocError>
-    ensures { IfOk result (λ value. view value ≡ list_form (map W.form parts.now)) }
-{
-    let mut items = Vec::with_capacity(alloc, parts.len())?;
-    for part in parts {
-        items.push(part.to_json(alloc)?)?;
+impl<W: Written> Serialize for Form<'_, W> {
+    fn serialize<S: Serializer>(&self, out: &mut S) -> Result<(), S::Error> {
+        self.0.send(out)
     }
-    Ok(Value::Array(items))
 }
 
-/// A site and a number or a count.
-impl Written for (u32, u32) {
-    ghost form = { name_form };
+/// The compact text of a part: its form without white space.
+pub(crate) fn compact<W: Written>(alloc: Global, part: &W) -> Result<String, NoMemory>
+    ensures text { IfOk result (λ text. string_bytes text ≡ compact_text (W.form part.now)) }
+    ensures reads_back { IfOk result (λ text. depth (W.form part.now) ≤ max_depth
+        → read (string_bytes text) ≡ Some (W.form part.now)) }
+{
+    // No form has what JSON can't hold, so a fault is want of memory.
+    serde_json::to_string(alloc, &Form(part)).map_err(|_| NoMemory)
+}
 
-    fn to_json(&self, alloc: Global) -> Result<Value, AllocError> {
-        values_to_json(alloc, [Value::from(self.0), Value::from(self.1)])
+impl Written for &str {
+    ghost form = { λ text. string text.now };
+
+    fn send<S: Serializer>(&self, out: &mut S) -> Result<(), S::Error> {
+        out.str(self)
+    }
+}
+
+impl Written for u32 {
+    ghost form = { whole_form };
+
+    fn send<S: Serializer>(&self, out: &mut S) -> Result<(), S::Error> {
+        out.u64(u64::from(*self))
+    }
+}
+
+impl<W: Written> Written for &W {
+    ghost form = { λ part. W.form part.now };
+
+    fn send<S: Serializer>(&self, out: &mut S) -> Result<(), S::Error> {
+        (**self).send(out)
+    }
+}
+
+impl<W: Written> Written for &[W] {
+    ghost form = { λ parts. list_form (map W.form parts.now) };
+
+    fn send<S: Serializer>(&self, out: &mut S) -> Result<(), S::Error> {
+        out.begin_seq(Some(self.len()))?;
+        for part in self.iter() {
+            part.send(out)?;
+        }
+        out.end_seq()
+    }
+}
+
+impl<A: Written> Written for (A,) {
+    ghost form = { λ p. list_form (A.form p.0 ∷ []) };
+
+    fn send<S: Serializer>(&self, out: &mut S) -> Result<(), S::Error> {
+        out.begin_seq(Some(1))?;
+        self.0.send(out)?;
+        out.end_seq()
+    }
+}
+
+impl<A: Written, B: Written> Written for (A, B) {
+    ghost form = { λ p. list_form (A.form p.0 ∷ B.form p.1 ∷ []) };
+
+    fn send<S: Serializer>(&self, out: &mut S) -> Result<(), S::Error> {
+        out.begin_seq(Some(2))?;
+        self.0.send(out)?;
+        self.1.send(out)?;
+        out.end_seq()
+    }
+}
+
+impl<A: Written, B: Written, C: Written> Written for (A, B, C) {
+    ghost form = { λ p. list_form (A.form p.0 ∷ B.form p.1 ∷ C.form p.2 ∷ []) };
+
+    fn send<S: Serializer>(&self, out: &mut S) -> Result<(), S::Error> {
+        out.begin_seq(Some(3))?;
+        self.0.send(out)?;
+        self.1.send(out)?;
+        self.2.send(out)?;
+        out.end_seq()
+    }
+}
+
+impl<A: Written, B: Written, C: Written, D: Written> Written for (A, B, C, D) {
+    ghost form = { λ p. list_form (A.form p.0 ∷ B.form p.1 ∷ C.form p.2 ∷ D.form p.3 ∷ []) };
+
+    fn send<S: Serializer>(&self, out: &mut S) -> Result<(), S::Error> {
+        out.begin_seq(Some(4))?;
+        self.0.send(out)?;
+        self.1.send(out)?;
+        self.2.send(out)?;
+        self.3.send(out)?;
+        out.end_seq()
+    }
+}
+
+impl<A: Written, B: Written, C: Written, D: Written, E: Written> Written for (A, B, C, D, E) {
+    ghost form = { λ p. list_form
+        (A.form p.0 ∷ B.form p.1 ∷ C.form p.2 ∷ D.form p.3 ∷ E.form p.4 ∷ []) };
+
+    fn send<S: Serializer>(&self, out: &mut S) -> Result<(), S::Error> {
+        out.begin_seq(Some(5))?;
+        self.0.send(out)?;
+        self.1.send(out)?;
+        self.2.send(out)?;
+        self.3.send(out)?;
+        self.4.send(out)?;
+        out.end_seq()
+    }
+}
+
+impl<A: Written, B: Written, C: Written, D: Written, E: Written, F: Written, G: Written> Written
+    for (A, B, C, D, E, F, G) {
+    ghost form = { λ p. list_form
+        (A.form p.0 ∷ B.form p.1 ∷ C.form p.2 ∷ D.form p.3
+        ∷ E.form p.4 ∷ F.form p.5 ∷ G.form p.6 ∷ []) };
+
+    fn send<S: Serializer>(&self, out: &mut S) -> Result<(), S::Error> {
+        out.begin_seq(Some(7))?;
+        self.0.send(out)?;
+        self.1.send(out)?;
+        self.2.send(out)?;
+        self.3.send(out)?;
+        self.4.send(out)?;
+        self.5.send(out)?;
+        self.6.send(out)?;
+        out.end_seq()
     }
 }
 
 impl Written for OpName {
     ghost form = { name_form };
 
-    fn to_json(&self, alloc: Global) -> Result<Value, AllocError> {
-        (self.site(), self.seq()).to_json(alloc)
+    fn send<S: Serializer>(&self, out: &mut S) -> Result<(), S::Error> {
+        (self.site(), self.seq()).send(out)
     }
 }
 
 impl Written for VersionId {
     ghost form = { names_form };
 
-    fn to_json(&self, alloc: Global) -> Result<Value, AllocError> {
-        list_to_json(alloc, self.names())
+    fn send<S: Serializer>(&self, out: &mut S) -> Result<(), S::Error> {
+        self.names().send(out)
+    }
+}
+
+impl Written for Key {
+    ghost form = { string };
+
+    fn send<S: Serializer>(&self, out: &mut S) -> Result<(), S::Error> {
+        self.text().send(out)
+    }
+}
+
+impl Written for Kind {
+    ghost form = { string };
+
+    fn send<S: Serializer>(&self, out: &mut S) -> Result<(), S::Error> {
+        self.text().send(out)
     }
 }
 
 impl Written for op_names::Value {
     ghost form = { value_form };
 
-    fn to_json(&self, alloc: Global) -> Result<Value, AllocError> {
+    #[tactic(auto, using(crate::proofs::Sent::held_integer))]
+    fn send<S: Serializer>(&self, out: &mut S) -> Result<(), S::Error> {
         match self {
-            op_names::Value::Number(number) => Ok(Value::from(*number)),
-            op_names::Value::Text(text) => text_to_json(alloc, text.text()),
+            op_names::Value::Number(number) => Number::from(*number).serialize(out),
+            op_names::Value::Text(text) => text.text().send(out),
         }
-    }
-}
-
-/// A key with its value.
-impl Written for (Key, op_names::Value) {
-    ghost form = { attr_form };
-
-    fn to_json(&self, alloc: Global) -> Result<Value, AllocError> {
-        let held = self.1.to_json(alloc)?;
-        values_to_json(alloc, [text_to_json(alloc, self.0.text())?, held])
     }
 }
 
 impl Written for Version {
     ghost form = { version_form };
 
-    fn to_json(&self, alloc: Global) -> Result<Value, AllocError> {
-        let id = self.id.to_json(alloc)?;
-        let attrs = list_to_json(alloc, self.attrs.as_slice())?;
-        values_to_json(alloc, [id, attrs])
-    }
-}
-
-/// An object with its kind.
-impl Written for (OpName, Kind) {
-    ghost form = { object_form };
-
-    fn to_json(&self, alloc: Global) -> Result<Value, AllocError> {
-        let name = self.0.to_json(alloc)?;
-        values_to_json(alloc, [name, text_to_json(alloc, self.1.text())?])
+    fn send<S: Serializer>(&self, out: &mut S) -> Result<(), S::Error> {
+        (&self.id, self.attrs.as_slice()).send(out)
     }
 }

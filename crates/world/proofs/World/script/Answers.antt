@@ -48,12 +48,14 @@ loop-preserved g c = elim c.match-read.branch [
   | in-Ok+in_ok-take_bytes-in-Ok w ↦ rw (w.self-is, w.output-is, w.line-is, w.answers-is) (record {
     room = omega (arith, c.read.auto.buf, c.loop.invariant.room);
     clean = w.in_ok-take_bytes-in-Ok.ensures.line;
+    short = w.in_ok-take_bytes-in-Ok.ensures.short;
     none = w.in_ok-take_bytes-in-Ok.ensures.none;
     told = read_more (take w.in-Ok.count c.read.new.buf) c.loop.invariant.told w.in-Ok.ensures.bytes.0 w.in_ok-take_bytes-in-Ok.ensures.ok;
   })
   | in-Err+else-ne w ↦ rw (w.self-is, w.output-is, w.line-is, w.answers-is) (record {
     room = omega (arith, c.read.auto.buf, c.loop.invariant.room);
     clean = c.loop.invariant.clean;
+    short = c.loop.invariant.short;
     none = c.loop.invariant.none;
     told = read_again c.loop.invariant.told w.in-Err.ensures.bytes;
   })

@@ -1,22 +1,20 @@
-use Rattle.std.proofs.Common.{◌≡◌, ◌++◌, ◌∷◌, [], ◌∙◌, sym, ℕ, List, Bool}
-use Rattle.rules.specs.Conflicts.{base, direct_conflict}
-use Rattle.conflict.specs.Sets.{at}
-use Rattle.conflict.proofs.Places.{push_next, skip_next}
+use Rattle.std.proofs.Common.{◌≡◌, ◌∙◌, ap, length, arith}
+use Rattle.std.proofs.lemmas.Result.{IfOk-weaker}
+use Rattle.conflict.specs.Members.{places}
+use Rattle.conflict.specs.Sets.{Sets}
+use Rattle.conflict.proofs.Direct.{directly_met, others_below}
 use Rattle.conflict.proofs.clashes.Clashes.met_by.Goals as goal
-use Rattle.conflict.proofs.clashes.Clashes.met_by.Goals.{then-meets+in_ok-push, else-meets}
 
-pub loop-place-preserved : goal.loop-place-preserved
-loop-place-preserved c =
-    let k = c.args.self.now.ops in
-    let o = c.args.op.now in
-    let old : List ℕ = c.loop-place.met.items in
-    let new : List ℕ = c.if-meets.met.items in
-    let test : ℕ → Bool = λ place. direct_conflict (base (k ++ o ∷ [])) o (at k place) in
-    elim c.if-meets.branch [
-      | then-meets+in_ok-push w ↦
-          (let pushed : new ≡ old ++ c.loop-place.place ∷ [] = cc (w.met-is, w.in_ok-push.ensures.items) in
-          push_next test c.loop-place.place old new c.loop-place.invariant (sym c.meets.ensures ∙ w.if-meets.true) pushed)
-      | else-meets w ↦
-          (let same : new ≡ old = cc (w.met-is) in
-          skip_next test c.loop-place.place old new c.loop-place.invariant (sym c.meets.ensures ∙ w.if-meets.false) same)
-    ]
+pub rivals-requires : goal.rivals-requires
+rivals-requires c =
+    let here : c.len.result ≡ length c.self.inside.ops.items = omega (arith, c.len.ensures, c.self.inside.ops.ok) in
+    let size : c.len.result ≡ length c.args.self.now.ops = here ∙ ap (λ (s : Sets). length s.ops) c.self.view_is in
+    others_below (length c.args.self.now.ops) c.args.known.now c.in_ok-all.all c.in_ok-unknown.unknown (c.in_ok-all.ensures ∙ ap places size) c.in_ok-unknown.ensures
+
+pub returns : goal.returns
+returns c =
+    let here : c.len.result ≡ length c.self.inside.ops.items = omega (arith, c.len.ensures, c.self.inside.ops.ok) in
+    let size : c.len.result ≡ length c.args.self.now.ops = here ∙ ap (λ (s : Sets). length s.ops) c.self.view_is in
+    IfOk-weaker c.with_differing.result _ _
+    (λ met r. directly_met c.args.self.now.ops c.args.op.now c.requires.sets.listed c.args.based.now c.args.known.now c.in_ok-all.all c.in_ok-unknown.unknown c.in_ok-rivals.rivals c.deref.result.now c.in_ok-met.met met
+    c.requires.base c.requires.known (c.in_ok-all.ensures ∙ ap places size) c.in_ok-unknown.ensures c.in_ok-rivals.ensures.same (c.deref.ensures.value ∙ c.in_ok-others.ensures) c.in_ok-met.ensures r) c.with_differing.ensures

@@ -1,13 +1,29 @@
-use Rattle.std.proofs.Common.{◌∙◌, sym, ℕ, Bool}
-use Rattle.conflict.specs.Sets.{is_in_row}
-use Rattle.conflict.proofs.Places.{put_next, skip_next}
+use Rattle.std.proofs.Common.{◌≡◌, ◌∙◌, ap, subst, arith, length, cond}
+use Rattle.conflict.specs.Members.{inserted}
+use Rattle.conflict.specs.Sets.{AreSetsOf, Sets}
+use Rattle.conflict.proofs.Direct.{row_begun, row_more, row_done, row_if_none}
 use Rattle.conflict.proofs.clashes.Clashes.row_from.Goals as goal
-use Rattle.conflict.proofs.clashes.Clashes.row_from.Goals.{then-is_in_row+in_ok-insert, else-is_in_row}
+
+pub returns-in_default : goal.returns-in_default
+returns-in_default c = row_if_none c.args.self.now.ops c.args.based.now c.args.met.now c.in_ok-row.row c.in_default.ensures c.requires c.in_ok-row.ensures
+
+pub loop-place-init : goal.loop-place-init
+loop-place-init c =
+    let sets : AreSetsOf c.self.inside.object c.args.self.now.ops = subst (λ (s : Sets). AreSetsOf c.self.inside.object s.ops) c.self.view_is c.self.invariant.sets.listed in
+    row_begun c.args.self.now.ops sets c.args.met.now c.args.based.now c.in-Some.lowest c.in_ok-row.row c.in-Some.ensures c.requires c.in_ok-row.ensures
 
 pub loop-place-preserved : goal.loop-place-preserved
 loop-place-preserved c =
-    let test : ℕ → Bool = is_in_row c.args.self.now.ops c.args.met.now c.args.based.now in
-    elim c.if-is_in_row.branch [
-      | then-is_in_row+in_ok-insert w ↦ put_next test c.loop-place.place c.loop-place.row c.if-is_in_row.row c.loop-place.invariant (sym c.is_in_row.ensures ∙ w.if-is_in_row.true) (w.row-is ∙ w.in_ok-insert.ensures.ok)
-      | else-is_in_row w ↦ skip_next test c.loop-place.place c.loop-place.row c.if-is_in_row.row c.loop-place.invariant (sym c.is_in_row.ensures ∙ w.if-is_in_row.false) w.row-is
-    ]
+    let k = c.args.self.now.ops in
+    let p = c.loop-place.place in
+    let sets : AreSetsOf c.self.inside.object k = subst (λ (s : Sets). AreSetsOf c.self.inside.object s.ops) c.self.view_is c.self.invariant.sets.listed in
+    let size : c.len-place-end.result ≡ length k = omega (arith, c.len-place-end.ensures, c.self.inside.ops.ok, ap (λ (s : Sets). length s.ops) c.self.view_is) in
+    row_more k sets c.args.met.now c.args.based.now p c.loop-place.row c.insert_if.new.members (omega (arith, size)) c.loop-place.invariant
+    (c.in_ok-insert_if.ensures ∙ ap (λ b. cond b (inserted p c.loop-place.row) c.loop-place.row) c.is_reached-is_reached.ensures)
+
+pub returns : goal.returns
+returns c =
+    let k = c.args.self.now.ops in
+    let sets : AreSetsOf c.self.inside.object k = subst (λ (s : Sets). AreSetsOf c.self.inside.object s.ops) c.self.view_is c.self.invariant.sets.listed in
+    let size : c.len-place-end.result ≡ length k = omega (arith, c.len-place-end.ensures, c.self.inside.ops.ok, ap (λ (s : Sets). length s.ops) c.self.view_is) in
+    row_done k sets c.args.met.now c.args.based.now c.loop-place.place c.loop-place.row (omega (arith, size)) c.loop-place.invariant

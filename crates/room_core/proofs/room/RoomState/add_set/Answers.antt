@@ -4,6 +4,7 @@ use Rattle.std.specs.Map.{lookup}
 use Rattle.op_names.specs.Names.{Name, same_name}
 use Rattle.rules.specs.declared.history.Op.{Op}
 use Rattle.rules.specs.Admission.{causal_refusal}
+use Rattle.rules.specs.Operations.{object_of}
 use Rattle.rules.specs.Records.{admits}
 use Rattle.rules.proofs.Conditions.{room_for_operation}
 use Rattle.shape.specs.Drawing.{with_set}
@@ -15,7 +16,7 @@ pub invariant_of-self : goal.invariant_of-self
 invariant_of-self c =
     let can = subst (λ s. CanSet s (arc_value c.args.entry) c.args.op c.args.planned) (sym c.self.view_is) c.requires in
     let e = c.commit_at.ensures.changed in
-    let object = c.object_of-object.ensures in
+    let object = c.object_of-object.ensures ∙ ap object_of c.deref.ensures in
     let there = ap (λ (n : Name). lookup (same_name n) c.self.inside.objects.entries) (sym object) ∙ e.2 in
     rw (c.push_reserved.ensures.items, c.add_reserved.ensures, e.4, object)
     (replay_changed arc_value _ _ c.args.entry _ _ _ c.self.invariant e.0 e.1 can.operation can.admitted can.set c.commit_at.ensures.unique there (e.3 ∙ ap (λ (o : Op). with_set e.0.drawing o) can.added))

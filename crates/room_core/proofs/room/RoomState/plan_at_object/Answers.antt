@@ -1,4 +1,4 @@
-use Rattle.std.proofs.Common.{◌≡◌, ◌≢◌, [], ◌∷◌, ◌++◌, map, sym, subst, None, Some}
+use Rattle.std.proofs.Common.{◌≡◌, ◌≢◌, [], ◌∷◌, ◌++◌, ◌∙◌, ap, map, sym, subst, None, Some}
 use Rattle.std.specs.Prelude.{IfErr, IfOk, OnOk}
 use Rattle.std.specs.Arc.{arc_value}
 use Rattle.std.specs.Map.{lookup}
@@ -25,11 +25,11 @@ asked c = subst (λ (s : State). unasked_refusal s.room c.args.op ≡ None) (sym
 pub plan_at-requires : goal.plan_at-requires
 plan_at-requires c =
     let room = room_in c in
-    subst (λ (n : Name). (d : Drawn) × (lookup (same_name n) c.self.inside.objects.entries ≡ Some d) × AreSetsOf d.drawing.creation.name (d.drawing.sets ++ c.args.op ∷ [])) (sym c.object_of-object.ensures)
+    subst (λ (n : Name). (d : Drawn) × (lookup (same_name n) c.self.inside.objects.entries ≡ Some d) × AreSetsOf d.drawing.creation.name (d.drawing.sets ++ c.args.op ∷ [])) (sym (c.object_of-object.ensures ∙ ap object_of c.deref.ensures))
     (can_ask room.limits room.entries c.self.inside.sites c.self.inside.objects.entries c.self.inside.past.history c.self.invariant c.args.op c.requires.set c.requires.vector (asked c))
 
 planned : (c : goal.After-plan_at) → IsPlannedAt (object_of c.args.op) c.args.op c.self.inside.objects.entries c.plan_at.new.objects.entries c.plan_at.result
-planned c = subst (λ (n : Name). IsPlannedAt n c.args.op c.self.inside.objects.entries c.plan_at.new.objects.entries c.plan_at.result) c.object_of-object.ensures c.plan_at.ensures
+planned c = subst (λ (n : Name). IsPlannedAt n c.args.op c.self.inside.objects.entries c.plan_at.new.objects.entries c.plan_at.result) (c.object_of-object.ensures ∙ ap object_of c.deref.ensures) c.plan_at.ensures
 
 pub invariant_of-self : goal.invariant_of-self
 invariant_of-self c =

@@ -1,15 +1,14 @@
-use Rattle.std.proofs.Common.{◌≤◌, arith}
+use Rattle.std.proofs.Common.{arith}
+use Rattle.std.proofs.lemmas.Result.{IfOk-weaker}
 use Rattle.std.proofs.lemmas.Str.{IsUtf8-string_bytes}
-use Rattle.serde_json.specs.Data.{depth}
-use Rattle.wire.specs.Form.{request_form}
-use Rattle.wire.proofs.Plain.{plain_request}
+use Rattle.wire.proofs.Shallow.{shallow_request}
 use Rattle.wire.proofs.write.request.write_request.Goals as goal
 
 pub returns-clause-is_read : goal.returns-clause-is_read
-returns-clause-is_read c in_range short =
-    let shallow : depth (request_form c.args.request.now) ≤ 3 = (plain_request c.args.request.now).shallow in
-    let back = rw c.in_ok-value.ensures at c.in_ok-to_string.ensures.reads_back in
-    record {
+returns-clause-is_read c =
+    let shallow = shallow_request c.args.request.now in
+    IfOk-weaker c.compact.result _ _
+    (λ text again in_range short. record {
       short = short;
-      text = record { utf8 = IsUtf8-string_bytes c.in_ok-to_string.field-0; form = back (omega arith); in_range = in_range };
-    }
+      text = record { utf8 = IsUtf8-string_bytes text; form = again (omega arith); in_range = in_range };
+    }) c.compact.ensures.reads_back

@@ -1,0 +1,200 @@
+//! The places of sets by the sites that they come from.
+
+ghost use Rattle.std.specs.Prelude.{◌≡◌, ℕ, ◌+◌, ◌<◌, ◌^◌, [], ◌∷◌, ◌++◌, length, set, IfOk, OnOk, OnErr, MatchOption};
+ghost use Rattle.conflict.specs.Indexes.{AreBySite, AreInOrder, IsRising, counted_of, site_at, with_counted, with_set};
+ghost use Rattle.conflict.specs.Members.{with_all};
+ghost use Rattle.conflict.specs.Sets.{places_counted};
+
+use crate::Members;
+use op_names::{NoMemory, OpName};
+use rules::SharedOp;
+use state_vector::StateVector;
+use std::alloc::Global;
+use std::marker::Model;
+
+/// The sets of a site on an object.
+#[derive(Debug, Drop)]
+struct SiteSets {
+    site: u32,
+    /// The number of each and its place, in order of arrival.
+    sets: Vec<(u32, u32)>,
+    places: Members,
+}
+
+impl Model for SiteSets {
+    ghost use Rattle.conflict.specs.Indexes.{OfSite};
+
+    ghost Value = { OfSite };
+
+    ghost view = { λ of. record { site = of.site; sets = of.sets.items; places = of.places } };
+}
+
+impl SiteSets {
+    /// The site's first set.
+    fn of_one(alloc: Global, name: OpName, place: u32) -> Result<SiteSets, NoMemory>
+        ensures { IfOk result (λ of. of ≡ record { site = name.0; sets = (name.1, place) ∷ []; places = place ∷ [] }) }
+    {
+        let mut sets = Vec::new(alloc);
+        sets.push((name.seq(), place))?;
+        let places = Members::from_places(alloc, &[place])?;
+        Ok(SiteSets {
+            site: name.site(),
+            sets,
+            places,
+        })
+    }
+
+    /// Puts the next set in. On `NoMemory` all stays as it is.
+    fn add(&mut self, number: u32, place: u32) -> Result<(), NoMemory>
+        ensures ok { OnOk result (self.new ≡ with_set number place self.old) }
+        ensures err { OnErr result (self.new ≡ self.old) }
+    {
+        self.sets.reserve(1)?;
+        self.places.insert(place)?;
+        self.sets.push_reserved((number, place));
+        Ok(())
+    }
+
+    /// Puts the places of the sets in that a vector counts: all, or those before the first that it
+    /// doesn't count.
+    fn insert_counted(
+        &self,
+        alloc: Global,
+        seen: &StateVector,
+        known: &mut Members,
+    ) -> Result<(), NoMemory>
+        requires { IsRising self.now }
+        ensures { OnOk result (known.new ≡ with_all known.old (counted_of seen.now self.now)) }
+    {
+        let number = seen.count(self.site);
+        let counted = self.sets.partition_point(|set| set.0 <= number);
+        if counted == self.sets.len() {
+            return known.insert_all(&self.places);
+        }
+        let earlier = Members::first(alloc, self.sets[counted].1)?;
+        let places = self.places.intersection(alloc, &earlier)?;
+        known.insert_all(&places)
+    }
+}
+
+/// The first sets on an object, as many as `len`, by site.
+#[derive(Debug, Drop)]
+pub(crate) struct BySite {
+    len: u32,
+    sites: Vec<SiteSets>,
+}
+
+impl Model for BySite {
+    ghost use Rattle.conflict.specs.Indexes.{SiteIndex};
+
+    ghost Value = { SiteIndex };
+
+    ghost view = { λ index. record { len = index.len; sites = index.sites.items } };
+}
+
+impl BySite {
+    pub(crate) fn new(alloc: Global) -> BySite
+        ensures { result ≡ record { len = 0; sites = [] } }
+    {
+        BySite {
+            len: 0,
+            sites: Vec::new(alloc),
+        }
+    }
+
+    /// Where the site stands, if it does.
+    fn find(&self, site: u32) -> Option<usize>
+        ensures { MatchOption result ((i : ℕ) → i < length self.now.sites → (site_at self.now.sites i).site ≡ site → ⊥) (λ i. (i < length self.now.sites) × ((site_at self.now.sites i).site ≡ site)) }
+    {
+        for i in 0..self.sites.len() {
+            if self.sites[i].site == site {
+                return Some(i);
+            }
+        }
+        None
+    }
+
+    /// Puts the next set in, whose site stands there.
+    fn grow(&mut self, i: usize, number: u32) -> Result<(), NoMemory>
+        requires there { i < length self.old.sites }
+        requires few { self.old.len + 1 < 2 ^ 32 }
+        ensures ok { OnOk result (self.new ≡ record { len = self.old.len + 1; sites = set self.old.sites i (with_set number self.old.len (site_at self.old.sites i)) }) }
+        ensures err { OnErr result (self.new ≡ self.old) }
+    {
+        self.sites[i].add(number, self.len)?;
+        self.len += 1;
+        Ok(())
+    }
+
+    /// Puts the next set in, the first of its site.
+    fn begin(&mut self, alloc: Global, name: OpName) -> Result<(), NoMemory>
+        requires few { self.old.len + 1 < 2 ^ 32 }
+        ensures ok { OnOk result (self.new ≡ record { len = self.old.len + 1; sites = self.old.sites ++ record { site = name.0; sets = (name.1, self.old.len) ∷ []; places = self.old.len ∷ [] } ∷ [] }) }
+        ensures err { OnErr result (self.new ≡ self.old) }
+    {
+        let sets = SiteSets::of_one(alloc, name, self.len)?;
+        self.sites.push(sets)?;
+        self.len += 1;
+        Ok(())
+    }
+
+    /// Puts the next set in.
+    fn add(&mut self, alloc: Global, ops: &[SharedOp]) -> Result<(), NoMemory>
+        requires more { self.old.len < length ops.now }
+        requires few { length ops.now < 2 ^ 32 }
+        requires sites { AreBySite ops.now self.old }
+        ensures sites { AreBySite ops.now self.new }
+        ensures len { OnOk result (self.new.len ≡ self.old.len + 1) }
+    {
+        let name = ops[self.len as usize].name;
+        match self.find(name.site()) {
+            Some(i) => self.grow(i, name.seq()),
+            None => self.begin(alloc, name),
+        }
+    }
+
+    /// Puts the sets in that have come since. On `NoMemory` some of them are in.
+    pub(crate) fn catch_up(&mut self, alloc: Global, ops: &[SharedOp]) -> Result<(), NoMemory>
+        requires few { length ops.now < 2 ^ 32 }
+        requires sites { AreBySite ops.now self.old }
+        ensures { AreBySite ops.now self.new }
+    {
+        while (self.len as usize) < ops.len() {
+            self.add(alloc, ops)?;
+        }
+        Ok(())
+    }
+
+    /// The places of the sets in it that a vector counts: one look-up for each site.
+    fn counted(&self, alloc: Global, seen: &StateVector) -> Result<Members, NoMemory>
+        requires { (i : ℕ) → i < length self.now.sites → IsRising (site_at self.now.sites i) }
+        ensures { IfOk result (λ counted. counted ≡ with_counted seen.now [] self.now.sites) }
+    {
+        let mut counted = Members::empty(alloc);
+        for sets in &self.sites {
+            sets.insert_counted(alloc, seen, &mut counted)?;
+        }
+        Ok(counted)
+    }
+
+    /// The places of the sets that a vector counts: by the sites, and then the last sets one by one.
+    pub(crate) fn known(
+        &self,
+        alloc: Global,
+        ops: &[SharedOp],
+        seen: &StateVector,
+    ) -> Result<Members, NoMemory>
+        requires few { length ops.now < 2 ^ 32 }
+        requires sites { AreBySite ops.now self.now }
+        requires order { AreInOrder ops.now }
+        ensures { IfOk result (λ known. known ≡ places_counted ops.now seen.now) }
+    {
+        let mut known = self.counted(alloc, seen)?;
+        for place in self.len..ops.len() as u32 {
+            if seen.has(ops[place as usize].name) {
+                known.insert(place)?;
+            }
+        }
+        Ok(known)
+    }
+}

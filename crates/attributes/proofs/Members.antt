@@ -1,5 +1,5 @@
 -- The sets at the places of a set of places, in order.
-use Rattle.std.proofs.Common.{◌≡◌, ℕ, zero, suc, ◌+◌, ◌-◌, ◌<◌, ◌≤◌, Bool, false, not, List, [], ◌∷◌, ◌++◌, length, map, refl, sym, ap, ◌∙◌, subst, arith, inl, inr, take}
+use Rattle.std.proofs.Common.{◌≡◌, ℕ, zero, suc, ◌+◌, ◌<◌, ◌≤◌, Bool, false, not, List, [], ◌∷◌, ◌++◌, length, map, refl, sym, ap, ◌∙◌, subst, arith, inl, inr, take}
 use Rattle.std.specs.Prelude.{All, filter, flat_map, IsTrue}
 use Rattle.std.specs.List.{range_with_len}
 use Rattle.std.specs.List.Sorted.{IsStrictlyIncreasing}
@@ -11,10 +11,10 @@ use Rattle.rules.specs.AttrLists.{Attr}
 use Rattle.rules.specs.Operations.{IsCausallyOrdered, before, is_set_on}
 use Rattle.rules.proofs.Lists.{In, In-from_Contains, Contains-from_In, In-filter_back, In-map_back, In-range_back}
 use Rattle.rules.proofs.Relation.{not_before_self}
-use Rattle.conflict.specs.Members.{has}
+use Rattle.places.specs.Members.{has}
 use Rattle.conflict.specs.Sets.{at, AreSetsOf}
-use Rattle.conflict.proofs.Places.{at_in}
-use Rattle.conflict.proofs.Rising.{among_places}
+use Rattle.conflict.proofs.SetsAt.{at_in}
+use Rattle.places.proofs.Rising.{among_places}
 use Rattle.attributes.specs.Pairs.{given_backwards, given_by, with_all, with_new}
 
 -- ---- one set back

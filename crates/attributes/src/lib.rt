@@ -11,8 +11,8 @@ ghost use Rattle.rules.specs.Versions.{attributes, key_cmp};
 ghost use Rattle.conflict.specs.Sets.{at, AreSetsOn};
 ghost use Rattle.attributes.specs.Pairs.{given_backwards, given_by, with_all, with_new};
 
-use conflict::Members;
 use op_names::{Key, NoMemory, Value};
+use places::Members;
 use rules::{Attrs, Body, SharedOp};
 use std::alloc::Global;
 
@@ -31,10 +31,10 @@ pub fn attributes_of(
     requires sets { (object : Name) × AreSetsOn object ops.now }
     requires within { All (λ place. place < length ops.now) members.now }
     requires compatible { is_compatible (conflict ops.now) (map (at ops.now) members.now) ≡ true }
-    ensures { IfOk result (λ pairs. pairs.items ≡ attributes initial.now (map (at ops.now) members.now)) }
+    ensures { IfOk result (λ pairs.
+        pairs.items ≡ attributes initial.now (map (at ops.now) members.now)) }
 {
-    // With the count of a set comes that its places rise.
-    let _ = members.count();
+    members.rises();
     let mut pairs = last_given(alloc, ops, members)?;
     add_missing(alloc, &mut pairs, initial.pairs())?;
     sort_by_key(&mut pairs);
@@ -49,7 +49,8 @@ fn last_given(
     members: &Members,
 ) -> Result<Vec<(Key, Value)>, NoMemory>
     requires { All (λ place. place < length ops.now) members.now }
-    ensures { IfOk result (λ pairs. pairs.items ≡ with_all [] (given_backwards (map (at ops.now) members.now))) }
+    ensures { IfOk result (λ pairs.
+        pairs.items ≡ with_all [] (given_backwards (map (at ops.now) members.now))) }
 {
     let places = members.list(alloc)?;
     let mut pairs = Vec::new(alloc);

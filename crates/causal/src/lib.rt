@@ -1,15 +1,14 @@
 //! A room's operations so far, and which operation may come next.
 #![tactic(auto)]
 
-ghost use Rattle.std.specs.Prelude.{◌≡◌, ◌-◌, ◌<◌, ◌≤◌, ◌==◌, ◌++◌, ◌∷◌, ◌&&◌, ◌||◌, [], ℕ, true, false, not, map, position, nat_lt, None, Some, IfSome, IfOk, IfErr, OnOk, OnErr, IsOk, Contains, vec_len, slice_get, slice_index, slice_index_or, length, if◌then◌else◌};
+ghost use Rattle.std.specs.Prelude.{◌≡◌, ◌-◌, ◌<◌, ◌≤◌, ◌++◌, ◌∷◌, ◌||◌, [], ℕ, true, false, map, position, None, Some, IfSome, IfOk, IfErr, OnOk, OnErr, IsOk, Contains, vec_len, slice_index, slice_index_or};
 ghost use Rattle.std.specs.Option.{option_copied};
-ghost use Rattle.std.specs.List.{list_any};
 ghost use Rattle.op_names.specs.Names.{is_site, same_name};
 ghost use Rattle.rules.specs.Operations.{IsHistory, operation};
 ghost use Rattle.rules.specs.Admission.{count_at_site, is_ahead, is_not_closed, causal_refusal};
-ghost use Rattle.causal.specs.Past.{places_of, lacks, knows};
+ghost use Rattle.causal.specs.Index.{at_number, places_of, has_fewer, lacks, knows, lacks_beyond};
 
-use op_names::{NoMemory, OpName};
+use op_names::{MAX_SITE, NoMemory, OpName};
 use rules::Refusal;
 pub use rules::{AttrList, Attrs, AttrsFault, Body, Entry, Op, SharedOp, Version};
 use state_vector::StateVector;
@@ -65,22 +64,29 @@ pub struct Past {
 
 impl Model for Past {
     ghost use Rattle.std.specs.Prelude.{◌-◌, map, min, vec_capacity, vec_len};
-    ghost use Rattle.causal.specs.Past.{PastState, IsIndex};
+    ghost use Rattle.causal.specs.Past.{PastState};
+    ghost use Rattle.causal.specs.Index.{IsIndex};
 
     ghost Value = { PastState };
 
-    ghost view = { λ p. record { history = p.operations.items; reserve = map (λ list. min (vec_capacity p.operations - vec_len p.operations) (vec_capacity list - vec_len list)) p.places.items } };
+    ghost view = { λ p. record {
+      history = p.operations.items;
+      reserve = map
+          (λ list. min (vec_capacity p.operations - vec_len p.operations) (vec_capacity list - vec_len list))
+          p.places.items;
+    } };
 
     ghost invariant = { λ p. IsIndex p.operations.items (map (λ list. list.items) p.places.items) };
 }
 
-/// A list without places for each of the sites 1 to 256.
+/// A list without places for each site.
 fn empty_lists(alloc: Global) -> Result<Vec<Vec<usize>>, NoMemory>
-    ensures len { IfOk result (λ lists. vec_len lists ≡ 256) }
-    ensures empty { IfOk result (λ lists. (k : ℕ) → slice_index_or (map (λ list. list.items) lists.items) k [] ≡ []) }
+    ensures len { IfOk result (λ lists. vec_len lists ≡ MAX_SITE) }
+    ensures empty { IfOk result
+        (λ lists. (k : ℕ) → slice_index_or (map (λ list. list.items) lists.items) k [] ≡ []) }
 {
-    let mut lists = Vec::with_capacity(alloc, 256)?;
-    for _site in 0..256usize {
+    let mut lists = Vec::with_capacity(alloc, MAX_SITE as usize)?;
+    for _site in 0..MAX_SITE {
         lists.push(Vec::new(alloc))?;
     }
     Ok(lists)
@@ -88,7 +94,7 @@ fn empty_lists(alloc: Global) -> Result<Vec<Vec<usize>>, NoMemory>
 
 /// The element at a number that counts from 1, if there is one.
 fn at_number<T>(elements: &[T], number: u32) -> Option<&T>
-    ensures { option_copied result ≡ (if number == 0 then None else slice_get elements.now (number - 1)) }
+    ensures { option_copied result ≡ at_number elements.now number }
 {
     elements.get((number as usize).checked_sub(1)?)
 }
@@ -149,7 +155,7 @@ impl Past {
 
     /// Is some pair's count above the number of its site's operations?
     fn has_fewer(&self, pairs: &[(u32, u32)]) -> bool
-        ensures { result ≡ list_any (λ pair. nat_lt (count_at_site self.now.history pair.0) pair.1) pairs.now }
+        ensures { result ≡ has_fewer self.now.history pairs.now }
     {
         pairs.iter().any(|pair| self.count(pair.0) < pair.1)
     }
@@ -204,7 +210,7 @@ impl Past {
         latest: (u32, u32),
         pairs: &[(u32, u32)],
     ) -> bool
-        ensures { result ≡ list_any (λ pair. not (knows self.now.history own pair) && (not (knows self.now.history latest pair) && lacks self.now.history seen.now pair)) pairs.now }
+        ensures { result ≡ lacks_beyond self.now.history seen.now own latest pairs.now }
     {
         pairs.iter().any(|pair| {
             !self.knows(own, *pair) && !self.knows(latest, *pair) && self.lacks_one(seen, *pair)
@@ -220,7 +226,9 @@ impl Past {
         latest: (u32, u32),
         pairs: &[(u32, u32)],
     ) -> bool
-        ensures { result ≡ (lacks self.now.history seen.now own || (lacks self.now.history seen.now latest || list_any (λ pair. not (knows self.now.history own pair) && (not (knows self.now.history latest pair) && lacks self.now.history seen.now pair)) pairs.now)) }
+        ensures { result ≡ (lacks self.now.history seen.now own
+            || (lacks self.now.history seen.now latest
+            || lacks_beyond self.now.history seen.now own latest pairs.now)) }
     {
         self.lacks_one(seen, own)
             || self.lacks_one(seen, latest)
@@ -250,7 +258,8 @@ impl Past {
     #[tactic(auto, unfolding(rules::specs::Admission::causal_refusal))]
     pub fn admit(&self, name: OpName, seen: &StateVector) -> Result<(), NotAdmitted>
         ensures admitted { OnOk result (causal_refusal self.now.history name seen.now ≡ None) }
-        ensures refused { IfErr result (λ fault. causal_refusal self.now.history name seen.now ≡ Some (refusal_of fault)) }
+        ensures refused { IfErr result
+            (λ fault. causal_refusal self.now.history name seen.now ≡ Some (refusal_of fault)) }
     {
         let earlier = name.seq() - 1;
         if self.count(name.site()) != earlier {
@@ -269,13 +278,16 @@ impl Past {
     }
 
     /// Takes the memory for one more operation of a site, so that adding it can't fail; otherwise
-    /// `NoMemory`. For a site that is not from 1 to 256 there is nothing to take. No answer changes.
+    /// `NoMemory`. For a site that is not from 1 to 256 there is nothing to take. No answer
+    /// changes, and no site has memory for fewer operations than before, whatever the result.
     pub fn reserve(&mut self, site: u32) -> Result<(), NoMemory>
         ensures history { self.new.history ≡ self.old.history }
-        ensures ready { OnOk result (is_site site ≡ true → 0 < slice_index self.new.reserve (site - 1)) }
+        ensures kept { (k : ℕ) → slice_index self.old.reserve k ≤ slice_index self.new.reserve k }
+        ensures ready { OnOk result
+            (is_site site ≡ true → 0 < slice_index self.new.reserve (site - 1)) }
         ensures outside { is_site site ≡ false → IsOk result }
     {
-        if site < 1 || site > 256 {
+        if site < 1 || site > MAX_SITE {
             return Ok(());
         }
         self.operations.reserve(1)?;

@@ -12,19 +12,21 @@ use Rattle.rules.specs.Conflicts.{base, conflict, direct_conflict, members}
 use Rattle.rules.proofs.Counted.{same_name-true}
 use Rattle.rules.proofs.Lists.{any_back, filter_agree}
 use Rattle.rules.proofs.Sets.{in_known_back}
-use Rattle.conflict.specs.Members.{has, inserted, met_below, places, with_all, with_those}
-use Rattle.conflict.specs.Sets.{AreSetsOf, at, base_places, is_in_row, places_counted}
-use Rattle.conflict.proofs.Places.{In-places, below, has_if_in, in_if_has, has-filter, has-filter_past, has-places_of, all_below, in_all}
-use Rattle.conflict.proofs.Listed.{Up, same_set, up_range, up_filter, up_inserted, up_with_all, has-inserted, has-with_all, has-kept, or_turned, and_turned}
+use Rattle.places.specs.Members.{has, with_place, places, with_all}
+use Rattle.conflict.specs.Rows.{conflicts_below, is_in_row, with_those}
+use Rattle.conflict.specs.Sets.{AreSetsOf, at, clash_of, base_places, places_counted}
+use Rattle.places.proofs.Places.{In-places, below, has_if_in, in_if_has, has-filter, has-filter_past, all_below, in_all}
+use Rattle.conflict.proofs.SetsAt.{has-places_of}
+use Rattle.places.proofs.WordPlaces.{Up, same_set, up_range, up_filter, up_with_place, up_with_all, has-with_place, has-with_all, has-kept, or_turned, and_turned}
 use Rattle.conflict.proofs.Growth.{base_within, never_before}
-use Rattle.conflict.proofs.Rows.{met_if_known, met_if_unknown}
-use Rattle.conflict.proofs.Opposed.{clash_of, opposed_at}
+use Rattle.conflict.proofs.Rows.{direct_if_known, direct_if_unknown}
+use Rattle.conflict.proofs.InConflict.{conflicting_at}
 
-with_those-filter : (test : ℕ → Bool) (met ps : List ℕ) → with_those test met ps ≡ with_all met (filter test ps)
-with_those-filter test met [] = refl
-with_those-filter test met (p ∷ ps) = elim (cases_Bool (test p)) [
-  | inl t ↦ rw t (with_those-filter test (inserted p met) ps)
-  | inr t ↦ rw t (with_those-filter test met ps)
+with_those-filter : (test : ℕ → Bool) (direct ps : List ℕ) → with_those test direct ps ≡ with_all direct (filter test ps)
+with_those-filter test direct [] = refl
+with_those-filter test direct (p ∷ ps) = elim (cases_Bool (test p)) [
+  | inl t ↦ rw t (with_those-filter test (with_place p direct) ps)
+  | inr t ↦ rw t (with_those-filter test direct ps)
 ]
 
 pick_known : (known there outside differs r : Bool) → known ≡ true → outside ≡ r → ((known && outside) || ((there && not known) && differs)) ≡ r
@@ -45,8 +47,8 @@ pick_none true there outside differs r e g f = absurd (true≢false e)
 pick_none false true outside differs r e g f = absurd (true≢false g)
 
 module _ {object : Name} (k : List Op) (o : Op) (w : AreSetsOf object (k ++ o ∷ [])) where
-  abbrev direct : ℕ → Bool
-  direct p = direct_conflict (base (k ++ o ∷ [])) o (at k p)
+  abbrev is_direct : ℕ → Bool
+  is_direct p = direct_conflict (base (k ++ o ∷ [])) o (at k p)
 
   abbrev differs : ℕ → Bool
   differs p = differ_on_a_key o.body (at k p).body
@@ -75,49 +77,49 @@ module _ {object : Name} (k : List Op) (o : Op) (w : AreSetsOf object (k ++ o �
     | inr f ↦ f
   ]
 
-  each : (x : ℕ) → ((has (places_counted k o.seen) x && outside x) || ((has (places (length k)) x && unknown x) && differs x)) ≡ has (filter direct (places (length k))) x
+  each : (x : ℕ) → ((has (places_counted k o.seen) x && outside x) || ((has (places (length k)) x && unknown x) && differs x)) ≡ has (filter is_direct (places (length k))) x
   each x = elim (cases_lt x (length k)) [
     | inl l ↦ elim (cases_Bool (counted x)) [
-      | inl t ↦ pick_known (has (places_counted k o.seen) x) (has (places (length k)) x) (outside x) (differs x) (has (filter direct (places (length k))) x)
-          (has-filter counted (length k) x l ∙ t) (met_if_known k o w x l t ∙ sym (has-filter direct (length k) x l))
-      | inr t ↦ pick_unknown (has (places_counted k o.seen) x) (has (places (length k)) x) (outside x) (differs x) (has (filter direct (places (length k))) x)
-          (has-filter counted (length k) x l ∙ t) (has_place x l) (met_if_unknown k o w x l t ∙ sym (has-filter direct (length k) x l))
+      | inl t ↦ pick_known (has (places_counted k o.seen) x) (has (places (length k)) x) (outside x) (differs x) (has (filter is_direct (places (length k))) x)
+          (has-filter counted (length k) x l ∙ t) (direct_if_known k o w x l t ∙ sym (has-filter is_direct (length k) x l))
+      | inr t ↦ pick_unknown (has (places_counted k o.seen) x) (has (places (length k)) x) (outside x) (differs x) (has (filter is_direct (places (length k))) x)
+          (has-filter counted (length k) x l ∙ t) (has_place x l) (direct_if_unknown k o w x l t ∙ sym (has-filter is_direct (length k) x l))
     ]
-    | inr g ↦ pick_none (has (places_counted k o.seen) x) (has (places (length k)) x) (outside x) (differs x) (has (filter direct (places (length k))) x)
-        (has-filter_past counted (length k) x g) (has_no_place x g) (has-filter_past direct (length k) x g)
+    | inr g ↦ pick_none (has (places_counted k o.seen) x) (has (places (length k)) x) (outside x) (differs x) (has (filter is_direct (places (length k))) x)
+        (has-filter_past counted (length k) x g) (has_no_place x g) (has-filter_past is_direct (length k) x g)
   ]
 
-  has_both : (x : ℕ) → has (with_all first second) x ≡ has (filter direct (places (length k))) x
+  has_both : (x : ℕ) → has (with_all first second) x ≡ has (filter is_direct (places (length k))) x
   has_both x =
       has-with_all first second x
       ∙ (λ i. has-kept outside (places_counted k o.seen) x i || has-kept differs (filter unknown (places (length k))) x i)
       ∙ (λ i. (has (places_counted k o.seen) x && outside x) || (has-kept unknown (places (length k)) x i && differs x))
       ∙ each x
 
-  both : with_all first second ≡ filter direct (places (length k))
-  both = same_set (with_all first second) (filter direct (places (length k)))
+  both : with_all first second ≡ filter is_direct (places (length k))
+  both = same_set (with_all first second) (filter is_direct (places (length k)))
       (up_with_all first second (up_filter outside (places_counted k o.seen) (up_filter counted (places (length k)) (up_range 0 (length k)))))
-      (up_filter direct (places (length k)) (up_range 0 (length k)))
+      (up_filter is_direct (places (length k)) (up_range 0 (length k)))
       has_both
 
-  pub directly_met : (based known all others compared listed met result : List ℕ) → based ≡ base_places k o → known ≡ places_counted k o.seen → all ≡ places (length k)
-      → others ≡ filter (λ x. not (has known x)) all → filter differs compared ≡ filter differs others → listed ≡ compared → met ≡ filter (λ x. not (has based x)) known
-      → result ≡ with_those differs met listed → result ≡ filter direct (places (length k))
-  directly_met based known all others compared listed met result b n a u c l m r =
+  pub direct_conflicts_are : (based known all others compared listed direct result : List ℕ) → based ≡ base_places k o → known ≡ places_counted k o.seen → all ≡ places (length k)
+      → others ≡ filter (λ x. not (has known x)) all → filter differs compared ≡ filter differs others → listed ≡ compared → direct ≡ filter (λ x. not (has based x)) known
+      → result ≡ with_those differs direct listed → result ≡ filter is_direct (places (length k))
+  direct_conflicts_are based known all others compared listed direct result b n a u c l m r =
       let same_others : others ≡ filter unknown (places (length k)) = u ∙ (λ i. filter (λ x. not (has (n i) x)) (a i)) in
-      let same_met : met ≡ first = m ∙ (λ i. filter (λ x. not (has (b i) x)) (n i)) in
+      let same_direct : direct ≡ first = m ∙ (λ i. filter (λ x. not (has (b i) x)) (n i)) in
       let same_second : filter differs listed ≡ second = ap (filter differs) l ∙ c ∙ ap (filter differs) same_others in
-      r ∙ with_those-filter differs met listed ∙ (λ i. with_all (same_met i) (same_second i)) ∙ both
+      r ∙ with_those-filter differs direct listed ∙ (λ i. with_all (same_direct i) (same_second i)) ∙ both
 
 -- places of a part of the first n
 pub others_below : (n : ℕ) (known all others : List ℕ) → all ≡ places n → others ≡ filter (λ x. not (has known x)) all → All (λ x. x < n) others
 others_below n known all others a u = all_below (λ x. not (has known x)) n others (u ∙ ap (filter (λ x. not (has known x))) a)
 
--- ---- the row, from those that are met directly and those that the base is in conflict with
+-- ---- the row, from the direct conflicts and those of the base
 
--- is the set at a place in the row, where of those that reach one that is met only the ones below n count?
+-- is the set at a place in the row, where of those in direct conflict, themselves or by their bases, only the ones below n count?
 abbrev pub row_below : List Op → List ℕ → List ℕ → ℕ → ℕ → Bool
-row_below k met based n place = (nat_lt place n && list_any (has (place ∷ base_places k (at k place))) met) || list_any (λ other. conflict k (at k other) (at k place)) based
+row_below k direct based n place = (nat_lt place n && list_any (has (place ∷ base_places k (at k place))) direct) || list_any (λ other. conflict k (at k other) (at k place)) based
 
 module _ {object : Name} (k : List Op) (w : AreSetsOf object k) where
   -- a set isn't based on a later one
@@ -127,81 +129,81 @@ module _ {object : Name} (k : List Op) (w : AreSetsOf object k) where
       let same : (at k q).name ≡ c.0.name = same_name-true (at k q).name c.0.name c.2 in
       true≢false (sym (ap (counts (at k p).seen) same ∙ (in_known_back k (at k p) c.0 (base_within k (at k p) c.0 c.1)).earlier) ∙ never_before k w.ordered p q l m))
 
-  not_reached : (p q : ℕ) → p < q → has (p ∷ base_places k (at k p)) q ≡ false
-  not_reached p q l = rw (ne_eqb p q (λ (e : p ≡ q). omega arith)) (elim (cases_lt q (length k)) [
+  not_in_base : (p q : ℕ) → p < q → has (p ∷ base_places k (at k p)) q ≡ false
+  not_in_base p q l = rw (ne_eqb p q (λ (e : p ≡ q). omega arith)) (elim (cases_lt q (length k)) [
     | inl b ↦ has-places_of k (members (base k (at k p))) q b ∙ no_later p q l b
     | inr g ↦ has-filter_past (λ z. list_any (same_op (at k z)) (members (base k (at k p)))) (length k) q g
   ])
 
-  module _ (met based : List ℕ) where
-    abbrev reached : ℕ → Bool
-    reached p = list_any (has (p ∷ base_places k (at k p))) met
+  module _ (direct based : List ℕ) where
+    abbrev has_direct : ℕ → Bool
+    has_direct p = list_any (has (p ∷ base_places k (at k p))) direct
 
-    none_reached : (lowest p : ℕ) → All (λ place. lowest ≤ place) met → p < lowest → reached p ≡ false
-    none_reached lowest p low l = false_from_ne_true (reached p) (λ t.
-        let c = any_back (has (p ∷ base_places k (at k p))) met t in
-        let b : lowest ≤ c.0 = in_all (λ place. lowest ≤ place) met low c.0 c.1 in
-        true≢false (sym c.2 ∙ not_reached p c.0 (omega arith)))
+    none_direct : (lowest p : ℕ) → All (λ place. lowest ≤ place) direct → p < lowest → has_direct p ≡ false
+    none_direct lowest p low l = false_from_ne_true (has_direct p) (λ t.
+        let c = any_back (has (p ∷ base_places k (at k p))) direct t in
+        let b : lowest ≤ c.0 = in_all (λ place. lowest ≤ place) direct low c.0 c.1 in
+        true≢false (sym c.2 ∙ not_in_base p c.0 (omega arith)))
 
     left_out : (a b : Bool) → a ≡ false → b ≡ (a || b)
     left_out true b e = absurd (true≢false e)
     left_out false b e = refl
 
-    none_below_lowest : (lowest p : ℕ) → All (λ place. lowest ≤ place) met → (nat_lt p lowest && reached p) ≡ false
+    none_below_lowest : (lowest p : ℕ) → All (λ place. lowest ≤ place) direct → (nat_lt p lowest && has_direct p) ≡ false
     none_below_lowest lowest p low = elim (cases_lt p lowest) [
-      | inl l ↦ rw (lt-ltb p lowest l) (none_reached lowest p low l)
+      | inl l ↦ rw (lt-ltb p lowest l) (none_direct lowest p low l)
       | inr g ↦ rw (le-ltb p lowest g) refl
     ]
 
-    pub row_begun : (lowest : ℕ) (opposed : List ℕ) → All (λ place. lowest ≤ place) met → All (λ other. other < length k) based
-        → opposed ≡ filter (met_below (clash_of k) based (length k)) (places (length k)) → opposed ≡ filter (row_below k met based lowest) (places (length k))
-    row_begun lowest opposed low inside e = e ∙ filter_agree (met_below (clash_of k) based (length k)) (row_below k met based lowest) (places (length k)) (λ p m.
+    pub row_begun : (lowest : ℕ) (conflicting : List ℕ) → All (λ place. lowest ≤ place) direct → All (λ other. other < length k) based
+        → conflicting ≡ filter (conflicts_below (clash_of k) based (length k)) (places (length k)) → conflicting ≡ filter (row_below k direct based lowest) (places (length k))
+    row_begun lowest conflicting low inside e = e ∙ filter_agree (conflicts_below (clash_of k) based (length k)) (row_below k direct based lowest) (places (length k)) (λ p m.
         let l = below (length k) p m in
-        sym (has-filter (met_below (clash_of k) based (length k)) (length k) p l) ∙ sym (ap (λ (r : List ℕ). has r p) e) ∙ opposed_at k based opposed p inside l e
-        ∙ left_out (nat_lt p lowest && reached p) (list_any (λ other. conflict k (at k other) (at k p)) based) (none_below_lowest lowest p low))
+        sym (has-filter (conflicts_below (clash_of k) based (length k)) (length k) p l) ∙ sym (ap (λ (r : List ℕ). has r p) e) ∙ conflicting_at k based conflicting p inside l e
+        ∙ left_out (nat_lt p lowest && has_direct p) (list_any (λ other. conflict k (at k other) (at k p)) based) (none_below_lowest lowest p low))
 
-    one_more : (p x : ℕ) (q : Bool) → reached p ≡ true → (((nat_lt x p && reached x) || q) || eqb p x) ≡ ((nat_lt x (p + 1) && reached x) || q)
+    one_more : (p x : ℕ) (q : Bool) → has_direct p ≡ true → (((nat_lt x p && has_direct x) || q) || eqb p x) ≡ ((nat_lt x (p + 1) && has_direct x) || q)
     one_more p x q t = elim (cases_order x p) [
-      | inl e ↦ (let b : x < p + 1 = omega arith in rw (le-ltb x p (omega arith), lt-ltb x (p + 1) b, eq-eqb p x (sym e), ap reached e ∙ t) (or_right (false || q) true refl))
+      | inl e ↦ (let b : x < p + 1 = omega arith in rw (le-ltb x p (omega arith), lt-ltb x (p + 1) b, eq-eqb p x (sym e), ap has_direct e ∙ t) (or_right (false || q) true refl))
       | inr c ↦ elim c [
-        | inl l ↦ (let b : x < p + 1 = omega arith in rw (lt-ltb x p l, lt-ltb x (p + 1) b, ne_eqb p x (λ (e : p ≡ x). omega arith)) (or_turned (reached x || q) false))
+        | inl l ↦ (let b : x < p + 1 = omega arith in rw (lt-ltb x p l, lt-ltb x (p + 1) b, ne_eqb p x (λ (e : p ≡ x). omega arith)) (or_turned (has_direct x || q) false))
         | inr g ↦ (let b : p + 1 ≤ x = omega arith in rw (le-ltb x p (omega arith), le-ltb x (p + 1) b, ne_eqb p x (λ (e : p ≡ x). omega arith)) (or_turned q false))
       ]
     ]
 
-    none_more : (p x : ℕ) → reached p ≡ false → (nat_lt x p && reached x) ≡ (nat_lt x (p + 1) && reached x)
+    none_more : (p x : ℕ) → has_direct p ≡ false → (nat_lt x p && has_direct x) ≡ (nat_lt x (p + 1) && has_direct x)
     none_more p x f = elim (cases_order x p) [
-      | inl e ↦ rw (ap reached e ∙ f) (and_turned (nat_lt x p) false ∙ sym (and_turned (nat_lt x (p + 1)) false))
+      | inl e ↦ rw (ap has_direct e ∙ f) (and_turned (nat_lt x p) false ∙ sym (and_turned (nat_lt x (p + 1)) false))
       | inr c ↦ elim c [
         | inl l ↦ (let b : x < p + 1 = omega arith in rw (lt-ltb x p l, lt-ltb x (p + 1) b) refl)
         | inr g ↦ (let b : p + 1 ≤ x = omega arith in rw (le-ltb x p (omega arith), le-ltb x (p + 1) b) refl)
       ]
     ]
 
-    pub row_more : (p : ℕ) (old new : List ℕ) → p < length k → old ≡ filter (row_below k met based p) (places (length k)) → new ≡ cond (reached p) (inserted p old) old
-        → new ≡ filter (row_below k met based (p + 1)) (places (length k))
-    row_more p old new l e f = elim (cases_Bool (reached p)) [
-      | inl t ↦ f ∙ ap (λ b. cond b (inserted p old) old) t
-          ∙ same_set (inserted p old) (filter (row_below k met based (p + 1)) (places (length k)))
-          (up_inserted p old (subst Up (sym e) (up_filter (row_below k met based p) (places (length k)) (up_range 0 (length k)))))
-          (up_filter (row_below k met based (p + 1)) (places (length k)) (up_range 0 (length k)))
-          (λ x. has-inserted p old x ∙ ap (λ (r : List ℕ). has r x || eqb p x) e ∙ (elim (cases_lt x (length k)) [
-            | inl b ↦ ap (λ r. r || eqb p x) (has-filter (row_below k met based p) (length k) x b) ∙ one_more p x (list_any (λ other. conflict k (at k other) (at k x)) based) t ∙ sym (has-filter (row_below k met based (p + 1)) (length k) x b)
-            | inr g ↦ rw (has-filter_past (row_below k met based p) (length k) x g, has-filter_past (row_below k met based (p + 1)) (length k) x g, ne_eqb p x (λ (q : p ≡ x). omega arith)) refl
+    pub row_more : (p : ℕ) (old new : List ℕ) → p < length k → old ≡ filter (row_below k direct based p) (places (length k)) → new ≡ cond (has_direct p) (with_place p old) old
+        → new ≡ filter (row_below k direct based (p + 1)) (places (length k))
+    row_more p old new l e f = elim (cases_Bool (has_direct p)) [
+      | inl t ↦ f ∙ ap (λ b. cond b (with_place p old) old) t
+          ∙ same_set (with_place p old) (filter (row_below k direct based (p + 1)) (places (length k)))
+          (up_with_place p old (subst Up (sym e) (up_filter (row_below k direct based p) (places (length k)) (up_range 0 (length k)))))
+          (up_filter (row_below k direct based (p + 1)) (places (length k)) (up_range 0 (length k)))
+          (λ x. has-with_place p old x ∙ ap (λ (r : List ℕ). has r x || eqb p x) e ∙ (elim (cases_lt x (length k)) [
+            | inl b ↦ ap (λ r. r || eqb p x) (has-filter (row_below k direct based p) (length k) x b) ∙ one_more p x (list_any (λ other. conflict k (at k other) (at k x)) based) t ∙ sym (has-filter (row_below k direct based (p + 1)) (length k) x b)
+            | inr g ↦ rw (has-filter_past (row_below k direct based p) (length k) x g, has-filter_past (row_below k direct based (p + 1)) (length k) x g, ne_eqb p x (λ (q : p ≡ x). omega arith)) refl
           ]))
-      | inr t ↦ f ∙ ap (λ b. cond b (inserted p old) old) t ∙ e ∙ filter_agree (row_below k met based p) (row_below k met based (p + 1)) (places (length k)) (λ x m.
+      | inr t ↦ f ∙ ap (λ b. cond b (with_place p old) old) t ∙ e ∙ filter_agree (row_below k direct based p) (row_below k direct based (p + 1)) (places (length k)) (λ x m.
           ap (λ b. b || list_any (λ other. conflict k (at k other) (at k x)) based) (none_more p x t))
     ]
 
-    pub row_done : (n : ℕ) (row : List ℕ) → length k ≤ n → row ≡ filter (row_below k met based n) (places (length k)) → row ≡ filter (is_in_row k met based) (places (length k))
-    row_done n row l e = e ∙ filter_agree (row_below k met based n) (is_in_row k met based) (places (length k)) (λ x m.
+    pub row_done : (n : ℕ) (row : List ℕ) → length k ≤ n → row ≡ filter (row_below k direct based n) (places (length k)) → row ≡ filter (is_in_row k direct based) (places (length k))
+    row_done n row l e = e ∙ filter_agree (row_below k direct based n) (is_in_row k direct based) (places (length k)) (λ x m.
         let b = below (length k) x m in
-        ap (λ t. (t && reached x) || list_any (λ other. conflict k (at k other) (at k x)) based) (lt-ltb x n (omega arith)))
+        ap (λ t. (t && has_direct x) || list_any (λ other. conflict k (at k other) (at k x)) based) (lt-ltb x n (omega arith)))
 
--- where no set is met directly, those that the base is in conflict with are the row
-pub row_if_none : (k : List Op) (based met opposed : List ℕ) → met ≡ [] → All (λ other. other < length k) based
-    → opposed ≡ filter (met_below (clash_of k) based (length k)) (places (length k)) → opposed ≡ filter (is_in_row k met based) (places (length k))
-row_if_none k based met opposed none low e = e ∙ filter_agree (met_below (clash_of k) based (length k)) (is_in_row k met based) (places (length k)) (λ p m.
+-- where no set is in direct conflict, those that the base is in conflict with are the row
+pub row_if_none : (k : List Op) (based direct conflicting : List ℕ) → direct ≡ [] → All (λ other. other < length k) based
+    → conflicting ≡ filter (conflicts_below (clash_of k) based (length k)) (places (length k)) → conflicting ≡ filter (is_in_row k direct based) (places (length k))
+row_if_none k based direct conflicting none low e = e ∙ filter_agree (conflicts_below (clash_of k) based (length k)) (is_in_row k direct based) (places (length k)) (λ p m.
     let l = below (length k) p m in
-    sym (has-filter (met_below (clash_of k) based (length k)) (length k) p l) ∙ sym (ap (λ (r : List ℕ). has r p) e) ∙ opposed_at k based opposed p low l e
+    sym (has-filter (conflicts_below (clash_of k) based (length k)) (length k) p l) ∙ sym (ap (λ (r : List ℕ). has r p) e) ∙ conflicting_at k based conflicting p low l e
     ∙ ap (λ (ms : List ℕ). is_in_row k ms based p) (sym none))

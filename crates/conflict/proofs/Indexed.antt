@@ -3,9 +3,9 @@ use Rattle.std.proofs.Common.{◌≡◌, ℕ, ◌+◌, ◌<◌, Bool, true, fals
 use Rattle.std.specs.Prelude.{filter, Result, Ok, Err, OnOk, OnErr}
 use Rattle.std.proofs.lemmas.Bool.{true≢false, cases_eq, cases_lt, false_from_ne_true}
 use Rattle.rules.proofs.Lists.{In, filter_agree}
-use Rattle.conflict.specs.Members.{inserted, places}
+use Rattle.places.specs.Members.{with_place, places}
 use Rattle.conflict.specs.Indexes.{IsIndex}
-use Rattle.conflict.proofs.Places.{below, kept_next, left_next, put_next}
+use Rattle.places.proofs.Places.{below, kept_next, left_next, put_next}
 
 pub filter_none : {X : Type 0} (p : X → Bool) (xs : List X) → ((x : X) → In x xs → p x ≡ false) → filter p xs ≡ []
 filter_none p [] f = refl
@@ -59,11 +59,11 @@ module _ {C : Type 0} (of : C → ℕ → Bool) (one : (c d : C) (p : ℕ) → o
     some_stays i l = let s = index.some i l in let b : s.0 < n = s.1 in (s.0, omega (arith, b), ap (λ c. of c s.0) (same i l) ∙ s.2)
 
     -- the next place is of a class that is there
-    pub index_grown : (at : ℕ) → at < size → of (class at) n ≡ true → found' at ≡ inserted n (found at)
+    pub index_grown : (at : ℕ) → at < size → of (class at) n ≡ true → found' at ≡ with_place n (found at)
         → ((i : ℕ) → i < size → (i ≡ at → ⊥) → found' i ≡ found i) → IsIndex of (n + 1) size class' found'
     index_grown at within here grown others = record {
       each = λ i l. elim (cases_eq i at) [
-        | inl e ↦ put_next (of (class' i)) n (found i) (found' i) (index.each i l ∙ ap (λ c. filter (of c) (places n)) (sym (same i l))) (ap (λ c. of c n) (same i l ∙ ap class e) ∙ here) (ap found' e ∙ grown ∙ ap (λ j. inserted n (found j)) (sym e))
+        | inl e ↦ put_next (of (class' i)) n (found i) (found' i) (index.each i l ∙ ap (λ c. filter (of c) (places n)) (sym (same i l))) (ap (λ c. of c n) (same i l ∙ ap class e) ∙ here) (ap found' e ∙ grown ∙ ap (λ j. with_place n (found j)) (sym e))
         | inr d ↦ stays i l (others i l d) (false_from_ne_true (of (class i) n) (λ t. d (index.apart i at l within (one (class i) (class at) n t here))))
       ];
       some = some_stays;

@@ -3,7 +3,6 @@ use Rattle.std.proofs.Common.{◌≡◌, ℕ, ◌+◌, ◌<◌, ◌≤◌, Bool,
 use Rattle.std.specs.Prelude.{filter, bytes_eq, MatchBool}
 use Rattle.std.specs.List.{list_any}
 use Rattle.std.proofs.lemmas.Bool.{true≢false, cases_eq, cases_lt, and_parts, or_cases, or_left, false_from_ne_true}
-use Rattle.std.proofs.lemmas.Slice.Eq.{bytes_eq-Decides}
 use Rattle.std.proofs.lemmas.List.{get_or_append_left, get_or_at, get_or-set_same, get_or-set_other, length-append, length-set}
 use Rattle.op_names.specs.Names.{Name}
 use Rattle.op_names.specs.Texts.{Bytes}
@@ -15,23 +14,19 @@ use Rattle.rules.specs.declared.history.Body.TheVariants.{New, Set}
 use Rattle.rules.specs.AttrLists.{Attr}
 use Rattle.rules.specs.Bodies.{differ_on_a_key}
 use Rattle.rules.proofs.Lists.{In, In-filter_back, any_from, any_back, filter_agree}
-use Rattle.conflict.specs.Members.{has, inserted, places}
+use Rattle.rules.proofs.Reordered.{same_key_is, same_key_itself}
+use Rattle.places.specs.Members.{has, with_place, places}
 use Rattle.conflict.specs.Sets.{at}
 use Rattle.conflict.specs.Indexes.{IsIndex, OfKey, KeyIndex, AreByKey, key_at, gives, of_key, of_other_keys}
 use Rattle.conflict.proofs.Images.{filter_inner}
-use Rattle.conflict.proofs.Places.{in_if_has, below, at_in, at_push, place_of, has-filter}
+use Rattle.places.proofs.Places.{in_if_has, below, has-filter}
+use Rattle.conflict.proofs.SetsAt.{at_in, at_push, place_of}
 use Rattle.conflict.proofs.Indexed.{filter_all, index_none, index_agrees, index_skipped, index_grown, index_begun}
-
-same_bytes : (c d : Bytes) → bytes_eq c d ≡ true → c ≡ d
-same_bytes c d = (bytes_eq-Decides c d).0
-
-bytes_same : (c d : Bytes) → c ≡ d → bytes_eq c d ≡ true
-bytes_same c d = (bytes_eq-Decides c d).1
 
 one_key : (c d : Bytes) (body : Body) → gives c body ≡ true → gives d body ≡ true → c ≡ d
 one_key c d (New kind attrs) e f = absurd (true≢false (sym e))
 one_key c d (Set object version key value) e f = elim (or_cases (bytes_eq c key) false e) [
-  | inl a ↦ elim (or_cases (bytes_eq d key) false f) [ inl b ↦ same_bytes c key a ∙ sym (same_bytes d key b) | inr b ↦ absurd (true≢false (sym b)) ]
+  | inl a ↦ elim (or_cases (bytes_eq d key) false f) [ inl b ↦ same_key_is c key a ∙ sym (same_key_is d key b) | inr b ↦ absurd (true≢false (sym b)) ]
   | inr a ↦ absurd (true≢false (sym a))
 ]
 
@@ -39,7 +34,7 @@ one : (k : List Op) (c d : Bytes) (p : ℕ) → of_key k c p ≡ true → of_key
 one k c d p e f = one_key c d (at k p).body e f
 
 gives_own : (object : Name) (version : List Name) (key : Bytes) (value : Value) → gives key (Set object version key value) ≡ true
-gives_own object version key value = or_left (bytes_eq key key) false (bytes_same key key refl)
+gives_own object version key value = or_left (bytes_eq key key) false (same_key_itself key)
 
 -- whether the set at a place gives a key a value, by its body
 pub given_there : (k : List Op) (n : ℕ) (object : Name) (version : List Name) (key : Bytes) (value : Value) (o : Op) → o ≡ at k n → o.body ≡ Set object version key value → of_key k key n ≡ true
@@ -83,7 +78,7 @@ module _ (k : List Op) (index : KeyIndex) (w : AreByKey k index) (few : index.le
 
   module _ (i : ℕ) (l : i < size) (there : of_key k (key_at keys i).key n ≡ true) where
     abbrev entry : OfKey
-    entry = record { key = (key_at keys i).key; places = inserted n (key_at keys i).places }
+    entry = record { key = (key_at keys i).key; places = with_place n (key_at keys i).places }
 
     abbrev grown : List OfKey
     grown = set keys i entry
@@ -113,24 +108,24 @@ module _ (k : List Op) (index : KeyIndex) (w : AreByKey k index) (few : index.le
     abbrev first : OfKey
     first = record { key = key; places = n ∷ [] }
 
-    abbrev longer : List OfKey
-    longer = keys ++ first ∷ []
+    abbrev with_addition : List OfKey
+    with_addition = keys ++ first ∷ []
 
-    last : key_at longer size ≡ first
+    last : key_at with_addition size ≡ first
     last = get_or_at keys first [] (key_at [] 0) size refl
 
-    old : (j : ℕ) → j < size → key_at longer j ≡ key_at keys j
+    old : (j : ℕ) → j < size → key_at with_addition j ≡ key_at keys j
     old j b = get_or_append_left keys (first ∷ []) (key_at [] 0) j b
 
-    begun : IsIndex (of_key k) (n + 1) (size + 1) (λ j. (key_at longer j).key) (λ j. (key_at longer j).places)
+    begun : IsIndex (of_key k) (n + 1) (size + 1) (λ j. (key_at with_addition j).key) (λ j. (key_at with_addition j).places)
     begun = index_begun (of_key k) (one k) n size (λ j. (key_at keys j).key) (λ j. (key_at keys j).places) w.entries
-        (λ j. (key_at longer j).key) (λ j. (key_at longer j).places) (λ j m. ap (λ (of : OfKey). of.key) (old j m))
+        (λ j. (key_at with_addition j).key) (λ j. (key_at with_addition j).places) (λ j m. ap (λ (of : OfKey). of.key) (old j m))
         key here new (ap (λ (of : OfKey). of.key) last) (ap (λ (of : OfKey). of.places) last) (λ j m. ap (λ (of : OfKey). of.places) (old j m))
 
-    pub by_key_begun : AreByKey k (record { len = n + 1; keys = longer })
+    pub by_key_begun : AreByKey k (record { len = n + 1; keys = with_addition })
     by_key_begun = record {
       within = omega arith;
-      entries = subst (λ z. IsIndex (of_key k) (n + 1) z (λ j. (key_at longer j).key) (λ j. (key_at longer j).places)) (sym (length-append keys (first ∷ []))) begun;
+      entries = subst (λ z. IsIndex (of_key k) (n + 1) z (λ j. (key_at with_addition j).key) (λ j. (key_at with_addition j).places)) (sym (length-append keys (first ∷ []))) begun;
     }
 
 -- ---- what is asked of it
@@ -181,10 +176,10 @@ gives_if object version key value (New kind attrs) e = absurd (true≢false (sym
 gives_if object version key value (Set other_object other_version other other_value) e = or_left (bytes_eq key other) false (and_parts (bytes_eq key other) (not (same_value value other_value)) e).0
 
 -- those of the other keys differ from the set on none
-pub rivals_same : (k : List Op) (object : Name) (version : List Name) (key : Bytes) (value : Value) (n : ℕ) (others unknown rivals : List ℕ) → others ≡ of_other_keys k key n
-    → rivals ≡ filter (λ x. not (has others x)) unknown
-    → filter (λ p. differ_on_a_key (Set object version key value) (at k p).body) rivals ≡ filter (λ p. differ_on_a_key (Set object version key value) (at k p).body) unknown
-rivals_same k object version key value n others unknown rivals e r =
+pub candidates_same : (k : List Op) (object : Name) (version : List Name) (key : Bytes) (value : Value) (n : ℕ) (others unknown candidates : List ℕ) → others ≡ of_other_keys k key n
+    → candidates ≡ filter (λ x. not (has others x)) unknown
+    → filter (λ p. differ_on_a_key (Set object version key value) (at k p).body) candidates ≡ filter (λ p. differ_on_a_key (Set object version key value) (at k p).body) unknown
+candidates_same k object version key value n others unknown candidates e r =
     let differs : ℕ → Bool = λ p. differ_on_a_key (Set object version key value) (at k p).body in
     ap (filter differs) r
     ∙ filter_inner differs (λ x. not (has others x)) unknown (λ x m t.

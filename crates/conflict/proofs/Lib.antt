@@ -1,9 +1,5 @@
-pub mod Inserts
-pub mod Places
-pub mod Rising
-pub mod Listed
-pub mod Counted
-pub mod Opposed
+pub mod SetsAt
+pub mod InConflict
 pub mod Growth
 pub mod Indexed
 pub mod Sited

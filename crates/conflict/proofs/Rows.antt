@@ -15,12 +15,14 @@ use Rattle.rules.proofs.Lists.{In, In-from_Contains, Contains-from_In, In-append
 use Rattle.rules.proofs.Relation.{same_answer, conflict_symmetric}
 use Rattle.rules.proofs.Counted.{same_name-true, same_name-refl}
 use Rattle.rules.proofs.Sets.{in_known_back}
-use Rattle.conflict.specs.Members.{has, places}
-use Rattle.conflict.specs.Relations.{IsRelation}
+use Rattle.places.specs.Members.{has, places}
+use Rattle.places.specs.Relations.{IsRelation}
 use Rattle.conflict.specs.Indexes.{SiteIndex, KeyIndex}
 use Rattle.conflict.specs.Stored.{AreStored}
-use Rattle.conflict.specs.Sets.{AreSetsOf, AreSetsOn, Added, IsAddition, at, places_of, base_places, earlier_conflicts, new_conflicts, is_in_row, is_clashing, clashing_places}
-use Rattle.conflict.proofs.Places.{In-places, below, has-filter, has-filter_past, kept_next, left_next, at_in, place_of, one_place_each, at_push, at_last, has-places_of, any-places_of}
+use Rattle.conflict.specs.Sets.{AreSetsOf, AreSetsOn, Added, IsAddition, at, places_of, base_places, new_conflicts}
+use Rattle.conflict.specs.Rows.{earlier_conflicts, is_in_row, has_earlier_conflict, places_in_conflict}
+use Rattle.places.proofs.Places.{In-places, below, has-filter, has-filter_past, kept_next, left_next}
+use Rattle.conflict.proofs.SetsAt.{at_in, place_of, one_place_each, at_push, at_last, has-places_of, any-places_of}
 use Rattle.conflict.proofs.Sited.{by_site_push}
 use Rattle.conflict.proofs.Keyed.{by_key_push}
 use Rattle.conflict.proofs.Growth.{apart, once, few_sets, base_inside, base_within, never_alone, conflict_from_base_on, stays, is_there, apart_before, before_none, base_grows, conflict_grows}
@@ -28,47 +30,47 @@ use Rattle.conflict.proofs.Growth.{apart, once, few_sets, base_inside, base_with
 -- ---- direct conflict with a later set
 
 -- the test of direct conflict, where the first operation isn't before the second, but the second before the first
-direct_if_known : (p q d l m : Bool) → p ≡ false → q ≡ true → not m ≡ (((not p && not q) && d) || (p && not l) || (q && not m))
-direct_if_known false true d l m e t = refl
-direct_if_known true q d l m e t = absurd (true≢false e)
-direct_if_known false false d l m e t = absurd (true≢false (sym t))
+direct_test_known : (p q d l m : Bool) → p ≡ false → q ≡ true → not m ≡ (((not p && not q) && d) || (p && not l) || (q && not m))
+direct_test_known false true d l m e t = refl
+direct_test_known true q d l m e t = absurd (true≢false e)
+direct_test_known false false d l m e t = absurd (true≢false (sym t))
 
 -- and where neither is
-direct_if_unknown : (p q d l m : Bool) → p ≡ false → q ≡ false → d ≡ (((not p && not q) && d) || (p && not l) || (q && not m))
-direct_if_unknown false false true l m e t = refl
-direct_if_unknown false false false l m e t = refl
-direct_if_unknown true q d l m e t = absurd (true≢false e)
-direct_if_unknown false true d l m e t = absurd (true≢false t)
+direct_test_unknown : (p q d l m : Bool) → p ≡ false → q ≡ false → d ≡ (((not p && not q) && d) || (p && not l) || (q && not m))
+direct_test_unknown false false true l m e t = refl
+direct_test_unknown false false false l m e t = refl
+direct_test_unknown true q d l m e t = absurd (true≢false e)
+direct_test_unknown false true d l m e t = absurd (true≢false t)
 
 module _ {object : Name} (k : List Op) (o : Op) (w : AreSetsOf object (k ++ o ∷ [])) where
-  abbrev pub grown : List Op
-  grown = k ++ o ∷ []
+  abbrev pub with_last : List Op
+  with_last = k ++ o ∷ []
 
-  has_base_place : (p : ℕ) → p < length k → has (base_places k o) p ≡ list_any (same_op (at k p)) (members (base grown o))
+  has_base_place : (p : ℕ) → p < length k → has (base_places k o) p ≡ list_any (same_op (at k p)) (members (base with_last o))
   has_base_place p l =
       has-places_of k (members (base k o)) p l
       ∙ ap (λ b. list_any (same_op (at k p)) (members b)) (base_grows k o w o (is_there k o w))
 
   -- a set that the later one knows is in direct conflict with it where it isn't in its base
-  pub met_if_known : (p : ℕ) → p < length k → before (at k p) o ≡ true → not (has (base_places k o) p) ≡ direct_conflict (base grown) o (at k p)
-  met_if_known p l t =
+  pub direct_if_known : (p : ℕ) → p < length k → before (at k p) o ≡ true → not (has (base_places k o) p) ≡ direct_conflict (base with_last) o (at k p)
+  direct_if_known p l t =
       let x = at k p in
       ap not (has_base_place p l)
-      ∙ direct_if_known (before o x) (before x o) (differ_on_a_key o.body x.body) (list_any (same_op o) (members (base grown x))) (list_any (same_op x) (members (base grown o)))
+      ∙ direct_test_known (before o x) (before x o) (differ_on_a_key o.body x.body) (list_any (same_op o) (members (base with_last x))) (list_any (same_op x) (members (base with_last o)))
       (before_none k o w x (stays k o w x (at_in k p l))) t
 
   -- one that it doesn't know, where the two give a key different values
-  pub met_if_unknown : (p : ℕ) → p < length k → before (at k p) o ≡ false → differ_on_a_key o.body (at k p).body ≡ direct_conflict (base grown) o (at k p)
-  met_if_unknown p l t =
+  pub direct_if_unknown : (p : ℕ) → p < length k → before (at k p) o ≡ false → differ_on_a_key o.body (at k p).body ≡ direct_conflict (base with_last) o (at k p)
+  direct_if_unknown p l t =
       let x = at k p in
-      direct_if_unknown (before o x) (before x o) (differ_on_a_key o.body x.body) (list_any (same_op o) (members (base grown x))) (list_any (same_op x) (members (base grown o)))
+      direct_test_unknown (before o x) (before x o) (differ_on_a_key o.body x.body) (list_any (same_op o) (members (base with_last x))) (list_any (same_op x) (members (base with_last o)))
       (before_none k o w x (stays k o w x (at_in k p l))) t
 
   -- ---- the row
 
   -- a test on a set and its base, at their places
-  reached : (f : Op → Bool) (j : ℕ) → j < length k → list_any (has (j ∷ base_places k (at k j))) (filter (λ p. f (at k p)) (places (length k))) ≡ list_any f (at k j ∷ members (base k (at k j)))
-  reached f j l =
+  test_with_base : (f : Op → Bool) (j : ℕ) → j < length k → list_any (has (j ∷ base_places k (at k j))) (filter (λ p. f (at k p)) (places (length k))) ≡ list_any f (at k j ∷ members (base k (at k j)))
+  test_with_base f j l =
       let b = at k j in
       let g = members (base k b) in
       let kept : ℕ → Bool = λ p. f (at k p) in
@@ -97,85 +99,85 @@ module _ {object : Name} (k : List Op) (o : Op) (w : AreSetsOf object (k ++ o �
   pub listed_is : filter (has (base_places k o)) (places (length k)) ≡ base_places k o
   listed_is = filter_agree (has (base_places k o)) (λ p. list_any (same_op (at k p)) (members (base k o))) (places (length k)) (λ p m. has-places_of k (members (base k o)) p (below (length k) p m))
 
-  joined : (b : Op) → In b k → list_any (λ p. conflict k (at k p) b) (base_places k o) ≡ list_any (λ x. conflict grown x b) (members (base grown o))
+  joined : (b : Op) → In b k → list_any (λ p. conflict k (at k p) b) (base_places k o) ≡ list_any (λ x. conflict with_last x b) (members (base with_last o))
   joined b m =
       let g = members (base k o) in
       any-places_of k g (apart_before k o w) (base_inside k o) (λ x. conflict k x b)
-      ∙ any_agree (λ x. conflict k x b) (λ x. conflict grown x b) g (λ x l. conflict_grows k o w x b (stays k o w x (base_inside k o x l)) (stays k o w b m))
-      ∙ ap (λ r. list_any (λ x. conflict grown x b) (members r)) (base_grows k o w o (is_there k o w))
+      ∙ any_agree (λ x. conflict k x b) (λ x. conflict with_last x b) g (λ x l. conflict_grows k o w x b (stays k o w x (base_inside k o x l)) (stays k o w b m))
+      ∙ ap (λ r. list_any (λ x. conflict with_last x b) (members r)) (base_grows k o w o (is_there k o w))
 
-  in_row : (j : ℕ) → j < length k → is_in_row k (filter (λ p. direct_conflict (base grown) o (at k p)) (places (length k))) (base_places k o) j ≡ conflict grown o (at k j)
+  in_row : (j : ℕ) → j < length k → is_in_row k (filter (λ p. direct_conflict (base with_last) o (at k p)) (places (length k))) (base_places k o) j ≡ conflict with_last o (at k j)
   in_row j l =
       let b = at k j in
       let m = at_in k j l in
-      let first = reached (direct_conflict (base grown) o) j l ∙ ap (λ r. list_any (direct_conflict (base grown) o) (b ∷ members r)) (base_grows k o w b (stays k o w b m)) in
+      let first = test_with_base (direct_conflict (base with_last) o) j l ∙ ap (λ r. list_any (direct_conflict (base with_last) o) (b ∷ members r)) (base_grows k o w b (stays k o w b m)) in
       (λ i. first i || joined b m i) ∙ sym (conflict_from_base_on w o b (is_there k o w) (stays k o w b m))
 
-  -- the row that is made from the places of those met directly and of the base
-  pub row_is : (based met listed row : List ℕ) → based ≡ base_places k o
-      → met ≡ filter (λ p. direct_conflict (base grown) o (at k p)) (places (length k)) → listed ≡ filter (has based) (places (length k))
-      → row ≡ filter (is_in_row k met listed) (places (length k))
+  -- the row that is made from the places of the direct conflicts and of the base
+  pub row_is : (based direct listed row : List ℕ) → based ≡ base_places k o
+      → direct ≡ filter (λ p. direct_conflict (base with_last) o (at k p)) (places (length k)) → listed ≡ filter (has based) (places (length k))
+      → row ≡ filter (is_in_row k direct listed) (places (length k))
       → row ≡ new_conflicts k o
-  row_is based met listed row b d s r =
+  row_is based direct listed row b d s r =
       let listed_same : listed ≡ base_places k o = s ∙ ap (λ x. filter (has x) (places (length k))) b ∙ listed_is in
       r
       ∙ (λ i. filter (is_in_row k (d i) (listed_same i)) (places (length k)))
       ∙ filter_agree
-      (is_in_row k (filter (λ p. direct_conflict (base grown) o (at k p)) (places (length k))) (base_places k o))
-      (λ j. conflict grown o (at k j)) (places (length k)) (λ j m. in_row j (below (length k) j m))
+      (is_in_row k (filter (λ p. direct_conflict (base with_last) o (at k p)) (places (length k))) (base_places k o))
+      (λ j. conflict with_last o (at k j)) (places (length k)) (λ j m. in_row j (below (length k) j m))
 
   -- ---- what is stored, with one set more
 
-  one_more : length grown ≡ length k + 1
+  one_more : length with_last ≡ length k + 1
   one_more = length-append k (o ∷ [])
 
-  base_places_grow : (x : Op) → In x grown → base_places grown x ≡ base_places k x
+  base_places_grow : (x : Op) → In x with_last → base_places with_last x ≡ base_places k x
   base_places_grow x m =
       let g = members (base k x) in
-      let test : ℕ → Bool = λ p. list_any (same_op (at grown p)) g in
+      let test : ℕ → Bool = λ p. list_any (same_op (at with_last p)) g in
       let out : list_any (same_op o) g ≡ false = false_from_ne_true (list_any (same_op o) g) (λ e.
       let c = any_back (same_op o) g e in
       let t : o.name ≡ c.0.name = same_name-true o.name c.0.name c.2 in
       true≢false (sym (ap (counts x.seen) t ∙ (in_known_back k x c.0 (base_within k x c.0 c.1)).earlier) ∙ before_none k o w x m)) in
       let last : test (length k) ≡ false = ap (λ z. list_any (same_op z) g) (at_last k o) ∙ out in
-      ap (λ r. places_of grown (members r)) (sym (base_grows k o w x m))
+      ap (λ r. places_of with_last (members r)) (sym (base_grows k o w x m))
       ∙ ap (λ n. filter test (places n)) one_more
       ∙ left_next test (length k) last
       ∙ filter_agree test (λ p. list_any (same_op (at k p)) g) (places (length k)) (λ p n. ap (λ z. list_any (same_op z) g) (at_push k o p (below (length k) p n)))
 
-  bases_grow : map (base_places grown) grown ≡ map (base_places k) k ++ base_places k o ∷ []
+  bases_grow : map (base_places with_last) with_last ≡ map (base_places k) k ++ base_places k o ∷ []
   bases_grow =
-      map-append (base_places grown) k (o ∷ [])
-      ∙ (λ i. map_agree (base_places grown) (base_places k) k (λ x m. base_places_grow x (stays k o w x m)) i ++ base_places_grow o (is_there k o w) i ∷ [])
+      map-append (base_places with_last) k (o ∷ [])
+      ∙ (λ i. map_agree (base_places with_last) (base_places k) k (λ x m. base_places_grow x (stays k o w x m)) i ++ base_places_grow o (is_there k o w) i ∷ [])
 
-  row_stays : (p : ℕ) → p < length k → earlier_conflicts grown p ≡ earlier_conflicts k p
-  row_stays p l = filter_agree (λ j. conflict grown (at grown p) (at grown j)) (λ j. conflict k (at k p) (at k j)) (places p) (λ j m.
+  row_stays : (p : ℕ) → p < length k → earlier_conflicts with_last p ≡ earlier_conflicts k p
+  row_stays p l = filter_agree (λ j. conflict with_last (at with_last p) (at with_last j)) (λ j. conflict k (at k p) (at k j)) (places p) (λ j m.
       let b = below p j m in
       let n : j < length k = omega arith in
-      (λ i. conflict grown (at_push k o p l i) (at_push k o j n i))
+      (λ i. conflict with_last (at_push k o p l i) (at_push k o j n i))
       ∙ sym (conflict_grows k o w (at k p) (at k j) (stays k o w (at k p) (at_in k p l)) (stays k o w (at k j) (at_in k j n))))
 
-  last_row : earlier_conflicts grown (length k) ≡ new_conflicts k o
-  last_row = filter_agree (λ j. conflict grown (at grown (length k)) (at grown j)) (λ j. conflict grown o (at k j)) (places (length k)) (λ j m.
-      λ i. conflict grown (at_last k o i) (at_push k o j (below (length k) j m) i))
+  last_row : earlier_conflicts with_last (length k) ≡ new_conflicts k o
+  last_row = filter_agree (λ j. conflict with_last (at with_last (length k)) (at with_last j)) (λ j. conflict with_last o (at k j)) (places (length k)) (λ j m.
+      λ i. conflict with_last (at_last k o i) (at_push k o j (below (length k) j m) i))
 
-  rows_grow : map (earlier_conflicts grown) (places (length grown)) ≡ map (earlier_conflicts k) (places (length k)) ++ new_conflicts k o ∷ []
+  rows_grow : map (earlier_conflicts with_last) (places (length with_last)) ≡ map (earlier_conflicts k) (places (length k)) ++ new_conflicts k o ∷ []
   rows_grow =
-      ap (λ n. map (earlier_conflicts grown) (places n)) one_more
-      ∙ map-range_with_len_more (earlier_conflicts grown) 0 (length k) (length k) (omega arith)
-      ∙ (λ i. map_agree (earlier_conflicts grown) (earlier_conflicts k) (places (length k)) (λ p m. row_stays p (below (length k) p m)) i ++ last_row i ∷ [])
+      ap (λ n. map (earlier_conflicts with_last) (places n)) one_more
+      ∙ map-range_with_len_more (earlier_conflicts with_last) 0 (length k) (length k) (omega arith)
+      ∙ (λ i. map_agree (earlier_conflicts with_last) (earlier_conflicts k) (places (length k)) (λ p m. row_stays p (below (length k) p m)) i ++ last_row i ∷ [])
 
   -- the places of those in conflict with an earlier one
-  clashing_stay : filter (is_clashing grown) (places (length k)) ≡ clashing_places k
-  clashing_stay = filter_agree (is_clashing grown) (is_clashing k) (places (length k)) (λ p m. ap (λ (r : List ℕ). nat_lt 0 (length r)) (row_stays p (below (length k) p m)))
+  in_conflict_stay : filter (has_earlier_conflict with_last) (places (length k)) ≡ places_in_conflict k
+  in_conflict_stay = filter_agree (has_earlier_conflict with_last) (has_earlier_conflict k) (places (length k)) (λ p m. ap (λ (r : List ℕ). nat_lt 0 (length r)) (row_stays p (below (length k) p m)))
 
-  clashing_grow : cond (nat_lt 0 (length (new_conflicts k o))) (clashing_places k ++ length k ∷ []) (clashing_places k) ≡ clashing_places grown
-  clashing_grow =
-      let last : is_clashing grown (length k) ≡ nat_lt 0 (length (new_conflicts k o)) = ap (λ (r : List ℕ). nat_lt 0 (length r)) last_row in
-      let more : clashing_places grown ≡ filter (is_clashing grown) (places (length k + 1)) = ap (λ n. filter (is_clashing grown) (places n)) one_more in
+  in_conflict_grow : cond (nat_lt 0 (length (new_conflicts k o))) (places_in_conflict k ++ length k ∷ []) (places_in_conflict k) ≡ places_in_conflict with_last
+  in_conflict_grow =
+      let last : has_earlier_conflict with_last (length k) ≡ nat_lt 0 (length (new_conflicts k o)) = ap (λ (r : List ℕ). nat_lt 0 (length r)) last_row in
+      let more : places_in_conflict with_last ≡ filter (has_earlier_conflict with_last) (places (length k + 1)) = ap (λ n. filter (has_earlier_conflict with_last) (places n)) one_more in
       elim (cases_Bool (nat_lt 0 (length (new_conflicts k o)))) [
-        | inl t ↦ rw t (sym (more ∙ kept_next (is_clashing grown) (length k) (last ∙ t) ∙ ap (λ (l : List ℕ). l ++ length k ∷ []) clashing_stay))
-        | inr t ↦ rw t (sym (more ∙ left_next (is_clashing grown) (length k) (last ∙ t) ∙ clashing_stay))
+        | inl t ↦ rw t (sym (more ∙ kept_next (has_earlier_conflict with_last) (length k) (last ∙ t) ∙ ap (λ (l : List ℕ). l ++ length k ∷ []) in_conflict_stay))
+        | inr t ↦ rw t (sym (more ∙ left_next (has_earlier_conflict with_last) (length k) (last ∙ t) ∙ in_conflict_stay))
       ]
 
 -- there are few sets, also with one more
@@ -192,15 +194,15 @@ module _ (k : List Op) (o : Op) (named : (x : Op) → Contains k x → is_op_nam
   pub few_with_one_more : {object : Name} → AreSetsOf object (k ++ o ∷ []) → length k + 1 < 2 ^ 32
   few_with_one_more w = omega (arith, few_after w, length-append k (o ∷ []))
 
-pub stored_push : {object : Name} (k : List Op) (bases rows : List (List ℕ)) (clashing : List ℕ) (sites : SiteIndex) (keys : KeyIndex) (a : Added) → AreStored object k bases rows clashing sites keys → IsAddition object k a → is_op_name a.op.name ≡ true
-    → AreStored object (k ++ a.op ∷ []) (bases ++ a.base ∷ []) (rows ++ a.row ∷ []) (cond (nat_lt 0 (length a.row)) (clashing ++ length k ∷ []) clashing) sites keys
-stored_push {object} k bases rows clashing sites keys a s w name = record {
+pub stored_push : {object : Name} (k : List Op) (bases rows : List (List ℕ)) (in_conflict : List ℕ) (sites : SiteIndex) (keys : KeyIndex) (a : Added) → AreStored object k bases rows in_conflict sites keys → IsAddition object k a → is_op_name a.op.name ≡ true
+    → AreStored object (k ++ a.op ∷ []) (bases ++ a.base ∷ []) (rows ++ a.row ∷ []) (cond (nat_lt 0 (length a.row)) (in_conflict ++ length k ∷ []) in_conflict) sites keys
+stored_push {object} k bases rows in_conflict sites keys a s w name = record {
   sets = w.sets;
   named = λ x m. all_named k a.op s.named name x (In-from_Contains x (k ++ a.op ∷ []) m);
   few = few_after k a.op s.named name w.sets.listed;
   bases_are = (λ i. s.bases_are i ++ w.base i ∷ []) ∙ sym (bases_grow k a.op w.sets.listed);
   rows_are = (λ i. s.rows_are i ++ w.row i ∷ []) ∙ sym (rows_grow k a.op w.sets.listed);
-  clashing_are = (λ i. cond (nat_lt 0 (length (w.row i))) (s.clashing_are i ++ length k ∷ []) (s.clashing_are i)) ∙ clashing_grow k a.op w.sets.listed;
+  in_conflict_are = (λ i. cond (nat_lt 0 (length (w.row i))) (s.in_conflict_are i ++ length k ∷ []) (s.in_conflict_are i)) ∙ in_conflict_grow k a.op w.sets.listed;
   by_site = by_site_push k a.op sites s.by_site;
   by_key = by_key_push k a.op keys s.by_key;
 }
@@ -241,23 +243,23 @@ module _ {object : Name} {k : List Op} (w : AreSetsOn object k) where
 -- ---- with one set more
 
 module _ {object : Name} (k : List Op) (a : Added) (w : IsAddition object k a) (ops : List Op) (e : k ++ a.op ∷ [] ≡ ops) where
-  abbrev longer : List Op
-  longer = k ++ a.op ∷ []
+  abbrev with_addition : List Op
+  with_addition = k ++ a.op ∷ []
 
-  pub longer_by_one : length ops ≡ length k + 1
-  longer_by_one = ap length (sym e) ∙ length-append k (a.op ∷ [])
+  pub one_set_more : length ops ≡ length k + 1
+  one_set_more = ap length (sym e) ∙ length-append k (a.op ∷ [])
 
-  pub sets_longer : AreSetsOn object ops
-  sets_longer = subst (AreSetsOn object) e w.sets
+  pub sets_with_addition : AreSetsOn object ops
+  sets_with_addition = subst (AreSetsOn object) e w.sets
 
-  pub never_alone_longer : (i j : ℕ) → i < length ops → i ≡ j → false ≡ conflict ops (at ops i) (at ops j)
-  never_alone_longer i j l q = sym (never_alone sets_longer (at ops i) (at_in ops i l)) ∙ ap (λ n. conflict ops (at ops i) (at ops n)) q
+  pub never_alone_with_addition : (i j : ℕ) → i < length ops → i ≡ j → false ≡ conflict ops (at ops i) (at ops j)
+  never_alone_with_addition i j l q = sym (never_alone sets_with_addition (at ops i) (at_in ops i l)) ∙ ap (λ n. conflict ops (at ops i) (at ops n)) q
 
   pub last_in_row : (i j : ℕ) → i ≡ length k → j < length k → has a.row j ≡ conflict ops (at ops i) (at ops j)
   last_in_row i j q l =
       ap (λ r. has r j) w.row
-      ∙ has-filter (λ p. conflict longer a.op (at k p)) (length k) j l
-      ∙ (λ t. conflict longer (sym (at_last k a.op) t) (sym (at_push k a.op j l) t))
+      ∙ has-filter (λ p. conflict with_addition a.op (at k p)) (length k) j l
+      ∙ (λ t. conflict with_addition (sym (at_last k a.op) t) (sym (at_push k a.op j l) t))
       ∙ (λ t. conflict (e t) (at (e t) (sym q t)) (at (e t) j))
 
   pub in_last_row : (i j : ℕ) → i < length k → j ≡ length k → has a.row i ≡ conflict ops (at ops i) (at ops j)
@@ -266,5 +268,5 @@ module _ {object : Name} (k : List Op) (a : Added) (w : IsAddition object k a) (
   pub conflict_stays : (i j : ℕ) → i < length k → j < length k → conflict k (at k i) (at k j) ≡ conflict ops (at ops i) (at ops j)
   conflict_stays i j l m =
       conflict_grows k a.op w.sets.listed (at k i) (at k j) (stays k a.op w.sets.listed (at k i) (at_in k i l)) (stays k a.op w.sets.listed (at k j) (at_in k j m))
-      ∙ (λ t. conflict longer (sym (at_push k a.op i l) t) (sym (at_push k a.op j m) t))
+      ∙ (λ t. conflict with_addition (sym (at_push k a.op i l) t) (sym (at_push k a.op j m) t))
       ∙ (λ t. conflict (e t) (at (e t) i) (at (e t) j))

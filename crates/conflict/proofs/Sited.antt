@@ -11,11 +11,12 @@ use Rattle.state_vector.specs.Vectors.{Vector, count_of, counts}
 use Rattle.rules.specs.declared.history.Op.{Op}
 use Rattle.rules.proofs.Lists.{In, In-from_Contains, Contains-from_In, In-filter, In-filter_back, any_from, any_back, filter_agree}
 use Rattle.rules.proofs.Relation.{same_answer}
-use Rattle.conflict.specs.Members.{has, inserted, places, with_all}
+use Rattle.places.specs.Members.{has, with_place, places, with_all}
 use Rattle.conflict.specs.Sets.{AreSetsOf, at}
 use Rattle.conflict.specs.Indexes.{IsIndex, OfSite, SiteIndex, AreBySite, AreInOrder, IsRising, site_at, of_site, numbered, with_set, counted_of, with_counted}
-use Rattle.conflict.proofs.Places.{In-places, below, has_if_in, in_if_has, at_in, at_push, kept_next, put_next}
-use Rattle.conflict.proofs.Listed.{Up, same_set, up_range, up_filter, up_with_all, has-with_all, kept_rises, or_turned, or_grouped}
+use Rattle.places.proofs.Places.{In-places, below, has_if_in, in_if_has, kept_next, put_next}
+use Rattle.conflict.proofs.SetsAt.{at_in, at_push}
+use Rattle.places.proofs.WordPlaces.{Up, same_set, up_range, up_filter, up_with_all, has-with_all, kept_rises, or_turned, or_grouped}
 use Rattle.conflict.proofs.Growth.{in_history, never_before}
 use Rattle.conflict.proofs.Indexed.{filter_all, index_none, index_agrees, index_grown, index_begun}
 
@@ -81,7 +82,7 @@ module _ (k : List Op) (index : SiteIndex) (w : AreBySite k index) (few : index.
     numbers = λ j m. (let b : j < size = (let h = length-set sites i (with_set number n (site_at sites i)) in omega arith) in elim (cases_eq j i) [
       | inl f ↦ ap (λ j. (site_at grown j).sets) f ∙ ap (λ (of : OfSite). of.sets) same
           ∙ (λ t. w.numbers i l t ++ (is t, n) ∷ []) ∙ sym (map_push (numbered k) (site_at sites i).places n)
-          ∙ ap (map (numbered k)) (sym (pushed (site_at sites i).site (site_at sites i).places (inserted n (site_at sites i).places) there (w.entries.each i l) (put_next (of_site k (site_at sites i).site) n (site_at sites i).places (inserted n (site_at sites i).places) (w.entries.each i l) there refl)))
+          ∙ ap (map (numbered k)) (sym (pushed (site_at sites i).site (site_at sites i).places (with_place n (site_at sites i).places) there (w.entries.each i l) (put_next (of_site k (site_at sites i).site) n (site_at sites i).places (with_place n (site_at sites i).places) (w.entries.each i l) there refl)))
           ∙ ap (λ (of : OfSite). map (numbered k) of.places) (sym same)
           ∙ ap (λ j. map (numbered k) (site_at grown j).places) (sym f)
       | inr d ↦ ap (λ (of : OfSite). of.sets) (other j d) ∙ w.numbers j b ∙ ap (λ (of : OfSite). map (numbered k) of.places) (sym (other j d))
@@ -113,29 +114,29 @@ module _ (k : List Op) (index : SiteIndex) (w : AreBySite k index) (few : index.
       → AreBySite k (record { len = n + 1; sites = sites ++ record { site = site; sets = (number, n) ∷ []; places = n ∷ [] } ∷ [] })
   by_site_begun site number here is new = record {
     within = omega arith;
-    entries = subst (λ z. IsIndex (of_site k) (n + 1) z (λ j. (site_at longer j).site) (λ j. (site_at longer j).places)) (sym (length-append sites (entry ∷ []))) entries;
+    entries = subst (λ z. IsIndex (of_site k) (n + 1) z (λ j. (site_at with_addition j).site) (λ j. (site_at with_addition j).places)) (sym (length-append sites (entry ∷ []))) entries;
     numbers = λ j m. (let h = length-append sites (entry ∷ []) in elim (cases_lt j size) [
       | inl b ↦ ap (λ (of : OfSite). of.sets) (old j b) ∙ w.numbers j b ∙ ap (λ (of : OfSite). map (numbered k) of.places) (sym (old j b))
       | inr g ↦ (let f : j ≡ size = omega arith in
-          ap (λ j. (site_at longer j).sets) f ∙ ap (λ (of : OfSite). of.sets) last ∙ (λ t. (is t, n) ∷ []) ∙ ap (λ (of : OfSite). map (numbered k) of.places) (sym last) ∙ ap (λ j. map (numbered k) (site_at longer j).places) (sym f))
+          ap (λ j. (site_at with_addition j).sets) f ∙ ap (λ (of : OfSite). of.sets) last ∙ (λ t. (is t, n) ∷ []) ∙ ap (λ (of : OfSite). map (numbered k) of.places) (sym last) ∙ ap (λ j. map (numbered k) (site_at with_addition j).places) (sym f))
     ]);
   }
     where
       entry : OfSite
       entry = record { site = site; sets = (number, n) ∷ []; places = n ∷ [] }
 
-      longer : List OfSite
-      longer = sites ++ entry ∷ []
+      with_addition : List OfSite
+      with_addition = sites ++ entry ∷ []
 
-      last : site_at longer size ≡ entry
+      last : site_at with_addition size ≡ entry
       last = get_or_at sites entry [] (site_at [] 0) size refl
 
-      old : (j : ℕ) → j < size → site_at longer j ≡ site_at sites j
+      old : (j : ℕ) → j < size → site_at with_addition j ≡ site_at sites j
       old j b = get_or_append_left sites (entry ∷ []) (site_at [] 0) j b
 
-      entries : IsIndex (of_site k) (n + 1) (size + 1) (λ j. (site_at longer j).site) (λ j. (site_at longer j).places)
+      entries : IsIndex (of_site k) (n + 1) (size + 1) (λ j. (site_at with_addition j).site) (λ j. (site_at with_addition j).places)
       entries = index_begun (of_site k) (one_site k) n size (λ j. (site_at sites j).site) (λ j. (site_at sites j).places) w.entries
-          (λ j. (site_at longer j).site) (λ j. (site_at longer j).places) (λ j m. ap (λ (of : OfSite). of.site) (old j m))
+          (λ j. (site_at with_addition j).site) (λ j. (site_at with_addition j).places) (λ j m. ap (λ (of : OfSite). of.site) (old j m))
           site (eq-eqb (at k n).name.0 site (sym here)) new (ap (λ (of : OfSite). of.site) last) (ap (λ (of : OfSite). of.places) last) (λ j m. ap (λ (of : OfSite). of.places) (old j m))
 
 -- ---- what a vector counts of it

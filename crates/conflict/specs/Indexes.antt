@@ -1,13 +1,14 @@
 -- Indexes of the first sets on an object: their places by the sites that they come from, and by the keys that they give values.
-use Rattle.std.specs.Prelude.{◌≡◌, ℕ, ◌<◌, ◌≤◌, Bool, true, not, List, [], ◌∷◌, ◌++◌, ◌==◌, nat_le, map, filter, length, slice_index_or, bytes_eq}
+use Rattle.std.specs.Prelude.{◌≡◌, ℕ, ◌+◌, ◌<◌, ◌≤◌, set, MatchOption, Option, Bool, true, not, List, [], ◌∷◌, ◌++◌, ◌==◌, nat_le, map, filter, length, slice_index_or, bytes_eq}
 use Rattle.std.specs.List.{list_any}
 use Rattle.std.specs.List.Sorted.{IsNonDecreasingBy}
+use Rattle.op_names.specs.Names.{Name}
 use Rattle.op_names.specs.Texts.{Bytes}
 use Rattle.state_vector.specs.Vectors.{Vector, count_of}
 use Rattle.rules.specs.declared.history.Op.{Op}
 use Rattle.rules.specs.declared.history.Body.{Body}
 use Rattle.rules.specs.Bodies.{keys_in}
-use Rattle.conflict.specs.Members.{inserted, places, with_all}
+use Rattle.places.specs.Members.{with_place, places, with_all}
 use Rattle.conflict.specs.Sets.{at}
 
 -- the first n places by classes, of which each place has one at most: the classes that occur there, each once, with all its places
@@ -16,6 +17,10 @@ pub record IsIndex {C : Type 0} (of : C → ℕ → Bool) (n size : ℕ) (class 
   pub some : (i : ℕ) → i < size → (place : ℕ) × (place < n) × (of (class i) place ≡ true)
   pub all : (c : C) (place : ℕ) → place < n → of c place ≡ true → (i : ℕ) × (i < size) × (class i ≡ c)
   pub apart : (i j : ℕ) → i < size → j < size → class i ≡ class j → i ≡ j
+
+-- where a class stands, if it does
+abbrev pub IsPlaceOf : {C : Type 0} → (ℕ → C) → ℕ → C → Option ℕ → Type 0
+IsPlaceOf class size c found = MatchOption found ((i : ℕ) → i < size → class i ≡ c → ⊥) (λ i. (i < size) × (class i ≡ c))
 
 -- ---- by site
 
@@ -43,7 +48,18 @@ numbered k place = ((at k place).name.1, place)
 
 -- with one set more
 abbrev pub with_set : ℕ → ℕ → OfSite → OfSite
-with_set number place of = record { site = of.site; sets = of.sets ++ (number, place) ∷ []; places = inserted place of.places }
+with_set number place of = record { site = of.site; sets = of.sets ++ (number, place) ∷ []; places = with_place place of.places }
+
+-- with the next set, whose site stands at i
+abbrev pub with_set_at : ℕ → ℕ → SiteIndex → SiteIndex
+with_set_at i number index = record { len = index.len + 1; sites = set index.sites i (with_set number index.len (site_at index.sites i)) }
+
+-- with the next set, the first of its site
+abbrev pub with_new_site : Name → SiteIndex → SiteIndex
+with_new_site name index = record {
+  len = index.len + 1;
+  sites = index.sites ++ record { site = name.0; sets = (name.1, index.len) ∷ []; places = index.len ∷ [] } ∷ [];
+}
 
 pub record AreBySite (k : List Op) (index : SiteIndex) : Type 0 where
   pub within : index.len ≤ length k
@@ -90,6 +106,16 @@ gives key body = list_any (bytes_eq key) (keys_in body)
 
 abbrev pub of_key : List Op → Bytes → ℕ → Bool
 of_key k key place = gives key (at k place).body
+
+-- with the next set, whose key stands at i
+abbrev pub with_key_at : ℕ → KeyIndex → KeyIndex
+with_key_at i index =
+    let of = key_at index.keys i in
+    record { len = index.len + 1; keys = set index.keys i (record { key = of.key; places = with_place index.len of.places }) }
+
+-- with the next set, the first of its key
+abbrev pub with_new_key : Bytes → KeyIndex → KeyIndex
+with_new_key key index = record { len = index.len + 1; keys = index.keys ++ record { key = key; places = index.len ∷ [] } ∷ [] }
 
 pub record AreByKey (k : List Op) (index : KeyIndex) : Type 0 where
   pub within : index.len ≤ length k

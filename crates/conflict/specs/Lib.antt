@@ -1,6 +1,4 @@
-pub mod Members
-pub mod Words
-pub mod Relations
 pub mod Sets
+pub mod Rows
 pub mod Indexes
 pub mod Stored

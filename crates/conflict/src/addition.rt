@@ -4,13 +4,15 @@ ghost use Rattle.std.specs.Prelude.{◌≡◌, ◌+◌, ◌<◌, ◌^◌, ◌++�
 ghost use Rattle.rules.specs.declared.history.Op.{Op};
 ghost use Rattle.conflict.specs.Sets.{IsAddition};
 
-use crate::{Clashes, Members, Relation};
+use crate::Clashes;
+use crate::joins::add_row;
 use op_names::{NoMemory, OpName};
+use places::{Members, Relation};
 use rules::SharedOp;
 use std::alloc::Global;
 use std::marker::Model;
 
-/// A set that `Clashes` has prepared, with the places of its base and of the sets that it is in
+/// A set that `Clashes` has planned, with the places of its base and of the sets that it is in
 /// conflict with.
 #[derive(Debug, Drop)]
 pub struct Addition {
@@ -24,7 +26,8 @@ impl Model for Addition {
 
     ghost Value = { Added };
 
-    ghost view = { λ addition. record { op = addition.op; base = addition.base; row = addition.row } };
+    ghost view = { λ addition.
+        record { op = addition.op; base = addition.base; row = addition.row } };
 }
 
 impl Addition {
@@ -55,36 +58,37 @@ impl Addition {
     }
 }
 
-/// The sets on an object and one that is prepared for them, as a relation.
+/// The sets on an object and one that is planned for them, as a relation.
 #[derive(Debug, Drop)]
-pub struct Longer<'a> {
+pub struct WithAddition<'a> {
     sets: &'a Clashes,
     addition: &'a Addition,
 }
 
-impl<'a> Model for Longer<'a> {
+impl<'a> Model for WithAddition<'a> {
     ghost use Rattle.std.specs.Prelude.{◌+◌, ◌<◌, ◌^◌, List, [], ◌∷◌, ◌++◌, length};
     ghost use Rattle.rules.specs.declared.history.Op.{Op};
     ghost use Rattle.conflict.specs.Sets.{IsAddition};
 
     ghost Value = { List Op };
 
-    ghost view = { λ longer. longer.sets.now.ops ++ longer.addition.now.op ∷ [] };
+    ghost view = { λ all. all.sets.now.ops ++ all.addition.now.op ∷ [] };
 
-    ghost invariant = { λ longer. IsAddition longer.sets.now.object longer.sets.now.ops longer.addition.now × (length longer.sets.now.ops + 1 < 2 ^ 32) };
+    ghost invariant = { λ all. IsAddition all.sets.now.object all.sets.now.ops all.addition.now
+        × (length all.sets.now.ops + 1 < 2 ^ 32) };
 }
 
-impl<'a> Longer<'a> {
-    pub(crate) fn new(sets: &'a Clashes, addition: &'a Addition) -> Longer<'a>
+impl<'a> WithAddition<'a> {
+    pub(crate) fn new(sets: &'a Clashes, addition: &'a Addition) -> WithAddition<'a>
         requires ready { IsAddition sets.now.object sets.now.ops addition.now }
         requires few { length sets.now.ops + 1 < 2 ^ 32 }
         ensures { result ≡ sets.now.ops ++ addition.now.op ∷ [] }
     {
-        Longer { sets, addition }
+        WithAddition { sets, addition }
     }
 }
 
-impl<'a> Relation for Longer<'a> {
+impl<'a> Relation for WithAddition<'a> {
     ghost use Rattle.std.specs.Prelude.{length};
     ghost use Rattle.rules.specs.Conflicts.{conflict};
     ghost use Rattle.conflict.specs.Sets.{at};
@@ -121,8 +125,13 @@ impl<'a> Relation for Longer<'a> {
     }
 
     fn in_conflict_with(&self, alloc: Global, scope: &Members) -> Result<Members, NoMemory> {
-        let mut opposed = self.sets.opposed(alloc, scope)?;
-        opposed.add_row(scope, self.addition.row(), self.sets.len())?;
-        Ok(opposed)
+        let mut conflicting = self.sets.conflicting_places(alloc, scope)?;
+        add_row(
+            &mut conflicting,
+            scope,
+            self.addition.row(),
+            self.sets.len(),
+        )?;
+        Ok(conflicting)
     }
 }

@@ -1,14 +1,13 @@
 //! The places of sets by the keys that they give values.
 
-ghost use Rattle.std.specs.Prelude.{◌≡◌, ℕ, ◌+◌, ◌<◌, ◌≤◌, ◌^◌, List, [], ◌∷◌, true, false, ◌++◌, length, set, IfOk, OnOk, OnErr, MatchBool, MatchOption};
+ghost use Rattle.std.specs.Prelude.{◌≡◌, ℕ, ◌+◌, ◌<◌, ◌≤◌, ◌^◌, List, [], ◌∷◌, true, false, length, IfOk, OnOk, OnErr, MatchBool};
 ghost use Rattle.std.specs.List.{list_any};
-ghost use Rattle.conflict.specs.Indexes.{AreByKey, gives, key_at, of_other_keys};
-ghost use Rattle.conflict.specs.Members.{inserted};
-ghost use Rattle.conflict.specs.Sets.{at};
 ghost use Rattle.rules.specs.declared.history.Op.{Op};
+ghost use Rattle.places.specs.Members.{with_place};
+ghost use Rattle.conflict.specs.Indexes.{gives, key_at, of_key, of_other_keys, with_key_at, with_new_key, AreByKey, IsPlaceOf};
 
-use crate::Members;
 use op_names::{Key, NoMemory};
+use places::Members;
 use rules::{Body, SharedOp};
 use std::alloc::Global;
 use std::marker::Model;
@@ -40,7 +39,8 @@ impl KeySets {
 
     /// Puts a set in. On `NoMemory` all stays as it is.
     fn add(&mut self, place: u32) -> Result<(), NoMemory>
-        ensures ok { OnOk result (self.new ≡ record { key = self.old.key; places = inserted place self.old.places }) }
+        ensures ok { OnOk result
+            (self.new ≡ record { key = self.old.key; places = with_place place self.old.places }) }
         ensures err { OnErr result (self.new ≡ self.old) }
     {
         self.places.insert(place)
@@ -84,7 +84,8 @@ impl ByKey {
 
     /// Where the key stands, if it does.
     fn find(&self, key: &Key) -> Option<usize>
-        ensures { MatchOption result ((i : ℕ) → i < length self.now.keys → (key_at self.now.keys i).key ≡ key.now → ⊥) (λ i. (i < length self.now.keys) × ((key_at self.now.keys i).key ≡ key.now)) }
+        ensures { let count = length self.now.keys
+            in IsPlaceOf (λ i. (key_at self.now.keys i).key) count key.now result }
     {
         for i in 0..self.keys.len() {
             if self.keys[i].key == *key {
@@ -98,7 +99,7 @@ impl ByKey {
     fn grow(&mut self, i: usize) -> Result<(), NoMemory>
         requires there { i < length self.old.keys }
         requires few { self.old.len + 1 < 2 ^ 32 }
-        ensures ok { OnOk result (self.new ≡ record { len = self.old.len + 1; keys = set self.old.keys i (record { key = (key_at self.old.keys i).key; places = inserted self.old.len (key_at self.old.keys i).places }) }) }
+        ensures ok { OnOk result (self.new ≡ with_key_at i self.old) }
         ensures err { OnErr result (self.new ≡ self.old) }
     {
         self.keys[i].add(self.len)?;
@@ -109,7 +110,7 @@ impl ByKey {
     /// Puts the next set in, the first of its key.
     fn begin(&mut self, alloc: Global, key: &Key) -> Result<(), NoMemory>
         requires few { self.old.len + 1 < 2 ^ 32 }
-        ensures ok { OnOk result (self.new ≡ record { len = self.old.len + 1; keys = self.old.keys ++ record { key = key.now; places = self.old.len ∷ [] } ∷ [] }) }
+        ensures ok { OnOk result (self.new ≡ with_new_key key.now self.old) }
         ensures err { OnErr result (self.new ≡ self.old) }
     {
         let sets = KeySets::of_one(alloc, key, self.len)?;
@@ -154,7 +155,10 @@ impl ByKey {
     /// Does one of the sets that aren't in it give the key a value?
     fn is_key_of_last(&self, ops: &[SharedOp], key: &Key) -> bool
         requires few { length ops.now < 2 ^ 32 }
-        ensures { MatchBool result ((place : ℕ) × (place < length ops.now) × (gives key.now (at ops.now place).body ≡ true)) ((place : ℕ) → self.now.len ≤ place → place < length ops.now → gives key.now (at ops.now place).body ≡ false) }
+        ensures { MatchBool result
+            ((place : ℕ) × (place < length ops.now) × (of_key ops.now key.now place ≡ true))
+            ((place : ℕ) → self.now.len ≤ place → place < length ops.now
+            → of_key ops.now key.now place ≡ false) }
     {
         for place in self.len..ops.len() as u32 {
             if gives(&ops[place as usize].body, key) {
@@ -175,9 +179,10 @@ impl ByKey {
 
     /// The places of the sets in it that give the key no value.
     pub(crate) fn others(&self, alloc: Global, key: &Key) -> Result<Members, NoMemory>
-        ensures { IfOk result (λ others. (ops : List Op) → AreByKey ops self.now → others ≡ of_other_keys ops key.now self.now.len) }
+        ensures { IfOk result (λ others. (ops : List Op) → AreByKey ops self.now
+            → others ≡ of_other_keys ops key.now self.now.len) }
     {
-        let all = Members::first(alloc, self.len)?;
+        let all = Members::first_places(alloc, self.len)?;
         match self.find(key) {
             Some(i) => all.without(alloc, &self.keys[i].places),
             None => Ok(all),

@@ -1,12 +1,12 @@
 //! The places of sets by the sites that they come from.
 
-ghost use Rattle.std.specs.Prelude.{◌≡◌, ℕ, ◌+◌, ◌<◌, ◌^◌, [], ◌∷◌, ◌++◌, length, set, IfOk, OnOk, OnErr, MatchOption};
-ghost use Rattle.conflict.specs.Indexes.{AreBySite, AreInOrder, IsRising, counted_of, site_at, with_counted, with_set};
-ghost use Rattle.conflict.specs.Members.{with_all};
+ghost use Rattle.std.specs.Prelude.{◌≡◌, ℕ, ◌+◌, ◌<◌, ◌^◌, [], ◌∷◌, length, IfOk, OnOk, OnErr};
+ghost use Rattle.places.specs.Members.{with_all};
 ghost use Rattle.conflict.specs.Sets.{places_counted};
+ghost use Rattle.conflict.specs.Indexes.{counted_of, site_at, with_counted, with_new_site, with_set, with_set_at, AreBySite, AreInOrder, IsPlaceOf, IsRising};
 
-use crate::Members;
 use op_names::{NoMemory, OpName};
+use places::Members;
 use rules::SharedOp;
 use state_vector::StateVector;
 use std::alloc::Global;
@@ -32,7 +32,8 @@ impl Model for SiteSets {
 impl SiteSets {
     /// The site's first set.
     fn of_one(alloc: Global, name: OpName, place: u32) -> Result<SiteSets, NoMemory>
-        ensures { IfOk result (λ of. of ≡ record { site = name.0; sets = (name.1, place) ∷ []; places = place ∷ [] }) }
+        ensures { IfOk result (λ of. of
+            ≡ record { site = name.0; sets = (name.1, place) ∷ []; places = place ∷ [] }) }
     {
         let mut sets = Vec::new(alloc);
         sets.push((name.seq(), place))?;
@@ -71,7 +72,7 @@ impl SiteSets {
         if counted == self.sets.len() {
             return known.insert_all(&self.places);
         }
-        let earlier = Members::first(alloc, self.sets[counted].1)?;
+        let earlier = Members::first_places(alloc, self.sets[counted].1)?;
         let places = self.places.intersection(alloc, &earlier)?;
         known.insert_all(&places)
     }
@@ -104,7 +105,8 @@ impl BySite {
 
     /// Where the site stands, if it does.
     fn find(&self, site: u32) -> Option<usize>
-        ensures { MatchOption result ((i : ℕ) → i < length self.now.sites → (site_at self.now.sites i).site ≡ site → ⊥) (λ i. (i < length self.now.sites) × ((site_at self.now.sites i).site ≡ site)) }
+        ensures { let count = length self.now.sites
+            in IsPlaceOf (λ i. (site_at self.now.sites i).site) count site result }
     {
         for i in 0..self.sites.len() {
             if self.sites[i].site == site {
@@ -118,7 +120,7 @@ impl BySite {
     fn grow(&mut self, i: usize, number: u32) -> Result<(), NoMemory>
         requires there { i < length self.old.sites }
         requires few { self.old.len + 1 < 2 ^ 32 }
-        ensures ok { OnOk result (self.new ≡ record { len = self.old.len + 1; sites = set self.old.sites i (with_set number self.old.len (site_at self.old.sites i)) }) }
+        ensures ok { OnOk result (self.new ≡ with_set_at i number self.old) }
         ensures err { OnErr result (self.new ≡ self.old) }
     {
         self.sites[i].add(number, self.len)?;
@@ -129,7 +131,7 @@ impl BySite {
     /// Puts the next set in, the first of its site.
     fn begin(&mut self, alloc: Global, name: OpName) -> Result<(), NoMemory>
         requires few { self.old.len + 1 < 2 ^ 32 }
-        ensures ok { OnOk result (self.new ≡ record { len = self.old.len + 1; sites = self.old.sites ++ record { site = name.0; sets = (name.1, self.old.len) ∷ []; places = self.old.len ∷ [] } ∷ [] }) }
+        ensures ok { OnOk result (self.new ≡ with_new_site name self.old) }
         ensures err { OnErr result (self.new ≡ self.old) }
     {
         let sets = SiteSets::of_one(alloc, name, self.len)?;
@@ -166,7 +168,7 @@ impl BySite {
     }
 
     /// The places of the sets in it that a vector counts: one look-up for each site.
-    fn counted(&self, alloc: Global, seen: &StateVector) -> Result<Members, NoMemory>
+    fn counted_places(&self, alloc: Global, seen: &StateVector) -> Result<Members, NoMemory>
         requires { (i : ℕ) → i < length self.now.sites → IsRising (site_at self.now.sites i) }
         ensures { IfOk result (λ counted. counted ≡ with_counted seen.now [] self.now.sites) }
     {
@@ -178,7 +180,7 @@ impl BySite {
     }
 
     /// The places of the sets that a vector counts: by the sites, and then the last sets one by one.
-    pub(crate) fn known(
+    pub(crate) fn known_places(
         &self,
         alloc: Global,
         ops: &[SharedOp],
@@ -189,7 +191,7 @@ impl BySite {
         requires order { AreInOrder ops.now }
         ensures { IfOk result (λ known. known ≡ places_counted ops.now seen.now) }
     {
-        let mut known = self.counted(alloc, seen)?;
+        let mut known = self.counted_places(alloc, seen)?;
         for place in self.len..ops.len() as u32 {
             if seen.has(ops[place as usize].name) {
                 known.insert(place)?;

@@ -3,14 +3,16 @@
 ghost use Rattle.std.specs.Prelude.{◌≡◌, ◌<◌, [], ◌∷◌, ◌++◌, length, filter, nat_lt, bytes_eq, if◌then◌else◌, vec_capacity, vec_len, All, IsOk, IfOk, OnOk, OnErr};
 ghost use Rattle.std.specs.List.{list_any};
 ghost use Rattle.rules.specs.Bodies.{differ_on_a_key, keys_in};
-ghost use Rattle.rules.specs.Conflicts.{base, conflict, direct_conflict};
-ghost use Rattle.conflict.specs.Members.{has, inserted, met_below, places, with_rows, with_those};
-ghost use Rattle.conflict.specs.Sets.{at, base_places, earlier_conflicts, is_in_row, new_conflicts, places_counted, AreSetsOn, IsAddition};
+ghost use Rattle.places.specs.Members.{has, places, with_place};
+ghost use Rattle.conflict.specs.Rows.{conflicts_below, differs_at, direct_places, earlier_conflicts, is_in_row, with_those};
+ghost use Rattle.conflict.specs.Sets.{at, base_places, clash_of, new_conflicts, places_counted, AreSetsOn, IsAddition};
 
 use crate::by_key::ByKey;
 use crate::by_site::BySite;
-use crate::{Addition, Longer, Members, Relation};
+use crate::joins::union_of_rows;
+use crate::{Addition, WithAddition};
 use op_names::{Key, NoMemory, OpName};
+use places::{Members, Relation};
 use rules::{Body, Op, SharedOp};
 use state_vector::StateVector;
 use std::alloc::Global;
@@ -27,9 +29,9 @@ pub struct Clashes {
     /// For each set the places of the earlier ones that it is in conflict with.
     rows: Vec<Members>,
     /// The places of the sets that are in conflict with an earlier one, in rising order.
-    clashing: Vec<u32>,
-    /// The places of the first sets by site and by key. Since `put` takes no memory, a set is in them
-    /// only from the next `prepare` on.
+    in_conflict: Vec<u32>,
+    /// The places of the first sets by site and by key. Since `commit` takes no memory, a set is in
+    /// them only from the next `plan` on.
     sites: BySite,
     keys: ByKey,
 }
@@ -41,9 +43,18 @@ impl Model for Clashes {
 
     ghost Value = { Sets };
 
-    ghost view = { λ clashes. record { object = clashes.object; ops = clashes.ops.items; spare = min (vec_capacity clashes.ops - vec_len clashes.ops) (min (vec_capacity clashes.bases - vec_len clashes.bases) (min (vec_capacity clashes.rows - vec_len clashes.rows) (vec_capacity clashes.clashing - vec_len clashes.clashing))) } };
+    ghost view = { λ clashes. record {
+      object = clashes.object;
+      ops = clashes.ops.items;
+      spare = min (vec_capacity clashes.ops - vec_len clashes.ops)
+          (min (vec_capacity clashes.bases - vec_len clashes.bases)
+          (min (vec_capacity clashes.rows - vec_len clashes.rows)
+          (vec_capacity clashes.in_conflict - vec_len clashes.in_conflict)));
+    } };
 
-    ghost invariant = { λ clashes. AreStored clashes.object clashes.ops.items clashes.bases.items clashes.rows.items clashes.clashing.items clashes.sites clashes.keys };
+    ghost invariant = { λ clashes. AreStored clashes.object clashes.ops.items
+        clashes.bases.items clashes.rows.items clashes.in_conflict.items
+        clashes.sites clashes.keys };
 }
 
 /// Do two sets give one key different values?
@@ -64,41 +75,28 @@ fn differ_on_a_key(a: &Body, b: &Body) -> bool
     key == other_key && value != other
 }
 
-/// Puts a place last, where its set is in conflicts with earlier ones. Takes no memory.
-fn push_clashing(clashing: &mut Vec<u32>, place: u32, conflicts: usize)
-    requires { vec_len clashing.old < vec_capacity clashing.old }
-    ensures { clashing.new.items ≡ (if nat_lt 0 conflicts then clashing.old.items ++ place ∷ [] else clashing.old.items) }
+/// Puts a place last, where its set is in conflict with earlier ones. Takes no memory.
+fn push_if_in_conflict(in_conflict: &mut Vec<u32>, place: u32, conflicts: usize)
+    requires { vec_len in_conflict.old < vec_capacity in_conflict.old }
+    ensures { in_conflict.new.items
+        ≡ (if nat_lt 0 conflicts
+        then in_conflict.old.items ++ place ∷ []
+        else in_conflict.old.items) }
 {
     if conflicts > 0 {
-        clashing.push_reserved(place);
+        in_conflict.push_reserved(place);
     }
 }
 
 /// Puts a place in, where that is so.
 fn insert_if(members: &mut Members, place: u32, is_in: bool) -> Result<(), NoMemory>
-    ensures { OnOk result (members.new ≡ (if is_in then inserted place members.old else members.old)) }
+    ensures { OnOk result (members.new
+        ≡ (if is_in then with_place place members.old else members.old)) }
 {
     if is_in {
         members.insert(place)?;
     }
     Ok(())
-}
-
-/// What the rows at some places, one after another, add to no places.
-fn rows_joined(
-    alloc: Global,
-    rows: &[Members],
-    places: &[u32],
-    scope: &Members,
-) -> Result<Members, NoMemory>
-    requires { All (λ place. place < length rows.now) places.now }
-    ensures { IfOk result (λ opposed. opposed ≡ with_rows scope.now rows.now [] places.now) }
-{
-    let mut opposed = Members::empty(alloc);
-    for place in places {
-        opposed.add_row(scope, &rows[*place as usize], *place)?;
-    }
-    Ok(opposed)
 }
 
 impl Clashes {
@@ -113,31 +111,35 @@ impl Clashes {
             ops: Vec::new(alloc),
             bases: Vec::new(alloc),
             rows: Vec::new(alloc),
-            clashing: Vec::new(alloc),
+            in_conflict: Vec::new(alloc),
             sites: BySite::new(alloc),
             keys: ByKey::new(alloc),
         })
     }
 
     /// Works out what a set on the object needs to be put with these, and takes the memory for it,
-    /// so that `put` can't fail; otherwise `NoMemory`. The set is before none of these in causal
+    /// so that `commit` can't fail; otherwise `NoMemory`. The set is before none of these in causal
     /// order, it knows no others on the object, and it comes with the places of its base and of the
     /// sets that it knows. The sets stay as they are. Takes time with the number of the sets that are
     /// in conflict with an earlier one, of those of the same key that it doesn't know, and of those
     /// from the first on that it is in direct conflict with; all else goes by words of 64 places.
-    pub fn prepare(
+    pub fn plan(
         &mut self,
         alloc: Global,
         op: SharedOp,
         base: Members,
         known: &Members,
     ) -> Result<Addition, NoMemory>
+        // What is known of the set.
         requires sets { AreSetsOn self.old.object (self.old.ops ++ op ∷ []) }
         requires base { base ≡ base_places self.old.ops op }
         requires known { known.now ≡ places_counted self.old.ops op.seen }
+        // What is planned.
         ensures op { IfOk result (λ addition. addition.op ≡ op) }
-        ensures ready { IfOk result (λ addition. IsAddition self.new.object self.new.ops addition) }
+        ensures ready { IfOk result (λ addition.
+            IsAddition self.new.object self.new.ops addition) }
         ensures spare { OnOk result (0 < self.new.spare) }
+        // The sets stay as they are.
         ensures object { self.new.object ≡ self.old.object }
         ensures ops { self.new.ops ≡ self.old.ops }
     {
@@ -146,12 +148,12 @@ impl Clashes {
         self.ops.reserve(1)?;
         self.bases.reserve(1)?;
         self.rows.reserve(1)?;
-        self.clashing.reserve(1)?;
+        self.in_conflict.reserve(1)?;
         Ok(Addition::new(op, base, row))
     }
 
-    /// Puts a set with these that was prepared for them. Takes no memory.
-    pub fn put(&mut self, addition: Addition)
+    /// Puts a set with these that was planned for them. Takes no memory.
+    pub fn commit(&mut self, addition: Addition)
         requires ready { IsAddition self.old.object self.old.ops addition }
         requires spare { 0 < self.old.spare }
         ensures object { self.new.object ≡ self.old.object }
@@ -167,10 +169,10 @@ impl Clashes {
         self.ops.push_reserved(op);
         self.bases.push_reserved(base);
         self.rows.push_reserved(row);
-        push_clashing(&mut self.clashing, place, conflicts);
+        push_if_in_conflict(&mut self.in_conflict, place, conflicts);
     }
 
-    /// Adds a set on the object: `prepare`, then `put`. On `NoMemory` the sets are as before.
+    /// Adds a set on the object: `plan`, then `commit`. On `NoMemory` the sets are as before.
     pub fn add(&mut self, alloc: Global, op: SharedOp, base: Members) -> Result<(), NoMemory>
         requires sets { AreSetsOn self.old.object (self.old.ops ++ op ∷ []) }
         requires base { base ≡ base_places self.old.ops op }
@@ -178,14 +180,14 @@ impl Clashes {
         ensures ok { OnOk result (self.new.ops ≡ self.old.ops ++ op ∷ []) }
         ensures err { OnErr result (self.new.ops ≡ self.old.ops) }
     {
-        let known = self.known(alloc, &op.seen)?;
-        let addition = self.prepare(alloc, op, base, &known)?;
-        self.put(addition);
+        let known = self.known_places(alloc, &op.seen)?;
+        let addition = self.plan(alloc, op, base, &known)?;
+        self.commit(addition);
         Ok(())
     }
 
-    /// These sets and one that was prepared for them, as a relation.
-    pub fn with<'a>(&'a self, addition: &'a Addition) -> Longer<'a>
+    /// These sets and one that was planned for them, as a relation.
+    pub fn with<'a>(&'a self, addition: &'a Addition) -> WithAddition<'a>
         requires { IsAddition self.now.object self.now.ops addition.now }
         ensures { result ≡ self.now.ops ++ addition.now.op ∷ [] }
     {
@@ -194,7 +196,7 @@ impl Clashes {
         let name = addition.op().name;
         let _ = name.site();
         let _ = name.seq();
-        Longer::new(self, addition)
+        WithAddition::new(self, addition)
     }
 
     /// The places of the base of the set at a place.
@@ -215,17 +217,18 @@ impl Clashes {
     }
 
     /// The places of the sets that a vector counts: one look-up for each site that they come from,
-    /// and for each set that came after the last `prepare`.
-    pub fn known(&self, alloc: Global, seen: &StateVector) -> Result<Members, NoMemory>
+    /// and for each set that came after the last `plan`.
+    pub fn known_places(&self, alloc: Global, seen: &StateVector) -> Result<Members, NoMemory>
         ensures { IfOk result (λ known. known ≡ places_counted self.now.ops seen.now) }
     {
-        self.sites.known(alloc, &self.ops, seen)
+        self.sites.known_places(alloc, &self.ops, seen)
     }
 
     /// Does one of the sets give the key a value? Goes over the different keys, and over the sets that
-    /// came after the last `prepare`.
+    /// came after the last `plan`.
     pub fn has_key(&self, key: &Key) -> bool
-        ensures { result ≡ list_any (λ op. list_any (bytes_eq key.now) (keys_in op.body)) self.now.ops }
+        ensures { result
+            ≡ list_any (λ op. list_any (bytes_eq key.now) (keys_in op.body)) self.now.ops }
     {
         self.keys.has(&self.ops, key)
     }
@@ -256,10 +259,10 @@ impl Clashes {
     }
 
     /// Are the sets at two places in conflict?
-    fn conflicts(&self, first: u32, second: u32) -> bool
+    fn are_in_conflict(&self, first: u32, second: u32) -> bool
         requires first { first < length self.now.ops }
         requires second { second < length self.now.ops }
-        ensures { result ≡ conflict self.now.ops (at self.now.ops first) (at self.now.ops second) }
+        ensures { result ≡ clash_of self.now.ops first second }
     {
         if first < second {
             self.row_at(second).has(first)
@@ -269,11 +272,12 @@ impl Clashes {
     }
 
     /// Some places with those of the others whose sets give one key a different value than a set.
-    fn with_differing(&self, met: Members, op: &Op, places: &[u32]) -> Result<Members, NoMemory>
+    fn with_differing(&self, direct: Members, op: &Op, places: &[u32]) -> Result<Members, NoMemory>
         requires { All (λ place. place < length self.now.ops) places.now }
-        ensures { IfOk result (λ all. all ≡ with_those (λ place. differ_on_a_key op.now.body (at self.now.ops place).body) met places.now) }
+        ensures { IfOk result (λ all. all
+            ≡ with_those (differs_at self.now.ops op.now.body) direct places.now) }
     {
-        let mut all = met;
+        let mut all = direct;
         for place in places {
             let differs = differ_on_a_key(&op.body, &self.set_at(*place).body);
             insert_if(&mut all, *place, differs)?;
@@ -282,12 +286,19 @@ impl Clashes {
     }
 
     /// Some places without those of which it is known that their sets give another key than the body
-    /// a value. It is not known of the sets that came after the last `prepare`.
-    fn rivals(&self, alloc: Global, body: &Body, unknown: &Members) -> Result<Members, NoMemory>
+    /// a value. It is not known of the sets that came after the last `plan`.
+    fn without_other_keys(
+        &self,
+        alloc: Global,
+        body: &Body,
+        unknown: &Members,
+    ) -> Result<Members, NoMemory>
         requires { All (λ place. place < length self.now.ops) unknown.now }
-        ensures within { IfOk result (λ rivals. All (λ place. place < length self.now.ops) rivals) }
-        ensures same { IfOk result (λ rivals. filter (λ place. differ_on_a_key body.now (at self.now.ops place).body) rivals
-            ≡ filter (λ place. differ_on_a_key body.now (at self.now.ops place).body) unknown.now) }
+        ensures within { IfOk result (λ candidates.
+            All (λ place. place < length self.now.ops) candidates) }
+        ensures same { IfOk result (λ candidates.
+            filter (differs_at self.now.ops body.now) candidates
+            ≡ filter (differs_at self.now.ops body.now) unknown.now) }
     {
         match body {
             Body::Set { key, .. } => {
@@ -301,7 +312,7 @@ impl Clashes {
     /// The places of the sets that are in direct conflict with a set that is to be added: of those
     /// that it knows the ones outside its base, and of the others those that give its key a different
     /// value.
-    fn met_by(
+    fn direct_conflicts(
         &self,
         alloc: Global,
         op: &Op,
@@ -311,46 +322,57 @@ impl Clashes {
         requires sets { AreSetsOn self.now.object (self.now.ops ++ op.now ∷ []) }
         requires base { based.now ≡ base_places self.now.ops op.now }
         requires known { known.now ≡ places_counted self.now.ops op.now.seen }
-        ensures { IfOk result (λ met. met
-            ≡ filter (λ place. direct_conflict (base (self.now.ops ++ op.now ∷ [])) op.now (at self.now.ops place)) (places (length self.now.ops))) }
+        ensures { IfOk result (λ direct. direct ≡ direct_places self.now.ops op.now) }
     {
-        let all = Members::first(alloc, self.ops.len() as u32)?;
+        let all = Members::first_places(alloc, self.ops.len() as u32)?;
         let unknown = all.without(alloc, known)?;
-        let rivals = self.rivals(alloc, &op.body, &unknown)?;
-        let others = rivals.list(alloc)?;
-        let met = known.without(alloc, based)?;
-        self.with_differing(met, op, &others)
+        let candidates = self.without_other_keys(alloc, &op.body, &unknown)?;
+        let others = candidates.list(alloc)?;
+        let direct = known.without(alloc, based)?;
+        self.with_differing(direct, op, &others)
     }
 
     /// The places of the sets that are in conflict with one of those at some places.
-    pub(crate) fn opposed(&self, alloc: Global, scope: &Members) -> Result<Members, NoMemory>
-        ensures { IfOk result (λ opposed. opposed ≡ filter (met_below (λ i j. conflict self.now.ops (at self.now.ops i) (at self.now.ops j)) scope.now (length self.now.ops)) (places (length self.now.ops))) }
+    pub(crate) fn conflicting_places(
+        &self,
+        alloc: Global,
+        scope: &Members,
+    ) -> Result<Members, NoMemory>
+        ensures { let count = length self.now.ops in IfOk result (λ conflicting. conflicting
+            ≡ filter (conflicts_below (clash_of self.now.ops) scope.now count) (places count)) }
     {
-        rows_joined(alloc, &self.rows, &self.clashing, scope)
+        union_of_rows(alloc, &self.rows, &self.in_conflict, scope)
     }
 
-    /// Is the set at a place, or one in its base, at one of the places that are met?
-    fn is_reached(&self, met: &Members, place: u32) -> bool
+    /// Is the set at a place, or one in its base, at one of the places of the direct conflicts?
+    fn has_direct_conflict(&self, direct: &Members, place: u32) -> bool
         requires { place < length self.now.ops }
-        ensures { result ≡ list_any (has (place ∷ base_places self.now.ops (at self.now.ops place))) met.now }
+        ensures { let base = base_places self.now.ops (at self.now.ops place)
+            in result ≡ list_any (has (place ∷ base)) direct.now }
     {
-        met.has(place) || met.meets(self.base(place))
+        direct.has(place) || direct.intersects(self.base(place))
     }
 
-    /// The places of the sets that are in conflict with a set that is to be added, where it meets
-    /// these directly and is based on those. No set is based on a later one: so before the lowest that
-    /// is met only those are in conflict that the base is in conflict with.
-    fn row_from(&self, alloc: Global, met: &Members, based: &Members) -> Result<Members, NoMemory>
+    /// The places of the sets that are in conflict with a set that is to be added, where it is in
+    /// direct conflict with these and is based on those. No set is based on a later one: so before the
+    /// lowest direct conflict only those are in conflict that the base is in conflict with.
+    fn row_from(
+        &self,
+        alloc: Global,
+        direct: &Members,
+        based: &Members,
+    ) -> Result<Members, NoMemory>
         requires { All (λ other. other < length self.now.ops) based.now }
-        ensures { IfOk result (λ row. row ≡ filter (is_in_row self.now.ops met.now based.now) (places (length self.now.ops))) }
+        ensures { let all = places (length self.now.ops) in IfOk result (λ row.
+            row ≡ filter (is_in_row self.now.ops direct.now based.now) all) }
     {
-        let mut row = self.opposed(alloc, based)?;
-        let Some(lowest) = met.lowest() else {
+        let mut row = self.conflicting_places(alloc, based)?;
+        let Some(lowest) = direct.lowest_place() else {
             return Ok(row);
         };
         for place in lowest..self.ops.len() as u32 {
-            let is_reached = self.is_reached(met, place);
-            insert_if(&mut row, place, is_reached)?;
+            let has_direct = self.has_direct_conflict(direct, place);
+            insert_if(&mut row, place, has_direct)?;
         }
         Ok(row)
     }
@@ -369,8 +391,8 @@ impl Clashes {
         requires known { known.now ≡ places_counted self.now.ops op.now.seen }
         ensures { IfOk result (λ row. row ≡ new_conflicts self.now.ops op.now) }
     {
-        let met = self.met_by(alloc, op, based, known)?;
-        self.row_from(alloc, &met, based)
+        let direct = self.direct_conflicts(alloc, op, based, known)?;
+        self.row_from(alloc, &direct, based)
     }
 }
 
@@ -394,11 +416,11 @@ impl Relation for Clashes {
     }
 
     fn clash(&self, i: u32, j: u32) -> bool {
-        self.conflicts(i, j)
+        self.are_in_conflict(i, j)
     }
 
-    #[tactic(auto, using(crate::proofs::Opposed::all_met))]
+    #[tactic(auto, using(crate::proofs::InConflict::all_in_conflict))]
     fn in_conflict_with(&self, alloc: Global, scope: &Members) -> Result<Members, NoMemory> {
-        self.opposed(alloc, scope)
+        self.conflicting_places(alloc, scope)
     }
 }

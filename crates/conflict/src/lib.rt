@@ -1,16 +1,12 @@
-//! Sets of places, relations between places, and the conflicts between the sets on an object.
+//! The sets on an object by their places, and the conflicts between them.
 #![tactic(auto)]
 
 mod addition;
 mod by_key;
 mod by_site;
 mod clashes;
+mod joins;
 pub mod laws;
-mod members;
-mod relation;
-mod words;
 
-pub use addition::{Addition, Longer};
+pub use addition::{Addition, WithAddition};
 pub use clashes::Clashes;
-pub use members::Members;
-pub use relation::Relation;

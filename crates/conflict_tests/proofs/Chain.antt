@@ -7,10 +7,10 @@ use Rattle.state_vector.specs.Vectors.{vector_fault}
 use Rattle.rules.specs.declared.history.Op.{Op}
 use Rattle.rules.specs.declared.history.Entry.{Entry}
 use Rattle.rules.specs.declared.history.Entry.TheVariants.{Join, Operation}
-use Rattle.rules.specs.Bounds.{full_bounds}
+use Rattle.rules.specs.Limits.{full_limits}
 use Rattle.rules.specs.Admission.{causal_refusal}
 use Rattle.rules.specs.Operations.{known, sets_on}
-use Rattle.rules.specs.Groups.{groups_of, group_named, identifier, is_compatible, meets}
+use Rattle.rules.specs.Groups.{groups_of, group_named, identifier, is_compatible, in_conflict_with}
 use Rattle.rules.specs.Conflicts.{base, conflict}
 use Rattle.rules.specs.Versions.{groups}
 use Rattle.rules.specs.Records.{refusal, IsLegal}
@@ -23,12 +23,12 @@ use Rattle.conflict_tests.specs.Chain.{creation, first, second, third, chain}
 abbrev record_of_chain : List Entry
 record_of_chain = Join 1 ∷ Operation creation ∷ Operation first ∷ Operation second ∷ Operation third ∷ []
 
-legal : IsLegal full_bounds record_of_chain
+legal : IsLegal full_limits record_of_chain
 unfolding refusal causal_refusal vector_fault base conflict known sets_on groups groups_of group_named identifier
 legal = (refl, (refl, (refl, (refl, (refl, tt)))))
 
 sets_in_chain : AreSetsOn (1, 1) chain
-sets_in_chain = sets_on_object (history_if_legal full_bounds record_of_chain legal) (ordered_if_legal full_bounds record_of_chain legal) (founded_if_legal full_bounds record_of_chain legal) (1, 1)
+sets_in_chain = sets_on_object (history_if_legal full_limits record_of_chain legal) (ordered_if_legal full_limits record_of_chain legal) (founded_if_legal full_limits record_of_chain legal) (1, 1)
 
 pub are_sets : (ops : List Op) → ops ≡ chain → (object : Name) × AreSetsOn object ops
 are_sets ops e = ((1, 1), subst (AreSetsOn (1, 1)) (sym e) sets_in_chain)
@@ -58,7 +58,7 @@ within members a x m =
     (c.0, subst (λ z. z < 3) d.2 (a d.0 c.0 d.1), c.2)
 
 free_chain : (members : List ℕ) → All (λ place. place < 3) members → is_compatible (conflict chain) (map (at chain) members) ≡ true
-free_chain members a = all_from (λ x. not (meets (conflict chain) (map (at chain) members) x)) (map (at chain) members) (λ x m.
+free_chain members a = all_from (λ x. not (in_conflict_with (conflict chain) (map (at chain) members) x)) (map (at chain) members) (λ x m.
     not_from_false _ (false_from_ne_true _ (λ t.
     let c = any_back (conflict chain x) (map (at chain) members) t in
     let p = within members a x m in

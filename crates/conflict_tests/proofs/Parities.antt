@@ -6,8 +6,8 @@ use Rattle.std.proofs.lemmas.List.Elements.{All-nil, All-cons}
 use Rattle.std.proofs.lemmas.Bool.Decides.{nat_tests}
 use Rattle.op_names.specs.Names.{Name}
 use Rattle.rules.proofs.Lists.{In, Contains-from_In}
-use Rattle.conflict.specs.Members.{inserted, with_all, set_of}
-use Rattle.conflict.specs.Relations.{IsRelation}
+use Rattle.places.specs.Members.{with_place, with_all, set_of}
+use Rattle.places.specs.Relations.{IsRelation}
 use Rattle.conflict_tests.specs.Parities.{parities_clash, parities_name}
 
 eqb_swap : (i j : ℕ) → (i == j) ≡ (j == i)
@@ -29,10 +29,10 @@ below_if n (x ∷ xs) f = All-cons (λ x. x < n) x xs (f x (inl refl)) (below_if
 below_back : (n : ℕ) (xs : List ℕ) → All (λ x. x < n) xs → (x : ℕ) → In x xs → x < n
 below_back n xs a x m = let c = Contains-from_In x xs m in subst (λ z. z < n) c.2 (a c.0 x c.1)
 
-inserted_back : (x y : ℕ) (xs : List ℕ) → In y (inserted x xs) → (y ≡ x) ⊎ In y xs
-inserted_back x y [] m = m
-inserted_back x y (z ∷ zs) m = elim (cases_Bool (nat_lt z x)) [
-  | inl t ↦ (let k : In y (z ∷ inserted x zs) = rw t at m in elim k [ inl e ↦ inr (inl e) | inr r ↦ elim (inserted_back x y zs r) [ inl e ↦ inl e | inr q ↦ inr (inr q) ] ])
+with_place_back : (x y : ℕ) (xs : List ℕ) → In y (with_place x xs) → (y ≡ x) ⊎ In y xs
+with_place_back x y [] m = m
+with_place_back x y (z ∷ zs) m = elim (cases_Bool (nat_lt z x)) [
+  | inl t ↦ (let k : In y (z ∷ with_place x zs) = rw t at m in elim k [ inl e ↦ inr (inl e) | inr r ↦ elim (with_place_back x y zs r) [ inl e ↦ inl e | inr q ↦ inr (inr q) ] ])
   | inr t ↦ elim (cases_Bool (z == x)) [
     | inl u ↦ inr (rw (t, u) at m)
     | inr u ↦ (rw (t, u) at m)
@@ -41,8 +41,8 @@ inserted_back x y (z ∷ zs) m = elim (cases_Bool (nat_lt z x)) [
 
 with_all_back : (y : ℕ) (xs set : List ℕ) → In y (with_all set xs) → In y set ⊎ In y xs
 with_all_back y [] set m = inl m
-with_all_back y (x ∷ xs) set m = elim (with_all_back y xs (inserted x set) m) [
-  | inl l ↦ elim (inserted_back x y set l) [ inl e ↦ inr (inl e) | inr r ↦ inl r ]
+with_all_back y (x ∷ xs) set m = elim (with_all_back y xs (with_place x set) m) [
+  | inl l ↦ elim (with_place_back x y set l) [ inl e ↦ inr (inl e) | inr r ↦ inl r ]
   | inr r ↦ inr (inr r)
 ]
 

@@ -3,7 +3,7 @@ use Rattle.std.proofs.Common.{◌≡◌, ℕ, ◌+◌, Bool, true, false, ◌&&�
 use Rattle.std.proofs.lemmas.Bool.{eq-eqb}
 use Rattle.std.proofs.lemmas.Bool.Decides.{nat_tests}
 use Rattle.op_names.specs.Names.{Name}
-use Rattle.conflict.specs.Relations.{IsRelation}
+use Rattle.places.specs.Relations.{IsRelation}
 use Rattle.conflict_tests.specs.Tables.{is_paired, pair_clash, name_of_place}
 
 or_swap : (a b : Bool) → (a || b) ≡ (b || a)

@@ -5,7 +5,7 @@ use Rattle.std.specs.Prelude.{filter}
 use Rattle.rules.specs.declared.history.Op.{Op}
 use Rattle.rules.specs.declared.history.Entry.{Entry}
 use Rattle.rules.specs.declared.history.Entry.TheVariants.{Join, Operation}
-use Rattle.rules.specs.Bounds.{full_bounds}
+use Rattle.rules.specs.Limits.{full_limits}
 use Rattle.rules.specs.Admission.{causal_refusal}
 use Rattle.rules.specs.Operations.{sets_on, known, is_set_on}
 use Rattle.rules.specs.Groups.{groups_of, identifier, group_named}
@@ -30,20 +30,20 @@ with_second = with_first ++ Operation second ∷ []
 abbrev with_third : List Entry
 with_third = with_second ++ Operation third ∷ []
 
-legal_first : IsLegal full_bounds with_first
+legal_first : IsLegal full_limits with_first
 unfolding refusal causal_refusal vector_fault base conflict known sets_on groups groups_of group_named identifier
 legal_first = (refl, (refl, (refl, (refl, (refl, tt)))))
 
-legal_second : IsLegal full_bounds with_second
+legal_second : IsLegal full_limits with_second
 unfolding refusal causal_refusal vector_fault base conflict known sets_on groups groups_of group_named identifier
-legal_second = legal_push full_bounds with_first (Operation second) legal_first refl
+legal_second = legal_push full_limits with_first (Operation second) legal_first refl
 
-legal_third : IsLegal full_bounds with_third
+legal_third : IsLegal full_limits with_third
 unfolding refusal causal_refusal vector_fault base conflict known sets_on groups groups_of group_named identifier
-legal_third = legal_push full_bounds with_second (Operation third) legal_second refl
+legal_third = legal_push full_limits with_second (Operation third) legal_second refl
 
-sets_in : (entries : List Entry) → IsLegal full_bounds entries → AreSetsOn (1, 1) (filter (is_set_on (1, 1)) (operations entries))
-sets_in entries l = sets_on_object (history_if_legal full_bounds entries l) (ordered_if_legal full_bounds entries l) (founded_if_legal full_bounds entries l) (1, 1)
+sets_in : (entries : List Entry) → IsLegal full_limits entries → AreSetsOn (1, 1) (filter (is_set_on (1, 1)) (operations entries))
+sets_in entries l = sets_on_object (history_if_legal full_limits entries l) (ordered_if_legal full_limits entries l) (founded_if_legal full_limits entries l) (1, 1)
 
 -- ---- what the additions require
 

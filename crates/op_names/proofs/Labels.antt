@@ -1,14 +1,13 @@
 -- A label is ASCII, and so it is text.
-use Rattle.std.proofs.Common.{◌≡◌, ℕ, ◌+◌, ◌<◌, ◌≤◌, Bool, true, false, not, ◌&&◌, ◌||◌, List, [], ◌∷◌, length, Option, Some, None, refl, sym, ap, ◌∙◌, ◌⊎◌, inl, inr, cond, arith, get_or, leb, eqb, ltb, lit<}
+use Rattle.std.proofs.Common.{◌≡◌, ℕ, ◌<◌, ◌≤◌, Bool, true, false, not, ◌&&◌, ◌||◌, length, Option, Some, None, refl, inl, inr, cond, arith, get_or, leb, eqb, ltb, lit<}
 use Rattle.std.specs.Prelude.{IsUtf8}
 use Rattle.std.specs.List.{position_or_len}
 use Rattle.std.specs.Str.{IsAscii}
 use Rattle.std.specs.Option.{option_map}
-use Rattle.std.proofs.lemmas.Bool.{true≢false, and_parts, or_cases, not-false, leb-true, ltb-true, ltb-false, eqb-true, cases_Bool}
+use Rattle.std.proofs.lemmas.Bool.{and_parts, or_cases, leb-true, ltb-true, ltb-false, eqb-true, cases_Bool}
 use Rattle.std.proofs.lemmas.List.{get_or_past}
 use Rattle.std.proofs.lemmas.List.Sums.{fails_before_first}
 use Rattle.std.proofs.lemmas.Str.{IsUtf8-from_ascii}
-use Rattle.op_names.specs.declared.fault.NameFault.{NameFault}
 use Rattle.op_names.specs.declared.fault.NameFault.TheVariants.{Empty, TooLong, BadByte}
 use Rattle.op_names.specs.Texts.{Bytes, is_label_byte, label_fault}
 

@@ -1,6 +1,7 @@
 -- The names of operations.
 use Rattle.std.specs.Prelude.{ℕ, Bool, ◌&&◌, ◌==◌, nat_le}
 use Rattle.std.specs.declared.cmp.Ordering.{Ordering}
+use Rattle.op_names.specs.declared.op_name.TheConstants.{MAX_SITE, MAX_SEQ}
 use Rattle.std.specs.Ordering.{nat_cmp, on, then_cmp, eq_of_both}
 
 -- an operation's name: its site, and its number among the site's operations
@@ -9,11 +10,11 @@ Name = ℕ × ℕ
 
 -- a site's number
 abbrev pub is_site : ℕ → Bool
-is_site site = nat_le 1 site && nat_le site 256
+is_site site = nat_le 1 site && nat_le site MAX_SITE
 
 -- a number among a site's operations
 abbrev pub is_seq : ℕ → Bool
-is_seq seq = nat_le 1 seq && nat_le seq 16384
+is_seq seq = nat_le 1 seq && nat_le seq MAX_SEQ
 
 abbrev pub is_op_name : Name → Bool
 is_op_name name = is_site name.0 && is_seq name.1

@@ -1,5 +1,6 @@
 -- Labels: the texts that name rooms, keys and kinds.
 use Rattle.std.specs.Prelude.{ℕ, Bool, not, ◌&&◌, ◌||◌, ◌==◌, nat_le, nat_lt, List, length, Option, Some, None, option_map, is_none, position, if◌then◌else◌}
+use Rattle.op_names.specs.declared.value.TheConstants.{MAX_VALUE_LEN}
 use Rattle.op_names.specs.declared.fault.NameFault.{NameFault}
 use Rattle.op_names.specs.declared.fault.NameFault.TheVariants.{Empty, TooLong, BadByte}
 
@@ -33,4 +34,8 @@ is_kind bytes = is_label 32 bytes
 
 -- at most 256 bytes
 unfoldable pub is_value_text : Bytes → Bool
-is_value_text bytes = nat_le (length bytes) 256
+is_value_text bytes = nat_le (length bytes) MAX_VALUE_LEN
+
+-- what is wrong with the text of a value
+abbrev pub value_fault : Bytes → Option NameFault
+value_fault bytes = if is_value_text bytes then None else Some TooLong

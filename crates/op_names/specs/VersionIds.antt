@@ -1,8 +1,10 @@
 -- The identifiers of versions: rising lists of names.
-use Rattle.std.specs.Prelude.{◌≡◌, Bool, true, ◌&&◌, List, [], ◌∷◌}
+use Rattle.std.specs.Prelude.{◌≡◌, Bool, true, ◌&&◌, List, [], ◌∷◌, Option, Some, None, if◌then◌else◌}
 use Rattle.std.specs.declared.cmp.Ordering.{Ordering}
 use Rattle.std.specs.Ordering.{is_lt, eq_by_cmp, nat_cmp}
 use Rattle.std.specs.Cmp.{both_tied, unsigned_ties}
+use Rattle.op_names.specs.declared.fault.ListFault.{ListFault}
+use Rattle.op_names.specs.declared.fault.ListFault.TheVariants.{NotRising}
 use Rattle.op_names.specs.Names.{Name, name_cmp, same_name}
 use Rattle.std.specs.Cmp.Lexicographic.{slice_cmp, lists_ties, pointwise}
 
@@ -11,6 +13,10 @@ unfoldable pub names_rise : List Name → Bool
 names_rise [] = true
 names_rise (first ∷ []) = true
 names_rise (first ∷ second ∷ others) = is_lt (name_cmp first second) && names_rise (second ∷ others)
+
+-- what is wrong with a list of names
+abbrev pub names_fault : List Name → Option ListFault
+names_fault names = if names_rise names then None else Some NotRising
 
 -- identifiers are ordered as lists of names, a prefix first
 abbrev pub id_cmp : List Name → List Name → Ordering

@@ -1,6 +1,7 @@
 //! The keys of attributes.
 
-ghost use Rattle.std.specs.Prelude.{◌≡◌, ◌≢◌, List, ℕ, true, false, Some, IfOk, IfErr};
+ghost use Rattle.std.specs.Prelude.{◌≡◌, List, ℕ, true, false, IfOk};
+ghost use Rattle.op_names.specs.Faults.{FailsBy, OnFault};
 ghost use Rattle.op_names.specs.Texts.{label_fault, is_key};
 
 use crate::fault::{NameFault, NoMemory};
@@ -30,8 +31,8 @@ impl Key {
     /// first that applies, or `NoMemory`.
     pub fn parse(alloc: Global, bytes: &[u8]) -> Result<Key, NameFault>
         ensures ok { IfOk result (λ key. (key ≡ bytes.now) × (is_key bytes.now ≡ true)) }
-        ensures fault { IfErr result (λ fault. fault ≢ NameFault.NoMemory → label_fault 32 bytes.now ≡ Some fault) }
-        ensures refused { IfErr result (λ fault. fault ≢ NameFault.NoMemory → is_key bytes.now ≡ false) }
+        ensures fault { FailsBy NameFault.NoMemory (label_fault 32 bytes.now) result }
+        ensures refused { OnFault NameFault.NoMemory result (is_key bytes.now ≡ false) }
     {
         let text = label_text(alloc, bytes, 32)?;
         Ok(Key { text })

@@ -1,6 +1,7 @@
 //! The kinds of objects.
 
-ghost use Rattle.std.specs.Prelude.{◌≡◌, ◌≢◌, List, ℕ, true, false, Some, IfOk, IfErr};
+ghost use Rattle.std.specs.Prelude.{◌≡◌, List, ℕ, true, false, IfOk};
+ghost use Rattle.op_names.specs.Faults.{FailsBy, OnFault};
 ghost use Rattle.op_names.specs.Texts.{label_fault, is_kind};
 
 use crate::fault::{NameFault, NoMemory};
@@ -30,8 +31,8 @@ impl Kind {
     /// first that applies, or `NoMemory`.
     pub fn parse(alloc: Global, bytes: &[u8]) -> Result<Kind, NameFault>
         ensures ok { IfOk result (λ kind. (kind ≡ bytes.now) × (is_kind bytes.now ≡ true)) }
-        ensures fault { IfErr result (λ fault. fault ≢ NameFault.NoMemory → label_fault 32 bytes.now ≡ Some fault) }
-        ensures refused { IfErr result (λ fault. fault ≢ NameFault.NoMemory → is_kind bytes.now ≡ false) }
+        ensures fault { FailsBy NameFault.NoMemory (label_fault 32 bytes.now) result }
+        ensures refused { OnFault NameFault.NoMemory result (is_kind bytes.now ≡ false) }
     {
         let text = label_text(alloc, bytes, 32)?;
         Ok(Kind { text })

@@ -1,6 +1,7 @@
 //! Labels: some bytes of a-z, 0-9 and `-`, which name rooms, keys and kinds.
 
-ghost use Rattle.std.specs.Prelude.{◌≡◌, ◌≢◌, Some, None, IfOk, IfErr, not, position};
+ghost use Rattle.std.specs.Prelude.{◌≡◌, None, IfOk, not, position};
+ghost use Rattle.op_names.specs.Faults.{FailsBy};
 ghost use Rattle.op_names.specs.Texts.{is_label_byte, label_fault};
 
 use crate::fault::NameFault;
@@ -38,10 +39,10 @@ fn label_fault(bytes: &[u8], longest: usize) -> Option<NameFault>
     }
 }
 
-/// The text of a label of at most `longest` bytes.
+/// The bytes as the text of a label of at most `longest` bytes.
 pub(crate) fn label_text(alloc: Global, bytes: &[u8], longest: usize) -> Result<Text, NameFault>
     ensures ok { IfOk result (λ text. (text ≡ bytes.now) × (label_fault longest bytes.now ≡ None)) }
-    ensures fault { IfErr result (λ fault. fault ≢ NameFault.NoMemory → label_fault longest bytes.now ≡ Some fault) }
+    ensures fault { FailsBy NameFault.NoMemory (label_fault longest bytes.now) result }
 {
     if let Some(fault) = label_fault(bytes, longest) {
         return Err(fault);

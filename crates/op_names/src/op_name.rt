@@ -5,6 +5,12 @@ ghost use Rattle.op_names.specs.Names.{is_op_name, is_site, is_seq};
 
 use std::marker::Model;
 
+/// The greatest number of a site. The sites of a room count from 1.
+pub const MAX_SITE: u32 = 256;
+
+/// The greatest number of an operation among those of its site, which count from 1.
+pub const MAX_SEQ: u32 = 16_384;
+
 /// The name of an operation, and of the object that it creates: a site and a number among the
 /// site's operations. Names are ordered by site, then by number.
 #[derive(Clone, Copy, Debug, PartialEq, Eq, PartialOrd, Ord, Hash)]
@@ -30,7 +36,7 @@ impl OpName {
         ensures value { IfSome result (λ name. name ≡ (site, seq)) }
         ensures in_range { IsSome result ↔ (is_op_name (site, seq) ≡ true) }
     {
-        if 1 <= site && site <= 256 && 1 <= seq && seq <= 16384 {
+        if 1 <= site && site <= MAX_SITE && 1 <= seq && seq <= MAX_SEQ {
             Some(OpName { site, seq })
         } else {
             None

@@ -1,6 +1,7 @@
 //! The names of rooms.
 
-ghost use Rattle.std.specs.Prelude.{◌≡◌, ◌≢◌, List, ℕ, true, false, Some, IfOk, IfErr};
+ghost use Rattle.std.specs.Prelude.{◌≡◌, List, ℕ, true, false, IfOk};
+ghost use Rattle.op_names.specs.Faults.{FailsBy, OnFault};
 ghost use Rattle.op_names.specs.Texts.{label_fault, is_room_name};
 
 use crate::fault::{NameFault, NoMemory};
@@ -30,8 +31,8 @@ impl RoomName {
     /// first that applies, or `NoMemory`.
     pub fn parse(alloc: Global, bytes: &[u8]) -> Result<RoomName, NameFault>
         ensures ok { IfOk result (λ name. (name ≡ bytes.now) × (is_room_name bytes.now ≡ true)) }
-        ensures fault { IfErr result (λ fault. fault ≢ NameFault.NoMemory → label_fault 64 bytes.now ≡ Some fault) }
-        ensures refused { IfErr result (λ fault. fault ≢ NameFault.NoMemory → is_room_name bytes.now ≡ false) }
+        ensures fault { FailsBy NameFault.NoMemory (label_fault 64 bytes.now) result }
+        ensures refused { OnFault NameFault.NoMemory result (is_room_name bytes.now ≡ false) }
     {
         let text = label_text(alloc, bytes, 64)?;
         Ok(RoomName { text })

@@ -1,12 +1,16 @@
 //! The values of attributes.
 
-ghost use Rattle.std.specs.Prelude.{◌≡◌, ◌≢◌, ◌↔◌, List, ℕ, true, false, IfOk, IfErr};
-ghost use Rattle.op_names.specs.Texts.{is_value_text};
+ghost use Rattle.std.specs.Prelude.{◌≡◌, List, ℕ, true, false, IfOk, OnOk};
+ghost use Rattle.op_names.specs.Faults.{FailsBy, OnFault};
+ghost use Rattle.op_names.specs.Texts.{is_value_text, value_fault};
 
 use crate::fault::{NameFault, NoMemory};
 use crate::text::Text;
 use std::alloc::Global;
 use std::marker::Model;
+
+/// How many bytes the text of a value may have.
+pub const MAX_VALUE_LEN: usize = 256;
 
 /// A text of at most 256 bytes. It may be empty.
 #[derive(Debug, Drop, PartialEq, Eq, PartialOrd, Ord)]
@@ -53,11 +57,12 @@ impl Value {
     /// The value of a text of at most 256 bytes. Otherwise `TooLong`, or `NoMemory`.
     #[tactic(auto, unfolding(crate::specs::Texts::is_value_text))]
     pub fn text(alloc: Global, text: &str) -> Result<Value, NameFault>
-        ensures ok { IfOk result (λ value. (value ≡ Value.Text text.now) × (is_value_text text.now ≡ true)) }
-        ensures fault { IfErr result (λ fault. fault ≢ NameFault.NoMemory → fault ≡ NameFault.TooLong) }
-        ensures refused { IfErr result (λ fault. fault ≢ NameFault.NoMemory → is_value_text text.now ≡ false) }
+        ensures ok { IfOk result (λ value. value ≡ Value.Text text.now) }
+        ensures range { OnOk result (is_value_text text.now ≡ true) }
+        ensures fault { FailsBy NameFault.NoMemory (value_fault text.now) result }
+        ensures refused { OnFault NameFault.NoMemory result (is_value_text text.now ≡ false) }
     {
-        if text.len() > 256 {
+        if text.len() > MAX_VALUE_LEN {
             return Err(NameFault::TooLong);
         }
         let text = Text::from_str(alloc, text)?;

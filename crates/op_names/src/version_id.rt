@@ -1,12 +1,15 @@
 //! The identifiers of versions.
 
-ghost use Rattle.std.specs.Prelude.{◌≡◌, ◌≢◌, List, [], ℕ, true, false, IfOk, IfErr};
+ghost use Rattle.std.specs.Prelude.{◌≡◌, List, [], ℕ, true, false, IfOk, OnErr};
+ghost use Rattle.std.specs.Result.{result_err};
 ghost use Rattle.std.specs.Ordering.{is_lt, as_partial_cmp};
 ghost use Rattle.std.specs.Cmp.{partial_order_from_own_ties};
 ghost use Rattle.std.specs.Cmp.Rules.{comparing};
 ghost use Rattle.std.proofs.Common.{rules};
 ghost use Rattle.op_names.specs.Names.{name_cmp, same_name};
-ghost use Rattle.op_names.specs.VersionIds.{names_rise, id_cmp, same_names, same_names-ties};
+ghost use Rattle.op_names.specs.Faults.{FailsBy, OnFault};
+ghost use Rattle.op_names.specs.VersionIds.{names_rise, names_fault, id_cmp};
+ghost use Rattle.op_names.specs.VersionIds.{same_names, same_names-ties};
 
 use crate::fault::{ListFault, NoMemory};
 use crate::op_name::OpName;
@@ -54,13 +57,27 @@ impl VersionId {
     /// The identifier of these names. Otherwise `NotRising`, or `NoMemory`.
     pub fn from_names(alloc: Global, names: &[OpName]) -> Result<VersionId, ListFault>
         ensures ok { IfOk result (λ id. (id ≡ names.now) × (names_rise names.now ≡ true)) }
-        ensures refused { IfErr result (λ fault. fault ≢ ListFault.NoMemory → names_rise names.now ≡ false) }
+        ensures fault { FailsBy ListFault.NoMemory (names_fault names.now) result }
+        ensures refused { OnFault ListFault.NoMemory result (names_rise names.now ≡ false) }
     {
         if !do_names_rise(names) {
             return Err(ListFault::NotRising);
         }
         let names = Vec::from_slice(alloc, names)?;
         Ok(VersionId { names })
+    }
+
+    /// The identifier of these names, which it takes as they stand. Otherwise `NotRising`.
+    pub fn from_vec(names: Vec<OpName>) -> Result<VersionId, ListFault>
+        ensures ok { IfOk result (λ id. id ≡ names.items) }
+        ensures fault { result_err result ≡ names_fault names.items }
+        ensures refused { OnErr result (names_rise names.items ≡ false) }
+    {
+        if do_names_rise(&names) {
+            Ok(VersionId { names })
+        } else {
+            Err(ListFault::NotRising)
+        }
     }
 
     /// Its names, rising.

@@ -13,7 +13,7 @@ use Rattle.rules.specs.declared.refusal.Refusal.{Refusal}
 use Rattle.rules.specs.declared.refusal.Refusal.TheVariants.{NoSuchObject, RecordFull}
 use Rattle.rules.specs.Admission.{Condition, causal_conditions, causal_refusal, first_that_applies}
 use Rattle.rules.specs.Bodies.{is_set_body}
-use Rattle.rules.specs.Bounds.{Bounds}
+use Rattle.rules.specs.declared.limits.LimitValues.{LimitValues}
 use Rattle.rules.specs.Conflicts.{has_object}
 use Rattle.rules.specs.Operations.{creation_of, is_set_on, object_of}
 use Rattle.rules.specs.Records.{IsLegal, creation_conditions, operations, order_conditions, refusal, set_conditions, version_conditions}
@@ -22,7 +22,7 @@ use Rattle.rules.proofs.Conditions.{none_of_both, not_first}
 use Rattle.rules.proofs.Counted.{same_name-refl}
 use Rattle.rules.proofs.Founded.{history_if_legal, ordered_if_legal}
 use Rattle.conflict.specs.Sets.{AreSetsOf}
-use Rattle.shape.specs.Drawing.{Drawing, Drawn, set_refusal, shown_ids, with_set}
+use Rattle.shape.specs.Objects.{Object, Stored, set_refusal, shown_ids, with_set}
 use Rattle.shape.proofs.Next.{next_history, next_set, object_with_set}
 use Rattle.shape.proofs.Objects.{refusal_beside, versions_beside}
 use Rattle.shape.proofs.Refusals.{first_of_front, front_passed}
@@ -33,29 +33,30 @@ use Rattle.shape.specs.Planned.{IsPlanned, Plan as SetPlan}
 use Rattle.room_core.specs.Plans.{IsPlannedAt}
 use Rattle.room_core.specs.Replay.{IsReplay}
 use Rattle.wire.specs.declared.reply.Reply.TheVariants.{Taken}
-use Rattle.room_core.specs.Answers.{decided, refused, set_answer}
-use Rattle.room_core.specs.Room.{Room, drawings, drawn}
-use Rattle.room_core.proofs.Drawings.{lookup_set}
+use Rattle.room_core.specs.Answers.{entry_or_refusal, refusal_answer, set_answer}
+use Rattle.room_core.specs.Room.{Room}
+use Rattle.room_core.specs.State.{objects_with_sets, without_spare}
+use Rattle.room_core.proofs.WithSets.{lookup_set}
 use Rattle.room_core.proofs.Lookup.{has_object_by_name, has_shape, is_there}
 use Rattle.room_core.proofs.Replay.{replay_same}
 
-module _ (l : Bounds) (r : List Entry) (o : Op) (sets : is_set_body o.body ≡ true) where
+module _ (l : LimitValues) (r : List Entry) (o : Op) (sets : is_set_body o.body ≡ true) where
   -- what is asked before the object is
-  abbrev pub unasked : List Condition
-  unasked = order_conditions l r o ++ (not (has_object (operations r) o), NoSuchObject) ∷ []
+  abbrev pub early : List Condition
+  early = order_conditions l r o ++ (not (has_object (operations r) o), NoSuchObject) ∷ []
 
-  in_two : refusal l r (Operation o) ≡ first_that_applies (unasked ++ version_conditions l (operations r) o)
+  in_two : refusal l r (Operation o) ≡ first_that_applies (early ++ version_conditions l (operations r) o)
   unfolding refusal
   in_two =
       ap (λ b. first_that_applies (order_conditions l r o ++ cond b (set_conditions l (operations r) o) (creation_conditions l r))) sets
       ∙ ap first_that_applies (sym (append_assoc (order_conditions l r o) ((not (has_object (operations r) o), NoSuchObject) ∷ []) (version_conditions l (operations r) o)))
 
-  pub refused_first : (why : Refusal) → first_that_applies unasked ≡ Some why → refusal l r (Operation o) ≡ Some why
-  refused_first why e = in_two ∙ first_of_front unasked (version_conditions l (operations r) o) why e
+  pub refused_first : (why : Refusal) → first_that_applies early ≡ Some why → refusal l r (Operation o) ≡ Some why
+  refused_first why e = in_two ∙ first_of_front early (version_conditions l (operations r) o) why e
 
-  module _ (asked : first_that_applies unasked ≡ None) where
+  module _ (asked : first_that_applies early ≡ None) where
     passes : refusal l r (Operation o) ≡ first_that_applies (version_conditions l (operations r) o)
-    passes = in_two ∙ front_passed unasked (version_conditions l (operations r) o) asked
+    passes = in_two ∙ front_passed early (version_conditions l (operations r) o) asked
 
     ready : causal_refusal (operations r) o.name o.seen ≡ None
     unfolding causal_refusal
@@ -64,23 +65,23 @@ module _ (l : Bounds) (r : List Entry) (o : Op) (sets : is_set_body o.body ≡ t
     has : has_object (operations r) o ≡ true
     has = not-false (has_object (operations r) o) (not_first (not (has_object (operations r) o), NoSuchObject) [] (none_of_both (order_conditions l r o) ((not (has_object (operations r) o), NoSuchObject) ∷ []) asked).1).0
 
-    module _ (legal : IsLegal l r) (shapes : List (Name × Drawn)) (are : drawn shapes ≡ drawings l r) where
+    module _ (legal : IsLegal l r) (shapes : List (Name × Stored)) (are : without_spare shapes ≡ objects_with_sets l r) where
       some_of : {X : Type 0} (q : Option X) → is_some q ≡ true → (x : X) × (q ≡ Some x)
       some_of None e = absurd (true≢false (sym e))
       some_of (Some x) e = (x, refl)
 
       -- its object is there
-      pub object_there : (d : Drawn) × (lookup (same_name (object_of o)) shapes ≡ Some d)
+      pub object_there : (d : Stored) × (lookup (same_name (object_of o)) shapes ≡ Some d)
       object_there =
           let created = and_parts (counts o.seen (object_of o)) (is_some (creation_of (operations r) (object_of o))) (sym (has_object_by_name (operations r) o) ∙ has) in
           some_of (lookup (same_name (object_of o)) shapes) (has_shape l r shapes are (object_of o) ∙ created.1)
 
-      module _ (vector : is_vector o.seen ≡ true) (d : Drawn) (there : lookup (same_name (object_of o)) shapes ≡ Some d) where
+      module _ (vector : is_vector o.seen ≡ true) (d : Stored) (there : lookup (same_name (object_of o)) shapes ≡ Some d) where
         abbrev h : List Op
         h = operations r
 
-        abbrev it : Drawing
-        it = d.drawing
+        abbrev it : Object
+        it = d.object
 
         is_on_it : is_set_on it.creation.name o ≡ true
         is_on_it = and_from (is_set_body o.body) (same_name (object_of o) it.creation.name) sets (same_name-refl (object_of o) it.creation.name (sym (is_there l r shapes are (object_of o) d there).named))
@@ -91,7 +92,7 @@ module _ (l : Bounds) (r : List Entry) (o : Op) (sets : is_set_body o.body ≡ t
             subst (λ s. AreSetsOf it.creation.name (s ++ o ∷ [])) (is_there l r shapes are (object_of o) d there).of_history.all
             (next_set h o (history_if_legal l r legal) (ordered_if_legal l r legal) ready vector it.creation.name is_on_it)
 
-        -- it is refused for the object's cause
+        -- it is refusal_answer for the object's cause
         pub refused_by_object : refusal l r (Operation o) ≡ set_refusal it o
         refused_by_object =
             let t = is_there l r shapes are (object_of o) d there in
@@ -111,22 +112,22 @@ module _ (l : Bounds) (r : List Entry) (o : Op) (sets : is_set_body o.body ≡ t
 
 -- ---- what a plan at the object is to the room
 
-module _ (l : Bounds) (r : List Entry) (joined : ℕ) (shapes : List (Name × Drawn)) (history : List Op) (replay : IsReplay l r joined shapes history) (o : Op) (sets : is_set_body o.body ≡ true)
-    (vector : is_vector o.seen ≡ true) (asked : first_that_applies (unasked l r o sets) ≡ None) where
+module _ (l : LimitValues) (r : List Entry) (joined : ℕ) (shapes : List (Name × Stored)) (history : List Op) (replay : IsReplay l r joined shapes history) (o : Op) (sets : is_set_body o.body ≡ true)
+    (vector : is_vector o.seen ≡ true) (asked : first_that_applies (early l r o sets) ≡ None) where
   -- the object is there, and the set may be planned on it
-  pub can_ask : (d : Drawn) × (lookup (same_name (object_of o)) shapes ≡ Some d) × AreSetsOf d.drawing.creation.name (d.drawing.sets ++ o ∷ [])
+  pub can_ask : (d : Stored) × (lookup (same_name (object_of o)) shapes ≡ Some d) × AreSetsOf d.object.creation.name (d.object.sets ++ o ∷ [])
   can_ask =
       let there = object_there l r o sets asked replay.legal shapes replay.shapes_are in
       (there.0, there.1, may_be_planned l r o sets asked replay.legal shapes replay.shapes_are vector there.0 there.1)
 
-  module _ (new : List (Name × Drawn)) (answer : Result SetPlan SetFault) (p : IsPlannedAt (object_of o) o shapes new answer) where
-    by_object : refusal l r (Operation o) ≡ set_refusal p.before.drawing o
+  module _ (new : List (Name × Stored)) (answer : Result SetPlan SetFault) (p : IsPlannedAt (object_of o) o shapes new answer) where
+    by_object : refusal l r (Operation o) ≡ set_refusal p.before.object o
     by_object = refused_by_object l r o sets asked replay.legal shapes replay.shapes_are vector p.before p.was
 
     pub still_replay : IsReplay l r joined new history
     still_replay = subst (λ s. IsReplay l r joined s history) (sym p.now) (replay_same l r joined shapes history replay (same_name (object_of o)) p.before p.after p.was p.kept)
 
-    pub planned_there : IfOk answer (λ plan. (d : Drawn) × (lookup (same_name (object_of o)) new ≡ Some d) × IsPlanned d plan)
+    pub planned_there : IfOk answer (λ plan. (d : Stored) × (lookup (same_name (object_of o)) new ≡ Some d) × IsPlanned d plan)
     planned_there =
         IfOk-weaker answer _ _ (λ plan i. (p.after, ap (lookup (same_name (object_of o))) p.now ∙ lookup_set (same_name (object_of o)) p.before p.after shapes p.was, i)) p.planned
 
@@ -145,13 +146,13 @@ module _ (room : Room) (o : Op) where
   abbrev pub all_ids : List (List Name)
   all_ids = map (λ version. version.id) (versions (operations room.entries ++ o ∷ []) (object_of o))
 
-  pub set_refused : (why : Refusal) → refusal room.limits room.entries (Operation o) ≡ Some why → set_answer room o ≡ refused room why
-  set_refused why e = ap (λ r. decided room r (Operation o) (Taken (length room.entries) all_ids)) e
+  pub set_refused : (why : Refusal) → refusal room.limits room.entries (Operation o) ≡ Some why → set_answer room o ≡ refusal_answer room why
+  set_refused why e = ap (λ r. entry_or_refusal room r (Operation o) (Taken (length room.entries) all_ids)) e
 
   pub set_taken : refusal room.limits room.entries (Operation o) ≡ None → set_answer room o ≡ (Taken (length room.entries) all_ids, Some (Operation o))
-  set_taken e = ap (λ r. decided room r (Operation o) (Taken (length room.entries) all_ids)) e
+  set_taken e = ap (λ r. entry_or_refusal room r (Operation o) (Taken (length room.entries) all_ids)) e
 
-  pub set_refused_first : (sets : is_set_body o.body ≡ true) (why : Refusal) → first_that_applies (unasked room.limits room.entries o sets) ≡ Some why → set_answer room o ≡ refused room why
+  pub set_refused_first : (sets : is_set_body o.body ≡ true) (why : Refusal) → first_that_applies (early room.limits room.entries o sets) ≡ Some why → set_answer room o ≡ refusal_answer room why
   set_refused_first sets why e = set_refused why (refused_first room.limits room.entries o sets why e)
 
 -- a fault that is a refusal isn't want of memory

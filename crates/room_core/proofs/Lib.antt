@@ -1,7 +1,7 @@
-pub mod Drawings
+pub mod WithSets
 pub mod Lookup
 pub mod Replay
-pub mod Unnamed
+pub mod OutOfRange
 pub mod Shown
 pub mod AtObject
 pub mod Fronts

@@ -1,4 +1,4 @@
--- The object of a name is what the record has drawn at the creation of that name.
+-- The object of a name is what the record has made at the creation of that name.
 use Rattle.std.proofs.Common.{◌≡◌, Bool, true, false, cond, not, List, [], ◌∷◌, length, map, refl, sym, ap, ◌∙◌, subst, ◌&&◌, ◌||◌, Option, Some, None, inl, inr}
 use Rattle.std.specs.Prelude.{find, filter, option_map, is_some}
 use Rattle.std.specs.Map.{lookup}
@@ -8,7 +8,7 @@ use Rattle.op_names.specs.Names.{Name, same_name}
 use Rattle.op_names.specs.Texts.{Bytes}
 use Rattle.rules.specs.declared.history.Op.{Op}
 use Rattle.rules.specs.declared.history.Entry.{Entry}
-use Rattle.rules.specs.Bounds.{Bounds}
+use Rattle.rules.specs.declared.limits.LimitValues.{LimitValues}
 use Rattle.rules.specs.Bodies.{is_set_body, kind_in}
 use Rattle.rules.specs.Operations.{before, creation_of, is_creation_of, object_of}
 use Rattle.rules.specs.Conflicts.{has_object}
@@ -16,23 +16,24 @@ use Rattle.rules.specs.Records.{operations, objects}
 use Rattle.rules.proofs.Counted.{same_name-true}
 use Rattle.rules.proofs.Lists.{Contains-from_In, find_agree, find_is}
 use Rattle.state_vector.specs.Vectors.{counts}
-use Rattle.shape.specs.Drawing.{Drawing, Drawn, IsOf}
-use Rattle.room_core.specs.Room.{all_objects, drawing_of, drawings, drawn, kinds_of}
-use Rattle.room_core.proofs.Drawings.{drawings_at, same_name-sym}
+use Rattle.shape.specs.Objects.{Object, Stored, IsOf}
+use Rattle.room_core.specs.Room.{all_objects}
+use Rattle.room_core.specs.State.{object_with_sets, objects_with_sets, without_spare, kinds_of}
+use Rattle.room_core.proofs.WithSets.{objects_with_sets_at, same_name-sym}
 
-lookup_drawn : (t : Name → Bool) (shapes : List (Name × Drawn)) → option_map (λ (d : Drawn). d.drawing) (lookup t shapes) ≡ lookup t (drawn shapes)
-lookup_drawn t [] = refl
-lookup_drawn t (s ∷ ss) = step (t s.0) (lookup_drawn t ss)
+lookup_without_spare : (t : Name → Bool) (shapes : List (Name × Stored)) → option_map (λ (d : Stored). d.object) (lookup t shapes) ≡ lookup t (without_spare shapes)
+lookup_without_spare t [] = refl
+lookup_without_spare t (s ∷ ss) = step (t s.0) (lookup_without_spare t ss)
   where
-    step : (b : Bool) → option_map (λ (d : Drawn). d.drawing) (lookup t ss) ≡ lookup t (drawn ss) → option_map (λ (d : Drawn). d.drawing) (cond b (Some s.1) (lookup t ss)) ≡ cond b (Some s.1.drawing) (lookup t (drawn ss))
+    step : (b : Bool) → option_map (λ (d : Stored). d.object) (lookup t ss) ≡ lookup t (without_spare ss) → option_map (λ (d : Stored). d.object) (cond b (Some s.1) (lookup t ss)) ≡ cond b (Some s.1.object) (lookup t (without_spare ss))
     step true e = refl
     step false e = e
 
-lookup_at : (t : Name → Bool) (l : Bounds) (h cs : List Op) → lookup t (drawings_at l h cs) ≡ option_map (drawing_of l h) (find (λ c. t c.name) cs)
+lookup_at : (t : Name → Bool) (l : LimitValues) (h cs : List Op) → lookup t (objects_with_sets_at l h cs) ≡ option_map (object_with_sets l h) (find (λ c. t c.name) cs)
 lookup_at t l h [] = refl
 lookup_at t l h (c ∷ cs) = step (t c.name) (lookup_at t l h cs)
   where
-    step : (b : Bool) → lookup t (drawings_at l h cs) ≡ option_map (drawing_of l h) (find (λ c. t c.name) cs) → cond b (Some (drawing_of l h c)) (lookup t (drawings_at l h cs)) ≡ option_map (drawing_of l h) (cond b (Some c) (find (λ c. t c.name) cs))
+    step : (b : Bool) → lookup t (objects_with_sets_at l h cs) ≡ option_map (object_with_sets l h) (find (λ c. t c.name) cs) → cond b (Some (object_with_sets l h c)) (lookup t (objects_with_sets_at l h cs)) ≡ option_map (object_with_sets l h) (cond b (Some c) (find (λ c. t c.name) cs))
     step true e = refl
     step false e = e
 
@@ -44,50 +45,50 @@ find_filter p q (x ∷ xs) = step (p x) (find_filter p q xs)
     step true e = ap (λ o. cond (q x) (Some x) o) e
     step false e = e
 
-module _ (l : Bounds) (r : List Entry) (shapes : List (Name × Drawn)) (are : drawn shapes ≡ drawings l r) where
+module _ (l : LimitValues) (r : List Entry) (shapes : List (Name × Stored)) (are : without_spare shapes ≡ objects_with_sets l r) where
   abbrev h : List Op
   h = operations r
 
   module _ (object : Name) where
-    shape_at : option_map (λ (d : Drawn). d.drawing) (lookup (same_name object) shapes) ≡ option_map (drawing_of l h) (creation_of h object)
+    shape_at : option_map (λ (d : Stored). d.object) (lookup (same_name object) shapes) ≡ option_map (object_with_sets l h) (creation_of h object)
     shape_at =
-        lookup_drawn (same_name object) shapes
+        lookup_without_spare (same_name object) shapes
         ∙ ap (lookup (same_name object)) are
         ∙ lookup_at (same_name object) l h (objects r)
-        ∙ ap (option_map (drawing_of l h)) (
+        ∙ ap (option_map (object_with_sets l h)) (
         find_filter (λ op. not (is_set_body op.body)) (λ c. same_name object c.name) h
         ∙ find_agree (λ x. not (is_set_body x.body) && same_name object x.name) (is_creation_of object) h (λ x m. ap (λ b. not (is_set_body x.body) && b) (same_name-sym object x.name))
         )
 
-    none_by : (q : Option Op) → option_map (drawing_of l h) q ≡ None → q ≡ None
+    none_by : (q : Option Op) → option_map (object_with_sets l h) q ≡ None → q ≡ None
     none_by None e = refl
     none_by (Some c) e = cc
 
-    none_of : (q : Option Drawn) → option_map (λ (d : Drawn). d.drawing) q ≡ None → q ≡ None
+    none_of : (q : Option Stored) → option_map (λ (d : Stored). d.object) q ≡ None → q ≡ None
     none_of None e = refl
     none_of (Some c) e = cc
 
     -- no object has the name where none was created under it
     pub none_created : lookup (same_name object) shapes ≡ None → creation_of h object ≡ None
-    none_created e = none_by (creation_of h object) (sym shape_at ∙ ap (option_map (λ (d : Drawn). d.drawing)) e)
+    none_created e = none_by (creation_of h object) (sym shape_at ∙ ap (option_map (λ (d : Stored). d.object)) e)
 
     pub none_there : creation_of h object ≡ None → lookup (same_name object) shapes ≡ None
-    none_there e = none_of (lookup (same_name object) shapes) (shape_at ∙ ap (option_map (drawing_of l h)) e)
+    none_there e = none_of (lookup (same_name object) shapes) (shape_at ∙ ap (option_map (object_with_sets l h)) e)
 
-    some_by : (q : Option Op) (x : Drawing) → option_map (drawing_of l h) q ≡ Some x → (c : Op) × (q ≡ Some c) × (drawing_of l h c ≡ x)
+    some_by : (q : Option Op) (x : Object) → option_map (object_with_sets l h) q ≡ Some x → (c : Op) × (q ≡ Some c) × (object_with_sets l h c ≡ x)
     some_by None x e = cc
     some_by (Some c) x e = (c, refl, cc)
 
     -- an object that is there is an object of the history
-    pub record IsThere (d : Drawing) : Type 0 where
+    pub record IsThere (d : Object) : Type 0 where
       pub creation : creation_of h object ≡ Some d.creation
       pub of_history : IsOf h d
       pub named : d.creation.name ≡ object
       pub bounds : d.limits ≡ l
 
-    pub is_there : (d : Drawn) → lookup (same_name object) shapes ≡ Some d → IsThere d.drawing
+    pub is_there : (d : Stored) → lookup (same_name object) shapes ≡ Some d → IsThere d.object
     is_there d e =
-        let c = some_by (creation_of h object) d.drawing (sym shape_at ∙ ap (option_map (λ (d : Drawn). d.drawing)) e) in
+        let c = some_by (creation_of h object) d.object (sym shape_at ∙ ap (option_map (λ (d : Stored). d.object)) e) in
         let f = find_is (is_creation_of object) c.0 h c.1 in
         let p = and_parts (not (is_set_body c.0.body)) (same_name c.0.name object) f.1 in
         subst IsThere c.2 (record {
@@ -97,7 +98,7 @@ module _ (l : Bounds) (r : List Entry) (shapes : List (Name × Drawn)) (are : dr
           bounds = refl;
         })
 
-    some_is : (q : Option Drawn) (p : Option Op) → option_map (λ (d : Drawn). d.drawing) q ≡ option_map (drawing_of l h) p → is_some q ≡ is_some p
+    some_is : (q : Option Stored) (p : Option Op) → option_map (λ (d : Stored). d.object) q ≡ option_map (object_with_sets l h) p → is_some q ≡ is_some p
     some_is None None e = refl
     some_is None (Some c) e = cc
     some_is (Some d) None e = cc
@@ -113,11 +114,11 @@ module _ (l : Bounds) (r : List Entry) (shapes : List (Name × Drawn)) (are : dr
   -- the objects with their kinds, from the shapes
   pub kinds_listed : kinds_of shapes ≡ all_objects r
   kinds_listed =
-      let g : Name × Drawing → Name × Bytes = λ p. (p.0, kind_in p.1.creation.body) in
-      sym (map_map g (λ (s : Name × Drawn). (s.0, s.1.drawing)) shapes) ∙ ap (map g) are ∙ map_map g (λ c. (c.name, drawing_of l h c)) (objects r)
+      let g : Name × Object → Name × Bytes = λ p. (p.0, kind_in p.1.creation.body) in
+      sym (map_map g (λ (s : Name × Stored). (s.0, s.1.object)) shapes) ∙ ap (map g) are ∙ map_map g (λ c. (c.name, object_with_sets l h c)) (objects r)
 
   pub objects_counted : length shapes ≡ length (objects r)
-  objects_counted = sym (length-map shapes (λ (s : Name × Drawn). (s.0, s.1.drawing))) ∙ ap length are ∙ length-map (objects r) (λ c. (c.name, drawing_of l h c))
+  objects_counted = sym (length-map shapes (λ (s : Name × Stored). (s.0, s.1.object))) ∙ ap length are ∙ length-map (objects r) (λ c. (c.name, object_with_sets l h c))
 
 -- a set has its object where it counts the name and there is such a creation
 pub has_object_by_name : (h : List Op) (o : Op) → has_object h o ≡ (counts o.seen (object_of o) && is_some (creation_of h (object_of o)))

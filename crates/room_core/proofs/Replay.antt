@@ -10,7 +10,7 @@ use Rattle.state_vector.specs.Vectors.{is_vector}
 use Rattle.rules.specs.declared.history.Op.{Op}
 use Rattle.rules.specs.declared.history.Entry.{Entry}
 use Rattle.rules.specs.declared.history.Entry.TheVariants.{Join, Operation}
-use Rattle.rules.specs.Bounds.{Bounds}
+use Rattle.rules.specs.declared.limits.LimitValues.{LimitValues}
 use Rattle.rules.specs.Bodies.{is_set_body}
 use Rattle.rules.specs.Admission.{count_at_site}
 use Rattle.rules.specs.Operations.{before, creation_of, is_creation_of, is_on, is_set_on, object_of}
@@ -21,14 +21,14 @@ use Rattle.rules.proofs.Records.{filter-push, operations-join, operations-push, 
 use Rattle.rules.proofs.Conditions.{room_for_join, room_for_operation, room_for_object}
 use Rattle.rules.proofs.Founded.{founded_if_legal, history_if_legal}
 use Rattle.rules.proofs.Histories.{follows_if}
-use Rattle.shape.specs.Drawing.{Drawn, with_set}
+use Rattle.shape.specs.Objects.{Stored, with_set}
 use Rattle.shape.proofs.Next.{numbered_if}
 use Rattle.room_core.specs.Replay.{IsReplay}
-use Rattle.room_core.proofs.Drawings.{drawings_at, drawings_push, drawings_same, drawings_set}
+use Rattle.room_core.proofs.WithSets.{objects_with_sets_at, objects_with_sets_push, objects_with_sets_same, objects_with_sets_set}
 use Rattle.room_core.proofs.Lookup.{none_there}
 
 -- the vector of an operation that is admitted is one
-pub vector_if : (l : Bounds) (r : List Entry) (o : Op) → is_placed r (Operation o) ≡ true → is_vector o.seen ≡ true
+pub vector_if : (l : LimitValues) (r : List Entry) (o : Op) → is_placed r (Operation o) ≡ true → is_vector o.seen ≡ true
 vector_if l r o p = (and_parts (leb 1 o.name.0 && leb o.name.0 (sites r)) (is_vector o.seen) p).1
 
 objects-set : (r : List Entry) (o : Op) → is_set_body o.body ≡ true → objects (r ++ Operation o ∷ []) ≡ objects r
@@ -40,7 +40,7 @@ objects-set r o t =
 
 -- ---- an operation that is admitted
 
-module _ (l : Bounds) (r : List Entry) (legal : IsLegal l r) (o : Op) (a : admits l r (Operation o) ≡ true) where
+module _ (l : LimitValues) (r : List Entry) (legal : IsLegal l r) (o : Op) (a : admits l r (Operation o) ≡ true) where
   -- has a new name
   name_is_new : (x : Op) → In x (operations r) → x.name ≢ o.name
   name_is_new x m e =
@@ -73,7 +73,7 @@ module _ (l : Bounds) (r : List Entry) (legal : IsLegal l r) (o : Op) (a : admit
 
 -- ---- one more entry
 
-module _ (l : Bounds) (r : List Entry) (joined : ℕ) (shapes : List (Name × Drawn)) (history : List Op) (replay : IsReplay l r joined shapes history) where
+module _ (l : LimitValues) (r : List Entry) (joined : ℕ) (shapes : List (Name × Stored)) (history : List Op) (replay : IsReplay l r joined shapes history) where
   -- an admitted creation is of no object that is there
   pub new_name : (o : Op) → admits l r (Operation o) ≡ true → lookup (same_name o.name) shapes ≡ None
   new_name o a = none_there l r shapes replay.shapes_are o.name (not_created l r replay.legal o a)
@@ -84,14 +84,14 @@ module _ (l : Bounds) (r : List Entry) (joined : ℕ) (shapes : List (Name × Dr
       record {
         legal = legal_push l r (Join site) replay.legal a;
         joins = (let e = sites-join r site in omega (arith, e, replay.joins));
-        shapes_are = replay.shapes_are ∙ (λ i. drawings_at l (sym (operations-join r site) i) (sym (objects-join r site) i));
+        shapes_are = replay.shapes_are ∙ (λ i. objects_with_sets_at l (sym (operations-join r site) i) (sym (objects-join r site) i));
         past = replay.past ∙ sym (operations-join r site);
         few = omega (arith, replay.joins, room.0);
         short = (let e = length_push r (Join site) in omega (arith, e, room.1));
         fits = (let e = ap length (objects-join r site) in omega (arith, e, replay.fits));
       }
 
-  replay_creation : (o : Op) (d : Drawn) → admits l r (Operation o) ≡ true → is_set_body o.body ≡ false → d.drawing ≡ record { limits = l; creation = o; sets = [] }
+  replay_creation : (o : Op) (d : Stored) → admits l r (Operation o) ≡ true → is_set_body o.body ≡ false → d.object ≡ record { limits = l; creation = o; sets = [] }
       → IsReplay l (r ++ Operation o ∷ []) joined (shapes ++ (o.name, d) ∷ []) (history ++ o ∷ [])
   replay_creation o d a creates made =
       let room = room_for_operation l r o a in
@@ -100,16 +100,16 @@ module _ (l : Bounds) (r : List Entry) (joined : ℕ) (shapes : List (Name × Dr
         legal = legal_push l r (Operation o) replay.legal a;
         joins = replay.joins ∙ sym (sites-operation r o);
         shapes_are =
-            drawings_push l (operations r) o (objects r) shapes d creates (no_set_yet l r replay.legal o a) replay.shapes_are made
-            ∙ (λ i. drawings_at l (sym (operations-push r o) i) (sym (objects-creation r o creates) i));
+            objects_with_sets_push l (operations r) o (objects r) shapes d creates (no_set_yet l r replay.legal o a) replay.shapes_are made
+            ∙ (λ i. objects_with_sets_at l (sym (operations-push r o) i) (sym (objects-creation r o creates) i));
         past = ap (λ (h : List Op). h ++ o ∷ []) replay.past ∙ sym (operations-push r o);
         few = replay.few;
         short = (let e = length_push r (Operation o) in omega (arith, e, room.0));
         fits = omega (arith, more, room_for_object l r o a creates);
       }
 
-  replay_set : (o : Op) (d w : Drawn) → admits l r (Operation o) ≡ true → is_set_body o.body ≡ true → IsDistinct same_name (keys_of shapes)
-      → lookup (same_name (object_of o)) shapes ≡ Some d → w.drawing ≡ with_set d.drawing o
+  replay_set : (o : Op) (d w : Stored) → admits l r (Operation o) ≡ true → is_set_body o.body ≡ true → IsDistinct same_name (keys_of shapes)
+      → lookup (same_name (object_of o)) shapes ≡ Some d → w.object ≡ with_set d.object o
       → IsReplay l (r ++ Operation o ∷ []) joined (set_value (same_name (object_of o)) shapes w) (history ++ o ∷ [])
   replay_set o d w a sets unique there taken =
       let room = room_for_operation l r o a in
@@ -117,8 +117,8 @@ module _ (l : Bounds) (r : List Entry) (joined : ℕ) (shapes : List (Name × Dr
         legal = legal_push l r (Operation o) replay.legal a;
         joins = replay.joins ∙ sym (sites-operation r o);
         shapes_are =
-            drawings_set l (operations r) o d w shapes (objects r) sets unique replay.shapes_are there taken
-            ∙ (λ i. drawings_at l (sym (operations-push r o) i) (sym (objects-set r o sets) i));
+            objects_with_sets_set l (operations r) o d w shapes (objects r) sets unique replay.shapes_are there taken
+            ∙ (λ i. objects_with_sets_at l (sym (operations-push r o) i) (sym (objects-set r o sets) i));
         past = ap (λ (h : List Op). h ++ o ∷ []) replay.past ∙ sym (operations-push r o);
         few = replay.few;
         short = (let e = length_push r (Operation o) in omega (arith, e, room.0));
@@ -126,11 +126,11 @@ module _ (l : Bounds) (r : List Entry) (joined : ℕ) (shapes : List (Name × Dr
       }
 
   -- an object that stays, in another's place
-  pub replay_same : (t : Name → Bool) (d w : Drawn) → lookup t shapes ≡ Some d → w.drawing ≡ d.drawing → IsReplay l r joined (set_value t shapes w) history
+  pub replay_same : (t : Name → Bool) (d w : Stored) → lookup t shapes ≡ Some d → w.object ≡ d.object → IsReplay l r joined (set_value t shapes w) history
   replay_same t d w there same = record {
     legal = replay.legal;
     joins = replay.joins;
-    shapes_are = drawings_same t d w shapes there same ∙ replay.shapes_are;
+    shapes_are = objects_with_sets_same t d w shapes there same ∙ replay.shapes_are;
     past = replay.past;
     few = replay.few;
     short = replay.short;
@@ -139,7 +139,7 @@ module _ (l : Bounds) (r : List Entry) (joined : ℕ) (shapes : List (Name × Dr
 
 -- ---- the same, of a list that gives the entries
 
-module _ {X : Type 0} (f : X → Entry) (l : Bounds) (xs : List X) (x : X) (joined : ℕ) (shapes : List (Name × Drawn)) (history : List Op) (replay : IsReplay l (map f xs) joined shapes history) where
+module _ {X : Type 0} (f : X → Entry) (l : LimitValues) (xs : List X) (x : X) (joined : ℕ) (shapes : List (Name × Stored)) (history : List Op) (replay : IsReplay l (map f xs) joined shapes history) where
   pushed : {e : Entry} → f x ≡ e → map f xs ++ e ∷ [] ≡ map f (xs ++ x ∷ [])
   pushed is = ap (λ (e : Entry). map f xs ++ e ∷ []) (sym is) ∙ sym (map-append f xs (x ∷ []))
 
@@ -149,14 +149,14 @@ module _ {X : Type 0} (f : X → Entry) (l : Bounds) (xs : List X) (x : X) (join
   pub replay_joined : {site : ℕ} → f x ≡ Join site → admits l (map f xs) (f x) ≡ true → IsReplay l (map f (xs ++ x ∷ [])) (joined + 1) shapes history
   replay_joined {site} is a = subst (λ r. IsReplay l r (joined + 1) shapes history) (pushed is) (replay_join l (map f xs) joined shapes history replay site (admitted is a))
 
-  pub replay_created : {o : Op} (d : Drawn) → f x ≡ Operation o → admits l (map f xs) (f x) ≡ true → is_set_body o.body ≡ false → d.drawing ≡ record { limits = l; creation = o; sets = [] }
+  pub replay_created : {o : Op} (d : Stored) → f x ≡ Operation o → admits l (map f xs) (f x) ≡ true → is_set_body o.body ≡ false → d.object ≡ record { limits = l; creation = o; sets = [] }
       → IsReplay l (map f (xs ++ x ∷ [])) joined (shapes ++ (o.name, d) ∷ []) (history ++ o ∷ [])
   replay_created {o} d is a creates made =
       subst (λ r. IsReplay l r joined (shapes ++ (o.name, d) ∷ []) (history ++ o ∷ [])) (pushed is)
       (replay_creation l (map f xs) joined shapes history replay o d (admitted is a) creates made)
 
-  pub replay_changed : {o : Op} (d w : Drawn) → f x ≡ Operation o → admits l (map f xs) (f x) ≡ true → is_set_body o.body ≡ true → IsDistinct same_name (keys_of shapes)
-      → lookup (same_name (object_of o)) shapes ≡ Some d → w.drawing ≡ with_set d.drawing o
+  pub replay_changed : {o : Op} (d w : Stored) → f x ≡ Operation o → admits l (map f xs) (f x) ≡ true → is_set_body o.body ≡ true → IsDistinct same_name (keys_of shapes)
+      → lookup (same_name (object_of o)) shapes ≡ Some d → w.object ≡ with_set d.object o
       → IsReplay l (map f (xs ++ x ∷ [])) joined (set_value (same_name (object_of o)) shapes w) (history ++ o ∷ [])
   replay_changed {o} d w is a sets unique there taken =
       subst (λ r. IsReplay l r joined (set_value (same_name (object_of o)) shapes w) (history ++ o ∷ [])) (pushed is)

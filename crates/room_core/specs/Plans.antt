@@ -1,5 +1,5 @@
 -- What is planned for a room.
-use Rattle.std.specs.Prelude.{◌≡◌, ◌≢◌, ◌<◌, ◌+◌, ◌-◌, ◌++◌, ◌∷◌, not, true, false, List, [], Option, Some, None, Result, IfErr, IfOk, OnOk, slice_index}
+use Rattle.std.specs.Prelude.{ℕ, ◌≡◌, ◌≢◌, ◌<◌, ◌+◌, ◌-◌, ◌++◌, ◌∷◌, not, true, false, List, [], Option, Some, None, Result, IfErr, IfOk, OnOk, slice_index}
 use Rattle.std.specs.Arc.{arc_value}
 use Rattle.std.specs.Map.{lookup, set_value}
 use Rattle.op_names.specs.Names.{Name, same_name}
@@ -12,14 +12,15 @@ use Rattle.rules.specs.Admission.{first_that_applies}
 use Rattle.rules.specs.Bodies.{is_set_body}
 use Rattle.rules.specs.Conflicts.{has_object}
 use Rattle.rules.specs.Operations.{object_of}
-use Rattle.rules.specs.Records.{sites, operations, order_conditions, admits}
+use Rattle.rules.specs.Records.{sites, operations, order_conditions, admits, refusal}
 use Rattle.shape.specs.declared.fault.SetFault.{SetFault}
 use Rattle.shape.specs.declared.fault.SetFault.TheVariants.{NoMemory}
-use Rattle.shape.specs.Drawing.{Drawn, set_refusal, shown_ids, with_set}
+use Rattle.shape.specs.Objects.{Stored, set_refusal, shown_ids, with_set}
 use Rattle.shape.specs.Faults.{refusal_of}
 use Rattle.shape.specs.Planned.{IsPlanned, Plan as SetPlan}
 use Rattle.wire.specs.declared.reply.Reply.{Reply}
-use Rattle.room_core.specs.Room.{Room, State}
+use Rattle.room_core.specs.Room.{Room}
+use Rattle.room_core.specs.State.{State}
 use Rattle.room_core.specs.declared.planned.Change.{Change}
 use Rattle.room_core.specs.declared.planned.Change.TheVariants.{Nothing, Joins, Creates, Sets}
 use Rattle.room_core.specs.Answers.{Outcome}
@@ -30,55 +31,83 @@ pub record Plan : Type 0 where
   pub change : Change
 
 -- the entry that a change adds, if it adds one
-abbrev pub entry_in : Change → Option Entry
-entry_in Nothing = None
-entry_in (Joins entry) = Some (arc_value entry)
-entry_in (Creates entry op shape) = Some (arc_value entry)
-entry_in (Sets entry op planned) = Some (arc_value entry)
+abbrev pub entry_added : Change → Option Entry
+entry_added Nothing = None
+entry_added (Joins entry) = Some (arc_value entry)
+entry_added (Creates entry op shape) = Some (arc_value entry)
+entry_added (Sets entry op planned) = Some (arc_value entry)
 
 -- the reply, and the entry that is added if there is one
 abbrev pub outcome : Plan → Outcome
-outcome plan = (plan.reply, entry_in plan.change)
+outcome plan = (plan.reply, entry_added plan.change)
+
+-- ---- what may come next
+
+-- why an entry is refused, if it is
+abbrev pub refusal_in : Room → Entry → Option Refusal
+refusal_in room entry = refusal room.limits room.entries entry
+
+-- why an operation is refused, whatever it does, if it is
+abbrev pub order_refusal : Room → Op → Option Refusal
+order_refusal room op = first_that_applies (order_conditions room.limits room.entries op)
+
+-- it may come next
+abbrev pub IsAdmitted : Room → Entry → Type 0
+IsAdmitted room entry = admits room.limits room.entries entry ≡ true
+
+-- a shape stands under this name, and this holds of it
+abbrev pub HasShape : List (Name × Stored) → Name → (Stored → Type 0) → Type 0
+HasShape shapes name Holds = (d : Stored) × (lookup (same_name name) shapes ≡ Some d) × Holds d
+
+-- for how many more operations of a site there is memory
+abbrev pub spare_of : State → ℕ → ℕ
+spare_of s site = slice_index s.reserve.operations (site - 1)
 
 pub record CanJoin (s : State) (entry : Entry) : Type 0 where
   pub join : entry ≡ Join (sites s.room.entries + 1)
-  pub admitted : admits s.room.limits s.room.entries entry ≡ true
+  pub admitted : IsAdmitted s.room entry
   pub place : 0 < s.reserve.entries
 
-pub record CanCreate (s : State) (entry : Entry) (op : Op) (shape : Drawn) : Type 0 where
+pub record CanCreate (s : State) (entry : Entry) (op : Op) (shape : Stored) : Type 0 where
   pub operation : entry ≡ Operation op
   pub creation : is_set_body op.body ≡ false
-  pub admitted : admits s.room.limits s.room.entries entry ≡ true
-  pub created : shape.drawing ≡ record { limits = s.room.limits; creation = op; sets = [] }
+  pub admitted : IsAdmitted s.room entry
+  pub created : shape.object ≡ record { limits = s.room.limits; creation = op; sets = [] }
   pub place : 0 < s.reserve.entries
   pub object_place : 0 < s.reserve.objects
-  pub past_place : 0 < slice_index s.reserve.operations (op.name.0 - 1)
+  pub past_place : 0 < spare_of s op.name.0
 
 pub record CanSet (s : State) (entry : Entry) (op : Op) (planned : SetPlan) : Type 0 where
   pub operation : entry ≡ Operation op
   pub set : is_set_body op.body ≡ true
-  pub admitted : admits s.room.limits s.room.entries entry ≡ true
+  pub admitted : IsAdmitted s.room entry
   pub added : planned.addition.op ≡ op
   pub place : 0 < s.reserve.entries
-  pub past_place : 0 < slice_index s.reserve.operations (op.name.0 - 1)
-  pub shape : (d : Drawn) × (lookup (same_name (object_of op)) s.reserve.shapes ≡ Some d) × IsPlanned d planned
+  pub past_place : 0 < spare_of s op.name.0
+  pub shape : HasShape s.reserve.shapes (object_of op) (λ d. IsPlanned d planned)
 
 -- why a set is refused before its object is asked, if it is: it may not come next, or it doesn't count its object
-abbrev pub unasked_refusal : Room → Op → Option Refusal
-unasked_refusal room op = first_that_applies (order_conditions room.limits room.entries op ++ (not (has_object (operations room.entries) op), NoSuchObject) ∷ [])
+abbrev pub early_refusal : Room → Op → Option Refusal
+early_refusal room op = first_that_applies
+    (order_conditions room.limits room.entries op ++ (not (has_object (operations room.entries) op), NoSuchObject) ∷ [])
 
 -- the object there was `before` and is `after`, which differ in memory alone, and the answer to this set is the object's
-pub record IsPlannedAt (object : Name) (op : Op) (old new : List (Name × Drawn)) (answer : Result SetPlan SetFault) : Type 0 where
-  pub before : Drawn
-  pub after : Drawn
+pub record IsPlannedAt (object : Name) (op : Op) (old new : List (Name × Stored)) (answer : Result SetPlan SetFault) : Type 0 where
+  pub before : Stored
+  pub after : Stored
   pub was : lookup (same_name object) old ≡ Some before
   pub now : new ≡ set_value (same_name object) old after
-  pub kept : after.drawing ≡ before.drawing
+  pub kept : after.object ≡ before.object
   pub planned : IfOk answer (λ plan. IsPlanned after plan)
   pub added : IfOk answer (λ plan. plan.addition.op ≡ op)
-  pub ids : IfOk answer (λ plan. plan.ids ≡ shown_ids (with_set before.drawing op))
-  pub taken : OnOk answer (set_refusal before.drawing op ≡ None)
-  pub refused : IfErr answer (λ fault. fault ≢ NoMemory → set_refusal before.drawing op ≡ refusal_of fault)
+  pub ids : IfOk answer (λ plan. plan.ids ≡ shown_ids (with_set before.object op))
+  pub taken : OnOk answer (set_refusal before.object op ≡ None)
+  pub refused : IfErr answer (λ fault. fault ≢ NoMemory → set_refusal before.object op ≡ refusal_of fault)
+
+-- the object under this name got this set, and the others stayed
+abbrev pub IsCommittedAt : Name → Op → List (Name × Stored) → List (Name × Stored) → Type 0
+IsCommittedAt object op old new = HasShape old object
+    (λ before. (after : Stored) × (after.object ≡ with_set before.object op) × (new ≡ set_value (same_name object) old after))
 
 -- the change can be made in this state, and takes no memory
 abbrev pub IsReady : State → Change → Type 0
@@ -86,3 +115,7 @@ IsReady s Nothing = Unit {0}
 IsReady s (Joins entry) = CanJoin s (arc_value entry)
 IsReady s (Creates entry op shape) = CanCreate s (arc_value entry) op shape
 IsReady s (Sets entry op planned) = CanSet s (arc_value entry) op planned
+
+-- the answer is planned and can be given, or there is no memory for it; the room stays as it is
+abbrev pub Plans : {E : Type 0} → State → State → Outcome → Result Plan E → Type 0
+Plans old new answer result = IfOk result (λ plan. (outcome plan ≡ answer) × IsReady new plan.change) × (new.room ≡ old.room)

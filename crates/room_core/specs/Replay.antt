@@ -3,16 +3,16 @@ use Rattle.std.specs.Prelude.{◌≡◌, ◌≤◌, ℕ, List, length}
 use Rattle.op_names.specs.Names.{Name}
 use Rattle.rules.specs.declared.history.Op.{Op}
 use Rattle.rules.specs.declared.history.Entry.{Entry}
-use Rattle.rules.specs.Bounds.{Bounds}
+use Rattle.rules.specs.declared.limits.LimitValues.{LimitValues}
 use Rattle.rules.specs.Records.{sites, operations, objects, IsLegal}
-use Rattle.shape.specs.Drawing.{Drawn}
-use Rattle.room_core.specs.Room.{drawings, drawn}
+use Rattle.shape.specs.Objects.{Stored}
+use Rattle.room_core.specs.State.{objects_with_sets, without_spare}
 
 -- the record r is legal and within the limits; the number of its sites, its objects with their sets and its operations are these
-pub record IsReplay (limits : Bounds) (r : List Entry) (joined : ℕ) (shapes : List (Name × Drawn)) (history : List Op) : Type 0 where
+pub record IsReplay (limits : LimitValues) (r : List Entry) (joined : ℕ) (shapes : List (Name × Stored)) (history : List Op) : Type 0 where
   pub legal : IsLegal limits r
   pub joins : joined ≡ sites r
-  pub shapes_are : drawn shapes ≡ drawings limits r
+  pub shapes_are : without_spare shapes ≡ objects_with_sets limits r
   pub past : history ≡ operations r
   pub few : joined ≤ limits.joins
   pub short : length r ≤ limits.entries

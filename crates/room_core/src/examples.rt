@@ -1,13 +1,13 @@
 //! Worked examples of answers, computed by the check from the definitions. These functions run
 //! nothing.
 //!
-//! The records are those of `rules::examples`, in which one rectangle is drawn.
+//! The records are those of `rules::examples`, in which one rectangle is without_spare.
 
 ghost use Rattle.std.specs.Prelude.{◌≡◌, [], ◌∷◌, Some, None, pos, codes};
 ghost use Rattle.op_names.specs.declared.value.Value.TheVariants.{Number, Text};
 ghost use Rattle.rules.specs.declared.history.Entry.TheVariants.{Join as Joins};
 ghost use Rattle.rules.specs.declared.refusal.Refusal.TheVariants.{NotJoined, AlreadyJoined, NoSuchObject, NoSuchVersion, TooFar};
-ghost use Rattle.rules.specs.Bounds.{full_bounds};
+ghost use Rattle.rules.specs.Limits.{full_limits};
 ghost use Rattle.rules.specs.Examples.{x, red, sets, version, creation_alone, one_set, two_sets, three_sites};
 ghost use Rattle.wire.specs.declared.request.Request.TheVariants.{Join, Set, Show, Pull, Leave, List as ListObjects};
 ghost use Rattle.wire.specs.declared.reply.Reply.TheVariants.{Taken, Versions, Objects, Entries, Left, No};
@@ -16,15 +16,19 @@ ghost use Rattle.room_core.specs.Answers.{answer};
 
 /// A set that is taken is answered by the identifiers of all versions, and added to the record.
 pub fn sets_are_taken()
-    ensures conflicting { answer (full_room one_set) 2 (Set 1 creation_alone (1, 1) [] (codes "x") (Number (pos 9)))
+    ensures conflicting { answer (full_room one_set) 2
+        (Set 1 creation_alone (1, 1) [] (codes "x") (Number (pos 9)))
         ≡ (Taken 4 (((1, 2) ∷ []) ∷ ((2, 1) ∷ []) ∷ []), Some (sets (2, 1) creation_alone [] (x 9))) }
-    ensures of_a_version_as_seen { answer (full_room three_sites) 3 (Set 1 ((1, 2) ∷ []) (1, 1) [] (codes "fill") (Text (codes "red")))
+    ensures of_a_version_as_seen { answer (full_room three_sites) 3
+        (Set 1 ((1, 2) ∷ []) (1, 1) [] (codes "fill") (Text (codes "red")))
         ≡ (Taken 6 (((1, 2) ∷ (3, 1) ∷ []) ∷ ((2, 1) ∷ []) ∷ []), Some (sets (3, 1) ((1, 2) ∷ []) [] red)) }
 {}
 
 /// A set of a version that its author didn't see is refused.
 pub fn a_version_that_was_not_seen()
-    ensures set { answer (full_room two_sets) 1 (Set 3 ((1, 2) ∷ (2, 1) ∷ []) (1, 1) [] (codes "x") (Number (pos 1))) ≡ (No 5 NoSuchVersion, None) }
+    ensures set { answer (full_room two_sets) 1
+        (Set 3 ((1, 2) ∷ (2, 1) ∷ []) (1, 1) [] (codes "x") (Number (pos 1)))
+        ≡ (No 5 NoSuchVersion, None) }
     ensures show { answer (full_room two_sets) 1 (Show (9, 9)) ≡ (No 5 NoSuchObject, None) }
 {}
 
@@ -38,18 +42,26 @@ pub fn two_versions_are_shown()
 
 /// Pages of the objects and of the record begin where they are asked to, and at most at the end.
 pub fn pages_from_a_place()
-    ensures objects { answer (full_room two_sets) 1 (ListObjects 0) ≡ (Objects 5 0 1 (((1, 1), codes "rect") ∷ []), None) }
-    ensures past_the_last_object { answer (full_room two_sets) 1 (ListObjects 1) ≡ (Objects 5 1 1 [], None) }
+    // Of the objects.
+    ensures objects { answer (full_room two_sets) 1 (ListObjects 0)
+        ≡ (Objects 5 0 1 (((1, 1), codes "rect") ∷ []), None) }
+    ensures past_the_last_object { answer (full_room two_sets) 1 (ListObjects 1)
+        ≡ (Objects 5 1 1 [], None) }
     ensures objects_too_far { answer (full_room two_sets) 1 (ListObjects 2) ≡ (No 5 TooFar, None) }
-    ensures entries { answer (full_room two_sets) 1 (Pull 4) ≡ (Entries 5 4 (sets (2, 1) creation_alone [] (x 9) ∷ []), None) }
+    // Of the record.
+    ensures entries { answer (full_room two_sets) 1 (Pull 4)
+        ≡ (Entries 5 4 (sets (2, 1) creation_alone [] (x 9) ∷ []), None) }
     ensures past_the_last_entry { answer (full_room two_sets) 1 (Pull 5) ≡ (Entries 5 5 [], None) }
     ensures entries_too_far { answer (full_room two_sets) 1 (Pull 99) ≡ (No 5 TooFar, None) }
-    ensures one_on_a_page { answer (record { limits = record full_bounds { page = 1 }; entries = two_sets }) 1 (Pull 0) ≡ (Entries 5 0 (Joins 1 ∷ []), None) }
+    ensures one_on_a_page { let small = record full_limits { page = 1 }
+        in answer (record { limits = small; entries = two_sets }) 1 (Pull 0)
+        ≡ (Entries 5 0 (Joins 1 ∷ []), None) }
 {}
 
 /// Who may ask a room, and what is asked of none.
 pub fn who_may_ask()
     ensures leaves { answer (full_room two_sets) 2 Leave ≡ (Left 5, None) }
     ensures not_joined { answer (full_room two_sets) 3 Leave ≡ (No 0 NotJoined, None) }
-    ensures already_joined { answer (full_room two_sets) 2 (Join (codes "r")) ≡ (No 0 AlreadyJoined, None) }
+    ensures already_joined { answer (full_room two_sets) 2 (Join (codes "r"))
+        ≡ (No 0 AlreadyJoined, None) }
 {}

@@ -1,4 +1,4 @@
-//! A drawing room: its record, and what follows from it.
+//! A room: its record, and what follows from it.
 #![tactic(auto)]
 
 pub mod examples;

@@ -1,16 +1,15 @@
 //! A room's objects as shapes, by name, in order of creation.
 
 ghost use Rattle.std.specs.Prelude.{◌≡◌, ◌≤◌, ◌<◌, ◌∷◌, ◌++◌, [], IfOk, None, Some, drop, length, take};
-ghost use Rattle.std.specs.Map.{keys_of, lookup, set_value};
+ghost use Rattle.std.specs.Map.{keys_of, lookup};
 ghost use Rattle.std.specs.List.{IsDistinct};
 ghost use Rattle.indexmap.specs.IndexMap.{spare};
 ghost use Rattle.op_names.specs.Names.{same_name};
 ghost use Rattle.rules.specs.Operations.{object_of};
-ghost use Rattle.conflict.specs.Sets.{AreSetsOf};
-ghost use Rattle.shape.specs.Drawing.{Drawn, with_set};
+ghost use Rattle.shape.specs.Objects.{IsNextSet};
 ghost use Rattle.shape.specs.Planned.{IsPlanned};
-ghost use Rattle.room_core.specs.Room.{kinds_of};
-ghost use Rattle.room_core.specs.Plans.{IsPlannedAt};
+ghost use Rattle.room_core.specs.State.{kinds_of};
+ghost use Rattle.room_core.specs.Plans.{HasShape, IsCommittedAt, IsPlannedAt};
 
 use indexmap::IndexMap;
 use op_names::{NoMemory, OpName};
@@ -48,7 +47,7 @@ pub(crate) fn plan_at(
     object: OpName,
     op: SharedOp,
 ) -> Result<PlannedSet, SetFault>
-    requires { (d : Drawn) × (lookup (same_name object) objects.old.entries ≡ Some d) × AreSetsOf d.drawing.creation.name (d.drawing.sets ++ op ∷ []) }
+    requires { HasShape objects.old.entries object (λ d. IsNextSet d.object op) }
     ensures { IsPlannedAt object op objects.old.entries objects.new.entries result }
 {
     match objects.get_mut(&object) {
@@ -59,8 +58,9 @@ pub(crate) fn plan_at(
 
 /// Takes a set that was planned on an object as it is.
 pub(crate) fn commit_at(objects: &mut IndexMap<OpName, Shape>, object: OpName, planned: PlannedSet)
-    requires { (d : Drawn) × (lookup (same_name object) objects.old.entries ≡ Some d) × IsPlanned d planned }
-    ensures changed { (d e : Drawn) × (lookup (same_name object) objects.old.entries ≡ Some d) × (e.drawing ≡ with_set d.drawing planned.addition.op) × (objects.new.entries ≡ set_value (same_name object) objects.old.entries e) }
+    requires { HasShape objects.old.entries object (λ d. IsPlanned d planned) }
+    ensures changed { let op = planned.addition.op
+        in IsCommittedAt object op objects.old.entries objects.new.entries }
     ensures unique { IsDistinct same_name (keys_of objects.old.entries) }
 {
     match objects.get_mut(&object) {

@@ -47,7 +47,7 @@ impl Planned {
     }
 
     /// A reply that changes nothing.
-    pub(crate) fn told(reply: Reply) -> Planned
+    pub(crate) fn of_reply(reply: Reply) -> Planned
         ensures reply { result.reply ≡ reply }
         ensures change { result.change ≡ Nothing }
     {

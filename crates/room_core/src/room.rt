@@ -1,13 +1,14 @@
-//! A drawing room.
+//! A room.
 
 ghost use Rattle.std.specs.Prelude.{◌≡◌, ◌<◌, ◌≤◌, ◌-◌, nat_le, ◌++◌, ◌∷◌, [], length, map, true, Some, IfOk, OnOk, OnErr, slice_index};
 ghost use Rattle.std.specs.Arc.{arc_value};
+ghost use Rattle.rules.specs.declared.limits.TheConstants.Limits.{MAX_ENTRIES, MAX_JOINS};
 ghost use Rattle.rules.specs.Admission.{causal_refusal};
 ghost use Rattle.rules.specs.Records.{sites, objects, IsLegal};
 ghost use Rattle.wire.specs.declared.reply.Reply.TheVariants.{No};
 ghost use Rattle.room_core.specs.Room.{with_entry, empty_room};
-ghost use Rattle.room_core.specs.Answers.{join_answer, answer, site_answer, has_site};
-ghost use Rattle.room_core.specs.Plans.{outcome, entry_in, IsReady, CanJoin, CanCreate, CanSet};
+ghost use Rattle.room_core.specs.Answers.{join_answer, answer, site_answer, has_site, room_after};
+ghost use Rattle.room_core.specs.Plans.{entry_added, spare_of, IsReady, Plans, CanJoin, CanCreate, CanSet};
 
 mod plans;
 
@@ -37,7 +38,7 @@ impl Model for RoomState {
     ghost use Rattle.std.specs.Prelude.{map, ◌-◌, vec_len, vec_capacity};
     ghost use Rattle.std.specs.Arc.{arc_value};
     ghost use Rattle.indexmap.specs.IndexMap.{spare};
-    ghost use Rattle.room_core.specs.Room.{State};
+    ghost use Rattle.room_core.specs.State.{State};
     ghost use Rattle.room_core.specs.Replay.{IsReplay};
 
     ghost Value = { State };
@@ -68,7 +69,8 @@ impl RoomState {
     /// Lets the next site in, where the limits allow it.
     pub fn join(&mut self, alloc: Global) -> Result<Reply, NoMemory>
         ensures reply { IfOk result (λ reply. reply ≡ (join_answer self.old.room).0) }
-        ensures room { OnOk result (self.new.room ≡ with_entry self.old.room (join_answer self.old.room).1) }
+        ensures room { OnOk result
+            (self.new.room ≡ room_after self.old.room (join_answer self.old.room)) }
         ensures err { OnErr result (self.new.room ≡ self.old.room) }
     {
         let planned = self.plan_join(alloc)?;
@@ -78,7 +80,8 @@ impl RoomState {
     /// Answers a request of whoever claims to be this site.
     pub fn answer(&mut self, alloc: Global, site: u32, request: Request) -> Result<Reply, NoMemory>
         ensures reply { IfOk result (λ reply. reply ≡ (answer self.old.room site request).0) }
-        ensures room { OnOk result (self.new.room ≡ with_entry self.old.room (answer self.old.room site request).1) }
+        ensures room { OnOk result
+            (self.new.room ≡ room_after self.old.room (answer self.old.room site request)) }
         ensures err { OnErr result (self.new.room ≡ self.old.room) }
     {
         let planned = self.plan(alloc, site, request)?;
@@ -88,12 +91,10 @@ impl RoomState {
     /// Plans the answer to a request of whoever claims to be this site. The room stays as it is.
     #[tactic(auto, unfolding(crate::specs::Answers::answer))]
     pub fn plan(&mut self, alloc: Global, site: u32, request: Request) -> Result<Planned, NoMemory>
-        ensures planned { IfOk result (λ p. outcome p ≡ answer self.old.room site request) }
-        ensures ready { IfOk result (λ p. IsReady self.new p.change) }
-        ensures room { self.new.room ≡ self.old.room }
+        ensures { Plans self.old self.new (answer self.old.room site request) result }
     {
         if site == 0 || site > self.sites() {
-            return Ok(Planned::told(unasked(Refusal::NotJoined)));
+            return Ok(Planned::of_reply(outside_refusal(Refusal::NotJoined)));
         }
         self.plan_asked(alloc, site, request)
     }
@@ -106,12 +107,10 @@ impl RoomState {
         request: Request,
     ) -> Result<Planned, NoMemory>
         requires { has_site self.old.room site ≡ true }
-        ensures planned { IfOk result (λ p. outcome p ≡ site_answer self.old.room site request) }
-        ensures ready { IfOk result (λ p. IsReady self.new p.change) }
-        ensures room { self.new.room ≡ self.old.room }
+        ensures { Plans self.old self.new (site_answer self.old.room site request) result }
     {
         match request {
-            Request::Join { .. } => Ok(Planned::told(unasked(Refusal::AlreadyJoined))),
+            Request::Join { .. } => Ok(Planned::of_reply(outside_refusal(Refusal::AlreadyJoined))),
             Request::New {
                 seq,
                 seen,
@@ -137,7 +136,7 @@ impl RoomState {
             Request::Show { object } => self.plan_show(alloc, object),
             Request::List { from } => self.plan_list(alloc, from),
             Request::Pull { from } => self.plan_pull(alloc, from),
-            Request::Leave => Ok(Planned::told(Reply::Left { at: self.at() })),
+            Request::Leave => Ok(Planned::of_reply(Reply::Left { at: self.at() })),
         }
     }
 
@@ -145,7 +144,7 @@ impl RoomState {
     pub fn commit(&mut self, planned: Planned) -> Reply
         requires { IsReady self.old planned.change }
         ensures reply { result ≡ planned.reply }
-        ensures room { self.new.room ≡ with_entry self.old.room (entry_in planned.change) }
+        ensures room { self.new.room ≡ with_entry self.old.room (entry_added planned.change) }
     {
         let Planned { reply, change } = planned;
         match change {
@@ -160,7 +159,7 @@ impl RoomState {
     /// How many sites have joined, at most 256.
     pub fn sites(&self) -> u32
         ensures sites { result ≡ sites self.now.room.entries }
-        ensures range { sites self.now.room.entries ≤ 256 }
+        ensures range { sites self.now.room.entries ≤ MAX_JOINS }
     {
         let _bound = self.limits.joins();
         self.sites
@@ -202,7 +201,7 @@ impl RoomState {
     /// Has the record as many entries as it may have?
     fn is_full(&self) -> bool
         ensures full { result ≡ nat_le self.now.room.limits.entries (length self.now.room.entries) }
-        ensures range { self.now.room.limits.entries ≤ 16384 }
+        ensures range { self.now.room.limits.entries ≤ MAX_ENTRIES }
     {
         self.at() >= self.limits.entries()
     }
@@ -253,7 +252,7 @@ fn add_reserved(past: &mut Past, op: SharedOp)
 }
 
 /// A refusal that looks into no room.
-fn unasked(refusal: Refusal) -> Reply
+fn outside_refusal(refusal: Refusal) -> Reply
     ensures { result ≡ No 0 refusal }
 {
     Reply::No { at: 0, refusal }

@@ -5,7 +5,7 @@ mod rows;
 use self::rows::{EXAMPLES, LIMITED};
 use op_names::Kind;
 use room_core::{Limits, RoomState};
-use rules::Attrs;
+use rules::{Attrs, LimitValues};
 use state_vector::StateVector;
 use std::process::Abort;
 use wire::{Reply, Request, read_request, write_reply};
@@ -13,8 +13,7 @@ use wire::{Reply, Request, read_request, write_reply};
 /// Lines that a room of these limits answers one after the other.
 pub struct Example {
     pub name: &'static str,
-    /// Joins, entries, objects, sets on an object, keys, versions, a page.
-    pub limits: [u32; 7],
+    pub limits: LimitValues,
     /// Lines SITE REQUEST => REPLY, or join => REPLY where the next site joins.
     pub parts: &'static [&'static str],
 }
@@ -23,18 +22,17 @@ fn text(rt: &(impl Abort + AllocGlobal), reply: &Reply) -> String {
     write_reply(rt.alloc(), reply).expect(rt, "memory")
 }
 
-fn room_of(rt: &(impl Abort + AllocGlobal), limits: [u32; 7]) -> RoomState {
-    let [joins, entries, objects, sets, keys, versions, page] = limits;
-    let limits = Limits::new(joins, entries, objects, sets, keys, versions, page);
+fn room_of(rt: &(impl Abort + AllocGlobal), limits: LimitValues) -> RoomState {
+    let limits = Limits::new(limits);
     RoomState::new(rt.alloc(), limits.expect(rt, "limits")).expect(rt, "memory")
 }
 
-fn joined(rt: &(impl Abort + AllocGlobal), room: &mut RoomState) -> String {
+fn join_text(rt: &(impl Abort + AllocGlobal), room: &mut RoomState) -> String {
     let reply = room.join(rt.alloc()).expect(rt, "memory");
     text(rt, &reply)
 }
 
-fn answered(
+fn answer_text(
     rt: &(impl Abort + AllocGlobal),
     room: &mut RoomState,
     site: u32,
@@ -52,10 +50,10 @@ fn request_of(rt: &(impl Abort + AllocGlobal), text: &str) -> Request {
 fn answers(rt: &(impl Abort + AllocGlobal), room: &mut RoomState, line: &str) -> bool {
     let (asked, expected) = line.split_once(" => ").expect(rt, "an arrow");
     let reply = match asked.split_once(' ') {
-        None => joined(rt, room),
+        None => join_text(rt, room),
         Some((site, request)) => {
             let site = site.parse().expect(rt, "a site");
-            answered(rt, room, site, request_of(rt, request))
+            answer_text(rt, room, site, request_of(rt, request))
         }
     };
     reply.as_str() == expected
@@ -88,7 +86,7 @@ fn limits_are_kept(rt: HostRuntime) {
 }
 
 /// A creation of this number, which may be out of range.
-fn numbered(rt: &(impl Abort + AllocGlobal), seq: u32) -> Request {
+fn creation_of_number(rt: &(impl Abort + AllocGlobal), seq: u32) -> Request {
     let kind = Kind::parse(rt.alloc(), b"rect").expect(rt, "a kind");
     let attrs = Attrs::from_pairs(Vec::new(rt.alloc())).expect(rt, "attributes");
     Request::New {
@@ -105,13 +103,13 @@ fn answers_number(
     seq: u32,
     expected: &str,
 ) -> bool {
-    answered(rt, room, 1, numbered(rt, seq)).as_str() == expected
+    answer_text(rt, room, 1, creation_of_number(rt, seq)).as_str() == expected
 }
 
 /// Is a creation of a number that is out of range answered so, by a room of these limits?
-fn answers_numbers(rt: &(impl Abort + AllocGlobal), limits: [u32; 7], expected: &str) -> bool {
+fn answers_numbers(rt: &(impl Abort + AllocGlobal), limits: LimitValues, expected: &str) -> bool {
     let mut room = room_of(rt, limits);
-    let _ = joined(rt, &mut room);
+    let _ = join_text(rt, &mut room);
     answers_number(rt, &mut room, 0, expected)
         && answers_number(rt, &mut room, 16385, expected)
         && answers_number(rt, &mut room, 4294967295, expected)
@@ -120,8 +118,16 @@ fn answers_numbers(rt: &(impl Abort + AllocGlobal), limits: [u32; 7], expected: 
 // No text of a request has such numbers.
 #[test]
 fn numbers_out_of_range(rt: HostRuntime) {
-    let few = [9, 1, 9, 9, 9, 9, 9];
-    assert!(rt; answers_numbers(&rt, rows::FULL, r#"["no",1,7,"wrong-seq"]"#));
+    let few = LimitValues {
+        joins: 9,
+        entries: 1,
+        objects: 9,
+        sets: 9,
+        keys: 9,
+        versions: 9,
+        page: 9,
+    };
+    assert!(rt; answers_numbers(&rt, LimitValues::FULL, r#"["no",1,7,"wrong-seq"]"#));
     assert!(rt; answers_numbers(&rt, few, r#"["no",1,6,"record-full"]"#));
 }
 
@@ -132,7 +138,7 @@ fn has_only_joins(room: &RoomState, joins: u32) -> bool {
 
 #[test]
 fn a_plan_changes_nothing_until_it_is_committed(rt: HostRuntime) {
-    let mut room = room_of(&rt, rows::FULL);
+    let mut room = room_of(&rt, LimitValues::FULL);
     let planned = room.plan_join(rt.alloc()).expect(&rt, "memory");
     assert!(rt; has_only_joins(&room, 0));
     assert_eq!(rt; text(&rt, planned.reply()).as_str(), r#"["joined",0,1]"#);
@@ -163,10 +169,19 @@ fn ask_next(rt: &(impl Abort + AllocGlobal), room: &mut RoomState, seen: u32, se
     room.answer(rt.alloc(), 1, request).expect(rt, "memory");
 }
 
+/// How many entries or objects stand on the page that a request of site 1 is answered.
+fn page_of(rt: &(impl Abort + AllocGlobal), room: &mut RoomState, request: Request) -> usize {
+    match room.answer(rt.alloc(), 1, request).expect(rt, "memory") {
+        Reply::Entries { entries, .. } => entries.as_slice().len(),
+        Reply::Objects { objects, .. } => objects.as_slice().len(),
+        _ => 0,
+    }
+}
+
 #[test]
 fn a_full_room_still_shows(rt: HostRuntime) {
-    let mut room = room_of(&rt, rows::FULL);
-    let _ = joined(&rt, &mut room);
+    let mut room = room_of(&rt, LimitValues::FULL);
+    let _ = join_text(&rt, &mut room);
     for seen in 0..16383 {
         ask_next(&rt, &mut room, seen, seen + 1);
     }
@@ -174,5 +189,7 @@ fn a_full_room_still_shows(rt: HostRuntime) {
     for line in rows::AT_THE_END.lines() {
         assert!(rt; answers(&rt, &mut room, line), "{line}");
     }
+    assert_eq!(rt; page_of(&rt, &mut room, Request::Pull { from: 16000 }), 64);
+    assert_eq!(rt; page_of(&rt, &mut room, Request::List { from: 100 }), 64);
     assert_eq!(rt; room.entries().len(), 16384);
 }

@@ -1,13 +1,15 @@
 -- Lists of conditions, and what it says of a record that an entry isn't refused.
-use Rattle.std.proofs.Common.{◌≡◌, ℕ, ◌+◌, ◌<◌, ◌≤◌, Bool, true, false, List, [], ◌∷◌, ◌++◌, length, refl, sym, ◌∙◌, inl, inr, arith, Option, Some, None, ◌&&◌, leb, eqb, cond}
+use Rattle.std.proofs.Common.{◌≡◌, ℕ, ◌+◌, ◌<◌, ◌≤◌, Bool, true, false, List, [], ◌∷◌, ◌++◌, length, refl, sym, ◌∙◌, inl, inr, arith, Some, None, ◌&&◌, leb, eqb, cond}
 use Rattle.std.specs.Prelude.{is_none, find, option_map}
 use Rattle.std.proofs.lemmas.Bool.{and_parts, and_from, le-leb, leb-false, ne_eqb, cases_Bool, true≢false}
 use Rattle.op_names.specs.Names.{is_site, is_op_name}
+use Rattle.op_names.specs.declared.op_name.TheConstants.{MAX_SEQ}
+use Rattle.state_vector.proofs.Vectors.{none_if}
 use Rattle.rules.specs.declared.history.Op.{Op}
 use Rattle.rules.specs.declared.history.Entry.{Entry}
 use Rattle.rules.specs.declared.history.Entry.TheVariants.{Join, Operation}
 use Rattle.rules.specs.declared.refusal.Refusal.TheVariants.{RoomFull, RecordFull, WrongSeq, TooManyObjects}
-use Rattle.rules.specs.Bounds.{Bounds}
+use Rattle.rules.specs.declared.limits.LimitValues.{LimitValues}
 use Rattle.rules.specs.Bodies.{is_set_body}
 use Rattle.rules.specs.Admission.{Condition, count_at_site, first_that_applies, causal_conditions, causal_refusal}
 use Rattle.rules.proofs.Records.{count_at_site-length}
@@ -33,11 +35,7 @@ none_of_both (c ∷ cs) ds e =
     step true f h = absurd cc
     step false f h = h
 
-pub none_if : {X : Type 0} (r : Option X) → is_none r ≡ true → r ≡ None
-none_if None e = refl
-none_if (Some x) e = absurd cc
-
-module _ (b : Bounds) (r : List Entry) where
+module _ (b : LimitValues) (r : List Entry) where
   pub none_applies : (e : Entry) → admits b r e ≡ true → first_that_applies (conditions b r e) ≡ None
   unfolding refusal
   none_applies e a = none_if (first_that_applies (conditions b r e)) (and_parts (is_placed r e) (is_none (first_that_applies (conditions b r e))) a).1
@@ -65,7 +63,7 @@ module _ (b : Bounds) (r : List Entry) where
       leb-false b.objects (length (objects r)) (not_first (leb b.objects (length (objects r)), TooManyObjects) [] y).0
 
   -- an operation whose name is out of range is refused for its number, where the record isn't full
-  pub unnamed_refusal : (op : Op) → is_site op.name.0 ≡ true → is_op_name op.name ≡ false → b.entries ≤ 16384
+  pub unnamed_refusal : (op : Op) → is_site op.name.0 ≡ true → is_op_name op.name ≡ false → b.entries ≤ MAX_SEQ
       → refusal b r (Operation op) ≡ cond (leb b.entries (length r)) (Some RecordFull) (Some WrongSeq)
   unfolding refusal
   unnamed_refusal op site out small = elim (cases_Bool (leb b.entries (length r))) [
@@ -74,7 +72,7 @@ module _ (b : Bounds) (r : List Entry) where
         (let wrong : eqb op.name.1 (count_at_site (operations r) op.name.0 + 1) ≡ false = ne_eqb _ _ (λ same.
         let few : count_at_site (operations r) op.name.0 ≤ length r = count_at_site-length r op.name.0 in
         let short : length r < b.entries = leb-false b.entries (length r) f in
-        let named : leb 1 op.name.1 && leb op.name.1 16384 ≡ true = and_from _ _ (le-leb 1 op.name.1 (omega arith)) (le-leb op.name.1 16384 (omega arith)) in
+        let named : leb 1 op.name.1 && leb op.name.1 MAX_SEQ ≡ true = and_from _ _ (le-leb 1 op.name.1 (omega arith)) (le-leb op.name.1 MAX_SEQ (omega arith)) in
         true≢false (sym (and_from _ _ site named) ∙ out)) in
         rw (f, wrong) refl)
   ]

@@ -7,9 +7,9 @@ use Rattle.op_names.specs.Names.{Name, same_name}
 use Rattle.state_vector.specs.Vectors.{Vector, counts, count_of, covers, is_vector}
 use Rattle.state_vector.proofs.Vectors.{RisesAbove, rises}
 use Rattle.rules.specs.declared.history.Op.{Op}
-use Rattle.rules.specs.Operations.{HasDistinctNames, operation}
+use Rattle.rules.specs.Operations.{operation}
 use Rattle.rules.specs.Admission.{names_counted}
-use Rattle.rules.proofs.Lists.{In, In-from_Contains, Contains-from_In, In-map, In-map_back, In-flat_map, In-flat_map_back, In-range, In-range_back, all_from, all_back, find_is, find_some}
+use Rattle.rules.proofs.Lists.{In, Contains-from_In, In-map, In-map_back, In-flat_map, In-flat_map_back, In-range, In-range_back, all_from, all_back, find_is}
 
 pub same_name-true : (m n : Name) → same_name m n ≡ true → m ≡ n
 same_name-true m n t =
@@ -100,12 +100,6 @@ pub operation_is : (h : List Op) (n : Name) (o : Op) → operation h n ≡ Some 
 operation_is h n o e =
     let c = find_is (λ x. same_name x.name n) o h e in
     (Contains-from_In o h c.0, same_name-true o.name n c.1)
-
-pub operation_found : (h : List Op) (o : Op) → HasDistinctNames h → Contains h o → operation h o.name ≡ Some o
-operation_found h o d m =
-    let f = find_some (λ x. same_name x.name o.name) o h (In-from_Contains o h m) (same_name-refl o.name o.name refl) in
-    let g = operation_is h o.name f.0 f.1 in
-    f.1 ∙ ap Some (d f.0 o g.0 m g.1)
 
 -- where the look-up gives something, an operation of that name is there
 pub found : (h : List Op) (n : Name) → is_some (operation h n) ≡ true → (a : Op) × Contains h a × (a.name ≡ n)

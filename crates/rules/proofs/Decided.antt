@@ -9,7 +9,7 @@ use Rattle.std.proofs.lemmas.List.Folds.{find-append}
 use Rattle.op_names.specs.Texts.{Bytes}
 use Rattle.rules.specs.declared.history.Op.{Op}
 use Rattle.rules.specs.AttrLists.{Attr}
-use Rattle.rules.specs.Groups.{is_compatible, meets}
+use Rattle.rules.specs.Groups.{is_compatible, in_conflict_with}
 use Rattle.rules.specs.Operations.{IsCausallyOrdered, before}
 use Rattle.rules.specs.Conflicts.{conflict}
 use Rattle.rules.specs.Versions.{decides, gives, value_by, value_of_key}
@@ -83,7 +83,7 @@ is_last key (o ∷ g) a c own e = go (last (gives key) g) refl (is_last key g a 
 
 -- no two members of a compatible group are in conflict
 free_in : (h g : List Op) → is_compatible (conflict h) g ≡ true → (a b : Op) → In a g → In b g → conflict h a b ≡ false
-free_in h g e a b m n = any_none (conflict h a) b g (not-true (meets (conflict h) g a) (all_back (λ x. not (meets (conflict h) g x)) g e a m)) n
+free_in h g e a b m n = any_none (conflict h a) b g (not-true (in_conflict_with (conflict h) g a) (all_back (λ x. not (in_conflict_with (conflict h) g x)) g e a m)) n
 
 -- The value of a key in a group is that of the last operation that gives it one, in any causal order of the group.
 module _ (h g l : List Op) (compatible : is_compatible (conflict h) g ≡ true) (to : (x : Op) → In x g → In x l) (back : (x : Op) → In x l → In x g)

@@ -10,7 +10,7 @@ use Rattle.rules.specs.declared.history.Op.{Op}
 use Rattle.rules.specs.declared.history.Entry.{Entry}
 use Rattle.rules.specs.declared.history.Entry.TheVariants.{Join, Operation}
 use Rattle.rules.specs.declared.refusal.Refusal.TheVariants.{NoSuchObject, NoSuchVersion, ObjectFull, TooManyKeys, TooManyVersions}
-use Rattle.rules.specs.Bounds.{Bounds}
+use Rattle.rules.specs.declared.limits.LimitValues.{LimitValues}
 use Rattle.rules.specs.Bodies.{is_set_body}
 use Rattle.rules.specs.Operations.{IsHistory, IsCausallyOrdered, before, is_creation_of, object_of, sets_on}
 use Rattle.rules.specs.Admission.{first_that_applies}
@@ -32,7 +32,7 @@ record HasGround (h : List Op) (op : Op) : Type 0 where
   based : is_some (base h op) ≡ true
 
 -- a set that is admitted has its object and its base
-ground_if : (b : Bounds) (r : List Entry) (op : Op) → admits b r (Operation op) ≡ true → is_set_body op.body ≡ true → HasGround (operations r) op
+ground_if : (b : LimitValues) (r : List Entry) (op : Op) → admits b r (Operation op) ≡ true → is_set_body op.body ≡ true → HasGround (operations r) op
 ground_if b r op a e =
     let h = operations r in
     let x = none_of_both (order_conditions b r op) (cond (is_set_body op.body) (set_conditions b h op) (creation_conditions b r)) (none_applies b r (Operation op) a) in
@@ -65,7 +65,7 @@ ordered_push (x ∷ h) o c f = (
   ordered_push h o c.1 (λ z m. f z (inr m)),
 )
 
-founded_push : (b : Bounds) (r : List Entry) (o : Op) (s : IsSound (operations r)) → IsHistory (operations r ++ o ∷ []) → admits b r (Operation o) ≡ true → IsFounded (operations r ++ o ∷ [])
+founded_push : (b : LimitValues) (r : List Entry) (o : Op) (s : IsSound (operations r)) → IsHistory (operations r ++ o ∷ []) → admits b r (Operation o) ≡ true → IsFounded (operations r ++ o ∷ [])
 founded_push b r o s j a =
     let h = operations r in
     let i = s.numbered.history in
@@ -80,7 +80,7 @@ founded_push b r o s j a =
       ];
     }
 
-sound_push : (b : Bounds) (r : List Entry) (o : Op) → IsSound (operations r) → admits b r (Operation o) ≡ true → IsSound (operations r ++ o ∷ [])
+sound_push : (b : LimitValues) (r : List Entry) (o : Op) → IsSound (operations r) → admits b r (Operation o) ≡ true → IsSound (operations r ++ o ∷ [])
 sound_push b r o s a =
     let h = operations r in
     let none = (room_for_operation b r o a).1 in
@@ -92,7 +92,7 @@ sound_push b r o s a =
       founded = founded_push b r o s n.history a;
     }
 
-sound_after : (b : Bounds) (r rest : List Entry) → IsSound (operations r) → IsLegalAfter b r rest → IsSound (operations (r ++ rest))
+sound_after : (b : LimitValues) (r rest : List Entry) → IsSound (operations r) → IsLegalAfter b r rest → IsSound (operations (r ++ rest))
 sound_after b r [] s g = subst (λ x. IsSound (operations x)) (sym (append-nil r)) s
 sound_after b r (Join site ∷ rest) s g =
     subst (λ x. IsSound (operations x)) (append_assoc r (Join site ∷ []) rest)
@@ -108,17 +108,17 @@ sound_empty = record {
   founded = record { object = λ x m t. absurd (In-from_Contains x [] m); based = λ x m t. absurd (In-from_Contains x [] m) };
 }
 
-sound : (b : Bounds) (r : List Entry) → IsLegal b r → IsSound (operations r)
+sound : (b : LimitValues) (r : List Entry) → IsLegal b r → IsSound (operations r)
 sound b r g = sound_after b [] r sound_empty g
 
 -- a legal record's operations are a history
-pub history_if_legal : (b : Bounds) (r : List Entry) → IsLegal b r → IsHistory (operations r)
+pub history_if_legal : (b : LimitValues) (r : List Entry) → IsLegal b r → IsHistory (operations r)
 history_if_legal b r g = (sound b r g).numbered.history
 
 -- in causal order
-pub ordered_if_legal : (b : Bounds) (r : List Entry) → IsLegal b r → IsCausallyOrdered (operations r)
+pub ordered_if_legal : (b : LimitValues) (r : List Entry) → IsLegal b r → IsCausallyOrdered (operations r)
 ordered_if_legal b r g = (sound b r g).ordered
 
 -- whose sets have their objects and bases
-pub founded_if_legal : (b : Bounds) (r : List Entry) → IsLegal b r → IsFounded (operations r)
+pub founded_if_legal : (b : LimitValues) (r : List Entry) → IsLegal b r → IsFounded (operations r)
 founded_if_legal b r g = (sound b r g).founded

@@ -3,7 +3,7 @@ use Rattle.std.proofs.Common.{◌≡◌, Bool, true, List, [], ◌∷◌, map, r
 use Rattle.std.specs.Prelude.{Contains, filter}
 use Rattle.std.proofs.lemmas.Bool.{cases_Bool, true≢false, and_parts, and_from, not-true, not_from_false, false_from_ne_true}
 use Rattle.rules.specs.Lists.{HasNoRepeats}
-use Rattle.rules.specs.Groups.{partings, meets, is_compatible, is_maximal, groups_of, IsSublist, IsGroup}
+use Rattle.rules.specs.Groups.{partings, in_conflict_with, is_compatible, is_maximal, groups_of, IsSublist, IsGroup}
 use Rattle.rules.proofs.Lists.{In, In-from_Contains, Contains-from_In, In-append_left, In-append_right, In-append_cases, In-map, In-map_back, In-filter, In-filter_back, any_from, any_back, all_from, all_back, any_none, any_agree, all_agree, filter_agree}
 use Rattle.rules.proofs.Once.{Once, Once-from_HasNoRepeats, HasNoRepeats-from_Once, Once-append, Once-map, Once-filter}
 
@@ -114,27 +114,27 @@ parted {X} (y ∷ s) g o p = elim p [
 -- ---- the groups
 
 module _ {X : Type 0} (conflict : X → X → Bool) (s : List X) where
-  abbrev fits : List X × List X → Bool
-  fits p = is_compatible conflict p.0 && is_maximal conflict p.0 p.1
+  abbrev makes_group : List X × List X → Bool
+  makes_group p = is_compatible conflict p.0 && is_maximal conflict p.0 p.1
 
-  group_if : (p : List X × List X) → In p (partings s) → fits p ≡ true → IsGroup conflict s p.0
+  group_if : (p : List X × List X) → In p (partings s) → makes_group p ≡ true → IsGroup conflict s p.0
   group_if p m e =
       let i = parting_is s p m in
       let c = and_parts (is_compatible conflict p.0) (is_maximal conflict p.0 p.1) e in
       record {
         inside = i.inside;
-        compatible = λ x y a b. any_none (conflict x) y p.0 (not-true (meets conflict p.0 x) (all_back (λ x. not (meets conflict p.0 x)) p.0 c.0 x (In-from_Contains x p.0 a))) (In-from_Contains y p.0 b);
+        compatible = λ x y a b. any_none (conflict x) y p.0 (not-true (in_conflict_with conflict p.0 x) (all_back (λ x. not (in_conflict_with conflict p.0 x)) p.0 c.0 x (In-from_Contains x p.0 a))) (In-from_Contains y p.0 b);
         maximal = λ x a. elim (i.whole x (In-from_Contains x s a)) [
           | inl l ↦ inl (Contains-from_In x p.0 l)
-          | inr l ↦ (let k = any_back (conflict x) p.0 (all_back (meets conflict p.0) p.1 c.1 x l) in inr (k.0, Contains-from_In k.0 p.0 k.1, k.2))
+          | inr l ↦ (let k = any_back (conflict x) p.0 (all_back (in_conflict_with conflict p.0) p.1 c.1 x l) in inr (k.0, Contains-from_In k.0 p.0 k.1, k.2))
         ];
       }
 
-  fits_if : (g : List X) (w : Parted s g) → IsGroup conflict s g → fits (g, w.rest) ≡ true
-  fits_if g w i =
+  makes_group_if : (g : List X) (w : Parted s g) → IsGroup conflict s g → makes_group (g, w.rest) ≡ true
+  makes_group_if g w i =
       and_from (is_compatible conflict g) (is_maximal conflict g w.rest)
-      (all_from (λ x. not (meets conflict g x)) g (λ x m. not_from_false (meets conflict g x) (false_from_ne_true (meets conflict g x) (λ t. let c = any_back (conflict x) g t in true≢false (sym c.2 ∙ i.compatible x c.0 (Contains-from_In x g m) (Contains-from_In c.0 g c.1))))))
-      (all_from (meets conflict g) w.rest (λ x m. let o = w.others x m in elim (i.maximal x (Contains-from_In x s o.0)) [
+      (all_from (λ x. not (in_conflict_with conflict g x)) g (λ x m. not_from_false (in_conflict_with conflict g x) (false_from_ne_true (in_conflict_with conflict g x) (λ t. let c = any_back (conflict x) g t in true≢false (sym c.2 ∙ i.compatible x c.0 (Contains-from_In x g m) (Contains-from_In c.0 g c.1))))))
+      (all_from (in_conflict_with conflict g) w.rest (λ x m. let o = w.others x m in elim (i.maximal x (Contains-from_In x s o.0)) [
         | inl a ↦ absurd (o.1 (In-from_Contains x g a))
         | inr b ↦ any_from (conflict x) b.0 g (In-from_Contains b.0 g b.1) b.2
       ]))
@@ -142,13 +142,13 @@ module _ {X : Type 0} (conflict : X → X → Bool) (s : List X) where
   record Listed (g : List X) : Type 0 where
     rest : List X
     there : In (g, rest) (partings s)
-    fit : fits (g, rest) ≡ true
+    fit : makes_group (g, rest) ≡ true
 
   listed : (g : List X) → In g (groups_of conflict s) → Listed g
   unfolding groups_of
   listed g m =
-      let c = In-map_back (λ (p : List X × List X). p.0) g (filter fits (partings s)) m in
-      let d = In-filter_back fits c.0 (partings s) c.1 in
+      let c = In-map_back (λ (p : List X × List X). p.0) g (filter makes_group (partings s)) m in
+      let d = In-filter_back makes_group c.0 (partings s) c.1 in
       subst Listed (sym c.2) (record { rest = c.0.1; there = d.0; fit = d.1 })
 
   pub group_is : (g : List X) → In g (groups_of conflict s) → IsGroup conflict s g
@@ -156,7 +156,7 @@ module _ {X : Type 0} (conflict : X → X → Bool) (s : List X) where
 
   pub group_in : (g : List X) → Once s → IsGroup conflict s g → In g (groups_of conflict s)
   unfolding groups_of
-  group_in g o i = let w = parted s g o i.inside in In-map (λ (p : List X × List X). p.0) (g, w.rest) (filter fits (partings s)) (In-filter fits (g, w.rest) (partings s) w.there (fits_if g w i))
+  group_in g o i = let w = parted s g o i.inside in In-map (λ (p : List X × List X). p.0) (g, w.rest) (filter makes_group (partings s)) (In-filter makes_group (g, w.rest) (partings s) w.there (makes_group_if g w i))
 
   -- the listed groups are the maximal compatible parts
   pub groups_of_is : (g : List X) → HasNoRepeats s → Contains (groups_of conflict s) g ↔ IsGroup conflict s g
@@ -221,9 +221,9 @@ Once-partings {X} (y ∷ s) o =
 pub Once-groups_of : {X : Type 0} (conflict : X → X → Bool) (s : List X) → Once s → Once (groups_of conflict s)
 unfolding groups_of
 Once-groups_of {X} conflict s o =
-    Once-map (λ (p : List X × List X). p.0) (filter (fits conflict s) (partings s))
-    (λ p q m n e. parting_same s o p q (In-filter_back (fits conflict s) p (partings s) m).0 (In-filter_back (fits conflict s) q (partings s) n).0 e)
-    (Once-filter (fits conflict s) (partings s) (Once-partings s o))
+    Once-map (λ (p : List X × List X). p.0) (filter (makes_group conflict s) (partings s))
+    (λ p q m n e. parting_same s o p q (In-filter_back (makes_group conflict s) p (partings s) m).0 (In-filter_back (makes_group conflict s) q (partings s) n).0 e)
+    (Once-filter (makes_group conflict s) (partings s) (Once-partings s o))
 
 -- each group stands once
 pub groups_once : {X : Type 0} (conflict : X → X → Bool) (s : List X) → HasNoRepeats s → HasNoRepeats (groups_of conflict s)
@@ -232,18 +232,18 @@ groups_once conflict s o = HasNoRepeats-from_Once (groups_of conflict s) (Once-g
 -- ---- relations that agree on a list
 
 module _ {X : Type 0} (c d : X → X → Bool) (s : List X) (agree : (x y : X) → In x s → In y s → c x y ≡ d x y) where
-  pub meets_agree : (g : List X) → ((y : X) → In y g → In y s) → (x : X) → In x s → meets c g x ≡ meets d g x
-  meets_agree g sub x m = any_agree (c x) (d x) g (λ y n. agree x y m (sub y n))
+  pub in_conflict_agree : (g : List X) → ((y : X) → In y g → In y s) → (x : X) → In x s → in_conflict_with c g x ≡ in_conflict_with d g x
+  in_conflict_agree g sub x m = any_agree (c x) (d x) g (λ y n. agree x y m (sub y n))
 
-  fits_agree : (p : List X × List X) → In p (partings s) → fits c s p ≡ fits d s p
-  fits_agree p m =
+  makes_group_agree : (p : List X × List X) → In p (partings s) → makes_group c s p ≡ makes_group d s p
+  makes_group_agree p m =
       let i = parting_is s p m in
       let sub : (y : X) → In y p.0 → In y s = λ y l. sublist_in p.0 s i.inside y l in
-      let a = all_agree (λ x. not (meets c p.0 x)) (λ x. not (meets d p.0 x)) p.0 (λ x l. ap not (meets_agree p.0 sub x (sub x l))) in
-      let b = all_agree (meets c p.0) (meets d p.0) p.1 (λ x l. meets_agree p.0 sub x (i.rest x l)) in
+      let a = all_agree (λ x. not (in_conflict_with c p.0 x)) (λ x. not (in_conflict_with d p.0 x)) p.0 (λ x l. ap not (in_conflict_agree p.0 sub x (sub x l))) in
+      let b = all_agree (in_conflict_with c p.0) (in_conflict_with d p.0) p.1 (λ x l. in_conflict_agree p.0 sub x (i.rest x l)) in
       λ j. a j && b j
 
   -- they make the same groups of it
   pub groups_agree : groups_of c s ≡ groups_of d s
   unfolding groups_of
-  groups_agree = ap (map (λ (p : List X × List X). p.0)) (filter_agree (fits c s) (fits d s) (partings s) fits_agree)
+  groups_agree = ap (map (λ (p : List X × List X). p.0)) (filter_agree (makes_group c s) (makes_group d s) (partings s) makes_group_agree)

@@ -4,7 +4,7 @@ use Rattle.std.specs.Prelude.{Contains, filter}
 use Rattle.std.proofs.lemmas.Bool.{cases_Bool, true≢false, not-true, not_from_false, false_from_ne_true}
 use Rattle.std.proofs.lemmas.List.{length-map}
 use Rattle.rules.specs.Lists.{HasNoRepeats}
-use Rattle.rules.specs.Groups.{meets, groups_of, IsGroup}
+use Rattle.rules.specs.Groups.{in_conflict_with, groups_of, IsGroup}
 use Rattle.rules.proofs.Lists.{In, In-from_Contains, Contains-from_In, In-map_back, In-filter, In-filter_back, any_back, any_none}
 use Rattle.rules.proofs.Once.{Once, Once-from_HasNoRepeats, Once-map, length_within}
 use Rattle.rules.proofs.Groups.{sublist_in, sublist_same, sublist_of_filter, group_is, group_in, Once-groups_of}
@@ -12,7 +12,7 @@ use Rattle.rules.proofs.Groups.{sublist_in, sublist_same, sublist_of_filter, gro
 -- the list, with each of ys that conflicts with nothing taken so far
 pub extend : {X : Type 0} → (X → X → Bool) → List X → List X → List X
 extend conflict taken [] = taken
-extend conflict taken (y ∷ ys) = extend conflict (cond (meets conflict taken y) taken (y ∷ taken)) ys
+extend conflict taken (y ∷ ys) = extend conflict (cond (in_conflict_with conflict taken y) taken (y ∷ taken)) ys
 
 module _ {X : Type 0} (conflict : X → X → Bool) (t : List X) (symmetric : (x y : X) → In x t → In y t → conflict x y ≡ conflict y x) (irreflexive : (x : X) → In x t → conflict x x ≡ false) where
   abbrev pub Free : List X → Type 0
@@ -24,7 +24,7 @@ module _ {X : Type 0} (conflict : X → X → Bool) (t : List X) (symmetric : (x
   pub keeps : (taken ys : List X) (x : X) → In x taken → In x (extend conflict taken ys)
   unfolding extend
   keeps taken [] x m = m
-  keeps taken (y ∷ ys) x m = elim (cases_Bool (meets conflict taken y)) [
+  keeps taken (y ∷ ys) x m = elim (cases_Bool (in_conflict_with conflict taken y)) [
     | inl e ↦ rw e (keeps taken ys x m)
     | inr e ↦ rw e (keeps (y ∷ taken) ys x (inr m))
   ]
@@ -32,12 +32,12 @@ module _ {X : Type 0} (conflict : X → X → Bool) (t : List X) (symmetric : (x
   pub within : (taken ys : List X) → Within taken → Within ys → Within (extend conflict taken ys)
   unfolding extend
   within taken [] p q = p
-  within taken (y ∷ ys) p q = elim (cases_Bool (meets conflict taken y)) [
+  within taken (y ∷ ys) p q = elim (cases_Bool (in_conflict_with conflict taken y)) [
     | inl e ↦ rw e (within taken ys p (λ x m. q x (inr m)))
     | inr e ↦ rw e (within (y ∷ taken) ys (λ x m. elim m [ inl f ↦ subst (λ z. In z t) (sym f) (q y (inl refl)) | inr r ↦ p x r ]) (λ x m. q x (inr m)))
   ]
 
-  grown : (taken : List X) (y : X) → Within taken → In y t → meets conflict taken y ≡ false → Free taken → Free (y ∷ taken)
+  grown : (taken : List X) (y : X) → Within taken → In y t → in_conflict_with conflict taken y ≡ false → Free taken → Free (y ∷ taken)
   grown taken y p q e f x z m n = elim m [
     | inl a ↦ elim n [
       | inl b ↦ (λ i. conflict (a i) (b i)) ∙ irreflexive y q
@@ -52,7 +52,7 @@ module _ {X : Type 0} (conflict : X → X → Bool) (t : List X) (symmetric : (x
   pub free : (taken ys : List X) → Within taken → Within ys → Free taken → Free (extend conflict taken ys)
   unfolding extend
   free taken [] p q f = f
-  free taken (y ∷ ys) p q f = elim (cases_Bool (meets conflict taken y)) [
+  free taken (y ∷ ys) p q f = elim (cases_Bool (in_conflict_with conflict taken y)) [
     | inl e ↦ rw e (free taken ys p (λ x m. q x (inr m)) f)
     | inr e ↦ rw e (free (y ∷ taken) ys (λ x m. elim m [ inl g ↦ subst (λ z. In z t) (sym g) (q y (inl refl)) | inr r ↦ p x r ]) (λ x m. q x (inr m)) (grown taken y p (q y (inl refl)) e f))
   ]
@@ -60,7 +60,7 @@ module _ {X : Type 0} (conflict : X → X → Bool) (t : List X) (symmetric : (x
   pub full : (taken ys : List X) (x : X) → In x ys → In x (extend conflict taken ys) ⊎ ((y : X) × In y (extend conflict taken ys) × (conflict x y ≡ true))
   unfolding extend
   full taken [] x m = absurd m
-  full taken (y ∷ ys) x m = elim (cases_Bool (meets conflict taken y)) [
+  full taken (y ∷ ys) x m = elim (cases_Bool (in_conflict_with conflict taken y)) [
     | inl e ↦ rw e (elim m [
       | inl f ↦ (let c = any_back (conflict y) taken e in inr (c.0, keeps taken ys c.0 c.1, ap (λ z. conflict z c.0) f ∙ c.2))
       | inr r ↦ full taken ys x r
@@ -73,19 +73,19 @@ module _ {X : Type 0} (conflict : X → X → Bool) (t : List X) (symmetric : (x
 
   -- the group that a compatible list of members grows to: what conflicts with nothing in its extension
   pub extension : List X → List X
-  extension g = filter (λ y. not (meets conflict (extend conflict g t) y)) t
+  extension g = filter (λ y. not (in_conflict_with conflict (extend conflict g t) y)) t
 
   module _ (g : List X) (p : Within g) (f : Free g) where
     pub in_extension : (x : X) → In x (extend conflict g t) → In x (extension g)
     unfolding extension
     in_extension x m =
-        In-filter (λ y. not (meets conflict (extend conflict g t) y)) x t (within g t p (λ z r. r) x m)
+        In-filter (λ y. not (in_conflict_with conflict (extend conflict g t) y)) x t (within g t p (λ z r. r) x m)
         (not_from_false _ (false_from_ne_true _ (λ e. let c = any_back (conflict x) (extend conflict g t) e in true≢false (sym c.2 ∙ free g t p (λ z r. r) f x c.0 m c.1))))
 
     pub in_extension_back : (x : X) → In x (extension g) → In x (extend conflict g t)
     unfolding extension
     in_extension_back x m =
-        let c = In-filter_back (λ y. not (meets conflict (extend conflict g t) y)) x t m in
+        let c = In-filter_back (λ y. not (in_conflict_with conflict (extend conflict g t) y)) x t m in
         elim (full g t x c.0) [
           | inl a ↦ a
           | inr a ↦ absurd (true≢false (sym a.2 ∙ any_none (conflict x) a.0 (extend conflict g t) (not-true _ c.1) a.1))
@@ -94,7 +94,7 @@ module _ {X : Type 0} (conflict : X → X → Bool) (t : List X) (symmetric : (x
     pub extension_is_group : IsGroup conflict t (extension g)
     unfolding extension
     extension_is_group = record {
-      inside = sublist_of_filter (λ y. not (meets conflict (extend conflict g t) y)) t;
+      inside = sublist_of_filter (λ y. not (in_conflict_with conflict (extend conflict g t) y)) t;
       compatible = λ x y m n. free g t p (λ z r. r) f x y (in_extension_back x (In-from_Contains x (extension g) m)) (in_extension_back y (In-from_Contains y (extension g) n));
       maximal = λ x m. elim (full g t x (In-from_Contains x t m)) [
         | inl a ↦ inl (Contains-from_In x (extension g) (in_extension x a))

@@ -5,39 +5,39 @@ use Rattle.std.proofs.lemmas.Bool.{cases_Bool, true≢false, and_parts, and_from
 use Rattle.op_names.specs.Names.{Name, name_cmp, same_name}
 use Rattle.op_names.specs.VersionIds.{same_names}
 use Rattle.rules.specs.Lists.{HasNoRepeats, sort_by}
-use Rattle.rules.specs.Groups.{meets, groups_of, identifier, group_named, IsGroup}
+use Rattle.rules.specs.Groups.{in_conflict_with, groups_of, identifier, group_named, IsGroup}
 use Rattle.rules.proofs.Lists.{In, In-from_Contains, Contains-from_In, In-map, In-map_back, In-filter, In-filter_back, any_from, filter_agree, find_agree, find_is, find_some}
 use Rattle.rules.proofs.Once.{Once, Once-from_HasNoRepeats}
 use Rattle.rules.proofs.Sorting.{sort_in, sort_back}
 use Rattle.rules.proofs.Counted.{same_name-true, same_name-refl}
-use Rattle.rules.proofs.Groups.{sublist_in, sublist_same, group_is, group_in, group_within, meets_agree, groups_agree}
+use Rattle.rules.proofs.Groups.{sublist_in, sublist_same, group_is, group_in, group_within, in_conflict_agree, groups_agree}
 
 module _ {X : Type 0} (conflict : X → X → Bool) (name : X → Name) (s : List X) where
   abbrev named : List X → List Name
-  named g = map name (filter (meets conflict s) g)
+  named g = map name (filter (in_conflict_with conflict s) g)
 
-  pub in_identifier : (g : List X) (x : X) → In x g → meets conflict s x ≡ true → In (name x) (identifier conflict name s g)
+  pub in_identifier : (g : List X) (x : X) → In x g → in_conflict_with conflict s x ≡ true → In (name x) (identifier conflict name s g)
   unfolding identifier
-  in_identifier g x m t = sort_in name_cmp (name x) (named g) (In-map name x (filter (meets conflict s) g) (In-filter (meets conflict s) x g m t))
+  in_identifier g x m t = sort_in name_cmp (name x) (named g) (In-map name x (filter (in_conflict_with conflict s) g) (In-filter (in_conflict_with conflict s) x g m t))
 
   pub record Named (g : List X) (n : Name) : Type 0 where
     pub member : X
     pub there : In member g
-    pub met : meets conflict s member ≡ true
+    pub met : in_conflict_with conflict s member ≡ true
     pub is : n ≡ name member
 
   pub in_identifier_back : (g : List X) (n : Name) → In n (identifier conflict name s g) → Named g n
   unfolding identifier
   in_identifier_back g n m =
-      let c = In-map_back name n (filter (meets conflict s) g) (sort_back name_cmp n (named g) m) in
-      let d = In-filter_back (meets conflict s) c.0 g c.1 in
+      let c = In-map_back name n (filter (in_conflict_with conflict s) g) (sort_back name_cmp n (named g) m) in
+      let d = In-filter_back (in_conflict_with conflict s) c.0 g c.1 in
       record { member = c.0; there = d.0; met = d.1; is = c.2 }
 
 module _ {X : Type 0} (conflict : X → X → Bool) (name : X → Name) (s : List X) (apart : (x y : X) → In x s → In y s → name x ≡ name y → x ≡ y) where
   identified : (g h : List X) → IsGroup conflict s g → IsGroup conflict s h → identifier conflict name s g ≡ identifier conflict name s h → (x : X) → In x g → In x h
   identified g h i j e x m =
       let within : (k : List X) → IsGroup conflict s k → (y : X) → In y k → In y s = λ k p y l. sublist_in k s p.inside y l in
-      elim (cases_Bool (meets conflict s x)) [
+      elim (cases_Bool (in_conflict_with conflict s x)) [
         | inl t ↦
             (let a = in_identifier_back conflict name s h (name x) (subst (λ l. In (name x) l) e (in_identifier conflict name s g x m t)) in
             subst (λ z. In z h) (sym (apart x a.member (within g i x m) (within h j a.member a.there) a.is)) a.there)
@@ -92,7 +92,7 @@ module _ {X : Type 0} (conflict : X → X → Bool) (name : X → Name) (s : Lis
 module _ {X : Type 0} (c d : X → X → Bool) (s : List X) (agree : (x y : X) → In x s → In y s → c x y ≡ d x y) (name : X → Name) where
   pub identifier_agree : (g : List X) → ((y : X) → In y g → In y s) → identifier c name s g ≡ identifier d name s g
   unfolding identifier
-  identifier_agree g sub = ap (λ l. sort_by name_cmp (map name l)) (filter_agree (meets c s) (meets d s) g (λ x m. meets_agree c d s agree s (λ y n. n) x (sub x m)))
+  identifier_agree g sub = ap (λ l. sort_by name_cmp (map name l)) (filter_agree (in_conflict_with c s) (in_conflict_with d s) g (λ x m. in_conflict_agree c d s agree s (λ y n. n) x (sub x m)))
 
   pub group_named_agree : (id : List Name) → group_named c name s id ≡ group_named d name s id
   unfolding group_named

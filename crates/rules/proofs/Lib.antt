@@ -23,7 +23,9 @@ pub mod Attributes
 pub mod Decided
 pub mod Shown
 pub mod Founded
+pub mod SameRecords
 pub mod Ordered
 pub mod Reordered
 pub mod Permutations
 pub mod Sorted
+pub mod Names

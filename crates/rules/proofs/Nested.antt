@@ -72,10 +72,10 @@ module _ {h : List Op} (i : IsHistory h) where
   pub conflict_from_base : (a b : Op) → Contains h a → conflict h a b ≡ (list_any (direct_conflict (base h) a) (with_base (base h) b) || list_any (λ x. conflict h x b) (members (base h a)))
   unfolding conflict
   conflict_from_base a b m =
-      let meets : Op → Bool = λ x. list_any (direct_conflict (base h) x) (with_base (base h) b) in
-      ap (λ t. meets a || t) (same_answer (list_any meets (members (base h a))) (list_any (λ x. conflict h x b) (members (base h a)))
-      (λ e. let c = any_back meets (members (base h a)) e in any_from (λ x. conflict h x b) c.0 (members (base h a)) c.1 (any_from meets c.0 (with_base (base h) c.0) (inl refl) c.2))
+      let in_conflict_with : Op → Bool = λ x. list_any (direct_conflict (base h) x) (with_base (base h) b) in
+      ap (λ t. in_conflict_with a || t) (same_answer (list_any in_conflict_with (members (base h a))) (list_any (λ x. conflict h x b) (members (base h a)))
+      (λ e. let c = any_back in_conflict_with (members (base h a)) e in any_from (λ x. conflict h x b) c.0 (members (base h a)) c.1 (any_from in_conflict_with c.0 (with_base (base h) c.0) (inl refl) c.2))
       (λ e.
       let c = any_back (λ x. conflict h x b) (members (base h a)) e in
-      let d = any_back meets (with_base (base h) c.0) c.2 in
-      any_from meets d.0 (members (base h a)) (elim d.1 [ inl q ↦ subst (λ z. In z (members (base h a))) (sym q) c.1 | inr r ↦ base_nested (suc (total a.seen)) a c.0 d.0 m (omega arith) c.1 r ]) d.2))
+      let d = any_back in_conflict_with (with_base (base h) c.0) c.2 in
+      any_from in_conflict_with d.0 (members (base h a)) (elim d.1 [ inl q ↦ subst (λ z. In z (members (base h a))) (sym q) c.1 | inr r ↦ base_nested (suc (total a.seen)) a c.0 d.0 m (omega arith) c.1 r ]) d.2))

@@ -8,7 +8,7 @@ use Rattle.rules.specs.declared.history.Op.{Op}
 use Rattle.rules.specs.declared.history.Body.{Body}
 use Rattle.rules.specs.declared.history.Body.TheVariants.{New, Set}
 use Rattle.rules.specs.declared.refusal.Refusal.TheVariants.{NoSuchVersion, ObjectFull, TooManyKeys, TooManyVersions}
-use Rattle.rules.specs.Bounds.{Bounds}
+use Rattle.rules.specs.declared.limits.LimitValues.{LimitValues}
 use Rattle.rules.specs.Bodies.{is_set_body, object_in}
 use Rattle.rules.specs.Records.{has_too_many_keys, version_conditions}
 use Rattle.rules.specs.Lists.{sort_by}
@@ -114,7 +114,7 @@ module _ (h : List Op) (object : Name) where
   versions_alone = versions_kept object (is_on object) set_is_on h (creation_is_on object)
 
   -- whether a set on the object is refused
-  pub conditions_alone : (b : Bounds) (op : Op) → IsTrue (is_on object op) → version_conditions b (operations_on h object) op ≡ version_conditions b h op
+  pub conditions_alone : (b : LimitValues) (op : Op) → IsTrue (is_on object op) → version_conditions b (operations_on h object) op ≡ version_conditions b h op
   conditions_alone b op e =
       let named : object_of op ≡ object = on op e in
       let sets : sets_on (operations_on h object) (object_of op) ≡ sets_on h (object_of op) = subst (λ n. sets_on (operations_on h object) n ≡ sets_on h n) (sym named) (sets_on_kept object (is_on object) set_is_on h) in

@@ -86,13 +86,22 @@ module _ {h : List Op} (i : IsHistory h) (a b : Op) (ma : Contains h a) (mb : Co
     closed = λ x y n m k e f. i.closed x y n (there x m) (there y k) e f;
   }
 
+  past_in : {k : List Op} → IsHistory k → ((x : Op) → Contains h x → IsTrue (in_past x) → Contains k x) → IsPartOf past k
+  past_in j f = record { part = past_history; whole = j; within = λ x m. f x (there x m) (In-filter_back in_past x h (In-from_Contains x past m)).1 }
+
   -- agree on whether the two conflict
   pub conflict_by_past : {k : List Op} → IsHistory k → ((x : Op) → Contains h x → IsTrue (in_past x) → Contains k x) → conflict h a b ≡ conflict k a b
   conflict_by_past j f =
       let first = here a ma (or_left (is_past a a) (is_past b a) (itself a)) in
       let second = here b mb (or_right (is_past a b) (is_past b b) (itself b)) in
-      sym (conflict_in_part (record { part = past_history; whole = i; within = there }) a b first second)
-      ∙ conflict_in_part (record { part = past_history; whole = j; within = λ x m. f x (there x m) (In-filter_back in_past x h (In-from_Contains x past m)).1 }) a b first second
+      sym (conflict_in_part (past_in i (λ x m e. m)) a b first second) ∙ conflict_in_part (past_in j f) a b first second
+
+-- two histories that agree on an operation and all before it agree on its base
+pub base_by_past : {h k : List Op} → IsHistory h → IsHistory k → (b : Op) → Contains h b → ((x : Op) → Contains h x → IsTrue (is_past b x) → Contains k x) → base h b ≡ base k b
+base_by_past {h} {k} i j b m f =
+    let either : (x : Op) → Contains h x → IsTrue (is_past b x || is_past b x) → Contains k x = λ x n e. f x n (elim (or_cases (is_past b x) (is_past b x) e) [ inl q ↦ q | inr q ↦ q ]) in
+    let own = here i b b m m b m (or_left (is_past b b) (is_past b b) (itself i b b m m b)) in
+    sym (base_in_part (past_in i b b m m i (λ x n e. n)) b own) ∙ base_in_part (past_in i b b m m j either) b own
 
 -- ---- an operation that is about to be added
 

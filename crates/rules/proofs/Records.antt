@@ -7,7 +7,7 @@ use Rattle.std.specs.Prelude.{◌==◌}
 use Rattle.rules.specs.declared.history.Op.{Op}
 use Rattle.rules.specs.declared.history.Entry.{Entry}
 use Rattle.rules.specs.declared.history.Entry.TheVariants.{Join, Operation}
-use Rattle.rules.specs.Bounds.{Bounds}
+use Rattle.rules.specs.declared.limits.LimitValues.{LimitValues}
 use Rattle.rules.specs.Bodies.{is_set_body}
 use Rattle.rules.specs.Admission.{count_at_site}
 use Rattle.rules.specs.Records.{operation_in, operations, sites, objects, is_join, admits, IsLegal, IsLegalAfter}
@@ -44,17 +44,17 @@ module _ (r : List Entry) where
 
 -- ---- legal records
 
-legal_push_after : (b : Bounds) (r rest : List Entry) (e : Entry) → IsLegalAfter b r rest → admits b (r ++ rest) e ≡ true → IsLegalAfter b r (rest ++ e ∷ [])
+legal_push_after : (b : LimitValues) (r rest : List Entry) (e : Entry) → IsLegalAfter b r rest → admits b (r ++ rest) e ≡ true → IsLegalAfter b r (rest ++ e ∷ [])
 legal_push_after b r [] e g a = (ap (λ x. admits b x e) (sym (append-nil r)) ∙ a, tt)
 legal_push_after b r (x ∷ rest) e g a = (g.0, legal_push_after b (r ++ x ∷ []) rest e g.1 (ap (λ y. admits b y e) (append_assoc r (x ∷ []) rest) ∙ a))
 
 -- an admitted entry keeps a record legal
-pub legal_push : (b : Bounds) (r : List Entry) (e : Entry) → IsLegal b r → admits b r e ≡ true → IsLegal b (r ++ e ∷ [])
+pub legal_push : (b : LimitValues) (r : List Entry) (e : Entry) → IsLegal b r → admits b r e ≡ true → IsLegal b (r ++ e ∷ [])
 legal_push b r e g a = legal_push_after b [] r e g a
 
 -- ---- counts
 
-length-operations : (r : List Entry) → length (operations r) ≤ length r
+pub length-operations : (r : List Entry) → length (operations r) ≤ length r
 length-operations [] = omega arith
 length-operations (Join n ∷ r) = omega (arith, length-operations r)
 length-operations (Operation op ∷ r) = omega (arith, length-operations r)

@@ -5,7 +5,7 @@ use Rattle.std.proofs.lemmas.Bool.{cases_Bool, true≢false, not-true, not_from_
 use Rattle.op_names.specs.Names.{Name, same_name}
 use Rattle.op_names.specs.VersionIds.{same_names}
 use Rattle.rules.specs.Lists.{HasNoRepeats}
-use Rattle.rules.specs.Groups.{meets, identifier, group_named, is_named, unopposed, IsGroup}
+use Rattle.rules.specs.Groups.{in_conflict_with, identifier, group_named, is_named, compatible_with_named, IsGroup}
 use Rattle.rules.proofs.Lists.{In, In-from_Contains, Contains-from_In, In-filter, In-filter_back, any_from, any_back}
 use Rattle.rules.proofs.Once.{Once, Once-from_HasNoRepeats}
 use Rattle.rules.proofs.Counted.{same_name-true, same_name-refl}
@@ -17,10 +17,10 @@ module _ {X : Type 0} (conflict : X → X → Bool) (name : X → Name) (s : Lis
   named = filter (is_named name id) s
 
   abbrev free : X → Bool
-  free x = not (meets conflict named x)
+  free x = not (in_conflict_with conflict named x)
 
   abbrev left : List X
-  left = unopposed conflict name s id
+  left = compatible_with_named conflict name s id
 
   -- where g has this identifier, what it names is in g
   from_named : (g : List X) → ((x : X) → In x g → In x s) → identifier conflict name s g ≡ id → (x : X) → In x named → In x g
@@ -66,25 +66,25 @@ module _ {X : Type 0} (conflict : X → X → Bool) (name : X → Name) (s : Lis
             let a = In-filter_back free x s (In-from_Contains x left m) in
             let there = In-from_Contains y left n in
             free_back x y a.1 (to_named left within e y x there a.0 (sym (symmetric x y a.0 (within y there)) ∙ t)) t);
-        maximal = λ x m. let k = In-from_Contains x s m in elim (cases_Bool (meets conflict named x)) [
+        maximal = λ x m. let k = In-from_Contains x s m in elim (cases_Bool (in_conflict_with conflict named x)) [
           | inl t ↦ (let c = any_back (conflict x) named t in inr (c.0, Contains-from_In c.0 left (from_named left within e c.0 c.1), c.2))
           | inr f ↦ inl (Contains-from_In x left (In-filter free x s k (not_from_false _ f)))
         ];
       }
 
-  abbrev fits : Bool
-  fits = same_names (identifier conflict name s left) id
+  abbrev is_identified : Bool
+  is_identified = same_names (identifier conflict name s left) id
 
   -- so the group with this identifier is found by one filter and one comparison
-  pub group_named_by_filter : group_named conflict name s id ≡ cond fits (Some left) None
-  group_named_by_filter = elim (cases_Bool fits) [
+  pub group_named_by_filter : group_named conflict name s id ≡ cond is_identified (Some left) None
+  group_named_by_filter = elim (cases_Bool is_identified) [
     | inl t ↦
         (let e = same_names-true (identifier conflict name s left) id t in
         (group_named_is conflict name s id left apart once).1 (left_is_group e, e) ∙ (λ i. cond (sym t i) (Some left) None))
     | inr f ↦ none f (group_named conflict name s id) refl ∙ (λ i. cond (sym f i) (Some left) None)
   ]
     where
-      none : fits ≡ false → (r : Option (List X)) → group_named conflict name s id ≡ r → group_named conflict name s id ≡ None
+      none : is_identified ≡ false → (r : Option (List X)) → group_named conflict name s id ≡ r → group_named conflict name s id ≡ None
       none f None e = e
       none f (Some g) e =
           let c = (group_named_is conflict name s id g apart once).0 e in
@@ -93,6 +93,6 @@ module _ {X : Type 0} (conflict : X → X → Bool) (name : X → Name) (s : Lis
 pub found_by_one_filter : {X : Type 0} (conflict : X → X → Bool) (name : X → Name) (s : List X) (id : List Name) → HasNoRepeats s
     → ((x y : X) → Contains s x → Contains s y → name x ≡ name y → x ≡ y)
     → ((x y : X) → Contains s x → Contains s y → conflict x y ≡ conflict y x)
-    → group_named conflict name s id ≡ cond (same_names (identifier conflict name s (unopposed conflict name s id)) id) (Some (unopposed conflict name s id)) None
+    → group_named conflict name s id ≡ cond (same_names (identifier conflict name s (compatible_with_named conflict name s id)) id) (Some (compatible_with_named conflict name s id)) None
 found_by_one_filter conflict name s id o apart symmetric =
     group_named_by_filter conflict name s (λ x y m n. apart x y (Contains-from_In x s m) (Contains-from_In y s n)) (Once-from_HasNoRepeats s o) (λ x y m n. symmetric x y (Contains-from_In x s m) (Contains-from_In y s n)) id

@@ -126,7 +126,7 @@ module _ (k h : List Op) (object : Name) (w : AreSame k h) where
   same_conflict : (a b : Op) → In a (sets_on k object) → In b (sets_on k object) → conflict k a b ≡ conflict h a b
   same_conflict a b m n = conflict_in_part w.one a b (Contains-from_In a k (in_sets_on_back k object a m).0) (Contains-from_In b k (in_sets_on_back k object b n).0)
 
-  same_groups : groups k object ≡ groups h object
+  pub same_groups : groups k object ≡ groups h object
   unfolding groups
   same_groups = groups_agree (conflict k) (conflict h) (sets_on k object) same_conflict ∙ ap (groups_of (conflict h)) same_sets
 
@@ -142,7 +142,7 @@ module _ (k h : List Op) (object : Name) (w : AreSame k h) where
           let d = find_is (is_creation_of object) b h f in
           e ∙ ap Some (one_op w.one.whole a b (to a c.0) d.0 (created_name object a c.1 ∙ sym (created_name object b d.1))) ∙ sym f
 
-  same_version : (g : List Op) → In g (groups k object) → version_of k object g ≡ version_of h object g
+  pub same_version : (g : List Op) → In g (groups k object) → version_of k object g ≡ version_of h object g
   unfolding groups version_of
   same_version g m =
       let id = identifier_agree (conflict k) (conflict h) (sets_on k object) same_conflict name_of g (group_within (conflict k) (sets_on k object) g m) ∙ ap (λ s. identifier (conflict h) name_of s g) same_sets in

@@ -4,7 +4,7 @@ use Rattle.std.specs.declared.cmp.Ordering.{Ordering}
 use Rattle.std.specs.declared.cmp.Ordering.TheVariants.{Less, Equal, Greater}
 use Rattle.std.specs.Ordering.{is_lt, ordering_reverse}
 use Rattle.std.specs.Cmp.{IsTotalOrder}
-use Rattle.std.specs.List.{position, position_or_len, insert}
+use Rattle.std.specs.List.{position, position_or_len}
 use Rattle.std.proofs.lemmas.Bool.{cases_Bool, ltb-false, true≢false}
 use Rattle.std.proofs.lemmas.List.{take_all, drop_all}
 use Rattle.rules.specs.Lists.{insert_by, sort_by}
@@ -23,16 +23,9 @@ module _ {X : Type 0} (cmp : X → X → Ordering) (x : X) where
         ap (λ zs. y ∷ zs) (at_place ys) ∙ sym (ap (λ n. take n (y ∷ ys) ++ x ∷ drop n (y ∷ ys)) one))
   ]
 
-  found : (b : Bool) (k i : ℕ) → cond b (Some k) None ≡ Some i → k ≡ i
-  found true k i e = cc
-  found false k i e = absurd cc
-
   missing : (b : Bool) (k : ℕ) → cond b (Some k) None ≡ None → b ≡ false
   missing true k e = absurd cc
   missing false k e = refl
-
-  pub inserted_at : (xs : List X) (i : ℕ) → position above xs ≡ Some i → insert_by cmp x xs ≡ insert xs i x
-  inserted_at xs i e = at_place xs ∙ ap (λ k. take k xs ++ x ∷ drop k xs) (found (ltb (position_or_len above xs) (length xs)) (position_or_len above xs) i e)
 
   pub inserted_last : (xs : List X) → position above xs ≡ None → insert_by cmp x xs ≡ xs ++ x ∷ []
   inserted_last xs e =

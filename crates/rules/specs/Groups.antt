@@ -11,16 +11,16 @@ partings [] = ([], []) ∷ []
 partings (x ∷ xs) = map (λ p. (x ∷ p.0, p.1)) (partings xs) ++ map (λ p. (p.0, x ∷ p.1)) (partings xs)
 
 -- x conflicts with some member of g
-abbrev pub meets : {X : Type 0} → (X → X → Bool) → List X → X → Bool
-meets conflict g x = list_any (conflict x) g
+abbrev pub in_conflict_with : {X : Type 0} → (X → X → Bool) → List X → X → Bool
+in_conflict_with conflict g x = list_any (conflict x) g
 
 -- no two of g conflict
 abbrev pub is_compatible : {X : Type 0} → (X → X → Bool) → List X → Bool
-is_compatible conflict g = list_all (λ x. not (meets conflict g x)) g
+is_compatible conflict g = list_all (λ x. not (in_conflict_with conflict g x)) g
 
 -- each of the rest conflicts with some member of g
 abbrev pub is_maximal : {X : Type 0} → (X → X → Bool) → List X → List X → Bool
-is_maximal conflict g rest = list_all (meets conflict g) rest
+is_maximal conflict g rest = list_all (in_conflict_with conflict g) rest
 
 -- The groups of s: all its parts without a conflict inside, such that each other member of s conflicts with one in the
 -- part. The empty list has one group, the empty one.
@@ -29,7 +29,7 @@ groups_of conflict s = map (λ p. p.0) (filter (λ p. is_compatible conflict p.0
 
 -- a group's identifier: the rising list of the names of those members that conflict with some member of s
 unfoldable pub identifier : {X : Type 0} → (X → X → Bool) → (X → Name) → List X → List X → List Name
-identifier conflict name s g = sort_by name_cmp (map name (filter (meets conflict s) g))
+identifier conflict name s g = sort_by name_cmp (map name (filter (in_conflict_with conflict s) g))
 
 -- the group of s with this identifier
 unfoldable pub group_named : {X : Type 0} → (X → X → Bool) → (X → Name) → List X → List Name → Option (List X)
@@ -40,8 +40,8 @@ abbrev pub is_named : {X : Type 0} → (X → Name) → List Name → X → Bool
 is_named name id x = list_any (same_name (name x)) id
 
 -- the members of s that conflict with no member whose name the identifier has
-abbrev pub unopposed : {X : Type 0} → (X → X → Bool) → (X → Name) → List X → List Name → List X
-unopposed conflict name s id = filter (λ x. not (meets conflict (filter (is_named name id) s) x)) s
+abbrev pub compatible_with_named : {X : Type 0} → (X → X → Bool) → (X → Name) → List X → List Name → List X
+compatible_with_named conflict name s id = filter (λ x. not (in_conflict_with conflict (filter (is_named name id) s) x)) s
 
 -- ---- the same, as a predicate
 

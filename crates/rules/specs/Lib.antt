@@ -4,7 +4,7 @@ pub use Rattle.op_names.specs.Values
 pub use Rattle.op_names.specs.VersionIds
 pub use Rattle.state_vector.specs.Vectors
 pub mod AttrLists
-pub mod Bounds
+pub mod Limits
 pub mod Refusals
 pub mod Lists
 pub mod Bodies

@@ -1,5 +1,5 @@
 -- The record of a room: its joins and operations in order, and which entry it admits next.
-use Rattle.std.specs.Prelude.{◌≡◌, ℕ, ◌+◌, Bool, true, false, not, ◌&&◌, List, [], ◌∷◌, ◌++◌, Option, Some, None, ◌==◌, nat_le, nat_lt, filter, filter_map, count_by, length, is_none, bytes_eq, if◌then◌else◌}
+use Rattle.std.specs.Prelude.{◌≡◌, ◌↔◌, Contains, ℕ, ◌+◌, Bool, true, false, not, ◌&&◌, List, [], ◌∷◌, ◌++◌, Option, Some, None, ◌==◌, nat_le, nat_lt, filter, filter_map, count_by, length, is_none, bytes_eq, if◌then◌else◌}
 use Rattle.std.specs.List.{list_any, list_all}
 use Rattle.state_vector.specs.Vectors.{is_vector}
 use Rattle.rules.specs.declared.history.Op.{Op}
@@ -7,7 +7,7 @@ use Rattle.rules.specs.declared.history.Entry.{Entry}
 use Rattle.rules.specs.declared.history.Entry.TheVariants.{Join, Operation}
 use Rattle.rules.specs.declared.refusal.Refusal.{Refusal}
 use Rattle.rules.specs.declared.refusal.Refusal.TheVariants.{RoomFull, RecordFull, NoSuchObject, NoSuchVersion, ObjectFull, TooManyKeys, TooManyVersions, TooManyObjects}
-use Rattle.rules.specs.Bounds.{Bounds}
+use Rattle.rules.specs.declared.limits.LimitValues.{LimitValues}
 use Rattle.rules.specs.Bodies.{is_set_body, keys_in}
 use Rattle.rules.specs.Operations.{object_of, sets_on}
 use Rattle.rules.specs.Admission.{Condition, first_that_applies, causal_conditions}
@@ -41,15 +41,15 @@ objects r = filter (λ op. not (is_set_body op.body)) (operations r)
 -- ---- what it admits next
 
 -- what is asked of a join
-abbrev pub join_conditions : Bounds → List Entry → List Condition
+abbrev pub join_conditions : LimitValues → List Entry → List Condition
 join_conditions b r = (nat_le b.joins (sites r), RoomFull) ∷ (nat_le b.entries (length r), RecordFull) ∷ []
 
 -- what is asked of each operation
-abbrev pub order_conditions : Bounds → List Entry → Op → List Condition
+abbrev pub order_conditions : LimitValues → List Entry → Op → List Condition
 order_conditions b r op = (nat_le b.entries (length r), RecordFull) ∷ causal_conditions (operations r) op.name op.seen
 
 -- and then of a creation
-abbrev pub creation_conditions : Bounds → List Entry → List Condition
+abbrev pub creation_conditions : LimitValues → List Entry → List Condition
 creation_conditions b r = (nat_le b.objects (length (objects r)), TooManyObjects) ∷ []
 
 -- the set has a key that these sets don't have
@@ -57,30 +57,30 @@ abbrev pub has_new_key : List Op → Op → Bool
 has_new_key sets op = not (list_all (λ key. list_any (bytes_eq key) (keys_of sets)) (keys_in op.body))
 
 -- and these have as many keys as there may be
-abbrev pub has_too_many_keys : Bounds → List Op → Op → Bool
+abbrev pub has_too_many_keys : LimitValues → List Op → Op → Bool
 has_too_many_keys b sets op = has_new_key sets op && nat_le b.keys (length (keys_of sets))
 
 -- with the set its object has more versions than there may be
-abbrev pub has_too_many_versions : Bounds → List Op → Op → Bool
+abbrev pub has_too_many_versions : LimitValues → List Op → Op → Bool
 has_too_many_versions b h op = nat_lt b.versions (length (groups (h ++ op ∷ []) (object_of op)))
 
 -- or of a set on an object that is there, after these operations
-abbrev pub version_conditions : Bounds → List Op → Op → List Condition
+abbrev pub version_conditions : LimitValues → List Op → Op → List Condition
 version_conditions b h op = let sets = sets_on h (object_of op) in
     (is_none (base h op), NoSuchVersion) ∷ (nat_le b.sets (length sets), ObjectFull) ∷ (has_too_many_keys b sets op, TooManyKeys)
     ∷ (has_too_many_versions b h op, TooManyVersions) ∷ []
 
 -- or of any set
-abbrev pub set_conditions : Bounds → List Op → Op → List Condition
+abbrev pub set_conditions : LimitValues → List Op → Op → List Condition
 set_conditions b h op = (not (has_object h op), NoSuchObject) ∷ version_conditions b h op
 
 -- what is asked of an entry, in this order
-abbrev pub conditions : Bounds → List Entry → Entry → List Condition
+abbrev pub conditions : LimitValues → List Entry → Entry → List Condition
 conditions b r (Join site) = join_conditions b r
 conditions b r (Operation op) = order_conditions b r op ++ (if is_set_body op.body then set_conditions b (operations r) op else creation_conditions b r)
 
 -- why this entry, whose site has joined and whose vector is one, isn't admitted after these, if it isn't
-unfoldable pub refusal : Bounds → List Entry → Entry → Option Refusal
+unfoldable pub refusal : LimitValues → List Entry → Entry → Option Refusal
 refusal b r entry = first_that_applies (conditions b r entry)
 
 -- the entry's site is the next one, or has joined; its vector is one
@@ -89,14 +89,20 @@ is_placed r (Join site) = site == sites r + 1
 is_placed r (Operation op) = nat_le 1 op.name.0 && nat_le op.name.0 (sites r) && is_vector op.seen
 
 -- the entry may come next
-abbrev pub admits : Bounds → List Entry → Entry → Bool
+abbrev pub admits : LimitValues → List Entry → Entry → Bool
 admits b r entry = is_placed r entry && is_none (refusal b r entry)
 
 -- each of the later entries is admitted by all that come before it
-abbrev pub IsLegalAfter : Bounds → List Entry → List Entry → Type 0
+abbrev pub IsLegalAfter : LimitValues → List Entry → List Entry → Type 0
 IsLegalAfter b r [] = Unit {0}
 IsLegalAfter b r (entry ∷ later) = (admits b r entry ≡ true) × IsLegalAfter b (r ++ entry ∷ []) later
 
 -- a legal record: each entry is admitted by those before it
-abbrev pub IsLegal : Bounds → List Entry → Type 0
+abbrev pub IsLegal : LimitValues → List Entry → Type 0
 IsLegal b r = IsLegalAfter b [] r
+
+-- two records, each of which is legal by some limits, hold the same operations, in whatever order
+pub record HoldTheSame (q r : List Entry) : Type 0 where
+  pub one : (limits : LimitValues) × IsLegal limits q
+  pub other : (limits : LimitValues) × IsLegal limits r
+  pub same : (a : Op) → Contains (operations q) a ↔ Contains (operations r) a

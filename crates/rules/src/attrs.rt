@@ -1,7 +1,8 @@
 //! The attributes that an object is created with.
 
-ghost use Rattle.std.specs.Prelude.{◌≡◌, ◌↔◌, List, ℕ, true, false, Some, None, IfOk, IfErr, IfSome, OnErr, bytes_eq};
+ghost use Rattle.std.specs.Prelude.{◌≡◌, List, true, false, IfOk, OnErr, OnOk, bytes_eq};
 ghost use Rattle.std.specs.List.{list_any};
+ghost use Rattle.std.specs.Result.{result_err};
 ghost use Rattle.op_names.specs.Repeats.{first_repeat};
 ghost use Rattle.std.specs.Cmp.Rules.{comparing};
 ghost use Rattle.std.proofs.Common.{rules};
@@ -75,9 +76,9 @@ impl Attrs {
     /// first `Repeated` key. Takes no memory.
     #[tactic(auto, unfolding(crate::specs::AttrLists::attrs_fault))]
     pub fn from_pairs(pairs: Vec<(Key, Value)>) -> Result<Attrs, AttrsFault>
-        ensures ok { IfOk result (λ attrs. (attrs ≡ pairs.items) × (attrs_fault pairs.items ≡ None)) }
-        ensures fault { IfErr result (λ fault. attrs_fault pairs.items ≡ Some fault) }
-        ensures range { IfOk result (λ _. are_attrs pairs.items ≡ true) }
+        ensures ok { IfOk result (λ attrs. attrs ≡ pairs.items) }
+        ensures fault { result_err result ≡ attrs_fault pairs.items }
+        ensures range { OnOk result (are_attrs pairs.items ≡ true) }
         ensures refused { OnErr result (are_attrs pairs.items ≡ false) }
     {
         if pairs.len() > 16 {

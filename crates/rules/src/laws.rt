@@ -8,72 +8,82 @@ ghost use Rattle.op_names.specs.Texts.{Bytes};
 ghost use Rattle.op_names.specs.VersionIds.{id_cmp, same_names};
 ghost use Rattle.rules.specs.declared.history.Op.{Op};
 ghost use Rattle.rules.specs.declared.history.Entry.{Entry};
-ghost use Rattle.rules.specs.Bounds.{Bounds};
+ghost use Rattle.rules.specs.declared.limits.LimitValues.{LimitValues};
 ghost use Rattle.rules.specs.Bodies.{value_in};
 ghost use Rattle.rules.specs.Lists.{HasNoRepeats};
 ghost use Rattle.rules.specs.Operations.{IsHistory, IsPartOf, AreSame, Before, before, is_past, is_on, is_set_on, name_of, object_of, known, sets_on, operations_on, creation_of, IsCausallyOrdered};
-ghost use Rattle.rules.specs.Groups.{groups_of, group_named, identifier, is_compatible, unopposed, IsGroup};
+ghost use Rattle.rules.specs.Groups.{groups_of, group_named, identifier, is_compatible, compatible_with_named, IsGroup};
 ghost use Rattle.rules.specs.Conflicts.{base, conflict, direct_conflict, members, with_base, IsFounded};
 ghost use Rattle.rules.specs.Bodies.{version_in};
 ghost use Rattle.rules.specs.AttrLists.{Attr};
 ghost use Rattle.rules.specs.Versions.{attributes, groups, versions, version_of, decides, gives, value_by, value_of_key};
-ghost use Rattle.rules.specs.Records.{operations, version_conditions, IsLegal};
+ghost use Rattle.rules.specs.Records.{operations, version_conditions, HoldTheSame, IsLegal};
 
 // ---- causal order
 
 /// On a history causal order is one count.
 pub fn before_is_one_count()
-    ensures { (h : List Op) (a b : Op) → IsHistory h → Contains h a → Contains h b → (IsTrue (before a b) ↔ Before h a b) }
+    ensures { (h : List Op) (a b : Op) → IsHistory h → Contains h a → Contains h b
+        → (IsTrue (before a b) ↔ Before h a b) }
 {}
 
 /// The operations of a history can be listed so that none stands before what it is after.
 pub fn histories_have_a_causal_order()
-    ensures { (h : List Op) → IsHistory h → (k : List Op) × IsPermutation h k × IsCausallyOrdered k }
+    ensures { (h : List Op) → IsHistory h
+        → (k : List Op) × IsPermutation h k × IsCausallyOrdered k }
 {}
 
 /// What is listed as all sets on an object are the sets on it.
 pub fn sets_on_an_object()
-    ensures { (h : List Op) (object : Name) (a : Op) → Contains (sets_on h object) a ↔ (Contains h a × IsTrue (is_set_on object a)) }
+    ensures { (h : List Op) (object : Name) (a : Op)
+        → Contains (sets_on h object) a ↔ (Contains h a × IsTrue (is_set_on object a)) }
 {}
 
 /// What an operation knows are the sets on its object that are before it.
 pub fn known_are_the_sets_before()
     ensures { (h : List Op) (a b : Op) → IsHistory h → Contains h b
-        → (Contains (known h b) a ↔ (Contains h a × IsTrue (is_set_on (object_of b) a) × Before h a b)) }
+        → (Contains (known h b) a
+        ↔ (Contains h a × IsTrue (is_set_on (object_of b) a) × Before h a b)) }
 {}
 
 // ---- groups of any list, by any relation of conflict
 
 /// The groups of a list are its maximal compatible parts.
 pub fn groups_are_the_maximal_parts<X>()
-    ensures { (conflict : X → X → Bool) (s g : List X) → HasNoRepeats s → (Contains (groups_of conflict s) g ↔ IsGroup conflict s g) }
+    ensures { (conflict : X → X → Bool) (s g : List X) → HasNoRepeats s
+        → (Contains (groups_of conflict s) g ↔ IsGroup conflict s g) }
 {}
 
 /// No group is listed twice.
 pub fn groups_stand_once<X>()
-    ensures { (conflict : X → X → Bool) (s : List X) → HasNoRepeats s → HasNoRepeats (groups_of conflict s) }
+    ensures { (conflict : X → X → Bool) (s : List X) → HasNoRepeats s
+        → HasNoRepeats (groups_of conflict s) }
 {}
 
 /// Different groups of a list have different identifiers.
 pub fn identifiers_differ<X>()
     ensures { (conflict : X → X → Bool) (name : X → Name) (s g h : List X) → HasNoRepeats s
         → ((x y : X) → Contains s x → Contains s y → name x ≡ name y → x ≡ y)
-        → IsGroup conflict s g → IsGroup conflict s h → identifier conflict name s g ≡ identifier conflict name s h → g ≡ h }
+        → IsGroup conflict s g → IsGroup conflict s h
+        → identifier conflict name s g ≡ identifier conflict name s h → g ≡ h }
 {}
 
-/// The group with an identifier is found by one filter and one comparison: where there is one, it is
-/// all members that conflict with no member whose name the identifier has.
+/// The group with an identifier is found by one filter and one comparison: where there is one, it
+/// is all members that conflict with no member whose name the identifier has.
 pub fn a_named_group_is_found_by_one_filter<X>()
-    ensures { (conflict : X → X → Bool) (name : X → Name) (s : List X) (id : List Name) → HasNoRepeats s
+    ensures { (conflict : X → X → Bool) (name : X → Name) (s : List X) (id : List Name)
+        → HasNoRepeats s
         → ((x y : X) → Contains s x → Contains s y → name x ≡ name y → x ≡ y)
         → ((x y : X) → Contains s x → Contains s y → conflict x y ≡ conflict y x)
         → group_named conflict name s id
-        ≡ (if same_names (identifier conflict name s (unopposed conflict name s id)) id then Some (unopposed conflict name s id) else None) }
+        ≡ (if same_names (identifier conflict name s (compatible_with_named conflict name s id)) id
+        then Some (compatible_with_named conflict name s id) else None) }
 {}
 
 /// The number of groups never falls when members are added.
 pub fn groups_never_get_fewer<X>()
-    ensures { (conflict : X → X → Bool) (part whole : List X) → HasNoRepeats part → HasNoRepeats whole
+    ensures { (conflict : X → X → Bool) (part whole : List X) → HasNoRepeats part
+        → HasNoRepeats whole
         → ((x : X) → Contains part x → Contains whole x)
         → ((x y : X) → Contains whole x → Contains whole y → conflict x y ≡ conflict y x)
         → ((x : X) → Contains whole x → conflict x x ≡ false)
@@ -85,19 +95,30 @@ pub fn groups_never_get_fewer<X>()
 /// The base of an operation is the group of what it knows that has the identifier which it names.
 pub fn base_is_the_named_group()
     ensures { (h : List Op) (b : Op) (g : List Op) → IsHistory h → Contains h b
-        → ((base h b ≡ Some g) ↔ (IsGroup (conflict h) (known h b) g × (identifier (conflict h) name_of (known h b) g ≡ version_in b.body))) }
+        → ((base h b ≡ Some g)
+        ↔ (IsGroup (conflict h) (known h b) g
+        × (identifier (conflict h) name_of (known h b) g ≡ version_in b.body))) }
 {}
 
 /// Conflict goes both ways, and nothing that has a base conflicts with itself.
 pub fn conflict_is_symmetric_and_never_with_itself()
     ensures symmetric { (h : List Op) (a b : Op) → conflict h a b ≡ conflict h b a }
-    ensures never_with_itself { (h : List Op) (b : Op) (g : List Op) → IsHistory h → Contains h b → base h b ≡ Some g → conflict h b b ≡ false }
+    ensures never_with_itself { (h : List Op) (b : Op) (g : List Op) → IsHistory h → Contains h b
+        → base h b ≡ Some g → conflict h b b ≡ false }
 {}
 
 /// A part of a history agrees with the whole on bases and on conflicts.
 pub fn a_part_agrees_with_the_whole()
     ensures bases { (k h : List Op) (b : Op) → IsPartOf k h → Contains k b → base k b ≡ base h b }
-    ensures conflicts { (k h : List Op) (a b : Op) → IsPartOf k h → Contains k a → Contains k b → conflict k a b ≡ conflict h a b }
+    ensures conflicts { (k h : List Op) (a b : Op) → IsPartOf k h → Contains k a → Contains k b
+        → conflict k a b ≡ conflict h a b }
+{}
+
+/// Two histories that agree on an operation and on all before it agree on its base.
+pub fn base_is_decided_by_the_past()
+    ensures { (h k : List Op) (b : Op) → IsHistory h → IsHistory k → Contains h b
+        → ((x : Op) → Contains h x → IsTrue (is_past b x) → Contains k x)
+        → base h b ≡ base k b }
 {}
 
 /// Two histories that agree on two operations and on all before these agree on whether the two
@@ -111,7 +132,8 @@ pub fn conflict_is_decided_by_the_past()
 /// Each group of a causally closed list holds the base of each of its members.
 pub fn groups_hold_their_bases()
     ensures { (h s g : List Op) → IsHistory h → IsGroup (conflict h) s g
-        → ((x : Op) → Contains s x → Contains h x) → ((x u : Op) → Contains s x → Contains (known h x) u → Contains s u)
+        → ((x : Op) → Contains s x → Contains h x)
+        → ((x u : Op) → Contains s x → Contains (known h x) u → Contains s u)
         → (a u : Op) → Contains g a → Contains (members (base h a)) u → Contains g u }
 {}
 
@@ -119,25 +141,31 @@ pub fn groups_hold_their_bases()
 /// base, or a member of its own base conflicts with it.
 pub fn conflicts_follow_from_the_base()
     ensures { (h : List Op) (a b : Op) → IsHistory h → Contains h a
-        → conflict h a b ≡ (list_any (direct_conflict (base h) a) (with_base (base h) b) || list_any (λ x. conflict h x b) (members (base h a))) }
+        → conflict h a b
+        ≡ (list_any (direct_conflict (base h) a) (with_base (base h) b)
+        || list_any (λ x. conflict h x b) (members (base h a))) }
 {}
 
 // ---- versions
 
 /// In whatever order its operations are listed, a history has the same versions of each object.
 pub fn versions_in_any_order()
-    ensures { (k h : List Op) (object : Name) → AreSame k h → versions k object ≡ versions h object }
+    ensures { (k h : List Op) (object : Name) → AreSame k h
+        → versions k object ≡ versions h object }
 {}
 
 /// The operations of a group that could decide a key give it one value.
 pub fn deciding_operations_agree()
-    ensures { (h : List Op) (object : Name) (g : List Op) (key : Bytes) (a b : Op) → IsHistory h → Contains (groups h object) g
-        → Contains g a → IsTrue (decides key g a) → Contains g b → IsTrue (decides key g b) → value_in key a.body ≡ value_in key b.body }
+    ensures { (h : List Op) (object : Name) (g : List Op) (key : Bytes) (a b : Op) → IsHistory h
+        → Contains (groups h object) g
+        → Contains g a → IsTrue (decides key g a) → Contains g b → IsTrue (decides key g b)
+        → value_in key a.body ≡ value_in key b.body }
 {}
 
 /// In a group in causal order the last operation that gives a key decides its value.
 pub fn the_last_set_on_a_key_decides()
-    ensures { (h g : List Op) (initial : List Attr) (key : Bytes) → is_compatible (conflict h) g ≡ true → IsCausallyOrdered g
+    ensures { (h g : List Op) (initial : List Attr) (key : Bytes)
+        → is_compatible (conflict h) g ≡ true → IsCausallyOrdered g
         → ((x : Op) → Contains g x → before x x ≡ false)
         → value_of_key initial g key ≡ value_by key initial (find (gives key) (reverse g)) }
 {}
@@ -146,7 +174,9 @@ pub fn the_last_set_on_a_key_decides()
 /// that could decide a key agree.
 pub fn attributes_in_any_order()
     ensures { (initial : List Attr) (f g : List Op) → ((a : Op) → Contains f a ↔ Contains g a)
-        → ((key : Bytes) (a b : Op) → Contains f a → Contains f b → IsTrue (decides key f a) → IsTrue (decides key f b) → value_in key a.body ≡ value_in key b.body)
+        → ((key : Bytes) (a b : Op) → Contains f a → Contains f b
+        → IsTrue (decides key f a) → IsTrue (decides key f b)
+        → value_in key a.body ≡ value_in key b.body)
         → attributes initial f ≡ attributes initial g }
 {}
 
@@ -154,7 +184,8 @@ pub fn attributes_in_any_order()
 /// the group of the one and the group of the other with the same names have the same attributes.
 pub fn a_group_has_the_same_attributes_everywhere()
     ensures { (h k : List Op) (object : Name) (f g : List Op) → IsHistory h → IsHistory k
-        → Contains (groups h object) f → Contains (groups k object) g → map name_of f ≡ map name_of g
+        → Contains (groups h object) f → Contains (groups k object) g
+        → map name_of f ≡ map name_of g
         → creation_of h object ≡ creation_of k object
         → ((a x : Op) → Contains f a → Contains h x → IsTrue (is_past a x) → Contains k x)
         → (version_of h object f).attrs ≡ (version_of k object g).attrs }
@@ -162,39 +193,69 @@ pub fn a_group_has_the_same_attributes_everywhere()
 
 /// The identifiers of an object's versions rise strictly.
 pub fn identifiers_rise()
-    ensures { (h : List Op) (object : Name) → IsHistory h → IsStrictlySortedBy id_cmp (map (λ version. version.id) (versions h object)) }
+    ensures { (h : List Op) (object : Name) → IsHistory h
+        → IsStrictlySortedBy id_cmp (map (λ version. version.id) (versions h object)) }
 {}
 
 /// Each group of all sets on an object is shown exactly once.
 pub fn each_group_is_shown_once()
     ensures groups { (h : List Op) (object : Name) → IsHistory h → HasNoRepeats (groups h object) }
-    ensures shown { (h : List Op) (object : Name) → IsPermutation (map (version_of h object) (groups h object)) (versions h object) }
+    ensures shown { (h : List Op) (object : Name)
+        → IsPermutation (map (version_of h object) (groups h object)) (versions h object) }
 {}
 
 /// An object never has fewer versions when operations are added.
 pub fn versions_never_get_fewer()
-    ensures { (k h : List Op) (object : Name) → IsPartOf k h → IsFounded h → length (versions k object) ≤ length (versions h object) }
+    ensures { (k h : List Op) (object : Name) → IsPartOf k h → IsFounded h
+        → length (versions k object) ≤ length (versions h object) }
 {}
 
-/// What is decided about an object depends on the operations on that object alone.
+/// What an operation knows, its base and its conflicts, the versions of its object, and whether a
+/// set fails for its base or for a limit on its object depend on the operations on that object
+/// alone.
 pub fn an_object_stands_alone()
-    ensures known { (h : List Op) (object : Name) (b : Op) → IsTrue (is_on object b) → known (operations_on h object) b ≡ known h b }
-    ensures base { (h : List Op) (object : Name) (b : Op) → IsTrue (is_on object b) → base (operations_on h object) b ≡ base h b }
-    ensures conflict { (h : List Op) (object : Name) (a b : Op) → IsTrue (is_on object a) → IsTrue (is_on object b) → conflict (operations_on h object) a b ≡ conflict h a b }
-    ensures groups { (h : List Op) (object : Name) → groups (operations_on h object) object ≡ groups h object }
-    ensures versions { (h : List Op) (object : Name) → versions (operations_on h object) object ≡ versions h object }
-    ensures conditions { (b : Bounds) (h : List Op) (object : Name) (op : Op) → IsTrue (is_on object op) → version_conditions b (operations_on h object) op ≡ version_conditions b h op }
+    ensures known { (h : List Op) (object : Name) (b : Op) → IsTrue (is_on object b)
+        → known (operations_on h object) b ≡ known h b }
+    ensures base { (h : List Op) (object : Name) (b : Op) → IsTrue (is_on object b)
+        → base (operations_on h object) b ≡ base h b }
+    ensures conflict { (h : List Op) (object : Name) (a b : Op) → IsTrue (is_on object a)
+        → IsTrue (is_on object b) → conflict (operations_on h object) a b ≡ conflict h a b }
+    ensures groups { (h : List Op) (object : Name)
+        → groups (operations_on h object) object ≡ groups h object }
+    ensures versions { (h : List Op) (object : Name)
+        → versions (operations_on h object) object ≡ versions h object }
+    ensures conditions { (b : LimitValues) (h : List Op) (object : Name) (op : Op)
+        → IsTrue (is_on object op)
+        → version_conditions b (operations_on h object) op ≡ version_conditions b h op }
 {}
 
 // ---- records
 
 /// The operations of a legal record are a history, in causal order.
 pub fn legal_records_are_histories()
-    ensures history { (b : Bounds) (r : List Entry) → IsLegal b r → IsHistory (operations r) }
-    ensures ordered { (b : Bounds) (r : List Entry) → IsLegal b r → IsCausallyOrdered (operations r) }
+    ensures history { (b : LimitValues) (r : List Entry) → IsLegal b r → IsHistory (operations r) }
+    ensures ordered { (b : LimitValues) (r : List Entry) → IsLegal b r
+        → IsCausallyOrdered (operations r) }
+{}
+
+/// Two legal records with the same operations, in whatever order, have the same bases, conflicts,
+/// groups, identifiers and versions.
+pub fn legal_records_with_the_same_operations_agree()
+    ensures bases { (q r : List Entry) (b : Op) → HoldTheSame q r → Contains (operations q) b
+        → base (operations q) b ≡ base (operations r) b }
+    ensures conflicts { (q r : List Entry) (a b : Op) → HoldTheSame q r
+        → Contains (operations q) a → Contains (operations q) b
+        → conflict (operations q) a b ≡ conflict (operations r) a b }
+    ensures groups { (q r : List Entry) (object : Name) → HoldTheSame q r
+        → groups (operations q) object ≡ groups (operations r) object }
+    ensures identifiers { (q r : List Entry) (object : Name) (g : List Op) → HoldTheSame q r
+        → Contains (groups (operations q) object) g
+        → (version_of (operations q) object g).id ≡ (version_of (operations r) object g).id }
+    ensures versions { (q r : List Entry) (object : Name) → HoldTheSame q r
+        → versions (operations q) object ≡ versions (operations r) object }
 {}
 
 /// Each set of a legal record has its object and its base.
 pub fn sets_of_legal_records_are_founded()
-    ensures { (b : Bounds) (r : List Entry) → IsLegal b r → IsFounded (operations r) }
+    ensures { (b : LimitValues) (r : List Entry) → IsLegal b r → IsFounded (operations r) }
 {}

@@ -12,7 +12,7 @@ mod version;
 
 pub use attrs::{Attrs, AttrsFault};
 pub use history::{Body, Entry, Op};
-pub use limits::Limits;
+pub use limits::{LimitValues, Limits};
 pub use refusal::Refusal;
 pub use shared::SharedOp;
 pub use version::{AttrList, Version};

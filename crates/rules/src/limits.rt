@@ -1,146 +1,173 @@
 //! How much a room may hold.
 
 ghost use Rattle.std.specs.Prelude.{◌≡◌, ◌↔◌, ◌≤◌, true, IfSome, IsSome};
-ghost use Rattle.rules.specs.Bounds.{Bounds, full_bounds, is_bound, are_bounds};
+ghost use Rattle.rules.specs.Limits.{full_limits, is_limit, are_limits};
 
 use std::marker::Model;
 
-/// The limits of a room, each from 1 to its full value. They are per room or per object.
+/// What a room may hold, per room or per object.
+#[derive(Clone, Copy, Debug, PartialEq, Eq)]
+pub struct LimitValues {
+    /// The sites that may ever join.
+    pub joins: u32,
+    /// The entries that the record may have.
+    pub entries: u32,
+    /// The objects that there may be.
+    pub objects: u32,
+    /// The set operations that an object may have.
+    pub sets: u32,
+    /// The distinct keys that the set operations of an object may have.
+    pub keys: u32,
+    /// The versions that an object may have.
+    pub versions: u32,
+    /// The objects or entries that a page may have.
+    pub page: u32,
+}
+
+impl LimitValues {
+    /// The full values.
+    pub const FULL: LimitValues = LimitValues {
+        joins: Limits::MAX_JOINS,
+        entries: Limits::MAX_ENTRIES,
+        objects: Limits::MAX_OBJECTS,
+        sets: Limits::MAX_SETS,
+        keys: Limits::MAX_KEYS,
+        versions: Limits::MAX_VERSIONS,
+        page: Limits::MAX_PAGE,
+    };
+}
+
+/// The limits of a room, each from 1 to its full value.
 #[derive(Clone, Copy, Debug, PartialEq, Eq)]
 pub struct Limits {
-    joins: u32,
-    entries: u32,
-    objects: u32,
-    sets: u32,
-    keys: u32,
-    versions: u32,
-    page: u32,
+    values: LimitValues,
 }
 
 impl Model for Limits {
     ghost use Rattle.std.specs.Prelude.{◌≡◌, true};
-    ghost use Rattle.rules.specs.Bounds.{Bounds, are_bounds};
+    ghost use Rattle.rules.specs.declared.limits.LimitValues.{LimitValues};
+    ghost use Rattle.rules.specs.Limits.{are_limits};
 
-    ghost Value = { Bounds };
+    ghost Value = { LimitValues };
 
-    ghost view = { λ l. record { joins = l.joins; entries = l.entries; objects = l.objects; sets = l.sets; keys = l.keys; versions = l.versions; page = l.page } };
+    ghost view = { λ limits. limits.values };
 
-    ghost invariant = { λ l. are_bounds (record { joins = l.joins; entries = l.entries; objects = l.objects; sets = l.sets; keys = l.keys; versions = l.versions; page = l.page }) ≡ true };
+    ghost invariant = { λ limits. are_limits limits.values ≡ true };
 
-    ghost inverse = { λ b. record { joins = b.joins; entries = b.entries; objects = b.objects; sets = b.sets; keys = b.keys; versions = b.versions; page = b.page } };
+    ghost inverse = { λ values. record { values = values } };
 }
 
-fn is_bound(n: u32, full: u32) -> bool
-    ensures { result ≡ is_bound full n }
+fn is_limit(value: u32, full: u32) -> bool
+    ensures { result ≡ is_limit full value }
 {
-    1 <= n && n <= full
+    1 <= value && value <= full
 }
 
 impl Limits {
+    /// The most sites that may ever join a room.
+    pub const MAX_JOINS: u32 = 256;
+
+    /// The most entries of a record.
+    pub const MAX_ENTRIES: u32 = 16_384;
+
+    /// The most objects of a room.
+    pub const MAX_OBJECTS: u32 = 512;
+
+    /// The most set operations of an object.
+    pub const MAX_SETS: u32 = 1024;
+
+    /// The most distinct keys in the set operations of an object.
+    pub const MAX_KEYS: u32 = 64;
+
+    /// The most versions of an object.
+    pub const MAX_VERSIONS: u32 = 32;
+
+    /// The most objects or entries of a page.
+    pub const MAX_PAGE: u32 = 64;
+
     /// The full limits: 256 joins, 16,384 entries, 512 objects, and for each object 1,024 set
     /// operations with 64 keys and 32 versions; pages of 64.
     pub fn full() -> Limits
-        ensures { result ≡ full_bounds }
+        ensures { result ≡ full_limits }
     {
         Limits {
-            joins: 256,
-            entries: 16384,
-            objects: 512,
-            sets: 1024,
-            keys: 64,
-            versions: 32,
-            page: 64,
+            values: LimitValues::FULL,
         }
     }
 
-    /// These limits, or `None` where one of them is 0 or above its full value.
-    pub fn new(
-        joins: u32,
-        entries: u32,
-        objects: u32,
-        sets: u32,
-        keys: u32,
-        versions: u32,
-        page: u32,
-    ) -> Option<Limits>
-        ensures value { IfSome result (λ l. l ≡ record { joins = joins; entries = entries; objects = objects; sets = sets; keys = keys; versions = versions; page = page }) }
-        ensures in_range { IsSome result ↔ (are_bounds (record { joins = joins; entries = entries; objects = objects; sets = sets; keys = keys; versions = versions; page = page }) ≡ true) }
+    /// The limits of these values, or `None` where one of them is 0 or above its full value.
+    pub fn new(values: LimitValues) -> Option<Limits>
+        ensures value { IfSome result (λ limits. limits ≡ values) }
+        ensures in_range { IsSome result ↔ (are_limits values ≡ true) }
     {
-        let within = is_bound(joins, 256)
-            && is_bound(entries, 16384)
-            && is_bound(objects, 512)
-            && is_bound(sets, 1024)
-            && is_bound(keys, 64)
-            && is_bound(versions, 32)
-            && is_bound(page, 64);
-        if !within {
-            return None;
+        let within = is_limit(values.joins, Limits::MAX_JOINS)
+            && is_limit(values.entries, Limits::MAX_ENTRIES)
+            && is_limit(values.objects, Limits::MAX_OBJECTS)
+            && is_limit(values.sets, Limits::MAX_SETS)
+            && is_limit(values.keys, Limits::MAX_KEYS)
+            && is_limit(values.versions, Limits::MAX_VERSIONS)
+            && is_limit(values.page, Limits::MAX_PAGE);
+        if within {
+            Some(Limits { values })
+        } else {
+            None
         }
-        Some(Limits {
-            joins,
-            entries,
-            objects,
-            sets,
-            keys,
-            versions,
-            page,
-        })
     }
 
     /// How many sites may ever join.
     pub fn joins(&self) -> u32
         ensures value { result ≡ self.now.joins }
-        ensures range { self.now.joins ≤ 256 }
+        ensures range { self.now.joins ≤ Limits.MAX_JOINS }
     {
-        self.joins
+        self.values.joins
     }
 
     /// How many entries the record may have.
     pub fn entries(&self) -> u32
         ensures value { result ≡ self.now.entries }
-        ensures range { self.now.entries ≤ 16384 }
+        ensures range { self.now.entries ≤ Limits.MAX_ENTRIES }
     {
-        self.entries
+        self.values.entries
     }
 
     /// How many objects there may be.
     pub fn objects(&self) -> u32
         ensures value { result ≡ self.now.objects }
-        ensures range { self.now.objects ≤ 512 }
+        ensures range { self.now.objects ≤ Limits.MAX_OBJECTS }
     {
-        self.objects
+        self.values.objects
     }
 
     /// How many set operations an object may have.
     pub fn sets(&self) -> u32
         ensures value { result ≡ self.now.sets }
-        ensures range { self.now.sets ≤ 1024 }
+        ensures range { self.now.sets ≤ Limits.MAX_SETS }
     {
-        self.sets
+        self.values.sets
     }
 
     /// How many distinct keys the set operations of an object may have.
     pub fn keys(&self) -> u32
         ensures value { result ≡ self.now.keys }
-        ensures range { self.now.keys ≤ 64 }
+        ensures range { self.now.keys ≤ Limits.MAX_KEYS }
     {
-        self.keys
+        self.values.keys
     }
 
     /// How many versions an object may have.
     pub fn versions(&self) -> u32
         ensures value { result ≡ self.now.versions }
         ensures least { 1 ≤ self.now.versions }
-        ensures range { self.now.versions ≤ 32 }
+        ensures range { self.now.versions ≤ Limits.MAX_VERSIONS }
     {
-        self.versions
+        self.values.versions
     }
 
     /// How many objects or entries a page may have.
     pub fn page(&self) -> u32
         ensures value { result ≡ self.now.page }
-        ensures range { self.now.page ≤ 64 }
+        ensures range { self.now.page ≤ Limits.MAX_PAGE }
     {
-        self.page
+        self.values.page
     }
 }

@@ -29,7 +29,8 @@ impl Model for SharedOp {
 
     ghost view = { λ shared. held (arc_value shared.entry) };
 
-    ghost invariant = { λ shared. arc_value shared.entry ≡ Operation (held (arc_value shared.entry)) };
+    ghost invariant = { λ shared.
+        arc_value shared.entry ≡ Operation (held (arc_value shared.entry)) };
 }
 
 impl SharedOp {

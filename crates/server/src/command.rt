@@ -31,11 +31,11 @@ fn grace<'a>(alloc: Global) -> Result<Command<'a>, AllocError> {
 /// `errors` with status 2, want of memory with status 4.
 fn show<W: Write, E: Write>(alloc: Global, error: &Error, output: &mut W, errors: &mut E) -> u8 {
     if error.kind() == ErrorKind::OutOfMemory {
-        Fault::NoMemory.tell(errors);
+        Fault::NoMemory.write_line(errors);
         return Fault::NoMemory.status();
     }
     let Ok(text) = error.to_string(alloc) else {
-        Fault::NoMemory.tell(errors);
+        Fault::NoMemory.write_line(errors);
         return Fault::NoMemory.status();
     };
     if error.use_stderr() {
@@ -48,7 +48,7 @@ fn show<W: Write, E: Write>(alloc: Global, error: &Error, output: &mut W, errors
     {
         Ok(()) => 0,
         Err(_) => {
-            Fault::Output.tell(errors);
+            Fault::Output.write_line(errors);
             Fault::Output.status()
         }
     }
@@ -82,7 +82,7 @@ pub fn run<R: Read, W: Write, E: Write>(
     errors: &mut E,
 ) -> u8 {
     let Ok(command) = grace(alloc) else {
-        Fault::NoMemory.tell(errors);
+        Fault::NoMemory.write_line(errors);
         return Fault::NoMemory.status();
     };
     match command.try_get_matches_from(words) {

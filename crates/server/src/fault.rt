@@ -38,8 +38,8 @@ impl Fault {
         }
     }
 
-    /// Its line. A write of it that fails changes nothing.
-    pub(crate) fn tell<E: Write>(self, errors: &mut E) {
+    /// Writes its line. A write that fails changes nothing.
+    pub(crate) fn write_line<E: Write>(self, errors: &mut E) {
         let line = match self {
             Fault::BadRoomName => "grace: bad room name\n",
             Fault::RoomNamedTwice => "grace: room named twice\n",
@@ -72,7 +72,7 @@ impl From<NameFault> for Fault {
     ghost use Rattle.std.specs.Prelude.{◌≡◌};
     ghost use Rattle.server.specs.Faults.{of_name};
 
-    ghost from_gives = { λ fault made. made ≡ of_name fault };
+    ghost from_gives = { λ fault gives. gives ≡ of_name fault };
 
     fn from(fault: NameFault) -> Fault {
         match fault {
@@ -86,7 +86,7 @@ impl From<RoomsFault> for Fault {
     ghost use Rattle.std.specs.Prelude.{◌≡◌};
     ghost use Rattle.server.specs.Faults.{of_rooms};
 
-    ghost from_gives = { λ fault made. made ≡ of_rooms fault };
+    ghost from_gives = { λ fault gives. gives ≡ of_rooms fault };
 
     fn from(fault: RoomsFault) -> Fault {
         match fault {
@@ -100,7 +100,7 @@ impl From<ScriptFault> for Fault {
     ghost use Rattle.std.specs.Prelude.{◌≡◌};
     ghost use Rattle.server.specs.Faults.{of_script};
 
-    ghost from_gives = { λ fault made. made ≡ of_script fault };
+    ghost from_gives = { λ fault gives. gives ≡ of_script fault };
 
     fn from(fault: ScriptFault) -> Fault {
         match fault {

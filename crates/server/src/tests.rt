@@ -1,5 +1,6 @@
 use super::*;
 use crate::command::VERSION;
+use crate::fault::Fault;
 use std::alloc::Global;
 use std::io;
 use std::io::{ErrorKind, Read, Write};
@@ -182,4 +183,31 @@ fn output_and_errors_that_fail(rt: HostRuntime) {
     let mut input = LEAVE.as_bytes();
     let status = script_over(rt.alloc(), &["r"], &mut input, &mut Closed, &mut Closed);
     assert_eq!(rt; status, 3);
+}
+
+#[test]
+fn help_on_an_output_that_fails(rt: HostRuntime) {
+    let mut words = Vec::new(rt.alloc());
+    for word in ["grace", "--help"] {
+        let word = word.to_string(rt.alloc()).expect(&rt, "memory");
+        words.push(word).expect(&rt, "memory");
+    }
+    let mut errors = Vec::new(rt.alloc());
+    let mut input = LEAVE.as_bytes();
+    let status = run(rt.alloc(), &words, &mut input, &mut Closed, &mut errors);
+    assert_eq!(rt; status, 3);
+    assert_eq!(rt; errors.as_slice(), b"grace: output failed\n".as_slice());
+}
+
+/// Does the fault end the program with this status and this line?
+fn ends_with(rt: &impl AllocGlobal, fault: Fault, status: u8, line: &str) -> bool {
+    let mut errors = Vec::new(rt.alloc());
+    fault.write_line(&mut errors);
+    fault.status() == status && errors.as_slice() == line.as_bytes()
+}
+
+#[test]
+fn want_of_memory_is_told_apart(rt: HostRuntime) {
+    assert!(rt; ends_with(&rt, Fault::Input, 3, "grace: input failed\n"));
+    assert!(rt; ends_with(&rt, Fault::NoMemory, 4, "grace: no memory\n"));
 }

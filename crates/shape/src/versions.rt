@@ -6,18 +6,20 @@ ghost use Rattle.rules.specs.Bodies.{is_set_body};
 ghost use Rattle.rules.specs.Lists.{sort_by};
 ghost use Rattle.rules.specs.Groups.{groups_of, identifier};
 ghost use Rattle.rules.specs.Versions.{by_id};
-ghost use Rattle.conflict.specs.Members.{places};
+ghost use Rattle.places.specs.Members.{places};
 ghost use Rattle.version_groups.specs.Kept.{AreGroups};
-ghost use Rattle.shape.specs.Kept.{clash, version_at};
-ghost use Rattle.version_ids.specs.Scopes.{in_conflict};
+ghost use Rattle.conflict.specs.Sets.{clash_of};
+ghost use Rattle.shape.specs.Kept.{version_at, AreGroupsOf};
+ghost use Rattle.version_ids.specs.Scopes.{places_in_conflict};
 
 use attributes::attributes_of;
-use conflict::{Clashes, Members, Relation};
+use conflict::Clashes;
 use op_names::{NoMemory, VersionId};
+use places::{Members, Relation};
 use rules::{AttrList, Body, Op, Version};
 use std::alloc::Global;
 use version_groups::Groups;
-use version_ids::{id_by, in_conflict};
+use version_ids::{id_by, places_in_conflict};
 
 /// The identifiers of groups, in the order of the groups.
 fn listed_ids<R: Relation>(
@@ -26,12 +28,14 @@ fn listed_ids<R: Relation>(
     groups: &Groups,
 ) -> Result<Vec<VersionId>, NoMemory>
     requires { All (All (λ place. place < R.size relation.now)) groups.now.groups }
-    ensures { IfOk result (λ ids. ids.items ≡ map (identifier (R.clashes relation.now) (R.name_at relation.now) (places (R.size relation.now))) groups.now.groups) }
+    ensures { let all = places (R.size relation.now)
+        in let id_of = identifier (R.clashes relation.now) (R.name_at relation.now) all
+        in IfOk result (λ ids. ids.items ≡ map id_of groups.now.groups) }
 {
-    let opposed = in_conflict(alloc, relation)?;
+    let conflicting = places_in_conflict(alloc, relation)?;
     let mut ids = Vec::with_capacity(alloc, groups.count())?;
     for group in 0..groups.count() {
-        ids.push(id_by(alloc, relation, &opposed, groups.members(group))?)?;
+        ids.push(id_by(alloc, relation, &conflicting, groups.members(group))?)?;
     }
     Ok(ids)
 }
@@ -43,7 +47,9 @@ pub(crate) fn sorted_ids<R: Relation>(
     groups: &Groups,
 ) -> Result<Vec<VersionId>, NoMemory>
     requires { AreGroups (R.clashes relation.now) (places (R.size relation.now)) groups.now.groups }
-    ensures { IfOk result (λ ids. ids.items ≡ sort_by id_cmp (map (identifier (R.clashes relation.now) (R.name_at relation.now) (places (R.size relation.now))) groups.now.groups)) }
+    ensures { let all = places (R.size relation.now)
+        in let id_of = identifier (R.clashes relation.now) (R.name_at relation.now) all
+        in IfOk result (λ ids. ids.items ≡ sort_by id_cmp (map id_of groups.now.groups)) }
 {
     let _ = relation.len();
     let mut ids = listed_ids(alloc, relation, groups)?;
@@ -56,18 +62,20 @@ fn version_of(
     alloc: Global,
     creation: &Op,
     sets: &Clashes,
-    opposed: &Members,
+    conflicting: &Members,
     group: &Members,
 ) -> Result<Version, NoMemory>
     requires creation { is_set_body creation.now.body ≡ false }
-    requires opposed { opposed.now ≡ in_conflict (clash sets.now.ops) (length sets.now.ops) }
-    requires group { Contains (groups_of (clash sets.now.ops) (places (length sets.now.ops))) group.now }
+    requires conflicting { conflicting.now
+        ≡ places_in_conflict (clash_of sets.now.ops) (length sets.now.ops) }
+    requires group { let all = places (length sets.now.ops)
+        in Contains (groups_of (clash_of sets.now.ops) all) group.now }
     ensures { IfOk result (λ version. version ≡ version_at creation.now sets.now.ops group.now) }
 {
     let Body::New { attrs, .. } = &creation.body else {
         unreachable!()
     };
-    let id = id_by(alloc, sets, opposed, group)?;
+    let id = id_by(alloc, sets, conflicting, group)?;
     let attrs = attributes_of(alloc, attrs, sets.ops(), group)?;
     Ok(Version {
         id,
@@ -83,13 +91,14 @@ fn listed_versions(
     groups: &Groups,
 ) -> Result<Vec<Version>, NoMemory>
     requires creation { is_set_body creation.now.body ≡ false }
-    requires groups { AreGroups (clash sets.now.ops) (places (length sets.now.ops)) groups.now.groups }
-    ensures { IfOk result (λ versions. versions.items ≡ map (version_at creation.now sets.now.ops) groups.now.groups) }
+    requires groups { AreGroupsOf sets.now.ops groups.now.groups }
+    ensures { IfOk result (λ versions. versions.items
+        ≡ map (version_at creation.now sets.now.ops) groups.now.groups) }
 {
-    let opposed = in_conflict(alloc, sets)?;
+    let conflicting = places_in_conflict(alloc, sets)?;
     let mut versions = Vec::with_capacity(alloc, groups.count())?;
     for group in 0..groups.count() {
-        versions.push(version_of(alloc, creation, sets, &opposed, groups.members(group))?)?;
+        versions.push(version_of(alloc, creation, sets, &conflicting, groups.members(group))?)?;
     }
     Ok(versions)
 }
@@ -103,8 +112,9 @@ pub(crate) fn sorted_versions(
 ) -> Result<Vec<Version>, NoMemory>
     requires creation { is_set_body creation.now.body ≡ false }
     requires object { sets.now.object ≡ creation.now.name }
-    requires groups { AreGroups (clash sets.now.ops) (places (length sets.now.ops)) groups.now.groups }
-    ensures { IfOk result (λ versions. versions.items ≡ sort_by by_id (map (version_at creation.now sets.now.ops) groups.now.groups)) }
+    requires groups { AreGroupsOf sets.now.ops groups.now.groups }
+    ensures { IfOk result (λ versions. versions.items
+        ≡ sort_by by_id (map (version_at creation.now sets.now.ops) groups.now.groups)) }
 {
     // That the sets are some history's is part of what stays true of them.
     let _ = sets.ops();

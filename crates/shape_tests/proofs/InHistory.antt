@@ -2,14 +2,14 @@
 use Rattle.std.proofs.Common.{◌≡◌, true, false, ◌&&◌, List, [], ◌∷◌, ◌++◌, refl, sym, ap, ◌∙◌, subst, None}
 use Rattle.state_vector.specs.Vectors.{is_vector}
 use Rattle.rules.specs.declared.history.Op.{Op}
-use Rattle.rules.specs.Bounds.{Bounds}
+use Rattle.rules.specs.declared.limits.LimitValues.{LimitValues}
 use Rattle.rules.specs.Bodies.{is_set_body}
 use Rattle.rules.specs.Operations.{is_on, is_set_on}
 use Rattle.rules.specs.Admission.{causal_refusal}
 use Rattle.rules.proofs.Lists.{In-from_Contains}
 use Rattle.rules.proofs.Histories.{history_push, numbered_empty}
 use Rattle.conflict.specs.Sets.{AreSetsOf}
-use Rattle.shape.specs.Drawing.{with_set}
+use Rattle.shape.specs.Objects.{with_set}
 use Rattle.shape_tests.specs.InHistory.{ObjectIn, IsInHistory, MayFollow}
 use Rattle.shape.proofs.Next.{next_history, next_ordered, next_set, object_with_set, object_beside, object_alone}
 
@@ -18,30 +18,30 @@ pub admitted_itself : (h : List Op) (op first second : Op) → first ≡ op → 
 admitted_itself h op first second e f admitted = ap (λ (o : Op). causal_refusal h o.name op.seen) (sym e) ∙ ap (λ (o : Op). causal_refusal h first.name o.seen) (sym f) ∙ admitted
 
 module _ (s : ObjectIn) (i : IsInHistory s) (o : Op) (f : MayFollow s.history o) where
-  -- a set on the object may be drawn
-  pub may_draw : is_set_on s.name o ≡ true → AreSetsOf s.drawing.creation.name (s.drawing.sets ++ o ∷ [])
-  may_draw t =
-      subst (λ k. AreSetsOf s.drawing.creation.name (k ++ o ∷ [])) i.object.all
-      (next_set s.history o i.is_history i.ordered f.admitted f.vector s.drawing.creation.name (ap (λ n. is_set_on n o) i.named ∙ t))
+  -- a set on the object may be planned
+  pub may_be_planned : is_set_on s.name o ≡ true → AreSetsOf s.object.creation.name (s.object.sets ++ o ∷ [])
+  may_be_planned t =
+      subst (λ k. AreSetsOf s.object.creation.name (k ++ o ∷ [])) i.object.all
+      (next_set s.history o i.is_history i.ordered f.admitted f.vector s.object.creation.name (ap (λ n. is_set_on n o) i.named ∙ t))
 
-  pub drawn : is_set_on s.name o ≡ true → IsInHistory (record { name = s.name; history = s.history ++ o ∷ []; drawing = with_set s.drawing o })
-  drawn t = record {
+  pub with_next_set : is_set_on s.name o ≡ true → IsInHistory (record { name = s.name; history = s.history ++ o ∷ []; object = with_set s.object o })
+  with_next_set t = record {
     is_history = next_history s.history o i.is_history i.ordered f.admitted f.vector;
     ordered = next_ordered s.history o i.is_history i.ordered f.admitted f.vector;
-    object = object_with_set s.history o s.drawing i.object (ap (λ n. is_set_on n o) i.named ∙ t);
+    object = object_with_set s.history o s.object i.object (ap (λ n. is_set_on n o) i.named ∙ t);
     named = i.named;
   }
 
-  pub beside : is_set_body o.body ≡ false → IsInHistory (record { name = s.name; history = s.history ++ o ∷ []; drawing = s.drawing })
+  pub beside : is_set_body o.body ≡ false → IsInHistory (record { name = s.name; history = s.history ++ o ∷ []; object = s.object })
   beside t = record {
     is_history = next_history s.history o i.is_history i.ordered f.admitted f.vector;
     ordered = next_ordered s.history o i.is_history i.ordered f.admitted f.vector;
-    object = object_beside s.history o s.drawing i.object (ap (λ b. b && is_on s.drawing.creation.name o) t);
+    object = object_beside s.history o s.object i.object (ap (λ b. b && is_on s.object.creation.name o) t);
     named = i.named;
   }
 
 -- a creation alone
-pub alone : (o : Op) (limits : Bounds) → is_set_body o.body ≡ false → causal_refusal [] o.name o.seen ≡ None → is_vector o.seen ≡ true → IsInHistory (record { name = o.name; history = o ∷ []; drawing = record { limits = limits; creation = o; sets = [] } })
+pub alone : (o : Op) (limits : LimitValues) → is_set_body o.body ≡ false → causal_refusal [] o.name o.seen ≡ None → is_vector o.seen ≡ true → IsInHistory (record { name = o.name; history = o ∷ []; object = record { limits = limits; creation = o; sets = [] } })
 alone o limits t e v = record {
   is_history = history_push [] o numbered_empty e v;
   ordered = ((λ y m. absurd (In-from_Contains y [] m)), tt);

@@ -2,14 +2,17 @@
 //! (Sun and Chen, ACM TOCHI 9(1), 2002).
 #![tactic(auto)]
 
-ghost use Rattle.std.specs.Prelude.{◌≡◌, ◌≢◌, ℕ, List, [], true, false, Some, None, ◌<◌, length, IfOk, IfErr, OnErr};
+ghost use Rattle.std.specs.Prelude.{◌≡◌, ℕ, List, [], true, false, ◌<◌, length, IfOk, OnErr};
 ghost use Rattle.std.specs.List.{HoldsAt};
-ghost use Rattle.state_vector.specs.Vectors.{count_of, counts, covers, pair_fault, vector_fault, is_vector, same_pairs};
+ghost use Rattle.std.specs.Result.{result_err};
+ghost use Rattle.op_names.specs.Faults.{FailsBy, OnFault};
+ghost use Rattle.state_vector.specs.Vectors.{count_of, counts, covers, same_pairs};
+ghost use Rattle.state_vector.specs.Vectors.{pair_fault, vector_fault, is_vector};
 ghost use Rattle.state_vector.specs.declared.VectorFault.TheVariants as vector_fault_of;
 ghost use Rattle.std.specs.Cmp.Rules.{comparing};
 ghost use Rattle.std.proofs.Common.{rules};
 
-use op_names::{NoMemory, OpName};
+use op_names::{MAX_SEQ, MAX_SITE, NoMemory, OpName};
 use std::alloc::{AllocError, Global};
 use std::marker::Model;
 use thiserror::Error;
@@ -57,7 +60,7 @@ fn pair_fault(last: u32, pair: (u32, u32)) -> Option<VectorFault>
     ensures { result ≡ pair_fault last pair }
 {
     let (site, count) = pair;
-    if site < 1 || site > 256 || count > 16384 {
+    if site < 1 || site > MAX_SITE || count > MAX_SEQ {
         Some(VectorFault::OutOfRange)
     } else if count == 0 {
         Some(VectorFault::ZeroCount)
@@ -123,14 +126,27 @@ impl StateVector {
     /// or `NoMemory`.
     pub fn from_pairs(alloc: Global, pairs: &[(u32, u32)]) -> Result<StateVector, VectorFault>
         ensures ok { IfOk result (λ vector. (vector ≡ pairs.now) × (is_vector pairs.now ≡ true)) }
-        ensures fault { IfErr result (λ fault. fault ≢ VectorFault.NoMemory → vector_fault pairs.now ≡ Some fault) }
-        ensures refused { IfErr result (λ fault. fault ≢ VectorFault.NoMemory → is_vector pairs.now ≡ false) }
+        ensures fault { FailsBy VectorFault.NoMemory (vector_fault pairs.now) result }
+        ensures refused { OnFault VectorFault.NoMemory result (is_vector pairs.now ≡ false) }
     {
         if let Some(fault) = vector_fault(pairs) {
             return Err(fault);
         }
         let pairs = Vec::from_slice(alloc, pairs)?;
         Ok(StateVector { pairs })
+    }
+
+    /// The vector of these pairs of a site and a count, which it takes as they stand. Otherwise the
+    /// fault of the first bad pair.
+    pub fn from_vec(pairs: Vec<(u32, u32)>) -> Result<StateVector, VectorFault>
+        ensures ok { IfOk result (λ vector. vector ≡ pairs.items) }
+        ensures fault { result_err result ≡ vector_fault pairs.items }
+        ensures refused { OnErr result (is_vector pairs.items ≡ false) }
+    {
+        match vector_fault(&pairs) {
+            Some(fault) => Err(fault),
+            None => Ok(StateVector { pairs }),
+        }
     }
 
     /// The place of the site's pair, or the place where it would go.

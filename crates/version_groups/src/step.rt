@@ -1,124 +1,140 @@
-//! One place more: each group takes it in or stays, and what fits of a group that stays is a
-//! candidate.
+//! One place more: each group takes it in or stays, and what is compatible of a group that stays is
+//! a candidate.
 
-ghost use Rattle.std.specs.Prelude.{◌≡◌, ℕ, ◌-◌, ◌<◌, List, map, filter, not, IfOk, OnOk, All};
+ghost use Rattle.std.specs.Prelude.{◌≡◌, ◌-◌, ◌<◌, map, filter, not, IfOk, OnOk, All};
 ghost use Rattle.std.specs.List.{list_any};
-ghost use Rattle.conflict.specs.Members.{has, is_within, places};
+ghost use Rattle.places.specs.Members.{has, is_within, places};
 ghost use Rattle.version_groups.specs.Kept.{AreGroups};
-ghost use Rattle.version_groups.specs.Steps.{grown, candidate, unfit, sift, extended, AreBelow};
+ghost use Rattle.version_groups.specs.Steps.{group_after, candidate, incompatible_groups, sift, next_groups, AreBelow};
 
-use conflict::{Members, Relation};
 use op_names::NoMemory;
+use places::{Members, Relation};
 use std::alloc::Global;
 use std::collections::VecDeque;
 
 /// The groups of all places of a relation, from those of all but its last place.
 #[tactic(auto, using(crate::proofs::Exact::groups_of_more))]
-pub(crate) fn longer<R: Relation>(
+pub(crate) fn groups_with_last<R: Relation>(
     alloc: Global,
     relation: &R,
     kept: &[Members],
 ) -> Result<Vec<Members>, NoMemory>
     requires some { 0 < R.size relation.now }
     requires kept { AreGroups (R.clashes relation.now) (places (R.size relation.now - 1)) kept.now }
-    ensures { IfOk result (λ longer. AreGroups (R.clashes relation.now) (places (R.size relation.now)) longer.items) }
+    ensures { IfOk result (λ next.
+        AreGroups (R.clashes relation.now) (places (R.size relation.now)) next.items) }
 {
     let place = relation.len() - 1;
-    let fits = fitting(alloc, relation, place)?;
-    step(alloc, kept, &fits, place)
+    let compatible = compatible_places(alloc, relation, place)?;
+    step(alloc, kept, &compatible, place)
 }
 
 /// The places below one that are not in conflict with it.
-fn fitting<R: Relation>(alloc: Global, relation: &R, place: u32) -> Result<Members, NoMemory>
+fn compatible_places<R: Relation>(
+    alloc: Global,
+    relation: &R,
+    place: u32,
+) -> Result<Members, NoMemory>
     requires { place < R.size relation.now }
-    ensures { IfOk result (λ fits. fits ≡ filter (λ x. not (R.clashes relation.now place x)) (places place)) }
+    ensures { IfOk result (λ compatible. compatible
+        ≡ filter (λ other. not (R.clashes relation.now place other)) (places place)) }
 {
     // With the length of a relation comes that conflict goes both ways.
     let _ = relation.len();
     let mut one = Members::empty(alloc);
     one.insert(place)?;
-    let opposed = relation.in_conflict_with(alloc, &one)?;
-    let below = Members::first(alloc, place)?;
-    below.without(alloc, &opposed)
+    let conflicting = relation.in_conflict_with(alloc, &one)?;
+    let below = Members::first_places(alloc, place)?;
+    below.without(alloc, &conflicting)
 }
 
 /// The groups with one place more.
 fn step(
     alloc: Global,
     kept: &[Members],
-    fits: &Members,
+    compatible: &Members,
     place: u32,
 ) -> Result<Vec<Members>, NoMemory>
     requires { All (AreBelow place) kept.now }
-    ensures { IfOk result (λ longer. longer.items ≡ extended (has fits.now) place kept.now) }
+    ensures { IfOk result (λ next.
+        next.items ≡ next_groups (has compatible.now) place kept.now) }
 {
-    let mut longer = grow_all(alloc, kept, fits, place)?;
-    let candidates = candidates_of(alloc, kept, fits, place)?;
-    add_candidates(&mut longer, candidates)?;
-    Ok(longer)
+    let mut next = grow_all(alloc, kept, compatible, place)?;
+    let candidates = candidates_of(alloc, kept, compatible, place)?;
+    add_candidates(&mut next, candidates)?;
+    Ok(next)
 }
 
-/// A group with the place where it fits, else the group as it is.
-#[tactic(auto, using(crate::proofs::Pieces::grown_with, crate::proofs::Pieces::grown_as))]
-fn grow(alloc: Global, group: &Members, fits: &Members, place: u32) -> Result<Members, NoMemory>
+/// A group with the place where they are compatible, else the group as it is.
+#[tactic(auto, using(crate::proofs::Pieces::group_with_place, crate::proofs::Pieces::group_without_place))]
+fn grow(
+    alloc: Global,
+    group: &Members,
+    compatible: &Members,
+    place: u32,
+) -> Result<Members, NoMemory>
     requires { AreBelow place group.now }
-    ensures { IfOk result (λ members. members ≡ grown (has fits.now) place group.now) }
+    ensures { IfOk result (λ members.
+        members ≡ group_after (has compatible.now) place group.now) }
 {
     let mut members = group.copy(alloc)?;
-    if group.is_subset(fits) {
+    if group.is_subset(compatible) {
         members.insert(place)?;
     }
     Ok(members)
 }
 
-/// Each group, with the place where it fits.
+/// Each group, with the place where they are compatible.
 fn grow_all(
     alloc: Global,
     groups: &[Members],
-    fits: &Members,
+    compatible: &Members,
     place: u32,
 ) -> Result<Vec<Members>, NoMemory>
     requires { All (AreBelow place) groups.now }
-    ensures { IfOk result (λ all. all.items ≡ map (grown (has fits.now) place) groups.now) }
+    ensures { IfOk result (λ all.
+        all.items ≡ map (group_after (has compatible.now) place) groups.now) }
 {
     let mut all = Vec::new(alloc);
     for group in groups {
-        all.push(grow(alloc, group, fits, place)?)?;
+        all.push(grow(alloc, group, compatible, place)?)?;
     }
     Ok(all)
 }
 
-/// What fits of a group, with the place.
+/// What of a group is compatible with the place, and the place.
 #[tactic(auto, using(crate::proofs::Pieces::candidate_is))]
 fn candidate_of(
     alloc: Global,
     group: &Members,
-    fits: &Members,
+    compatible: &Members,
     place: u32,
 ) -> Result<Members, NoMemory>
     requires { AreBelow place group.now }
-    ensures { IfOk result (λ members. members ≡ candidate (has fits.now) place group.now) }
+    ensures { IfOk result (λ members.
+        members ≡ candidate (has compatible.now) place group.now) }
 {
-    let mut members = group.intersection(alloc, fits)?;
+    let mut members = group.intersection(alloc, compatible)?;
     members.insert(place)?;
     Ok(members)
 }
 
-/// A candidate for each group that the place doesn't fit into.
-#[tactic(auto, using(crate::proofs::Pieces::unfit_more, crate::proofs::Pieces::unfit_skip))]
+/// A candidate for each group that isn't all compatible with the place.
+#[tactic(auto, using(crate::proofs::Pieces::incompatible_more, crate::proofs::Pieces::incompatible_skip))]
 fn candidates_of(
     alloc: Global,
     groups: &[Members],
-    fits: &Members,
+    compatible: &Members,
     place: u32,
 ) -> Result<VecDeque<Members>, NoMemory>
     requires { All (AreBelow place) groups.now }
-    ensures { IfOk result (λ all. all.items ≡ map (candidate (has fits.now) place) (unfit (has fits.now) groups.now)) }
+    ensures { let is_compatible = has compatible.now in IfOk result (λ all. all.items
+        ≡ map (candidate is_compatible place) (incompatible_groups is_compatible groups.now)) }
 {
     let mut all = VecDeque::new(alloc);
     for group in groups {
-        if !group.is_subset(fits) {
-            all.push_back(candidate_of(alloc, group, fits, place)?)?;
+        if !group.is_subset(compatible) {
+            all.push_back(candidate_of(alloc, group, compatible, place)?)?;
         }
     }
     Ok(all)

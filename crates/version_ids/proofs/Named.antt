@@ -16,7 +16,7 @@ use Rattle.rules.specs.Groups.{is_named}
 use Rattle.rules.proofs.Counted.{same_name-true, same_name-refl}
 use Rattle.rules.proofs.Lists.{In, In-from_Contains, Contains-from_In, any_from, any_back}
 use Rattle.rules.proofs.Orders.{name_cmp_total}
-use Rattle.version_ids.proofs.Sorted.{tied}
+use Rattle.rules.proofs.Names.{tied}
 
 turned : (o : Ordering) → is_lt o ≡ true → is_lt (ordering_reverse o) ≡ false
 turned Less e = refl

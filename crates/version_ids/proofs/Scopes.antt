@@ -5,13 +5,13 @@ use Rattle.std.proofs.lemmas.Bool.{cases_Bool}
 use Rattle.std.proofs.lemmas.List.FromFn.{length-range_with_len, get_or-range_with_len}
 use Rattle.rules.proofs.Lists.{In, In-filter_back, filter_agree}
 use Rattle.rules.proofs.Once.{Once, Once-filter}
-use Rattle.conflict.specs.Members.{has, places}
-use Rattle.conflict.proofs.Rising.{among_places, range_rises}
-use Rattle.conflict.proofs.Places.{Once-places, below, has-filter, all_below, skip_next}
+use Rattle.places.specs.Members.{has, places}
+use Rattle.places.proofs.Rising.{among_places, range_rises}
+use Rattle.places.proofs.Places.{Once-places, below, has-filter, all_below, skip_next}
 use Rattle.op_names.specs.Names.{Name, name_cmp}
 use Rattle.rules.specs.Lists.{sort_by}
-use Rattle.rules.specs.Groups.{identifier, meets}
-use Rattle.version_ids.specs.Scopes.{in_conflict, AreAmong}
+use Rattle.rules.specs.Groups.{identifier, in_conflict_with}
+use Rattle.version_ids.specs.Scopes.{places_in_conflict, AreAmong}
 
 pub low : (n : ℕ) (s : List ℕ) → AreAmong n s → (x : ℕ) → In x s → x < n
 low n s w x m = below n x (In-filter_back (has s) x (places n) (subst (λ l. In x l) (sym w) m)).0
@@ -57,11 +57,11 @@ leave test n old t e = skip_next test n old old e t refl
 -- ---- places in conflict with some
 
 -- what a set has of the first places that pass a test passes it
-pub kept_opposed : (n : ℕ) (s opposed kept : List ℕ) (test : ℕ → Bool) → AreAmong n s → opposed ≡ filter test (places n) → kept ≡ filter (has opposed) s → kept ≡ filter test s
-kept_opposed n s opposed kept test w e f = f ∙ filter_agree (has opposed) test s (λ x m. ap (λ (l : List ℕ). has l x) e ∙ has-filter test n x (low n s w x m))
+pub kept_conflicting : (n : ℕ) (s conflicting kept : List ℕ) (test : ℕ → Bool) → AreAmong n s → conflicting ≡ filter test (places n) → kept ≡ filter (has conflicting) s → kept ≡ filter test s
+kept_conflicting n s conflicting kept test w e f = f ∙ filter_agree (has conflicting) test s (λ x m. ap (λ (l : List ℕ). has l x) e ∙ has-filter test n x (low n s w x m))
 
-pub left_unopposed : (n : ℕ) (s opposed kept : List ℕ) (test : ℕ → Bool) → AreAmong n s → opposed ≡ filter test (places n) → kept ≡ filter (λ x. not (has opposed x)) s → kept ≡ filter (λ x. not (test x)) s
-left_unopposed n s opposed kept test w e f = f ∙ filter_agree (λ x. not (has opposed x)) (λ x. not (test x)) s (λ x m. ap (λ (l : List ℕ). not (has l x)) e ∙ ap not (has-filter test n x (low n s w x m)))
+pub left_compatible : (n : ℕ) (s conflicting kept : List ℕ) (test : ℕ → Bool) → AreAmong n s → conflicting ≡ filter test (places n) → kept ≡ filter (λ x. not (has conflicting x)) s → kept ≡ filter (λ x. not (test x)) s
+left_compatible n s conflicting kept test w e f = f ∙ filter_agree (λ x. not (has conflicting x)) (λ x. not (test x)) s (λ x m. ap (λ (l : List ℕ). not (has l x)) e ∙ ap not (has-filter test n x (low n s w x m)))
 
 pub all_low : (n : ℕ) (s : List ℕ) → AreAmong n s → All (λ place. place < n) s
 all_low n s w = all_below (has s) n s (sym w)
@@ -70,11 +70,11 @@ all_low n s w = all_below (has s) n s (sym w)
 pub all_places : (n m : ℕ) (all : List ℕ) → m ≡ n → all ≡ places m → All (λ place. place < n) all
 all_places n m all q e = all_low n all (all_among n m all q e)
 
-pub opposed_by_all : (clash : ℕ → ℕ → Bool) (n m : ℕ) (all opposed : List ℕ) → m ≡ n → all ≡ places m → opposed ≡ filter (meets clash all) (places n) → opposed ≡ in_conflict clash n
-opposed_by_all clash n m all opposed q e f = f ∙ ap (λ l. filter (meets clash l) (places n)) (e ∙ ap places q)
+pub conflicting_with_all : (clash : ℕ → ℕ → Bool) (n m : ℕ) (all conflicting : List ℕ) → m ≡ n → all ≡ places m → conflicting ≡ filter (in_conflict_with clash all) (places n) → conflicting ≡ places_in_conflict clash n
+conflicting_with_all clash n m all conflicting q e f = f ∙ ap (λ l. filter (in_conflict_with clash l) (places n)) (e ∙ ap places q)
 
 -- the identifier, by the places that are in conflict with some
-pub identified : (clash : ℕ → ℕ → Bool) (name : ℕ → Name) (n : ℕ) (scope s opposed : List ℕ) (id : List Name) → AreAmong n s → opposed ≡ filter (meets clash scope) (places n)
-    → id ≡ sort_by name_cmp (map name (filter (has opposed) s)) → id ≡ identifier clash name scope s
+pub identified : (clash : ℕ → ℕ → Bool) (name : ℕ → Name) (n : ℕ) (scope s conflicting : List ℕ) (id : List Name) → AreAmong n s → conflicting ≡ filter (in_conflict_with clash scope) (places n)
+    → id ≡ sort_by name_cmp (map name (filter (has conflicting) s)) → id ≡ identifier clash name scope s
 unfolding identifier
-identified clash name n scope s opposed id w e f = f ∙ ap (λ l. sort_by name_cmp (map name l)) (kept_opposed n s opposed (filter (has opposed) s) (meets clash scope) w e refl)
+identified clash name n scope s conflicting id w e f = f ∙ ap (λ l. sort_by name_cmp (map name l)) (kept_conflicting n s conflicting (filter (has conflicting) s) (in_conflict_with clash scope) w e refl)

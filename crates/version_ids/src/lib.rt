@@ -3,24 +3,25 @@
 
 ghost use Rattle.std.specs.Prelude.{◌≡◌, ◌<◌, map, filter, not, All, IfOk, OnOk};
 ghost use Rattle.op_names.specs.Names.{name_cmp};
-ghost use Rattle.rules.specs.Groups.{meets, identifier, group_named, is_named};
+ghost use Rattle.rules.specs.Groups.{in_conflict_with, identifier, group_named, is_named};
 ghost use Rattle.rules.specs.Lists.{sort_by, HasNoRepeats};
-ghost use Rattle.conflict.specs.Members.{has, places};
-ghost use Rattle.conflict.specs.Relations.{IsRelation};
-ghost use Rattle.version_ids.specs.Scopes.{in_conflict, AreAmong};
+ghost use Rattle.places.specs.Members.{has, places};
+ghost use Rattle.places.specs.Relations.{IsRelation};
+ghost use Rattle.version_ids.specs.Scopes.{places_in_conflict, AreAmong};
 
-use conflict::{Members, Relation};
 pub use op_names::VersionId;
 use op_names::{ListFault, NoMemory, OpName};
+use places::{Members, Relation};
 use std::alloc::Global;
 
 pub mod laws;
 
 /// The places that are in conflict with some place.
-pub fn in_conflict<R: Relation>(alloc: Global, relation: &R) -> Result<Members, NoMemory>
-    ensures { IfOk result (λ opposed. opposed ≡ in_conflict (R.clashes relation.now) (R.size relation.now)) }
+pub fn places_in_conflict<R: Relation>(alloc: Global, relation: &R) -> Result<Members, NoMemory>
+    ensures { IfOk result (λ conflicting.
+        conflicting ≡ places_in_conflict (R.clashes relation.now) (R.size relation.now)) }
 {
-    let all = Members::first(alloc, relation.len())?;
+    let all = Members::first_places(alloc, relation.len())?;
     relation.in_conflict_with(alloc, &all)
 }
 
@@ -32,32 +33,34 @@ pub fn id_of<R: Relation>(
     group: &Members,
 ) -> Result<VersionId, NoMemory>
     requires { All (λ place. place < R.size relation.now) group.now }
-    ensures { IfOk result (λ id. id ≡ identifier (R.clashes relation.now) (R.name_at relation.now) (places (R.size relation.now)) group.now) }
+    ensures { let all = places (R.size relation.now) in IfOk result (λ id.
+        id ≡ identifier (R.clashes relation.now) (R.name_at relation.now) all group.now) }
 {
-    let opposed = in_conflict(alloc, relation)?;
-    id_by(alloc, relation, &opposed, group)
+    let conflicting = places_in_conflict(alloc, relation)?;
+    id_by(alloc, relation, &conflicting, group)
 }
 
 /// As `id_of`, by the places that are in conflict with some place: these serve for each group.
-#[tactic(auto, using(conflict::proofs::Rising::among_places))]
+#[tactic(auto, using(places::proofs::Rising::among_places))]
 pub fn id_by<R: Relation>(
     alloc: Global,
     relation: &R,
-    opposed: &Members,
+    conflicting: &Members,
     group: &Members,
 ) -> Result<VersionId, NoMemory>
-    requires opposed { opposed.now ≡ in_conflict (R.clashes relation.now) (R.size relation.now) }
+    requires conflicting { conflicting.now
+        ≡ places_in_conflict (R.clashes relation.now) (R.size relation.now) }
     requires group { All (λ place. place < R.size relation.now) group.now }
-    ensures { IfOk result (λ id. id ≡ identifier (R.clashes relation.now) (R.name_at relation.now) (places (R.size relation.now)) group.now) }
+    ensures { let all = places (R.size relation.now) in IfOk result (λ id.
+        id ≡ identifier (R.clashes relation.now) (R.name_at relation.now) all group.now) }
 {
-    // With the count of a set comes that its places rise.
-    let _ = group.count();
-    id_of_opposed(alloc, relation, opposed, group)
+    group.rises();
+    id_of_conflicting(alloc, relation, conflicting, group)
 }
 
 /// The group of the known places that has an identifier among them, or `None` where no group of
 /// them has it.
-#[tactic(auto, using(conflict::proofs::Rising::among_places))]
+#[tactic(auto, using(places::proofs::Rising::among_places))]
 pub fn resolve<R: Relation>(
     alloc: Global,
     relation: &R,
@@ -65,12 +68,12 @@ pub fn resolve<R: Relation>(
     id: &VersionId,
 ) -> Result<Option<Members>, NoMemory>
     requires { All (λ place. place < R.size relation.now) known.now }
-    ensures { IfOk result (λ group. group ≡ group_named (R.clashes relation.now) (R.name_at relation.now) known.now id.now) }
+    ensures { IfOk result (λ group. group
+        ≡ group_named (R.clashes relation.now) (R.name_at relation.now) known.now id.now) }
 {
-    // With the count of a set comes that its places rise.
-    let _ = known.count();
+    known.rises();
     let named = places_named(alloc, relation, known, id)?;
-    let group = places_unopposed(alloc, relation, known, &named)?;
+    let group = compatible_places(alloc, relation, known, &named)?;
     let found = identifier_among(alloc, relation, known, &group)?;
     if found == *id {
         Ok(Some(group))
@@ -88,43 +91,47 @@ fn identifier_among<R: Relation>(
 ) -> Result<VersionId, NoMemory>
     requires scope { AreAmong (R.size relation.now) scope.now }
     requires group { AreAmong (R.size relation.now) group.now }
-    ensures id { IfOk result (λ id. id ≡ identifier (R.clashes relation.now) (R.name_at relation.now) scope.now group.now) }
-    ensures relation { OnOk result (IsRelation (R.size relation.now) (R.name_at relation.now) (R.clashes relation.now)) }
+    ensures id { IfOk result (λ id. id
+        ≡ identifier (R.clashes relation.now) (R.name_at relation.now) scope.now group.now) }
+    ensures relation { OnOk result
+        (IsRelation (R.size relation.now) (R.name_at relation.now) (R.clashes relation.now)) }
 {
     // With the length of a relation comes what it keeps.
     let _ = relation.len();
-    let opposed = relation.in_conflict_with(alloc, scope)?;
-    id_of_opposed(alloc, relation, &opposed, group)
+    let conflicting = relation.in_conflict_with(alloc, scope)?;
+    id_of_conflicting(alloc, relation, &conflicting, group)
 }
 
 /// The rising list of the names of those members of a group that are among some places.
 #[tactic(auto, using(crate::proofs::Found::names_once))]
-fn id_of_opposed<R: Relation>(
+fn id_of_conflicting<R: Relation>(
     alloc: Global,
     relation: &R,
-    opposed: &Members,
+    conflicting: &Members,
     group: &Members,
 ) -> Result<VersionId, NoMemory>
     requires { AreAmong (R.size relation.now) group.now }
-    ensures { IfOk result (λ id. id ≡ sort_by name_cmp (map (R.name_at relation.now) (filter (has opposed.now) group.now))) }
+    ensures { let named = filter (has conflicting.now) group.now
+        in IfOk result (λ id. id ≡ sort_by name_cmp (map (R.name_at relation.now) named)) }
 {
     // With the length of a relation comes what it keeps.
     let _ = relation.len();
-    let names = names_opposed(alloc, relation, opposed, group)?;
+    let names = names_in_conflict(alloc, relation, conflicting, group)?;
     id_of_names(alloc, names)
 }
 
 /// The names of those members of a group that are among some places.
-fn names_opposed<R: Relation>(
+fn names_in_conflict<R: Relation>(
     alloc: Global,
     relation: &R,
-    opposed: &Members,
+    conflicting: &Members,
     group: &Members,
 ) -> Result<Vec<OpName>, NoMemory>
     requires { AreAmong (R.size relation.now) group.now }
-    ensures { IfOk result (λ names. names.items ≡ map (R.name_at relation.now) (filter (has opposed.now) group.now)) }
+    ensures { let named = filter (has conflicting.now) group.now
+        in IfOk result (λ names. names.items ≡ map (R.name_at relation.now) named) }
 {
-    let named = group.intersection(alloc, opposed)?;
+    let named = group.intersection(alloc, conflicting)?;
     let places = named.list(alloc)?;
     names_at(alloc, relation, &places)
 }
@@ -159,7 +166,7 @@ fn id_of_names(alloc: Global, mut names: Vec<OpName>) -> Result<VersionId, NoMem
 }
 
 /// The known places that an identifier names.
-#[tactic(auto, using(conflict::proofs::Places::put_next, crate::proofs::Scopes::leave, crate::proofs::Scopes::sifted))]
+#[tactic(auto, using(places::proofs::Places::put_next, crate::proofs::Scopes::leave, crate::proofs::Scopes::sifted))]
 fn places_named<R: Relation>(
     alloc: Global,
     relation: &R,
@@ -167,7 +174,8 @@ fn places_named<R: Relation>(
     id: &VersionId,
 ) -> Result<Members, NoMemory>
     requires { AreAmong (R.size relation.now) known.now }
-    ensures { IfOk result (λ named. named ≡ filter (is_named (R.name_at relation.now) id.now) known.now) }
+    ensures { IfOk result (λ named.
+        named ≡ filter (is_named (R.name_at relation.now) id.now) known.now) }
 {
     let mut named = Members::empty(alloc);
     if id.names().is_empty() {
@@ -189,7 +197,7 @@ fn is_name_in(id: &VersionId, name: OpName) -> bool
 }
 
 /// The known places that are in conflict with none of those named.
-fn places_unopposed<R: Relation>(
+fn compatible_places<R: Relation>(
     alloc: Global,
     relation: &R,
     known: &Members,
@@ -197,8 +205,9 @@ fn places_unopposed<R: Relation>(
 ) -> Result<Members, NoMemory>
     requires known { AreAmong (R.size relation.now) known.now }
     requires named { All (λ place. place < R.size relation.now) named.now }
-    ensures { IfOk result (λ group. group ≡ filter (λ place. not (meets (R.clashes relation.now) named.now place)) known.now) }
+    ensures { IfOk result (λ group. group
+        ≡ filter (λ place. not (in_conflict_with (R.clashes relation.now) named.now place)) known.now) }
 {
-    let opposed = relation.in_conflict_with(alloc, named)?;
-    known.without(alloc, &opposed)
+    let conflicting = relation.in_conflict_with(alloc, named)?;
+    known.without(alloc, &conflicting)
 }

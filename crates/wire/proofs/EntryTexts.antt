@@ -3,12 +3,12 @@ use Rattle.std.proofs.Common.{◌≡◌, ℕ, List, Some}
 use Rattle.std.specs.Prelude.{◌↔◌}
 use Rattle.rules.specs.declared.history.Entry.{Entry}
 use Rattle.wire.specs.Form.{IsEntryText}
-use Rattle.wire.specs.Texts.{entry_of}
+use Rattle.wire.specs.Texts.{entry_read}
 use Rattle.wire.proofs.Entries.{exact_entry}
 use Rattle.wire.proofs.ByForm.{texts_by_form, one_value}
 
-pub entries_by_form : (bytes : List ℕ) (e : Entry) → (entry_of bytes ≡ Some e) ↔ IsEntryText bytes e
-unfolding entry_of
+pub entries_by_form : (bytes : List ℕ) (e : Entry) → (entry_read bytes ≡ Some e) ↔ IsEntryText bytes e
+unfolding entry_read
 entries_by_form bytes e = texts_by_form exact_entry bytes e
 
 -- bytes are a text of one entry at most

@@ -5,6 +5,9 @@ use Rattle.std.specs.List.{AllByRecursion}
 use Rattle.std.specs.Option.{option_or}
 use Rattle.std.proofs.lemmas.Option.{cond_some}
 use Rattle.std.proofs.lemmas.Bool.Decides.{nat_tests}
+use Rattle.op_names.specs.declared.op_name.TheConstants.{MAX_SITE, MAX_SEQ}
+use Rattle.rules.specs.declared.limits.TheConstants.Limits.{MAX_ENTRIES}
+use Rattle.wire.specs.declared.request.TheConstants.{MAX_FROM}
 use Rattle.serde_json.specs.Data.{Data, null, boolean, number, string, array, object}
 use Rattle.op_names.specs.Names.{is_op_name, is_site, is_seq}
 use Rattle.op_names.specs.VersionIds.{names_rise}
@@ -22,18 +25,18 @@ use Rattle.wire.proofs.Exact.{IsExact, exact_by, bind_some, some_is, exact_list,
 
 -- ---- numbers
 
-pub exact_seq : IsExact ℕ (whole_in 1 16384) whole_form (λ n. is_seq n ≡ true)
-exact_seq = exact_whole 1 16384
+pub exact_seq : IsExact ℕ (whole_in 1 MAX_SEQ) whole_form (λ n. is_seq n ≡ true)
+exact_seq = exact_whole 1 MAX_SEQ
 
-pub exact_site : IsExact ℕ (whole_in 1 256) whole_form (λ n. is_site n ≡ true)
-exact_site = exact_whole 1 256
+pub exact_site : IsExact ℕ (whole_in 1 MAX_SITE) whole_form (λ n. is_site n ≡ true)
+exact_site = exact_whole 1 MAX_SITE
 
 pub exact_at : IsExact ℕ at_in whole_form (λ n. is_at n ≡ true)
 unfolding at_in
-exact_at = exact_by (exact_whole 0 16384) (λ n fit. grind (arith, nat_tests)) (λ n fit. grind (arith, nat_tests))
+exact_at = exact_by (exact_whole 0 MAX_ENTRIES) (λ n fit. grind (arith, nat_tests)) (λ n fit. grind (arith, nat_tests))
 
-pub exact_from : IsExact ℕ (whole_in 0 65535) whole_form (λ n. is_from n ≡ true)
-exact_from = exact_by (exact_whole 0 65535) (λ n fit. grind (arith, nat_tests)) (λ n fit. grind (arith, nat_tests))
+pub exact_from : IsExact ℕ (whole_in 0 MAX_FROM) whole_form (λ n. is_from n ≡ true)
+exact_from = exact_by (exact_whole 0 MAX_FROM) (λ n fit. grind (arith, nat_tests)) (λ n fit. grind (arith, nat_tests))
 
 -- ---- names and vectors
 
@@ -56,14 +59,14 @@ none_both : (first others : Option VectorFault) → is_none (option_or first oth
 none_both None others h = (refl, h)
 none_both (Some fault) others h = absurd cc
 
-pair_fits : (p : ℕ × ℕ) → not (is_site p.0 && leb p.1 16384) ≡ false → IsWhole p.0 × IsWhole p.1
+pair_fits : (p : ℕ × ℕ) → not (is_site p.0 && leb p.1 MAX_SEQ) ≡ false → IsWhole p.0 × IsWhole p.1
 pair_fits p h = grind (arith, nat_tests)
 
 fits_after : (last : ℕ) (ps : List (ℕ × ℕ)) → is_none (fault_after last ps) ≡ true → AllByRecursion (λ p. IsWhole p.0 × IsWhole p.1) ps
 fits_after last [] h = tt
 fits_after last (p ∷ ps) h =
     let a = none_both (pair_fault last p) (fault_after p.0 ps) h in
-    (pair_fits p (none_first (not (is_site p.0 && leb p.1 16384)) OutOfRange _ a.0), fits_after p.0 ps a.1)
+    (pair_fits p (none_first (not (is_site p.0 && leb p.1 MAX_SEQ)) OutOfRange _ a.0), fits_after p.0 ps a.1)
 
 -- the sites and counts of a vector are u32
 seen_fits : (ps : List (ℕ × ℕ)) → is_vector ps ≡ true → AllByRecursion (λ p. IsWhole p.0 × IsWhole p.1) ps

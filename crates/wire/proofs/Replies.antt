@@ -18,8 +18,8 @@ use Rattle.wire.specs.declared.reply.Reply.TheVariants.{Joined, Made, Taken, Ver
 use Rattle.wire.specs.Rising.{rise, attr_before, id_before, version_before}
 use Rattle.wire.specs.Form.{list_form, whole_form, name_form, names_form, attrs_form, version_form, object_form, entry_form, reply_form, AreIds, AreShown, IsVersion, AreVersions, IsObject, IsEntry, IsReply}
 use Rattle.wire.specs.Reading.{field_at, end_at, whole_in, natural_in, list_in, by_word}
-use Rattle.wire.specs.Entries.{entry_in}
-use Rattle.wire.specs.Replies.{ids_in, shown_in, version_in, versions_in, object_in, joined_at, made_at, taken_at, versions_at, objects_at, entries_at, left_at, refusal_with, refusal_fields, no_at, reply_words, reply_in}
+use Rattle.wire.specs.Entries.{entry_of}
+use Rattle.wire.specs.Replies.{ids_in, shown_in, version_in, versions_in, object_in, joined_at, made_at, taken_at, versions_at, objects_at, entries_at, left_at, refusal_with, refusal_fields, no_at, reply_words, reply_of}
 use Rattle.wire.proofs.Exact.{IsExact, AreExact, bind_some, some_is, exact_list, exact_passing, exact_two, exact_made, exact_text, exact_whole, exact_end, exact_field, IsWordOf, word_of_fields, message_takes, message_again}
 use Rattle.wire.proofs.PartForms.{exact_site, exact_from, exact_at, exact_name, exact_id, exact_kind, exact_attr}
 use Rattle.wire.proofs.Entries.{exact_entry}
@@ -49,7 +49,7 @@ exact_object = exact_two exact_name exact_kind
 exact_objects : IsExact (List ((ℕ × ℕ) × List ℕ)) (list_in object_in) (λ os. list_form (map object_form os)) (AllByRecursion IsObject)
 exact_objects = exact_list exact_object
 
-exact_entries : IsExact (List Entry) (list_in entry_in) (λ es. list_form (map entry_form es)) (AllByRecursion IsEntry)
+exact_entries : IsExact (List Entry) (list_in entry_of) (λ es. list_form (map entry_form es)) (AllByRecursion IsEntry)
 exact_entries = exact_list exact_entry
 
 -- ---- refusals
@@ -150,11 +150,11 @@ no_word = word_of_fields (exact_field exact_at exact_refusal) (codes "no") (λ p
 -- ---- back
 
 -- the fields of a word, read again
-again_by : (word : List ℕ) (ds : List Data) (r : Reply) → by_word reply_words word ds ≡ Some r → reply_in (list_form (string word ∷ ds)) ≡ Some r
-unfolding reply_in
+again_by : (word : List ℕ) (ds : List Data) (r : Reply) → by_word reply_words word ds ≡ Some r → reply_of (list_form (string word ∷ ds)) ≡ Some r
+unfolding reply_of
 again_by word ds r e = message_again reply_words word ds ∙ e
 
-reply_again : (r : Reply) → IsReply r → reply_in (reply_form r) ≡ Some r
+reply_again : (r : Reply) → IsReply r → reply_of (reply_form r) ≡ Some r
 unfolding joined_at made_at taken_at versions_at objects_at entries_at left_at no_at
 reply_again (Joined at site) fit = again_by (codes "joined") (whole_form at ∷ whole_form site ∷ []) _ (rw (exact_at.again at fit.0, exact_site.again site fit.1) refl)
 reply_again (Made at name) fit = again_by (codes "made") (whole_form at ∷ name_form name ∷ []) _ (rw (exact_at.again at fit.0, exact_name.again name fit.1) refl)
@@ -173,8 +173,8 @@ reply_again (Left at) fit = again_by (codes "left") (whole_form at ∷ []) _ (rw
 reply_again (No at refusal) fit =
     again_by (codes "no") (whole_form at ∷ whole_form (code_of refusal) ∷ string (word_of refusal) ∷ []) _ (rw (exact_at.again at fit, refusal_again refusal) refl)
 
-pub exact_reply : IsExact Reply reply_in reply_form IsReply
-unfolding reply_in
+pub exact_reply : IsExact Reply reply_of reply_form IsReply
+unfolding reply_of
 exact_reply = record {
   takes = message_takes reply_form IsReply reply_words (joined_word, (made_word, (taken_word, (versions_word, (objects_word, (entries_word, (left_word, (no_word, tt))))))));
   again = reply_again;

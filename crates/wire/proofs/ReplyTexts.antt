@@ -3,12 +3,12 @@ use Rattle.std.proofs.Common.{◌≡◌, ℕ, List, Some}
 use Rattle.std.specs.Prelude.{◌↔◌}
 use Rattle.wire.specs.declared.reply.Reply.{Reply}
 use Rattle.wire.specs.Form.{IsReplyText}
-use Rattle.wire.specs.Texts.{reply_of}
+use Rattle.wire.specs.Texts.{reply_read}
 use Rattle.wire.proofs.Replies.{exact_reply}
 use Rattle.wire.proofs.ByForm.{texts_by_form, one_value}
 
-pub replies_by_form : (bytes : List ℕ) (r : Reply) → (reply_of bytes ≡ Some r) ↔ IsReplyText bytes r
-unfolding reply_of
+pub replies_by_form : (bytes : List ℕ) (r : Reply) → (reply_read bytes ≡ Some r) ↔ IsReplyText bytes r
+unfolding reply_read
 replies_by_form bytes r = texts_by_form exact_reply bytes r
 
 -- bytes are a text of one reply at most

@@ -2,10 +2,11 @@
 use Rattle.std.proofs.Common.{◌≡◌, ℕ, ◌≤◌, List, length, Option, Some, None, Bool, true, false, cond, refl, sym, ◌∙◌, arith}
 use Rattle.std.specs.Prelude.{nat_le, ◌↔◌}
 use Rattle.std.proofs.lemmas.Bool.Decides.{nat_tests}
+use Rattle.wire.specs.declared.request.TheConstants.{MAX_REQUEST_LEN}
 use Rattle.wire.specs.declared.request.Request.{Request}
 use Rattle.wire.specs.Form.{IsRequestText}
-use Rattle.wire.specs.Requests.{request_in}
-use Rattle.wire.specs.Texts.{text_in, request_of}
+use Rattle.wire.specs.Requests.{request_of}
+use Rattle.wire.specs.Texts.{text_in, request_read}
 use Rattle.wire.proofs.Exact.{some_is}
 use Rattle.wire.proofs.Requests.{exact_request}
 use Rattle.wire.proofs.ByForm.{text_takes, text_again}
@@ -14,21 +15,21 @@ short_enough : (b : Bool) (o : Option Request) (q : Request) → cond b o None �
 short_enough true o q e = (refl, e)
 short_enough false o q e = absurd cc
 
-pub request_text_takes : (bytes : List ℕ) (q : Request) → request_of bytes ≡ Some q → IsRequestText bytes q
-unfolding request_of
+pub request_text_takes : (bytes : List ℕ) (q : Request) → request_read bytes ≡ Some q → IsRequestText bytes q
+unfolding request_read
 request_text_takes bytes q e =
-    let a = short_enough (nat_le (length bytes) 16384) (text_in request_in bytes) q e in
-    let is_short : nat_le (length bytes) 16384 ≡ true = a.0 in
+    let a = short_enough (nat_le (length bytes) MAX_REQUEST_LEN) (text_in request_of bytes) q e in
+    let is_short : nat_le (length bytes) MAX_REQUEST_LEN ≡ true = a.0 in
     record { short = grind (arith, nat_tests); text = text_takes exact_request bytes q a.1 }
 
-pub request_text_again : (bytes : List ℕ) (q : Request) → IsRequestText bytes q → request_of bytes ≡ Some q
-unfolding request_of
+pub request_text_again : (bytes : List ℕ) (q : Request) → IsRequestText bytes q → request_read bytes ≡ Some q
+unfolding request_read
 request_text_again bytes q h =
-    let short : length bytes ≤ 16384 = h.short in
-    let is_short : nat_le (length bytes) 16384 ≡ true = grind (arith, nat_tests) in
+    let short : length bytes ≤ MAX_REQUEST_LEN = h.short in
+    let is_short : nat_le (length bytes) MAX_REQUEST_LEN ≡ true = grind (arith, nat_tests) in
     rw is_short (text_again exact_request bytes q h.text)
 
-pub requests_by_form : (bytes : List ℕ) (q : Request) → (request_of bytes ≡ Some q) ↔ IsRequestText bytes q
+pub requests_by_form : (bytes : List ℕ) (q : Request) → (request_read bytes ≡ Some q) ↔ IsRequestText bytes q
 requests_by_form bytes q = (request_text_takes bytes q, request_text_again bytes q)
 
 -- bytes are a text of one request at most

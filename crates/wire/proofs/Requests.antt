@@ -5,7 +5,7 @@ use Rattle.wire.specs.declared.request.Request.{Request}
 use Rattle.wire.specs.declared.request.Request.TheVariants.{Join, New, Set, Show, Pull, Leave, List as ListObjects}
 use Rattle.wire.specs.Form.{request_word, request_fields, request_form, IsRequest}
 use Rattle.wire.specs.Reading.{by_word}
-use Rattle.wire.specs.Requests.{join_at, new_at, set_at, show_at, list_at, pull_at, leave_at, request_words, request_in}
+use Rattle.wire.specs.Requests.{join_at, new_at, set_at, show_at, list_at, pull_at, leave_at, request_words, request_of}
 use Rattle.wire.proofs.Exact.{IsExact, exact_end, exact_field, IsWordOf, word_of_fields, message_takes, message_again}
 use Rattle.wire.proofs.PartForms.{exact_seq, exact_from, exact_name, exact_seen, exact_id, exact_room, exact_key, exact_kind, exact_value, exact_attrs}
 
@@ -56,8 +56,8 @@ word_again (ListObjects from) fit = rw (exact_from.again from fit) refl
 word_again (Pull from) fit = rw (exact_from.again from fit) refl
 word_again Leave fit = refl
 
-pub exact_request : IsExact Request request_in request_form IsRequest
-unfolding request_in
+pub exact_request : IsExact Request request_of request_form IsRequest
+unfolding request_of
 exact_request = record {
   takes = message_takes request_form IsRequest request_words (join_word, (new_word, (set_word, (show_word, (list_word, (pull_word, (leave_word, tt)))))));
   again = λ q fit. message_again request_words (request_word q) (request_fields q) ∙ word_again q fit;

@@ -1,6 +1,7 @@
 -- What the reader of entries reads from a JSON value.
 use Rattle.std.specs.Prelude.{List, [], ◌∷◌, codes, Option, Some}
 use Rattle.serde_json.specs.Data.{Data}
+use Rattle.op_names.specs.declared.op_name.TheConstants.{MAX_SITE}
 use Rattle.rules.specs.declared.history.Entry.{Entry}
 use Rattle.rules.specs.declared.history.Entry.TheVariants.{Operation, Join}
 use Rattle.rules.specs.declared.history.Body.TheVariants.{New, Set}
@@ -8,7 +9,7 @@ use Rattle.wire.specs.Reading.{◌>>=◌, end_at, field_at, whole_in, seen_in, k
 
 -- what follows "join"
 unfoldable pub join_at : List Data → Option Entry
-join_at ds = field_at (whole_in 1 256) end_at ds >>= λ p. Some (Join p.0)
+join_at ds = field_at (whole_in 1 MAX_SITE) end_at ds >>= λ p. Some (Join p.0)
 
 -- what follows "new"
 unfoldable pub new_at : List Data → Option Entry
@@ -26,5 +27,5 @@ abbrev pub entry_words : Words Entry
 entry_words = (codes "join", join_at) ∷ (codes "new", new_at) ∷ (codes "set", set_at) ∷ []
 
 -- the entry whose form a JSON value is
-unfoldable pub entry_in : Data → Option Entry
-entry_in = message_in entry_words
+unfoldable pub entry_of : Data → Option Entry
+entry_of = message_in entry_words

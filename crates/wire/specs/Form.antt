@@ -12,6 +12,8 @@ use Rattle.op_names.specs.declared.value.Value.{Value}
 use Rattle.op_names.specs.declared.value.Value.TheVariants.{Number, Text}
 use Rattle.state_vector.specs.Vectors.{is_vector}
 use Rattle.rules.specs.AttrLists.{Attr, are_attrs}
+use Rattle.rules.specs.declared.limits.TheConstants.Limits.{MAX_ENTRIES}
+use Rattle.wire.specs.declared.request.TheConstants.{MAX_FROM, MAX_REQUEST_LEN}
 use Rattle.wire.specs.declared.request.Request.{Request}
 use Rattle.wire.specs.declared.request.Request.TheVariants.{Join, New, Set, Show, Pull, Leave, List as ListObjects}
 use Rattle.rules.specs.declared.history.Entry.{Entry}
@@ -70,7 +72,7 @@ IsId names = AllByRecursion (λ name. is_op_name name ≡ true) names × (names_
 
 -- the place that a page begins at, in range
 abbrev pub is_from : ℕ → Bool
-is_from from = nat_le from 65535
+is_from from = nat_le from MAX_FROM
 
 -- an attribute in range
 abbrev pub IsAttr : Attr → Type 0
@@ -136,7 +138,7 @@ pub record IsTextOf {X : Type 0} (form_of : X → Data) (Fits : X → Type 0) (b
 
 -- the bytes are a text of the request, of at most 16,384 bytes
 pub record IsRequestText (bytes : List ℕ) (q : Request) : Type 0 where
-  pub short : length bytes ≤ 16384
+  pub short : length bytes ≤ MAX_REQUEST_LEN
   pub text : IsTextOf request_form IsRequest bytes q
 
 -- a version: its identifier and its attributes
@@ -196,7 +198,7 @@ reply_form (No at refusal) =
 
 -- a place in the record, or a number of entries or objects, in range
 abbrev pub is_at : ℕ → Bool
-is_at at = nat_le at 16384
+is_at at = nat_le at MAX_ENTRIES
 
 -- the attributes of a version, in range
 abbrev pub AreShown : List Attr → Type 0

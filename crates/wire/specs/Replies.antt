@@ -4,17 +4,20 @@ use Rattle.serde_json.specs.Data.{Data}
 use Rattle.serde_json.specs.Find.{as_str}
 use Rattle.rules.specs.AttrLists.{Attr}
 use Rattle.rules.specs.Refusals.{refusal_at, word_of}
+use Rattle.op_names.specs.declared.op_name.TheConstants.{MAX_SITE}
+use Rattle.rules.specs.declared.limits.TheConstants.Limits.{MAX_ENTRIES}
 use Rattle.rules.specs.declared.refusal.Refusal.{Refusal}
 use Rattle.rules.specs.declared.version.Version.{Version}
+use Rattle.wire.specs.declared.request.TheConstants.{MAX_FROM}
 use Rattle.wire.specs.declared.reply.Reply.{Reply}
 use Rattle.wire.specs.declared.reply.Reply.TheVariants.{Joined, Made, Taken, Versions, Objects, Entries, Left, No}
 use Rattle.wire.specs.Rising.{rise, attr_before, id_before, version_before}
 use Rattle.wire.specs.Reading.{◌>>=◌, passing, list_in, two_in, end_at, field_at, whole_in, name_in, id_in, kind_in, attr_in, Words, message_in}
-use Rattle.wire.specs.Entries.{entry_in}
+use Rattle.wire.specs.Entries.{entry_of}
 
 -- a place in the record, or a number of entries or objects
 unfoldable pub at_in : Data → Option ℕ
-at_in = whole_in 0 16384
+at_in = whole_in 0 MAX_ENTRIES
 
 -- the identifiers of an object's versions
 unfoldable pub ids_in : Data → Option (List (List (ℕ × ℕ)))
@@ -38,7 +41,7 @@ object_in = two_in name_in kind_in
 
 -- what follows "joined"
 unfoldable pub joined_at : List Data → Option Reply
-joined_at ds = field_at at_in (field_at (whole_in 1 256) end_at) ds >>= λ p. Some (Joined p.0 p.1.0)
+joined_at ds = field_at at_in (field_at (whole_in 1 MAX_SITE) end_at) ds >>= λ p. Some (Joined p.0 p.1.0)
 
 -- what follows "made"
 unfoldable pub made_at : List Data → Option Reply
@@ -57,13 +60,13 @@ versions_at ds =
 -- what follows "objects"
 unfoldable pub objects_at : List Data → Option Reply
 objects_at ds =
-    field_at at_in (field_at (whole_in 0 65535) (field_at at_in (field_at (list_in object_in) end_at))) ds
+    field_at at_in (field_at (whole_in 0 MAX_FROM) (field_at at_in (field_at (list_in object_in) end_at))) ds
     >>= λ p. Some (Objects p.0 p.1.0 p.1.1.0 p.1.1.1.0)
 
 -- what follows "entries"
 unfoldable pub entries_at : List Data → Option Reply
 entries_at ds =
-    field_at at_in (field_at (whole_in 0 65535) (field_at (list_in entry_in) end_at)) ds
+    field_at at_in (field_at (whole_in 0 MAX_FROM) (field_at (list_in entry_of) end_at)) ds
     >>= λ p. Some (Entries p.0 p.1.0 p.1.1.0)
 
 -- what follows "left"
@@ -88,5 +91,5 @@ reply_words =
     ∷ (codes "objects", objects_at) ∷ (codes "entries", entries_at) ∷ (codes "left", left_at) ∷ (codes "no", no_at) ∷ []
 
 -- the reply whose form a JSON value is
-unfoldable pub reply_in : Data → Option Reply
-reply_in = message_in reply_words
+unfoldable pub reply_of : Data → Option Reply
+reply_of = message_in reply_words

@@ -1,6 +1,8 @@
 -- What the reader of requests reads from a JSON value.
 use Rattle.std.specs.Prelude.{List, [], ◌∷◌, codes, Option, Some}
 use Rattle.serde_json.specs.Data.{Data}
+use Rattle.op_names.specs.declared.op_name.TheConstants.{MAX_SEQ}
+use Rattle.wire.specs.declared.request.TheConstants.{MAX_FROM}
 use Rattle.wire.specs.declared.request.Request.{Request}
 use Rattle.wire.specs.declared.request.Request.TheVariants.{Join, New, Set, Show, Pull, Leave, List as ListObjects}
 use Rattle.wire.specs.Reading.{◌>>=◌, end_at, field_at, whole_in, room_in, seen_in, kind_in, attrs_in, name_in, id_in, key_in, value_in, Words, message_in}
@@ -12,13 +14,13 @@ join_at ds = field_at room_in end_at ds >>= λ p. Some (Join p.0)
 -- what follows "new"
 unfoldable pub new_at : List Data → Option Request
 new_at ds =
-    field_at (whole_in 1 16384) (field_at seen_in (field_at kind_in (field_at attrs_in end_at))) ds
+    field_at (whole_in 1 MAX_SEQ) (field_at seen_in (field_at kind_in (field_at attrs_in end_at))) ds
     >>= λ p. Some (New p.0 p.1.0 p.1.1.0 p.1.1.1.0)
 
 -- what follows "set"
 unfoldable pub set_at : List Data → Option Request
 set_at ds =
-    field_at (whole_in 1 16384) (field_at seen_in (field_at name_in (field_at id_in (field_at key_in (field_at value_in end_at))))) ds
+    field_at (whole_in 1 MAX_SEQ) (field_at seen_in (field_at name_in (field_at id_in (field_at key_in (field_at value_in end_at))))) ds
     >>= λ p. Some (Set p.0 p.1.0 p.1.1.0 p.1.1.1.0 p.1.1.1.1.0 p.1.1.1.1.1.0)
 
 -- what follows "show"
@@ -27,11 +29,11 @@ show_at ds = field_at name_in end_at ds >>= λ p. Some (Show p.0)
 
 -- what follows "list"
 unfoldable pub list_at : List Data → Option Request
-list_at ds = field_at (whole_in 0 65535) end_at ds >>= λ p. Some (ListObjects p.0)
+list_at ds = field_at (whole_in 0 MAX_FROM) end_at ds >>= λ p. Some (ListObjects p.0)
 
 -- what follows "pull"
 unfoldable pub pull_at : List Data → Option Request
-pull_at ds = field_at (whole_in 0 65535) end_at ds >>= λ p. Some (Pull p.0)
+pull_at ds = field_at (whole_in 0 MAX_FROM) end_at ds >>= λ p. Some (Pull p.0)
 
 -- what follows "leave"
 unfoldable pub leave_at : List Data → Option Request
@@ -43,5 +45,5 @@ request_words =
     ∷ (codes "list", list_at) ∷ (codes "pull", pull_at) ∷ (codes "leave", leave_at) ∷ []
 
 -- the request whose form a JSON value is
-unfoldable pub request_in : Data → Option Request
-request_in = message_in request_words
+unfoldable pub request_of : Data → Option Request
+request_of = message_in request_words

@@ -5,12 +5,13 @@ use Rattle.serde_json.specs.Data.{Data}
 use Rattle.serde_json.specs.Read.{read}
 use Rattle.serde_json.specs.Written.{compact_text}
 use Rattle.rules.specs.declared.history.Entry.{Entry}
+use Rattle.wire.specs.declared.request.TheConstants.{MAX_REQUEST_LEN}
 use Rattle.wire.specs.declared.request.Request.{Request}
 use Rattle.wire.specs.declared.reply.Reply.{Reply}
 use Rattle.wire.specs.Reading.{◌>>=◌}
-use Rattle.wire.specs.Requests.{request_in}
-use Rattle.wire.specs.Entries.{entry_in}
-use Rattle.wire.specs.Replies.{reply_in}
+use Rattle.wire.specs.Requests.{request_of}
+use Rattle.wire.specs.Entries.{entry_of}
+use Rattle.wire.specs.Replies.{reply_of}
 use Rattle.wire.specs.Form.{reply_form}
 
 -- the JSON value that bytes are a text of, if they are one
@@ -22,16 +23,16 @@ abbrev pub text_in : {X : Type 0} → (Data → Option X) → List ℕ → Optio
 text_in reader bytes = json_of bytes >>= reader
 
 -- the request that bytes are a text of, if there is one
-unfoldable pub request_of : List ℕ → Option Request
-request_of bytes = if nat_le (length bytes) 16384 then text_in request_in bytes else None
+unfoldable pub request_read : List ℕ → Option Request
+request_read bytes = if nat_le (length bytes) MAX_REQUEST_LEN then text_in request_of bytes else None
 
 -- the entry that bytes are a text of, if there is one
-unfoldable pub entry_of : List ℕ → Option Entry
-entry_of = text_in entry_in
+unfoldable pub entry_read : List ℕ → Option Entry
+entry_read = text_in entry_of
 
 -- the reply that bytes are a text of, if there is one
-unfoldable pub reply_of : List ℕ → Option Reply
-reply_of = text_in reply_in
+unfoldable pub reply_read : List ℕ → Option Reply
+reply_read = text_in reply_of
 
 -- the text of a reply
 unfoldable pub reply_text : Reply → List ℕ

@@ -8,7 +8,7 @@ ghost use Rattle.rules.specs.declared.history.Entry.{Entry};
 ghost use Rattle.wire.specs.declared.request.Request.{Request};
 ghost use Rattle.wire.specs.declared.reply.Reply.{Reply};
 ghost use Rattle.wire.specs.Form.{IsNumber, IsRequestText, IsEntryText, IsReplyText};
-ghost use Rattle.wire.specs.Texts.{request_of, entry_of, reply_of};
+ghost use Rattle.wire.specs.Texts.{request_read, entry_read, reply_read};
 
 /// Bytes are a text of at most one request.
 #[tactic(auto, using(crate::proofs::RequestTexts::one_request))]
@@ -20,7 +20,8 @@ pub fn one_request()
 /// The request that bytes are read as is the one that they are a text of.
 #[tactic(auto, using(crate::proofs::RequestTexts::requests_by_form))]
 pub fn requests_by_form()
-    ensures { (bytes : List ℕ) (q : Request) → (request_of bytes ≡ Some q) ↔ IsRequestText bytes q }
+    ensures { (bytes : List ℕ) (q : Request) →
+        (request_read bytes ≡ Some q) ↔ IsRequestText bytes q }
 {}
 
 /// Bytes are a text of at most one entry.
@@ -33,7 +34,7 @@ pub fn one_entry()
 /// The entry that bytes are read as is the one that they are a text of.
 #[tactic(auto, using(crate::proofs::EntryTexts::entries_by_form))]
 pub fn entries_by_form()
-    ensures { (bytes : List ℕ) (e : Entry) → (entry_of bytes ≡ Some e) ↔ IsEntryText bytes e }
+    ensures { (bytes : List ℕ) (e : Entry) → (entry_read bytes ≡ Some e) ↔ IsEntryText bytes e }
 {}
 
 /// Bytes are a text of at most one reply.
@@ -46,7 +47,7 @@ pub fn one_reply()
 /// The reply that bytes are read as is the one that they are a text of.
 #[tactic(auto, using(crate::proofs::ReplyTexts::replies_by_form))]
 pub fn replies_by_form()
-    ensures { (bytes : List ℕ) (r : Reply) → (reply_of bytes ≡ Some r) ↔ IsReplyText bytes r }
+    ensures { (bytes : List ℕ) (r : Reply) → (reply_read bytes ≡ Some r) ↔ IsReplyText bytes r }
 {}
 
 /// A JSON number has the form of a whole number in the range of i64 exactly where `as_i64` gives

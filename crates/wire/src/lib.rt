@@ -13,6 +13,6 @@ pub use fault::ReadFault;
 pub use lists::{EntryList, IdList, ObjectList, VersionList};
 pub use read::{entry_of, read_entry, read_reply, read_request, reply_of, request_of};
 pub use reply::Reply;
-pub use request::Request;
+pub use request::{MAX_FROM, MAX_REQUEST_LEN, Request};
 pub use rules::Refusal;
 pub use write::{write_entry, write_reply, write_request};

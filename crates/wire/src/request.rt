@@ -4,6 +4,12 @@ use op_names::{Key, Kind, OpName, RoomName, Value, VersionId};
 use rules::Attrs;
 use state_vector::StateVector;
 
+/// How many bytes the text of a request may have.
+pub const MAX_REQUEST_LEN: usize = 16_384;
+
+/// The greatest place from which a page is asked for.
+pub const MAX_FROM: u32 = 65_535;
+
 /// What a session asks for.
 #[derive(Drop)]
 pub enum Request {

@@ -14,13 +14,13 @@ use Rattle.rules.specs.declared.history.Body.TheVariants as body
 use Rattle.rules.specs.declared.refusal.Refusal.{Refusal}
 use Rattle.rules.specs.declared.refusal.Refusal.TheVariants.{NotJoined, TooFar}
 use Rattle.rules.specs.declared.version.Version.{Version}
-use Rattle.rules.specs.Bounds.{Bounds}
+use Rattle.rules.specs.declared.limits.LimitValues.{LimitValues}
 use Rattle.rules.specs.Bodies.{is_set_body, kind_in}
 use Rattle.rules.specs.Operations.{IsHistory, creation_of, is_creation_of, object_of}
 use Rattle.rules.specs.Records.{admits, objects, operations, refusal, sites, IsLegal, IsLegalAfter}
 use Rattle.rules.specs.Versions.{versions}
 use Rattle.rules.proofs.Lists.{In, In-filter_back, In-map_back, find_is}
-use Rattle.rules.proofs.Records.{legal_push, operations-push, sites-join, sites-operation}
+use Rattle.rules.proofs.Records.{legal_push, length-operations, operations-push, sites-join, sites-operation}
 use Rattle.rules.proofs.Conditions.{room_for_join, room_for_operation}
 use Rattle.rules.proofs.Founded.{history_if_legal}
 use Rattle.wire.specs.declared.request.Request.{Request}
@@ -29,17 +29,17 @@ use Rattle.wire.specs.declared.reply.Reply.{Reply}
 use Rattle.wire.specs.declared.reply.Reply.TheVariants.{Joined, Made, Taken, Objects, Entries, No}
 use Rattle.wire.specs.Form.{IsEntry, IsObject, IsReply, IsRequest, is_at, is_from}
 use Rattle.room_core.specs.Room.{Room, all_objects, with_entry}
-use Rattle.room_core.specs.Answers.{Outcome, answer, decided, has_site, join_answer, page, shown, site_answer, told}
-use Rattle.world.specs.Alone.{asked}
+use Rattle.room_core.specs.Answers.{Outcome, answer, entry_or_refusal, has_site, join_answer, page, versions_reply, site_answer, reply_alone}
+use Rattle.world.specs.Steps.{asker_answer}
 use Rattle.world.proofs.Ranges.{IsOp, all_if, all_take, all_drop, all_push, ops_in_range, kind_in_range, versions_in_range, ids_in_range}
 
 -- ---- a legal record is within its limits
 
-record IsWithin (b : Bounds) (r : List Entry) : Type 0 where
+record IsWithin (b : LimitValues) (r : List Entry) : Type 0 where
   joins : sites r ≤ b.joins
   short : length r ≤ b.entries
 
-within_push : (b : Bounds) (r : List Entry) (e : Entry) → IsWithin b r → admits b r e ≡ true → IsWithin b (r ++ e ∷ [])
+within_push : (b : LimitValues) (r : List Entry) (e : Entry) → IsWithin b r → admits b r e ≡ true → IsWithin b (r ++ e ∷ [])
 within_push b r (Join site) w a =
     let room = room_for_join b r site a in
     let one = sites-join r site in
@@ -55,17 +55,12 @@ within_push b r (Operation op) w a =
     let place = room.0 in
     record { joins = omega (arith, same, few); short = omega (arith, more, place) }
 
-within_after : (b : Bounds) (r rest : List Entry) → IsWithin b r → IsLegalAfter b r rest → IsWithin b (r ++ rest)
+within_after : (b : LimitValues) (r rest : List Entry) → IsWithin b r → IsLegalAfter b r rest → IsWithin b (r ++ rest)
 within_after b r [] w legal = subst (IsWithin b) (sym (append-nil r)) w
 within_after b r (e ∷ rest) w legal = subst (IsWithin b) (append_assoc r (e ∷ []) rest) (within_after b (r ++ e ∷ []) rest (within_push b r e w legal.0) legal.1)
 
-within : (b : Bounds) (r : List Entry) → IsLegal b r → IsWithin b r
+within : (b : LimitValues) (r : List Entry) → IsLegal b r → IsWithin b r
 within b r legal = within_after b [] r (record { joins = omega arith; short = omega arith }) legal
-
-length-operations : (r : List Entry) → length (operations r) ≤ length r
-length-operations [] = omega arith
-length-operations (Join n ∷ r) = omega (arith, length-operations r)
-length-operations (Operation op ∷ r) = omega (arith, length-operations r)
 
 -- ---- answers
 
@@ -76,7 +71,7 @@ pub record IsSound (room : Room) : Type 0 where
   pub short : room.limits.entries ≤ 16384
   pub entries : AllByRecursion IsEntry room.entries
 
-pub sound_room : (room : Room) (limits : Bounds) → limits ≡ room.limits → limits.joins ≤ 256 → limits.entries ≤ 16384 → IsLegal room.limits room.entries → AllByRecursion IsEntry room.entries → IsSound room
+pub sound_room : (room : Room) (limits : LimitValues) → limits ≡ room.limits → limits.joins ≤ 256 → limits.entries ≤ 16384 → IsLegal room.limits room.entries → AllByRecursion IsEntry room.entries → IsSound room
 sound_room room limits same joins short legal entries = record { legal = legal; joins = rw same at joins; short = rw same at short; entries = entries }
 
 -- the reply is in range, and so is the entry that is added
@@ -100,18 +95,18 @@ module _ (room : Room) (sound : IsSound room) where
   ops : (op : Op) → In op (operations room.entries) → IsOp op
   ops = ops_in_range room.entries sound.entries
 
-  refused_in_range : (why : Refusal) → InRange (told (No (length room.entries) why))
+  refused_in_range : (why : Refusal) → InRange (reply_alone (No (length room.entries) why))
   refused_in_range why = record { reply = at_in_range; added = tt }
 
-  lone_in_range : (why : Refusal) → InRange (told (No 0 why))
+  lone_in_range : (why : Refusal) → InRange (reply_alone (No 0 why))
   lone_in_range why = record { reply = refl; added = tt }
 
-  told_in_range : (reply : Reply) → IsReply reply → InRange (told reply)
+  told_in_range : (reply : Reply) → IsReply reply → InRange (reply_alone reply)
   told_in_range reply range = record { reply = range; added = tt }
 
   -- an entry that is added or refused
   decided_in_range : (o : Option Refusal) (entry : Entry) (reply : Reply) → refusal room.limits room.entries entry ≡ o
-      → (refusal room.limits room.entries entry ≡ None → IsReply reply × IsEntry entry) → InRange (decided room o entry reply)
+      → (refusal room.limits room.entries entry ≡ None → IsReply reply × IsEntry entry) → InRange (entry_or_refusal room o entry reply)
   decided_in_range None entry reply e range = let both = range e in record { reply = both.0; added = both.1 }
   decided_in_range (Some why) entry reply e range = refused_in_range why
 
@@ -137,7 +132,7 @@ module _ (room : Room) (sound : IsSound room) where
         let most = site_at_most in
         and_from (leb 1 site) (leb site 256) low (le-leb site 256 (omega (arith, high, most)))
 
-    creation_in_range : (op : Op) → op.name.0 ≡ site → IsOp op → InRange (decided room (refusal room.limits room.entries (Operation op)) (Operation op) (Made (length room.entries) op.name))
+    creation_in_range : (op : Op) → op.name.0 ≡ site → IsOp op → InRange (entry_or_refusal room (refusal room.limits room.entries (Operation op)) (Operation op) (Made (length room.entries) op.name))
     creation_in_range op e range =
         decided_in_range (refusal room.limits room.entries (Operation op)) (Operation op) (Made (length room.entries) op.name) refl (λ none. ((at_in_range, range.0), range))
 
@@ -151,12 +146,12 @@ module _ (room : Room) (sound : IsSound room) where
     ops_with op range = subst (λ (h : List Op). (x : Op) → In x h → IsOp x) (operations-push room.entries op) (ops_in_range (room.entries ++ Operation op ∷ []) (all_push IsEntry room.entries (Operation op) sound.entries range))
 
     set_in_range : (op : Op) → op.name.0 ≡ site → IsOp op
-        → InRange (decided room (refusal room.limits room.entries (Operation op)) (Operation op) (Taken (length room.entries) (map (λ (v : Version). v.id) (versions (operations room.entries ++ op ∷ []) (object_of op)))))
+        → InRange (entry_or_refusal room (refusal room.limits room.entries (Operation op)) (Operation op) (Taken (length room.entries) (map (λ (v : Version). v.id) (versions (operations room.entries ++ op ∷ []) (object_of op)))))
     set_in_range op e range =
         decided_in_range (refusal room.limits room.entries (Operation op)) (Operation op) (Taken (length room.entries) (map (λ (v : Version). v.id) (versions (operations room.entries ++ op ∷ []) (object_of op)))) refl
         (λ none. ((at_in_range, ids_in_range (operations room.entries ++ op ∷ []) (history_with op e range none) (ops_with op range) (object_of op)), range))
 
-  shown_in_range : (name : Name) (o : Option Op) → is_op_name name ≡ true → creation_of (operations room.entries) name ≡ o → InRange (told (shown room name o))
+  shown_in_range : (name : Name) (o : Option Op) → is_op_name name ≡ true → creation_of (operations room.entries) name ≡ o → InRange (reply_alone (versions_reply room name o))
   shown_in_range name None range e = refused_in_range _
   shown_in_range name (Some op) range e =
       let c = find_is (is_creation_of name) op (operations room.entries) e in
@@ -178,13 +173,13 @@ module _ (room : Room) (sound : IsSound room) where
       le-leb (length (objects room.entries)) 16384 (omega (arith, counted, fewer, few, most))
 
   list_in_range : (from : ℕ) (far : Bool) → is_from from ≡ true
-      → InRange (told (cond far (No (length room.entries) TooFar) (Objects (length room.entries) from (length (objects room.entries)) (page room from (all_objects room.entries)))))
+      → InRange (reply_alone (cond far (No (length room.entries) TooFar) (Objects (length room.entries) from (length (objects room.entries)) (page room from (all_objects room.entries)))))
   list_in_range from true range = refused_in_range TooFar
   list_in_range from false range =
       told_in_range _ (at_in_range, range, total_in_range, all_take IsObject room.limits.page _ (all_drop IsObject from _ (all_if IsObject (all_objects room.entries) object_in_range)))
 
   pull_in_range : (from : ℕ) (far : Bool) → is_from from ≡ true
-      → InRange (told (cond far (No (length room.entries) TooFar) (Entries (length room.entries) from (page room from room.entries))))
+      → InRange (reply_alone (cond far (No (length room.entries) TooFar) (Entries (length room.entries) from (page room from room.entries))))
   pull_in_range from true range = refused_in_range TooFar
   pull_in_range from false range = told_in_range _ (at_in_range, range, all_take IsEntry room.limits.page _ (all_drop IsEntry from room.entries sound.entries))
 
@@ -201,7 +196,7 @@ module _ (room : Room) (sound : IsSound room) where
   answer_of_site site has (request.Pull from) range = pull_in_range from (ltb (length room.entries) from) range
   answer_of_site site has request.Leave range = told_in_range _ at_in_range
 
-  of_anyone : (b : Bool) (site : ℕ) → has_site room site ≡ b → (asks : Request) → IsRequest asks → InRange (cond b (site_answer room site asks) (told (No 0 NotJoined)))
+  of_anyone : (b : Bool) (site : ℕ) → has_site room site ≡ b → (asks : Request) → IsRequest asks → InRange (cond b (site_answer room site asks) (reply_alone (No 0 NotJoined)))
   of_anyone true site e asks range = answer_of_site site e asks range
   of_anyone false site e asks range = lone_in_range NotJoined
 
@@ -209,7 +204,7 @@ module _ (room : Room) (sound : IsSound room) where
   unfolding answer
   full_answer_in_range site asks range = of_anyone (has_site room site) site refl asks range
 
-  pub answer_in_range : (who : Option ℕ) (asks : Request) → IsRequest asks → InRange (asked room who asks)
+  pub answer_in_range : (who : Option ℕ) (asks : Request) → IsRequest asks → InRange (asker_answer room who asks)
   answer_in_range None asks range = join_in_range
   answer_in_range (Some site) asks range = full_answer_in_range site asks range
 

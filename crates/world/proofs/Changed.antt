@@ -6,14 +6,15 @@ use Rattle.std.proofs.lemmas.Bool.{eq-eqb, eqb-true, eqb-false}
 use Rattle.std.proofs.lemmas.List.{get_or-set_same, get_or-set_other, length-map}
 use Rattle.wire.specs.declared.request.Request.{Request}
 use Rattle.wire.specs.declared.reply.Reply.{Reply}
-use Rattle.wire.specs.Texts.{request_of}
+use Rattle.wire.specs.Texts.{request_read}
 use Rattle.room_core.specs.Room.{Room, with_entry}
 use Rattle.room_core.specs.Answers.{Outcome}
 use Rattle.world.specs.declared.seats.Seat.{Seat}
 use Rattle.world.specs.declared.seats.Asker.{Asker}
-use Rattle.world.specs.Alone.{Message, Alone, joined_name, asked, outside_answer, answer_to, move_of, moved_by, moved, alone_answer, alone_after}
+use Rattle.world.specs.Alone.{Message, Alone, joined_name, outside_answer, answer_to, move_of, after_move, after_reply, alone_answer, alone_after}
 use Rattle.world.specs.Rooms.{Rooms, place_of, named_place, owner_from, owner_of, after_at, rooms_after}
-use Rattle.world.specs.State.{State, Named, names_in, names_of, seat_of, seat_in, IsMoved, no_room, rooms_in, room_at, site_at, alone_at, rooms_of, SeatsWithin, asker_of}
+use Rattle.world.specs.State.{State, Named, names_in, names_of, seat_of, no_room, rooms_in, room_at, site_at, alone_at, rooms_of, SeatsWithin}
+use Rattle.world.specs.Steps.{asker_answer, asker_of, seat_in, IsMoved}
 use Rattle.world.proofs.Places.{place_of_within}
 use Rattle.world.proofs.SeatMaps.{seat_within}
 
@@ -26,25 +27,25 @@ rooms_same a b e f = ap (λ (i : ℕ → Option ℕ). record { inside = i; alone
 -- ---- what one move does to a session
 
 place_by : (place : ℕ) (move : Option (Option ℕ)) (session : ℕ) (old : ℕ → Option Seat) (q : ℕ)
-    → option_map (λ (s : Seat). s.place) (moved_by move (seat_in place) session old q) ≡ moved_by move (λ site. place) session (λ s. option_map (λ (s : Seat). s.place) (old s)) q
+    → option_map (λ (s : Seat). s.place) (after_move move (seat_in place) session old q) ≡ after_move move (λ site. place) session (λ s. option_map (λ (s : Seat). s.place) (old s)) q
 place_by place None session old q = refl
 place_by place (Some None) session old q = elim (eqb session q) as (λ b. option_map (λ (s : Seat). s.place) (cond b None (old q)) ≡ cond b None (option_map (λ (s : Seat). s.place) (old q))) [ true ↦ refl | false ↦ refl ]
 place_by place (Some (Some site)) session old q = elim (eqb session q) as (λ b. option_map (λ (s : Seat). s.place) (cond b (Some (seat_in place site)) (old q)) ≡ cond b (Some place) (option_map (λ (s : Seat). s.place) (old q))) [ true ↦ refl | false ↦ refl ]
 
 site_by : (place : ℕ) (move : Option (Option ℕ)) (session : ℕ) (old : ℕ → Option Seat) (q : ℕ)
-    → site_at place (moved_by move (seat_in place) session old q) ≡ moved_by move (λ site. site) session (λ s. site_at place (old s)) q
+    → site_at place (after_move move (seat_in place) session old q) ≡ after_move move (λ site. site) session (λ s. site_at place (old s)) q
 site_by place None session old q = refl
 site_by place (Some None) session old q = elim (eqb session q) as (λ b. site_at place (cond b None (old q)) ≡ cond b None (site_at place (old q))) [ true ↦ refl | false ↦ refl ]
 site_by place (Some (Some site)) session old q = elim (eqb session q) as (λ b. site_at place (cond b (Some (seat_in place site)) (old q)) ≡ cond b (Some site) (site_at place (old q))) [ true ↦ rw (eq-eqb place place refl) refl | false ↦ refl ]
 
 -- where a session is after it moved
-pub inside-moved : (place : ℕ) (reply : Reply) (session : ℕ) (old : ℕ → Option Seat) (q : ℕ)
-    → option_map (λ (s : Seat). s.place) (moved reply (seat_in place) session old q) ≡ moved reply (λ site. place) session (λ s. option_map (λ (s : Seat). s.place) (old s)) q
+inside-moved : (place : ℕ) (reply : Reply) (session : ℕ) (old : ℕ → Option Seat) (q : ℕ)
+    → option_map (λ (s : Seat). s.place) (after_reply reply (seat_in place) session old q) ≡ after_reply reply (λ site. place) session (λ s. option_map (λ (s : Seat). s.place) (old s)) q
 inside-moved place reply session old q = place_by place (move_of reply) session old q
 
 -- its site in the room that it moved in
-pub site_at-moved : (place : ℕ) (reply : Reply) (session : ℕ) (old : ℕ → Option Seat) (q : ℕ)
-    → site_at place (moved reply (seat_in place) session old q) ≡ moved reply (λ site. site) session (λ s. site_at place (old s)) q
+site_at-moved : (place : ℕ) (reply : Reply) (session : ℕ) (old : ℕ → Option Seat) (q : ℕ)
+    → site_at place (after_reply reply (seat_in place) session old q) ≡ after_reply reply (λ site. site) session (λ s. site_at place (old s)) q
 site_at-moved place reply session old q = site_by place (move_of reply) session old q
 
 -- in each other room nothing moved
@@ -53,7 +54,7 @@ kept_by true session q f e none = sym (subst (λ k. f k ≡ None) (eqb-true sess
 kept_by false session q f e none = refl
 
 other_by : (place other : ℕ) (move : Option (Option ℕ)) (session : ℕ) (old : ℕ → Option Seat) (q : ℕ)
-    → eqb place other ≡ false → site_at other (old session) ≡ None → site_at other (moved_by move (seat_in place) session old q) ≡ site_at other (old q)
+    → eqb place other ≡ false → site_at other (old session) ≡ None → site_at other (after_move move (seat_in place) session old q) ≡ site_at other (old q)
 other_by place other None session old q apart none = refl
 other_by place other (Some None) session old q apart none =
     elim (eqb session q) as (λ b. site_at other (cond b None (old q)) ≡ cond b None (site_at other (old q))) [ true ↦ refl | false ↦ refl ]
@@ -62,8 +63,8 @@ other_by place other (Some (Some site)) session old q apart none =
     elim (eqb session q) as (λ b. site_at other (cond b (Some (seat_in place site)) (old q)) ≡ cond b None (site_at other (old q))) [ true ↦ rw apart refl | false ↦ refl ]
     ∙ kept_by (eqb session q) session q (λ s. site_at other (old s)) refl none
 
-pub site_at_other-moved : (place other : ℕ) (reply : Reply) (session : ℕ) (old : ℕ → Option Seat) (q : ℕ)
-    → eqb place other ≡ false → site_at other (old session) ≡ None → site_at other (moved reply (seat_in place) session old q) ≡ site_at other (old q)
+site_at_other-moved : (place other : ℕ) (reply : Reply) (session : ℕ) (old : ℕ → Option Seat) (q : ℕ)
+    → eqb place other ≡ false → site_at other (old session) ≡ None → site_at other (after_reply reply (seat_in place) session old q) ≡ site_at other (old q)
 site_at_other-moved place other reply session old q apart none = other_by place other (move_of reply) session old q apart none
 
 -- an answer of one room, with its entry and its moves, is that room's alone
@@ -76,7 +77,7 @@ module _ (state new : State) (message : Message) (place : ℕ) (outcome : Outcom
   where
     inside_is : (rooms_of new).inside ≡ (after_at (rooms_of state) message (Some place)).inside
     inside_is = fun_ext (λ q. ap (option_map (λ (seat : Seat). seat.place)) (seats q) ∙ inside-moved place outcome.0 message.session (seat_of state.seats) q
-        ∙ ap (λ (o : Outcome). moved o.0 (λ site. place) message.session (rooms_of state).inside q) (sym is_answer))
+        ∙ ap (λ (o : Outcome). after_reply o.0 (λ site. place) message.session (rooms_of state).inside q) (sym is_answer))
 
     here : (q : ℕ) → place ≡ q → alone_at new q ≡ alone_after (alone_at state place) message
     here q e = subst (λ p. alone_at new p ≡ alone_after (alone_at state place) message) e (alone_same _ _
@@ -84,7 +85,7 @@ module _ (state new : State) (message : Message) (place : ℕ) (outcome : Outcom
         ∙ get_or-set_same (rooms_in state.rooms) place _ no_room (rw (length-map state.rooms (λ room. room.room)) within)
         ∙ ap (λ (o : Outcome). with_entry (room_at state.rooms place) o.1) (sym is_answer))
         (fun_ext (λ s. ap (site_at place) (seats s) ∙ site_at-moved place outcome.0 message.session (seat_of state.seats) s
-        ∙ ap (λ (o : Outcome). moved o.0 (λ site. site) message.session (alone_at state place).site_of s) (sym is_answer))))
+        ∙ ap (λ (o : Outcome). after_reply o.0 (λ site. site) message.session (alone_at state place).site_of s) (sym is_answer))))
 
     there : (q : ℕ) → eqb place q ≡ false → alone_at new q ≡ alone_at state q
     there q ne = alone_same _ _
@@ -105,7 +106,7 @@ module _ (state new : State) (message : Message) (place : ℕ) (outcome : Outcom
 pub record Asks (names : List (List ℕ)) (session : ℕ) (seat : Option Seat) (request : Request) (asker : Asker) : Type 0 where
   pub session_is : asker.session ≡ session
   pub owner : owner_from (option_map (λ (s : Seat). s.place) seat) (named_place names (Some request)) ≡ Some asker.place
-  pub answer : (room : Room) → answer_to room (site_at asker.place seat) (Some request) ≡ asked room asker.site request
+  pub answer : (room : Room) → answer_to room (site_at asker.place seat) (Some request) ≡ asker_answer room asker.site request
   pub apart : (other : ℕ) → eqb asker.place other ≡ false → site_at other seat ≡ None
 
 asks_in : (names : List (List ℕ)) (session : ℕ) (request : Request) (name : List ℕ) (o : Option ℕ) (asker : Asker) → joined_name request ≡ Some name → place_of names name ≡ o
@@ -125,7 +126,7 @@ asks_by : (names : List (List ℕ)) (session : ℕ) (request : Request) (o : Opt
 asks_by names session request None asker e g = absurd (cc)
 asks_by names session request (Some name) asker e g = asks_in names session request name (place_of names name) asker e refl g
 
-pub asks_of : (names : List (List ℕ)) (session : ℕ) (seat : Option Seat) (request : Request) (asker : Asker) → asker_of names session seat request ≡ Some asker → Asks names session seat request asker
+asks_of : (names : List (List ℕ)) (session : ℕ) (seat : Option Seat) (request : Request) (asker : Asker) → asker_of names session seat request ≡ Some asker → Asks names session seat request asker
 asks_of names session None request asker e = asks_by names session request (joined_name request) asker refl e
 asks_of names session (Some seat) request asker e =
     let same : record { session = session; place = seat.place; site = Some seat.site } ≡ asker = cc in
@@ -137,7 +138,7 @@ asks_of names session (Some seat) request asker e =
     })
 
 module _ (state : State) (message : Message) (request : Request)
-    (is_request : request_of message.bytes ≡ Some request)
+    (is_request : request_read message.bytes ≡ Some request)
   where
     owner_by : (o : Option ℕ) → owner_from (option_map (λ (s : Seat). s.place) (seat_of state.seats message.session)) (named_place (names_of state) (Some request)) ≡ o → owner_of (names_of state) (rooms_of state) message ≡ o
     owner_by o e = ap (λ r. owner_from (option_map (λ (s : Seat). s.place) (seat_of state.seats message.session)) (named_place (names_of state) r)) is_request ∙ e
@@ -148,18 +149,18 @@ module _ (state : State) (message : Message) (request : Request)
         asks : Asks (names_of state) message.session (seat_of state.seats message.session) request asker
         asks = asks_of (names_of state) message.session (seat_of state.seats message.session) request asker found
 
-        owner_is : owner_of (names_of state) (rooms_of state) message ≡ Some asker.place
+        pub owner_is : owner_of (names_of state) (rooms_of state) message ≡ Some asker.place
         owner_is = owner_by (Some asker.place) asks.owner
 
-        answer_is : alone_answer (alone_at state asker.place) message ≡ asked (room_at state.rooms asker.place) asker.site request
+        pub answer_is : alone_answer (alone_at state asker.place) message ≡ asker_answer (room_at state.rooms asker.place) asker.site request
         answer_is = ap (answer_to (room_at state.rooms asker.place) (site_at asker.place (seat_of state.seats message.session))) is_request ∙ asks.answer (room_at state.rooms asker.place)
 
         pub asked_after : (new : State) → asker.place < length state.rooms
-            → rooms_in new.rooms ≡ set (rooms_in state.rooms) asker.place (with_entry (room_at state.rooms asker.place) (asked (room_at state.rooms asker.place) asker.site request).1)
-            → IsMoved state.seats new.seats (asked (room_at state.rooms asker.place) asker.site request).0 asker.session asker.place
+            → rooms_in new.rooms ≡ set (rooms_in state.rooms) asker.place (with_entry (room_at state.rooms asker.place) (asker_answer (room_at state.rooms asker.place) asker.site request).1)
+            → IsMoved state.seats new.seats (asker_answer (room_at state.rooms asker.place) asker.site request).0 asker.session asker.place
             → rooms_of new ≡ rooms_after (names_of state) (rooms_of state) message
         asked_after new within rooms seats =
-            rooms_of-changed state new message asker.place (asked (room_at state.rooms asker.place) asker.site request) within asks.apart answer_is rooms (rw asks.session_is at seats)
+            rooms_of-changed state new message asker.place (asker_answer (room_at state.rooms asker.place) asker.site request) within asks.apart answer_is rooms (rw asks.session_is at seats)
             ∙ ap (after_at (rooms_of state) message) (sym owner_is)
 
 -- whoever asks a room asks one that is there

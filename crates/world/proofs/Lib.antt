@@ -10,7 +10,7 @@ pub mod ScriptForms
 pub mod Parts
 pub mod EndedLines
 pub mod RoomShows
-pub mod Growth
+pub mod StepAnswers
 pub mod ReadBack
 pub mod Ranges
 pub mod AnswerRanges

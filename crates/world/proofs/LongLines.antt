@@ -7,48 +7,50 @@ use Rattle.std.proofs.lemmas.List.{length-append, length-drop, length-take, take
 use Rattle.std.proofs.lemmas.Fmt.{length-decimal-le}
 use Rattle.rules.specs.declared.refusal.Refusal.TheVariants.{BadMessage}
 use Rattle.wire.specs.declared.reply.Reply.TheVariants.{No}
-use Rattle.wire.specs.Texts.{request_of, reply_text}
-use Rattle.world.specs.Alone.{Message, message_of, Alone, answer_to, moved, alone_reply, alone_after}
-use Rattle.world.specs.Rooms.{Rooms, named_place, lone_answer, owner_from, reply_at, after_at, reply_of, rooms_after}
+use Rattle.wire.specs.Texts.{request_read, reply_text, reply_read}
+use Rattle.world.specs.Alone.{Message, message_of, Alone, answer_to, after_reply, alone_reply, alone_after}
+use Rattle.world.specs.Rooms.{Rooms, named_place, lone_answer, owner_from, owner_of, reply_at, after_at, reply_to, rooms_after}
 use Rattle.world.specs.State.{State, names_of, rooms_of}
 use Rattle.world.specs.Script.{lines_of, onto_first, message_in, text_for, rooms_for, lines_out, lines_end, output_of, HasNoBreak}
-use Rattle.world.specs.Answered.{kept_part}
+use Rattle.world.specs.declared.script.TheConstants.{LINE_LIMIT}
+use Rattle.world.specs.Shown.{HasObject}
+use Rattle.world.specs.Answered.{kept_part, LineShows, LinesShow}
 use Rattle.world.proofs.Changed.{rooms_same, alone_same}
 use Rattle.world.proofs.Lines.{no_break_parts}
 use Rattle.world.proofs.LineForms.{line_of_message, message_of_line}
 
 -- ---- what is no request
 
-pub no_request : (bytes : List ℕ) → 16384 < length bytes → request_of bytes ≡ None
-unfolding request_of
+pub no_request : (bytes : List ℕ) → 16384 < length bytes → request_read bytes ≡ None
+unfolding request_read
 no_request bytes long = rw (lt-leb (length bytes) 16384 long) refl
 
-alone_bad : (alone : Alone) (m : Message) → request_of m.bytes ≡ None → alone_reply alone m ≡ No 0 BadMessage
+alone_bad : (alone : Alone) (m : Message) → request_read m.bytes ≡ None → alone_reply alone m ≡ No 0 BadMessage
 alone_bad alone m e = ap (λ r. (answer_to alone.room (alone.site_of m.session) r).0) e
 
-bad_reply : (names : List (List ℕ)) (rooms : Rooms) (m : Message) → request_of m.bytes ≡ None → reply_of names rooms m ≡ No 0 BadMessage
-bad_reply names rooms m e = elim (rooms.inside m.session) as (λ o. reply_at rooms m (owner_from o (named_place names (request_of m.bytes))) ≡ No 0 BadMessage) [
+pub bad_reply : (names : List (List ℕ)) (rooms : Rooms) (m : Message) → request_read m.bytes ≡ None → reply_to names rooms m ≡ No 0 BadMessage
+bad_reply names rooms m e = elim (rooms.inside m.session) as (λ o. reply_at rooms m (owner_from o (named_place names (request_read m.bytes))) ≡ No 0 BadMessage) [
   | None ↦ ap (λ r. reply_at rooms m (named_place names r)) e ∙ ap lone_answer e
   | Some place ↦ alone_bad (rooms.alone place) m e
 ]
 
-alone_kept : (alone : Alone) (m : Message) → request_of m.bytes ≡ None → alone_after alone m ≡ alone
-alone_kept alone m e = alone_same _ _ (rw e refl) (ap (λ r. moved r (λ site. site) m.session alone.site_of) (alone_bad alone m e))
+alone_kept : (alone : Alone) (m : Message) → request_read m.bytes ≡ None → alone_after alone m ≡ alone
+alone_kept alone m e = alone_same _ _ (rw e refl) (ap (λ r. after_reply r (λ site. site) m.session alone.site_of) (alone_bad alone m e))
 
-kept_at : (b : Bool) (rooms : Rooms) (m : Message) (place other : ℕ) → eqb place other ≡ b → request_of m.bytes ≡ None → cond b (alone_after (rooms.alone place) m) (rooms.alone other) ≡ rooms.alone other
+kept_at : (b : Bool) (rooms : Rooms) (m : Message) (place other : ℕ) → eqb place other ≡ b → request_read m.bytes ≡ None → cond b (alone_after (rooms.alone place) m) (rooms.alone other) ≡ rooms.alone other
 kept_at true rooms m place other t e = alone_kept (rooms.alone place) m e ∙ ap rooms.alone (eqb-true place other t)
 kept_at false rooms m place other t e = refl
 
-bad_after : (names : List (List ℕ)) (rooms : Rooms) (m : Message) → request_of m.bytes ≡ None → rooms_after names rooms m ≡ rooms
-bad_after names rooms m e = elim (rooms.inside m.session) as (λ o. after_at rooms m (owner_from o (named_place names (request_of m.bytes))) ≡ rooms) [
+pub bad_after : (names : List (List ℕ)) (rooms : Rooms) (m : Message) → request_read m.bytes ≡ None → rooms_after names rooms m ≡ rooms
+bad_after names rooms m e = elim (rooms.inside m.session) as (λ o. after_at rooms m (owner_from o (named_place names (request_read m.bytes))) ≡ rooms) [
   | None ↦ ap (λ r. after_at rooms m (named_place names r)) e
-  | Some place ↦ rooms_same _ _ (ap (λ r. moved r (λ site. place) m.session rooms.inside) (alone_bad (rooms.alone place) m e)) (fun_ext (λ other. kept_at (eqb place other) rooms m place other refl e))
+  | Some place ↦ rooms_same _ _ (ap (λ r. after_reply r (λ site. place) m.session rooms.inside) (alone_bad (rooms.alone place) m e)) (fun_ext (λ other. kept_at (eqb place other) rooms m place other refl e))
 ]
 
 -- ---- two ends of one long line
 
 -- the message of a long line, with another end
-pub other_end : (line a b : List ℕ) (m : Message) → 16396 ≤ length line → message_in (line ++ a) ≡ Some m
+other_end : (line a b : List ℕ) (m : Message) → LINE_LIMIT ≤ length line → message_in (line ++ a) ≡ Some m
     → (more : List ℕ) × (16384 < length m.bytes) × (16384 < length more) × (message_in (line ++ b) ≡ Some (message_of m.session more))
 other_end line a b m long e =
     let h = line_of_message (line ++ a) m e in
@@ -75,17 +77,37 @@ other_end line a b m long e =
       }),
     )
 
+-- both get one answer, and one shows what the other does
 abbrev SameAnswer : List (List ℕ) → Rooms → Option Message → Option Message → Type 0
-SameAnswer names rooms o p = (text_for names rooms o ≡ text_for names rooms p) × (rooms_for names rooms o ≡ rooms_for names rooms p)
+SameAnswer names rooms o p =
+    (text_for names rooms o ≡ text_for names rooms p) × (rooms_for names rooms o ≡ rooms_for names rooms p) × (LineShows names rooms o → LineShows names rooms p) × (LineShows names rooms p → LineShows names rooms o)
+
+bad_shows : (names : List (List ℕ)) (rooms : Rooms) (m n : Message) → request_read m.bytes ≡ None → request_read n.bytes ≡ None → n.session ≡ m.session
+    → LineShows names rooms (Some m) → LineShows names rooms (Some n)
+bad_shows names rooms m n e f same shows at object kind versions is_read =
+    let replies = bad_reply names rooms m e ∙ sym (bad_reply names rooms n f) in
+    let rooms_are = bad_after names rooms m e ∙ sym (bad_after names rooms n f) in
+    let owners_are : owner_of names rooms n ≡ owner_of names rooms m =
+    ap (λ q. owner_from (rooms.inside q) (named_place names (request_read n.bytes))) same ∙ ap (λ r. owner_from (rooms.inside m.session) (named_place names r)) (f ∙ sym e) in
+    let there = shows at object kind versions (ap (λ r. reply_read (reply_text r)) replies ∙ is_read) in
+    record {
+      place = there.place;
+      owner = owners_are ∙ there.owner;
+      has = subst (λ (rs : Rooms). HasObject (rs.alone there.place).room at object kind versions) rooms_are there.has;
+    }
 
 same_bad : (names : List (List ℕ)) (rooms : Rooms) (m : Message) (more : List ℕ) → 16384 < length m.bytes → 16384 < length more → SameAnswer names rooms (Some m) (Some (message_of m.session more))
-same_bad names rooms m more long longer = (
-  ap (λ r. decimal m.session ++ (32 ∷ reply_text r) ++ 10 ∷ []) (bad_reply names rooms m (no_request m.bytes long) ∙ sym (bad_reply names rooms (message_of m.session more) (no_request more longer))),
-  bad_after names rooms m (no_request m.bytes long) ∙ sym (bad_after names rooms (message_of m.session more) (no_request more longer)),
-)
+same_bad names rooms m more long longer =
+    let e = no_request m.bytes long in
+    let f = no_request more longer in (
+      ap (λ r. decimal m.session ++ (32 ∷ reply_text r) ++ 10 ∷ []) (bad_reply names rooms m e ∙ sym (bad_reply names rooms (message_of m.session more) f)),
+      bad_after names rooms m e ∙ sym (bad_after names rooms (message_of m.session more) f),
+      bad_shows names rooms m (message_of m.session more) e f refl,
+      bad_shows names rooms (message_of m.session more) m f e refl,
+    )
 
-same_by : (names : List (List ℕ)) (rooms : Rooms) (line a b : List ℕ) → 16396 ≤ length line → (o p : Option Message) → message_in (line ++ a) ≡ o → message_in (line ++ b) ≡ p → SameAnswer names rooms o p
-same_by names rooms line a b long None None e f = (refl, refl)
+same_by : (names : List (List ℕ)) (rooms : Rooms) (line a b : List ℕ) → LINE_LIMIT ≤ length line → (o p : Option Message) → message_in (line ++ a) ≡ o → message_in (line ++ b) ≡ p → SameAnswer names rooms o p
+same_by names rooms line a b long None None e f = (refl, refl, λ h. h, λ h. h)
 same_by names rooms line a b long (Some m) p e f =
     let other = other_end line a b m long e in
     subst (λ q. SameAnswer names rooms (Some m) q) (sym other.3 ∙ f) (same_bad names rooms m other.0 other.1 other.2)
@@ -94,23 +116,23 @@ same_by names rooms line a b long None (Some m) e f =
     let clash : None ≡ Some (message_of m.session other.0) = sym e ∙ other.3 in
     absurd (cc)
 
-same_answer : (names : List (List ℕ)) (rooms : Rooms) (line a b : List ℕ) → 16396 ≤ length line → SameAnswer names rooms (message_in (line ++ a)) (message_in (line ++ b))
+same_answer : (names : List (List ℕ)) (rooms : Rooms) (line a b : List ℕ) → LINE_LIMIT ≤ length line → SameAnswer names rooms (message_in (line ++ a)) (message_in (line ++ b))
 same_answer names rooms line a b long = same_by names rooms line a b long _ _ refl refl
 
 -- ---- what is kept of a line decides
 
-kept_by : (b : Bool) (names : List (List ℕ)) (rooms : Rooms) (line : List ℕ) → ltb 16396 (length line) ≡ b → SameAnswer names rooms (message_in line) (message_in (kept_part line))
+kept_by : (b : Bool) (names : List (List ℕ)) (rooms : Rooms) (line : List ℕ) → ltb LINE_LIMIT (length line) ≡ b → SameAnswer names rooms (message_in line) (message_in (kept_part line))
 kept_by true names rooms line e =
-    let long : 16396 < length line = ltb-true 16396 (length line) e in
-    let enough : 16396 ≤ length (kept_part line) = omega (arith, length-take 16396 line, long) in
-    let whole = same_answer names rooms (kept_part line) (drop 16396 line) [] enough in
-    subst (λ l. SameAnswer names rooms (message_in l) (message_in (kept_part line))) (take-append-drop 16396 line)
-    (subst (λ l. SameAnswer names rooms (message_in (kept_part line ++ drop 16396 line)) (message_in l)) (append-nil (kept_part line)) whole)
+    let long : LINE_LIMIT < length line = ltb-true LINE_LIMIT (length line) e in
+    let enough : LINE_LIMIT ≤ length (kept_part line) = omega (arith, length-take LINE_LIMIT line, long) in
+    let whole = same_answer names rooms (kept_part line) (drop LINE_LIMIT line) [] enough in
+    subst (λ l. SameAnswer names rooms (message_in l) (message_in (kept_part line))) (take-append-drop LINE_LIMIT line)
+    (subst (λ l. SameAnswer names rooms (message_in (kept_part line ++ drop LINE_LIMIT line)) (message_in l)) (append-nil (kept_part line)) whole)
 kept_by false names rooms line e =
-    subst (λ l. SameAnswer names rooms (message_in line) (message_in l)) (sym (take_all 16396 line (ltb-false 16396 (length line) e))) (refl, refl)
+    subst (λ l. SameAnswer names rooms (message_in line) (message_in l)) (sym (take_all LINE_LIMIT line (ltb-false LINE_LIMIT (length line) e))) (refl, refl, λ h. h, λ h. h)
 
 same_kept : (names : List (List ℕ)) (rooms : Rooms) (line : List ℕ) → SameAnswer names rooms (message_in line) (message_in (kept_part line))
-same_kept names rooms line = kept_by (ltb 16396 (length line)) names rooms line refl
+same_kept names rooms line = kept_by (ltb LINE_LIMIT (length line)) names rooms line refl
 
 pub out_kept : (names : List (List ℕ)) (rooms : Rooms) (lines : List (List ℕ)) → lines_out names rooms lines ≡ lines_out names rooms (map kept_part lines)
 out_kept names rooms [] = refl
@@ -124,6 +146,18 @@ pub end_kept : (names : List (List ℕ)) (rooms : Rooms) (lines : List (List ℕ
 end_kept names rooms [] = refl
 end_kept names rooms (line ∷ lines) =
     ap (λ r. lines_end names r lines) (same_kept names rooms line).1 ∙ end_kept names (rooms_for names rooms (message_in (kept_part line))) lines
+
+pub shows_kept : (names : List (List ℕ)) (rooms : Rooms) (lines : List (List ℕ)) → LinesShow names rooms lines → LinesShow names rooms (map kept_part lines)
+shows_kept names rooms [] h = tt
+shows_kept names rooms (line ∷ lines) h =
+    let same = same_kept names rooms line in
+    (same.2 h.0, shows_kept names (rooms_for names rooms (message_in (kept_part line))) lines (subst (λ r. LinesShow names r lines) same.1 h.1))
+
+pub shows_whole : (names : List (List ℕ)) (rooms : Rooms) (lines : List (List ℕ)) → LinesShow names rooms (map kept_part lines) → LinesShow names rooms lines
+shows_whole names rooms [] h = tt
+shows_whole names rooms (line ∷ lines) h =
+    let same = same_kept names rooms line in
+    (same.3 h.0, subst (λ r. LinesShow names r lines) (sym same.1) (shows_whole names (rooms_for names rooms (message_in (kept_part line))) lines h.1))
 
 -- ---- a byte that comes after the limit
 
@@ -145,15 +179,15 @@ lines_join : (x : ℕ) (line rest : List ℕ) → HasNoBreak (x ∷ line) → li
 lines_join x [] rest h = rw (ne_eqb x 10 h.0) (join_one x (lines_of rest))
 lines_join x (y ∷ line) rest h = rw (ne_eqb x 10 h.0) (ap (onto_first x) (lines_join y line rest h.1) ∙ join_more x y line (lines_of rest))
 
-same_front : (line a b : List ℕ) → 16396 ≤ length line → kept_part (line ++ a) ≡ kept_part (line ++ b)
-same_front line a b long = take-append-le 16396 line a long ∙ sym (take-append-le 16396 line b long)
+same_front : (line a b : List ℕ) → LINE_LIMIT ≤ length line → kept_part (line ++ a) ≡ kept_part (line ++ b)
+same_front line a b long = take-append-le LINE_LIMIT line a long ∙ sym (take-append-le LINE_LIMIT line b long)
 
-join_kept : (line : List ℕ) (x : ℕ) (ls : List (List ℕ)) → 16396 ≤ length line → map kept_part (join line (onto_first x ls)) ≡ map kept_part (join line ls)
+join_kept : (line : List ℕ) (x : ℕ) (ls : List (List ℕ)) → LINE_LIMIT ≤ length line → map kept_part (join line (onto_first x ls)) ≡ map kept_part (join line ls)
 unfolding join
 join_kept line x [] long = ap (λ l. l ∷ []) (same_front line (x ∷ []) [] long)
 join_kept line x (h ∷ t) long = ap (λ l. l ∷ map kept_part t) (same_front line (x ∷ h) h long)
 
-pub lines_dropped : (line : List ℕ) (x : ℕ) (rest : List ℕ) → HasNoBreak line → x ≢ 10 → 16396 ≤ length line → map kept_part (lines_of (line ++ x ∷ rest)) ≡ map kept_part (lines_of (line ++ rest))
+lines_dropped : (line : List ℕ) (x : ℕ) (rest : List ℕ) → HasNoBreak line → x ≢ 10 → LINE_LIMIT ≤ length line → map kept_part (lines_of (line ++ x ∷ rest)) ≡ map kept_part (lines_of (line ++ rest))
 lines_dropped [] x rest h ne long = absurd (omega (arith, long))
 lines_dropped (y ∷ line) x rest h ne long =
     let read : lines_of (x ∷ rest) ≡ onto_first x (lines_of rest) = rw (ne_eqb x 10 ne) refl in
@@ -161,25 +195,25 @@ lines_dropped (y ∷ line) x rest h ne long =
     ∙ join_kept (y ∷ line) x (lines_of rest) long
     ∙ ap (map kept_part) (sym (lines_join y line rest h))
 
-lines_dropped_all : (line more rest : List ℕ) → HasNoBreak line → HasNoBreak more → 16396 ≤ length line → map kept_part (lines_of (line ++ (more ++ rest))) ≡ map kept_part (lines_of (line ++ rest))
+lines_dropped_all : (line more rest : List ℕ) → HasNoBreak line → HasNoBreak more → LINE_LIMIT ≤ length line → map kept_part (lines_of (line ++ (more ++ rest))) ≡ map kept_part (lines_of (line ++ rest))
 lines_dropped_all line [] rest h k long = refl
 lines_dropped_all line (x ∷ more) rest h k long = lines_dropped line x (more ++ rest) h k.0 long ∙ lines_dropped_all line more rest h k.1 long
 
-lines_cut_by : (b : Bool) (line rest : List ℕ) → ltb 16396 (length line) ≡ b → HasNoBreak line → map kept_part (lines_of (line ++ rest)) ≡ map kept_part (lines_of (kept_part line ++ rest))
+lines_cut_by : (b : Bool) (line rest : List ℕ) → ltb LINE_LIMIT (length line) ≡ b → HasNoBreak line → map kept_part (lines_of (line ++ rest)) ≡ map kept_part (lines_of (kept_part line ++ rest))
 lines_cut_by true line rest e h =
-    let long : 16396 < length line = ltb-true 16396 (length line) e in
-    let enough : 16396 ≤ length (kept_part line) = omega (arith, length-take 16396 line, long) in
-    let parts = no_break_parts (kept_part line) (drop 16396 line) (subst HasNoBreak (sym (take-append-drop 16396 line)) h) in
-    ap (λ l. map kept_part (lines_of (l ++ rest))) (sym (take-append-drop 16396 line))
-    ∙ ap (λ l. map kept_part (lines_of l)) (append_assoc (kept_part line) (drop 16396 line) rest)
-    ∙ lines_dropped_all (kept_part line) (drop 16396 line) rest parts.0 parts.1 enough
-lines_cut_by false line rest e h = ap (λ l. map kept_part (lines_of (l ++ rest))) (sym (take_all 16396 line (ltb-false 16396 (length line) e)))
+    let long : LINE_LIMIT < length line = ltb-true LINE_LIMIT (length line) e in
+    let enough : LINE_LIMIT ≤ length (kept_part line) = omega (arith, length-take LINE_LIMIT line, long) in
+    let parts = no_break_parts (kept_part line) (drop LINE_LIMIT line) (subst HasNoBreak (sym (take-append-drop LINE_LIMIT line)) h) in
+    ap (λ l. map kept_part (lines_of (l ++ rest))) (sym (take-append-drop LINE_LIMIT line))
+    ∙ ap (λ l. map kept_part (lines_of l)) (append_assoc (kept_part line) (drop LINE_LIMIT line) rest)
+    ∙ lines_dropped_all (kept_part line) (drop LINE_LIMIT line) rest parts.0 parts.1 enough
+lines_cut_by false line rest e h = ap (λ l. map kept_part (lines_of (l ++ rest))) (sym (take_all LINE_LIMIT line (ltb-false LINE_LIMIT (length line) e)))
 
 -- a line that is cut at the limit
 pub lines_cut : (line rest : List ℕ) → HasNoBreak line → map kept_part (lines_of (line ++ rest)) ≡ map kept_part (lines_of (kept_part line ++ rest))
-lines_cut line rest h = lines_cut_by (ltb 16396 (length line)) line rest refl h
+lines_cut line rest h = lines_cut_by (ltb LINE_LIMIT (length line)) line rest refl h
 
-pub output_dropped : (mid : State) (line : List ℕ) (x : ℕ) (rest : List ℕ) → HasNoBreak line → x ≢ 10 → 16396 ≤ length line → output_of mid (line ++ x ∷ rest) ≡ output_of mid (line ++ rest)
+pub output_dropped : (mid : State) (line : List ℕ) (x : ℕ) (rest : List ℕ) → HasNoBreak line → x ≢ 10 → LINE_LIMIT ≤ length line → output_of mid (line ++ x ∷ rest) ≡ output_of mid (line ++ rest)
 output_dropped mid line x rest h ne long =
     out_kept (names_of mid) (rooms_of mid) (lines_of (line ++ x ∷ rest))
     ∙ ap (lines_out (names_of mid) (rooms_of mid)) (lines_dropped line x rest h ne long)

@@ -7,19 +7,20 @@ use Rattle.std.specs.Io.KnownBytes.{Appends, Keeps}
 use Rattle.world.specs.Rooms.{Rooms}
 use Rattle.world.specs.State.{State, names_of, rooms_of}
 use Rattle.world.specs.Script.{lines_of, HasNoBreak, AppendsFront, Stops, message_in, text_for, rooms_for, lines_out, lines_end, output_of, end_of}
-use Rattle.world.specs.Answered.{kept_part, Answered, Adds, AnswersSome, Hands, Wrote, WroteSome}
-use Rattle.world.proofs.LongLines.{lines_cut, out_kept, end_kept}
-use Rattle.world.proofs.Lines.{lines_break, lines_last, no_break_append, no_break_parts, no_front}
+use Rattle.world.specs.declared.script.TheConstants.{LINE_LIMIT}
+use Rattle.world.specs.Answered.{kept_part, line_text, IsHeld, LinesShow, IsPastLine, IsPastEnd, Answered, Adds, AnswersSome, Hands, Wrote, WroteSome}
+use Rattle.world.proofs.LongLines.{lines_cut, out_kept, end_kept, shows_kept, shows_whole}
+use Rattle.world.proofs.Lines.{lines_break, lines_last, end_last, no_break_append, no_break_parts, no_front}
 
 -- ---- lines one after the other
 
-pub out_append : (names : List (List ℕ)) (rooms : Rooms) (a b : List (List ℕ)) → lines_out names rooms (a ++ b) ≡ lines_out names rooms a ++ lines_out names (lines_end names rooms a) b
+out_append : (names : List (List ℕ)) (rooms : Rooms) (a b : List (List ℕ)) → lines_out names rooms (a ++ b) ≡ lines_out names rooms a ++ lines_out names (lines_end names rooms a) b
 out_append names rooms [] b = refl
 out_append names rooms (line ∷ a) b =
     ap (λ t. text_for names rooms (message_in line) ++ t) (out_append names (rooms_for names rooms (message_in line)) a b)
     ∙ sym (append_assoc (text_for names rooms (message_in line)) (lines_out names (rooms_for names rooms (message_in line)) a) (lines_out names (lines_end names rooms (line ∷ a)) b))
 
-pub end_append : (names : List (List ℕ)) (rooms : Rooms) (a b : List (List ℕ)) → lines_end names rooms (a ++ b) ≡ lines_end names (lines_end names rooms a) b
+end_append : (names : List (List ℕ)) (rooms : Rooms) (a b : List (List ℕ)) → lines_end names rooms (a ++ b) ≡ lines_end names (lines_end names rooms a) b
 end_append names rooms [] b = refl
 end_append names rooms (line ∷ a) b = end_append names (rooms_for names rooms (message_in line)) a b
 
@@ -37,28 +38,39 @@ end_from from to lines more e f =
     ∙ ap (λ r. lines_end (names_of from) r more) (sym e)
     ∙ ap (λ ns. lines_end ns (rooms_of to) more) (sym f)
 
+shows_append : (names : List (List ℕ)) (rooms : Rooms) (a b : List (List ℕ)) → LinesShow names rooms a → LinesShow names (lines_end names rooms a) b → LinesShow names rooms (a ++ b)
+shows_append names rooms [] b h k = k
+shows_append names rooms (line ∷ a) b h k = (h.0, shows_append names (rooms_for names rooms (message_in line)) a b h.1 k)
+
+shows_from : (from to : State) (lines more : List (List ℕ)) → rooms_of to ≡ lines_end (names_of from) (rooms_of from) lines → names_of to ≡ names_of from
+    → LinesShow (names_of from) (rooms_of from) lines → LinesShow (names_of to) (rooms_of to) more → LinesShow (names_of from) (rooms_of from) (lines ++ more)
+shows_from from to lines more e f h k =
+    shows_append (names_of from) (rooms_of from) lines more h (subst (λ r. LinesShow (names_of from) r more) e (subst (λ ns. LinesShow ns (rooms_of to) more) f k))
+
 -- ---- what was answered so far
 
 pub answered_none : (s : State) (held : List ℕ) → Answered s s held held []
-answered_none s held = record { lines = []; rooms = refl; names = refl; is_text = refl; same = λ rest. refl }
+answered_none s held = record { lines = []; rooms = refl; names = refl; is_text = refl; shown = tt; same = λ rest. refl }
 
-pub answered_more : {from to : State} {taken held text : List ℕ} (more : List ℕ) → Answered from to taken held text → Answered from to (taken ++ more) (held ++ more) text
+answered_more : {from to : State} {taken held text : List ℕ} (more : List ℕ) → Answered from to taken held text → Answered from to (taken ++ more) (held ++ more) text
 answered_more {taken = taken} {held = held} more h = record {
   lines = h.lines;
   rooms = h.rooms;
   names = h.names;
   is_text = h.is_text;
+  shown = h.shown;
   same = λ rest.
       ap (λ xs. map kept_part (lines_of xs)) (append_assoc taken more rest) ∙ h.same (more ++ rest)
       ∙ ap (λ xs. map kept_part (h.lines ++ lines_of xs)) (sym (append_assoc held more rest));
 }
 
-pub answered_then : {s0 s1 s2 : State} {taken held last t u : List ℕ} → Answered s0 s1 taken held t → Answered s1 s2 held last u → Answered s0 s2 taken last (t ++ u)
+answered_then : {s0 s1 s2 : State} {taken held last t u : List ℕ} → Answered s0 s1 taken held t → Answered s1 s2 held last u → Answered s0 s2 taken last (t ++ u)
 answered_then {s0 = s0} {s1 = s1} {s2 = s2} {taken = taken} {held = held} {last = last} {t = t} {u = u} h k = record {
   lines = h.lines ++ k.lines;
   rooms = k.rooms ∙ sym (end_from s0 s1 h.lines k.lines h.rooms h.names);
   names = k.names ∙ h.names;
   is_text = ap (λ x. x ++ u) h.is_text ∙ ap (λ x. lines_out (names_of s0) (rooms_of s0) h.lines ++ x) k.is_text ∙ sym (out_from s0 s1 h.lines k.lines h.rooms h.names);
+  shown = shows_from s0 s1 h.lines k.lines h.rooms h.names h.shown k.shown;
   same = λ rest.
       h.same rest
       ∙ map-append kept_part h.lines (lines_of (held ++ rest))
@@ -94,6 +106,11 @@ module _ {from to : State} {taken held text : List ℕ} (h : Answered from to ta
   pub end_after : end_of from (taken ++ rest) ≡ end_of to (held ++ rest)
   end_after = end_by (lines_of (taken ++ rest)) (lines_of (held ++ rest)) (h.same rest)
 
+  pub shown_after : LinesShow (names_of to) (rooms_of to) (lines_of (held ++ rest)) → LinesShow (names_of from) (rooms_of from) (lines_of (taken ++ rest))
+  shown_after more =
+      shows_whole (names_of from) (rooms_of from) (lines_of (taken ++ rest)) (subst (LinesShow (names_of from) (rooms_of from)) (sym (h.same rest))
+      (shows_kept (names_of from) (rooms_of from) (h.lines ++ lines_of (held ++ rest)) (shows_from from to h.lines (lines_of (held ++ rest)) h.rooms h.names h.shown more)))
+
   pub first_output : (n : ℕ) → lines_out (names_of from) (rooms_of from) (take (length h.lines + n) (lines_of (taken ++ rest))) ≡ text ++ lines_out (names_of to) (rooms_of to) (take n (lines_of (held ++ rest)))
   first_output n = out_by (take (length h.lines + n) (lines_of (taken ++ rest))) (take n (lines_of (held ++ rest))) (first_same n)
 
@@ -104,49 +121,46 @@ module _ {from to : State} {taken held text : List ℕ} (h : Answered from to ta
 
 -- they join it
 pub answered_kept : (s : State) (line bytes longer : List ℕ) → longer ≡ kept_part (line ++ bytes) → HasNoBreak line → HasNoBreak bytes
-    → HasNoBreak longer × (length longer ≤ 16396) × Answered s s (line ++ bytes) longer []
+    → IsHeld longer × Answered s s (line ++ bytes) longer []
 answered_kept s line bytes longer e clean more =
     let all = line ++ bytes in
     let both = no_break_append line bytes clean more in (
-      rw e (no_break_parts (kept_part all) (drop 16396 all) (subst HasNoBreak (sym (take-append-drop 16396 all)) both)).0,
-      omega (arith, ap length e, length-take 16396 all),
-      subst (λ l. Answered s s all l []) (sym e) (record { lines = []; rooms = refl; names = refl; is_text = refl; same = λ rest. lines_cut all rest both }),
+      record {
+        clean = rw e (no_break_parts (kept_part all) (drop LINE_LIMIT all) (subst HasNoBreak (sym (take-append-drop LINE_LIMIT all)) both)).0;
+        short = omega (arith, ap length e, length-take LINE_LIMIT all);
+      },
+      subst (λ l. Answered s s all l []) (sym e) (record { lines = []; rooms = refl; names = refl; is_text = refl; shown = tt; same = λ rest. lines_cut all rest both }),
     )
 
 -- they are as many as are kept
-pub kept_bytes : (line bytes : List ℕ) (held count : ℕ) → held ≡ length line → held ≤ 16396 → count ≡ min (16396 - held) (length bytes) → line ++ take count bytes ≡ kept_part (line ++ bytes)
+pub kept_bytes : (line bytes : List ℕ) (held count : ℕ) → held ≡ length line → held ≤ LINE_LIMIT → count ≡ min (LINE_LIMIT - held) (length bytes) → line ++ take count bytes ≡ kept_part (line ++ bytes)
 kept_bytes line bytes held count is_held short is_count =
-    let limit : length line + (16396 - held) ≡ 16396 = omega (arith, is_held, short) in
+    let limit : length line + (LINE_LIMIT - held) ≡ LINE_LIMIT = omega (arith, is_held, short) in
     ap (λ n. line ++ take n bytes) is_count
-    ∙ ap (λ xs. line ++ xs) (take_min (16396 - held) bytes)
-    ∙ sym (take-append-add line bytes (16396 - held))
+    ∙ ap (λ xs. line ++ xs) (take_min (LINE_LIMIT - held) bytes)
+    ∙ sym (take-append-add line bytes (LINE_LIMIT - held))
     ∙ ap (λ n. take n (line ++ bytes)) limit
+
+-- nothing was answered
+pub answers_nothing : (s new : State) (taken : List ℕ) → new ≡ s → AnswersSome s new taken
+answers_nothing s new taken same = subst (λ n. AnswersSome s n taken) (sym same) (record { held = taken; text = []; answered = answered_none s taken })
 
 -- ---- a line ends
 
-pub answered_line : (s new : State) (line text : List ℕ) → HasNoBreak line → text ≡ text_for (names_of s) (rooms_of s) (message_in line)
-    → rooms_of new ≡ rooms_for (names_of s) (rooms_of s) (message_in line) → names_of new ≡ names_of s → Answered s new (line ++ 10 ∷ []) [] text
-answered_line s new line text clean is_text is_rooms is_names = record {
+pub answered_line : (s new : State) (line : List ℕ) → HasNoBreak line → IsPastLine s line new → Answered s new (line ++ 10 ∷ []) [] (line_text s line)
+answered_line s new line clean past = record {
   lines = line ∷ [];
-  rooms = is_rooms;
-  names = is_names;
-  is_text = is_text ∙ sym (append-nil (text_for (names_of s) (rooms_of s) (message_in line)));
+  rooms = past.rooms;
+  names = past.names;
+  is_text = sym (append-nil (line_text s line));
+  shown = (past.shown, tt);
   same = λ rest. ap (λ xs. map kept_part (lines_of xs)) (append_assoc line (10 ∷ []) rest) ∙ ap (map kept_part) (lines_break line rest clean);
 }
 
 -- it was answered, but the answer is lost, or it was not answered
-pub answered_lost : (s new : State) (line : List ℕ) → HasNoBreak line → names_of new ≡ names_of s
-    → (rooms_of new ≡ rooms_of s) ⊎ (rooms_of new ≡ rooms_for (names_of s) (rooms_of s) (message_in line)) → AnswersSome s new (line ++ 10 ∷ [])
-answered_lost s new line clean is_names (inl same) = record {
-  held = line ++ 10 ∷ [];
-  text = [];
-  answered = record { lines = []; rooms = same; names = is_names; is_text = refl; same = λ rest. refl };
-}
-answered_lost s new line clean is_names (inr moved) = record {
-  held = [];
-  text = text_for (names_of s) (rooms_of s) (message_in line);
-  answered = answered_line s new line _ clean refl moved is_names;
-}
+pub answered_lost : (s new : State) (line : List ℕ) → HasNoBreak line → (new ≡ s) ⊎ IsPastLine s line new → AnswersSome s new (line ++ 10 ∷ [])
+answered_lost s new line clean (inl same) = answers_nothing s new (line ++ 10 ∷ []) same
+answered_lost s new line clean (inr past) = record { held = []; text = line_text s line; answered = answered_line s new line clean past }
 
 -- it is the line that was held
 pub answered_end : {s0 s1 s2 : State} {taken held text : List ℕ} → Answered s0 s1 taken held [] → Answered s1 s2 (held ++ 10 ∷ []) [] text → Answered s0 s2 (taken ++ 10 ∷ []) [] text
@@ -154,9 +168,6 @@ answered_end h k = answered_then (answered_more (10 ∷ []) h) k
 
 pub answers_end : {s0 s1 s2 : State} {taken held : List ℕ} → Answered s0 s1 taken held [] → AnswersSome s1 s2 (held ++ 10 ∷ []) → AnswersSome s0 s2 (taken ++ 10 ∷ [])
 answers_end h k = record { held = k.held; text = k.text; answered = answered_then (answered_more (10 ∷ []) h) k.answered }
-
-pub answers_nothing : (s new : State) (taken : List ℕ) → new ≡ s → AnswersSome s new taken
-answers_nothing s new taken same = subst (λ n. AnswersSome s n taken) (sym same) (record { held = taken; text = []; answered = answered_none s taken })
 
 -- ---- what was written so far
 
@@ -204,7 +215,7 @@ wrote_kept {a = a} {b = b} {c = c} h k = record { written = h.written; adds = Ap
 pub some_of : {a b : Option (List ℕ)} {s0 s1 : State} {taken held pending : List ℕ} → Wrote a b s0 s1 taken held pending → WroteSome a b s0 s1 taken
 some_of {held = held} {pending = pending} h = record { held = held; pending = pending; wrote = h }
 
-pub hands_more : {b c : Option (List ℕ)} {before after : List ℕ} (lost : List ℕ) → Hands b c before after → Hands b c (before ++ lost) (after ++ lost)
+hands_more : {b c : Option (List ℕ)} {before after : List ℕ} (lost : List ℕ) → Hands b c before after → Hands b c (before ++ lost) (after ++ lost)
 hands_more {after = after} lost h = record { front = h.front; adds = h.adds; whole = ap (λ t. t ++ lost) h.whole ∙ append_assoc h.front after lost }
 
 -- a line ended, and answers up to here are there
@@ -275,37 +286,39 @@ stops_then {a = a} {b = b} {c = c} {s1 = s1} {held = held} rest h k = record {
 }
 
 -- the last line was answered, and some of the answer written
-pub stops_line : (a c : Option (List ℕ)) (s new : State) (line : List ℕ) → HasNoBreak line → 0 < length line → rooms_of new ≡ rooms_for (names_of s) (rooms_of s) (message_in line) → names_of new ≡ names_of s
-    → AppendsFront a c (text_for (names_of s) (rooms_of s) (message_in line)) → Stops a c s new line
-stops_line a c s new [] clean some moved is_names part = absurd (omega (arith, some))
-stops_line a c s new (x ∷ line) clean some moved is_names part =
+pub stops_line : (a c : Option (List ℕ)) (s new : State) (line : List ℕ) → HasNoBreak line → 0 < length line → IsPastLine s line new → AppendsFront a c (line_text s line) → Stops a c s new line
+stops_line a c s new [] clean some past part = absurd (omega (arith, some))
+stops_line a c s new (x ∷ line) clean some past part =
     let one : (x ∷ line) ∷ [] ≡ take 1 (lines_of (x ∷ line)) = ap (take 1) (sym (lines_last x line clean)) in
     record {
       count = 1;
-      rooms = moved ∙ ap (lines_end (names_of s) (rooms_of s)) one;
-      names = is_names;
+      rooms = past.rooms ∙ ap (lines_end (names_of s) (rooms_of s)) one;
+      names = past.names;
       answers = record {
         front = part.front;
         rest = part.rest;
         adds = part.adds;
-        whole = ap (lines_out (names_of s) (rooms_of s)) (sym one) ∙ append-nil (text_for (names_of s) (rooms_of s) (message_in (x ∷ line))) ∙ part.whole;
+        whole = ap (lines_out (names_of s) (rooms_of s)) (sym one) ∙ append-nil (line_text s (x ∷ line)) ∙ part.whole;
       };
     }
-
--- the last line was answered or not, and nothing is written
-pub stops_lost : (a : Option (List ℕ)) (s new : State) (line : List ℕ) → HasNoBreak line → 0 < length line → names_of new ≡ names_of s
-    → (rooms_of new ≡ rooms_of s) ⊎ (rooms_of new ≡ rooms_for (names_of s) (rooms_of s) (message_in line)) → Stops a a s new line
-stops_lost a s new line clean some is_names (inl same) = record {
-  count = 0;
-  rooms = same;
-  names = is_names;
-  answers = record { front = []; rest = []; adds = Appends-nil a; whole = refl };
-}
-stops_lost a s new line clean some is_names (inr moved) = stops_line a a s new line clean some moved is_names (no_front a _)
 
 -- nothing was done
 pub stops_at_once : (a : Option (List ℕ)) (s : State) (bytes : List ℕ) → Stops a a s s bytes
 stops_at_once a s bytes = stops_of bytes (wrote_none a s [] [] refl)
+
+-- the last line was answered or not, and nothing is written
+pub stops_lost : (a : Option (List ℕ)) (s new : State) (line : List ℕ) → HasNoBreak line → 0 < length line → (new ≡ s) ⊎ IsPastLine s line new → Stops a a s new line
+stops_lost a s new line clean some (inl same) = subst (λ n. Stops a a s n line) (sym same) (stops_at_once a s line)
+stops_lost a s new line clean some (inr past) = stops_line a a s new line clean some past (no_front a _)
+
+-- the last line was answered
+pub past_end : (s new : State) (line : List ℕ) → HasNoBreak line → 0 < length line → IsPastLine s line new → IsPastEnd s line new
+past_end s new [] clean some past = absurd (omega (arith, some))
+past_end s new (x ∷ line) clean some past = record {
+  rooms = past.rooms ∙ sym (end_last s (x ∷ line) clean some);
+  names = past.names;
+  shown = subst (LinesShow (names_of s) (rooms_of s)) (sym (lines_last x line clean)) (past.shown, tt);
+}
 
 -- what was written is a front of the whole output
 pub stops_front : {a b : Option (List ℕ)} {s0 s1 : State} {bytes : List ℕ} → Stops a b s0 s1 bytes → AppendsFront a b (output_of s0 bytes)

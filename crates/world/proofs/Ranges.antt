@@ -4,12 +4,10 @@ use Rattle.std.specs.Prelude.{filter, find, flat_map, option_map, bytes_eq}
 use Rattle.std.specs.List.{AllByRecursion}
 use Rattle.std.specs.List.Sorted.{IsStrictlySortedBy}
 use Rattle.std.specs.Ordering.{is_lt}
-use Rattle.std.specs.Cmp.{IsTotalOrder, both_tied, unsigned_ties}
+use Rattle.std.specs.Cmp.{IsTotalOrder}
 use Rattle.std.specs.declared.cmp.Ordering.{Ordering}
-use Rattle.std.specs.declared.cmp.Ordering.TheVariants.{Equal}
-use Rattle.std.specs.Ordering.{eq_by_cmp, is_eq, nat_cmp}
 use Rattle.std.proofs.lemmas.Bool.{and_from, not-true}
-use Rattle.op_names.specs.Names.{Name, name_cmp, same_name, is_op_name}
+use Rattle.op_names.specs.Names.{Name, name_cmp, is_op_name}
 use Rattle.op_names.specs.Texts.{Bytes, is_key, is_kind}
 use Rattle.op_names.specs.VersionIds.{id_cmp, names_rise}
 use Rattle.op_names.specs.declared.value.Value.{Value}
@@ -22,14 +20,14 @@ use Rattle.rules.specs.declared.version.Version.{Version}
 use Rattle.rules.specs.AttrLists.{Attr}
 use Rattle.rules.specs.Bodies.{initial_in, is_set_body, keys_in, kind_in, value_in}
 use Rattle.rules.specs.Lists.{each_once, sort_by}
-use Rattle.rules.specs.Groups.{meets, identifier, IsSublist}
+use Rattle.rules.specs.Groups.{in_conflict_with, identifier, IsSublist}
 use Rattle.rules.specs.Conflicts.{conflict}
 use Rattle.rules.specs.Operations.{IsHistory, creation_of, is_creation_of, name_of, sets_on}
 use Rattle.rules.specs.Records.{operation_in, operations}
 use Rattle.rules.specs.Versions.{attributes, by_id, decides, groups, initial_of, key_cmp, keys_of, value_by, value_of_key, version_of, versions}
 use Rattle.rules.proofs.Lists.{In, In-append_cases, In-filter_back, In-filter_map_back, In-flat_map_back, In-map_back, find_is}
 use Rattle.rules.proofs.Once.{Once, Once-filter, Once-map}
-use Rattle.rules.proofs.Counted.{same_name-true}
+use Rattle.rules.proofs.Names.{names_rise_if, tied}
 use Rattle.rules.proofs.Orders.{name_cmp_total}
 use Rattle.rules.proofs.Sorting.{Rises, sort_back, sort_rises}
 use Rattle.rules.proofs.Sorted.{untied_if_once}
@@ -73,12 +71,6 @@ unfolding rise
 rise_if_rises cmp total [] r = refl
 rise_if_rises cmp total (x ∷ []) r = refl
 rise_if_rises cmp total (x ∷ y ∷ xs) r = and_from (is_lt (cmp x y)) _ (ap is_lt (r.0 y (inl refl))) (rise_if_rises cmp total (y ∷ xs) r.1)
-
-names_rise_if : (ns : List Name) → Rises name_cmp name_cmp_total ns → names_rise ns ≡ true
-unfolding names_rise
-names_rise_if [] r = refl
-names_rise_if (m ∷ []) r = refl
-names_rise_if (m ∷ n ∷ ns) r = and_from (is_lt (name_cmp m n)) (names_rise (n ∷ ns)) (ap is_lt (r.0 n (inl refl))) (names_rise_if (n ∷ ns) r.1)
 
 ids_rise_if : (ids : List (List Name)) → IsStrictlySortedBy id_cmp ids → rise id_before ids ≡ true
 unfolding rise IsStrictlySortedBy
@@ -179,11 +171,6 @@ once_sublist g (x ∷ s) once sub = elim sub [
   | inr q ↦ once_sublist g s once.1 q
 ]
 
-tied : (m n : Name) → name_cmp m n ≡ Equal → m ≡ n
-tied m n e =
-    let ties : same_name m n ≡ eq_by_cmp name_cmp m n = both_tied _ _ (nat_cmp m.0 n.0) (nat_cmp m.1 n.1) (unsigned_ties m.0 n.0) (unsigned_ties m.1 n.1) in
-    same_name-true m n (ties ∙ ap is_eq e)
-
 module _ (h : List Op) (history : IsHistory h) (ops : (op : Op) → In op h → IsOp op) (object : Name) where
   in_group : (g : List Op) → In g (groups h object) → (op : Op) → In op g → In op h
   unfolding groups
@@ -196,10 +183,10 @@ module _ (h : List Op) (history : IsHistory h) (ops : (op : Op) → In op h → 
   names_rise_in : (g : List Op) → In g (groups h object) → names_rise (identifier (conflict h) name_of (sets_on h object) g) ≡ true
   unfolding identifier
   names_rise_in g m =
-      let some = filter (meets (conflict h) (sets_on h object)) g in
+      let some = filter (in_conflict_with (conflict h) (sets_on h object)) g in
       let names = map name_of some in
-      let within : (op : Op) → In op some → In op h = λ op n. in_group g m op (In-filter_back (meets (conflict h) (sets_on h object)) op g n).0 in
-      let once : Once names = Once-map name_of some (λ x y p q e. one_op history x y (within x p) (within y q) e) (Once-filter (meets (conflict h) (sets_on h object)) g (once_group g m)) in
+      let within : (op : Op) → In op some → In op h = λ op n. in_group g m op (In-filter_back (in_conflict_with (conflict h) (sets_on h object)) op g n).0 in
+      let once : Once names = Once-map name_of some (λ x y p q e. one_op history x y (within x p) (within y q) e) (Once-filter (in_conflict_with (conflict h) (sets_on h object)) g (once_group g m)) in
       names_rise_if (sort_by name_cmp names) (sort_rises name_cmp name_cmp_total names (untied_if_once name_cmp name_cmp_total names once (λ x y p q e. tied x y e)))
 
   id_in_range : (g : List Op) → In g (groups h object) → IsId (identifier (conflict h) name_of (sets_on h object) g)

@@ -23,8 +23,8 @@ use Rattle.wire.specs.declared.request.Request.TheVariants as request
 use Rattle.wire.specs.declared.reply.Reply.{Reply}
 use Rattle.wire.specs.declared.reply.Reply.TheVariants.{Joined, Made, Taken, Versions, Objects, Entries, No}
 use Rattle.room_core.specs.Room.{Room}
-use Rattle.room_core.specs.Answers.{decided, join_answer, site_answer, shown, has_site, answer, told}
-use Rattle.world.specs.Alone.{asked}
+use Rattle.room_core.specs.Answers.{entry_or_refusal, join_answer, site_answer, versions_reply, has_site, answer, reply_alone}
+use Rattle.world.specs.Steps.{asker_answer}
 use Rattle.world.specs.Shown.{AreVersionsOf}
 
 -- the versions of a history are its groups
@@ -66,7 +66,7 @@ module _ (room : Room) (at : ℕ) (object : Name) (kind : Bytes) (vs : List Vers
   refused_not : (n : ℕ) (why : Refusal) → No n why ≡ Versions at object kind vs → ⊥
   refused_not n why e = cc
 
-  decided_not : (o : Option Refusal) (entry : Entry) (reply : Reply) → (reply ≡ Versions at object kind vs → ⊥) → (decided room o entry reply).0 ≡ Versions at object kind vs → ⊥
+  decided_not : (o : Option Refusal) (entry : Entry) (reply : Reply) → (reply ≡ Versions at object kind vs → ⊥) → (entry_or_refusal room o entry reply).0 ≡ Versions at object kind vs → ⊥
   decided_not None entry reply other e = other e
   decided_not (Some why) entry reply other e = refused_not (length room.entries) why e
 
@@ -74,7 +74,7 @@ module _ (room : Room) (at : ℕ) (object : Name) (kind : Bytes) (vs : List Vers
   either_not true one other f g e = f e
   either_not false one other f g e = g e
 
-  shown_by : (name : Name) (o : Option Op) → creation_of (operations room.entries) name ≡ o → shown room name o ≡ Versions at object kind vs → IsShownBy room at object kind vs None
+  shown_by : (name : Name) (o : Option Op) → creation_of (operations room.entries) name ≡ o → versions_reply room name o ≡ Versions at object kind vs → IsShownBy room at object kind vs None
   shown_by name None f e = absurd cc
   shown_by name (Some op) f e = record {
     at_end = cc;
@@ -103,8 +103,8 @@ module _ (room : Room) (at : ℕ) (object : Name) (kind : Bytes) (vs : List Vers
   site_shows site (request.Pull from) e = absurd (either_not _ _ _ (refused_not _ _) (entries_not _ _ _) e)
   site_shows site request.Leave e = absurd cc
 
-  by_site : (b : Bool) (site : ℕ) (asks : Request) (why : Refusal) → (cond b (site_answer room site asks) (told (No 0 why))).0 ≡ Versions at object kind vs
-      → IsShownBy room at object kind vs (cond b (site_answer room site asks) (told (No 0 why))).1
+  by_site : (b : Bool) (site : ℕ) (asks : Request) (why : Refusal) → (cond b (site_answer room site asks) (reply_alone (No 0 why))).0 ≡ Versions at object kind vs
+      → IsShownBy room at object kind vs (cond b (site_answer room site asks) (reply_alone (No 0 why))).1
   by_site true site asks why e = site_shows site asks e
   by_site false site asks why e = absurd cc
 
@@ -113,6 +113,6 @@ module _ (room : Room) (at : ℕ) (object : Name) (kind : Bytes) (vs : List Vers
   answer_shows site asks e = by_site (has_site room site) site asks NotJoined e
 
   -- a room that answers with versions shows its own, and adds nothing
-  pub room_shows : (who : Option ℕ) (asks : Request) → (asked room who asks).0 ≡ Versions at object kind vs → IsShownBy room at object kind vs (asked room who asks).1
+  pub room_shows : (who : Option ℕ) (asks : Request) → (asker_answer room who asks).0 ≡ Versions at object kind vs → IsShownBy room at object kind vs (asker_answer room who asks).1
   room_shows None asks e = absurd (join_shows e)
   room_shows (Some site) asks e = answer_shows site asks e

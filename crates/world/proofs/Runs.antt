@@ -1,37 +1,38 @@
 -- The replies side by side are those of each room alone.
-use Rattle.std.proofs.Common.{◌≡◌, ◌+◌, ℕ, List, [], ◌∷◌, ◌++◌, append-nil, length, take, get_or, ◌<◌, map, Option, Some, None, Bool, true, false, cond, eqb, refl, sym, ap, subst, ◌∙◌, arith}
+use Rattle.std.proofs.Common.{◌≡◌, ◌+◌, ℕ, List, [], ◌∷◌, ◌++◌, append-nil, length, take, get_or, ◌<◌, map, Option, Some, None, Bool, true, false, cond, eqb, suc, refl, sym, ap, subst, ◌∙◌, arith}
 use Rattle.std.proofs.lemmas.Bool.{eqb-true}
 use Rattle.std.proofs.lemmas.List.{length_push, take_more, map-append}
 use Rattle.wire.specs.Texts.{reply_text}
 use Rattle.world.specs.Alone.{Message, Alone, alone_reply, alone_after, alone_texts, alone_end}
-use Rattle.world.specs.Rooms.{Rooms, owner_of, reply_at, after_at, reply_of, rooms_after, lone_reply, owners, texts, rooms_end, at_room, at_none}
+use Rattle.world.specs.Rooms.{Rooms, owner_of, reply_at, after_at, reply_to, rooms_after, lone_reply, owners, texts, rooms_end, at_room, at_none}
 use Rattle.world.specs.State.{State, names_of, rooms_of}
-use Rattle.world.specs.Run.{kept, told, IsRun}
+use Rattle.world.specs.Shown.{ShowsGroups, AllShowGroups}
+use Rattle.world.specs.Run.{answered_messages, answer_texts, IsAnswer, IsRun, AnswersSomeOf}
 
 -- ---- one more message
 
-pub texts_push : (names : List (List ℕ)) (rooms : Rooms) (all : List Message) (message : Message)
-    → texts names rooms (all ++ message ∷ []) ≡ texts names rooms all ++ reply_text (reply_of names (rooms_end names rooms all) message) ∷ []
+texts_push : (names : List (List ℕ)) (rooms : Rooms) (all : List Message) (message : Message)
+    → texts names rooms (all ++ message ∷ []) ≡ texts names rooms all ++ reply_text (reply_to names (rooms_end names rooms all) message) ∷ []
 texts_push names rooms [] message = refl
-texts_push names rooms (m ∷ all) message = ap (λ xs. reply_text (reply_of names rooms m) ∷ xs) (texts_push names (rooms_after names rooms m) all message)
+texts_push names rooms (m ∷ all) message = ap (λ xs. reply_text (reply_to names rooms m) ∷ xs) (texts_push names (rooms_after names rooms m) all message)
 
-pub rooms_end_push : (names : List (List ℕ)) (rooms : Rooms) (all : List Message) (message : Message)
+rooms_end_push : (names : List (List ℕ)) (rooms : Rooms) (all : List Message) (message : Message)
     → rooms_end names rooms (all ++ message ∷ []) ≡ rooms_after names (rooms_end names rooms all) message
 rooms_end_push names rooms [] message = refl
 rooms_end_push names rooms (m ∷ all) message = rooms_end_push names (rooms_after names rooms m) all message
 
-pub kept_push : (all : List Message) (answers : List (Option (List ℕ))) (message : Message) (answer : Option (List ℕ)) → length answers ≡ length all
-    → kept (all ++ message ∷ []) (answers ++ answer ∷ []) ≡ kept all answers ++ kept (message ∷ []) (answer ∷ [])
-kept_push [] [] message answer e = refl
-kept_push [] (a ∷ answers) message answer e = absurd (omega (arith, e))
-kept_push (m ∷ all) [] message answer e = absurd (omega (arith, e))
-kept_push (m ∷ all) (None ∷ answers) message answer e = kept_push all answers message answer (omega (arith, e))
-kept_push (m ∷ all) (Some text ∷ answers) message answer e = ap (λ xs. m ∷ xs) (kept_push all answers message answer (omega (arith, e)))
+answered_push : (all : List Message) (answers : List (Option (List ℕ))) (message : Message) (answer : Option (List ℕ)) → length answers ≡ length all
+    → answered_messages (all ++ message ∷ []) (answers ++ answer ∷ []) ≡ answered_messages all answers ++ answered_messages (message ∷ []) (answer ∷ [])
+answered_push [] [] message answer e = refl
+answered_push [] (a ∷ answers) message answer e = absurd (omega (arith, e))
+answered_push (m ∷ all) [] message answer e = absurd (omega (arith, e))
+answered_push (m ∷ all) (None ∷ answers) message answer e = answered_push all answers message answer (omega (arith, e))
+answered_push (m ∷ all) (Some text ∷ answers) message answer e = ap (λ xs. m ∷ xs) (answered_push all answers message answer (omega (arith, e)))
 
-pub told_push : (answers : List (Option (List ℕ))) (answer : Option (List ℕ)) → told (answers ++ answer ∷ []) ≡ told answers ++ told (answer ∷ [])
-told_push [] answer = refl
-told_push (None ∷ answers) answer = told_push answers answer
-told_push (Some text ∷ answers) answer = ap (λ xs. text ∷ xs) (told_push answers answer)
+answer_texts_push : (answers : List (Option (List ℕ))) (answer : Option (List ℕ)) → answer_texts (answers ++ answer ∷ []) ≡ answer_texts answers ++ answer_texts (answer ∷ [])
+answer_texts_push [] answer = refl
+answer_texts_push (None ∷ answers) answer = answer_texts_push answers answer
+answer_texts_push (Some text ∷ answers) answer = ap (λ xs. text ∷ xs) (answer_texts_push answers answer)
 
 -- ---- one room of them
 
@@ -76,7 +77,7 @@ end_step : (names : List (List ℕ)) (place : ℕ) (rooms : Rooms) (message : Me
 end_step names place rooms message all None ih = ih
 end_step names place rooms message all (Some owner) ih = end_by (eqb owner place) rooms message owner place _ _ refl ih
 
-pub end_law : (names : List (List ℕ)) (place : ℕ) (rooms : Rooms) (all : List Message) → EndAt names place rooms all
+end_law : (names : List (List ℕ)) (place : ℕ) (rooms : Rooms) (all : List Message) → EndAt names place rooms all
 end_law names place rooms [] = refl
 end_law names place rooms (message ∷ all) = end_step names place rooms message all (owner_of names rooms message) (end_law names place (rooms_after names rooms message) all)
 
@@ -89,67 +90,99 @@ lone_step : (names : List (List ℕ)) (rooms : Rooms) (message : Message) (all :
 lone_step names rooms message all None ih = ap (λ xs. reply_text (lone_reply message) ∷ xs) ih
 lone_step names rooms message all (Some owner) ih = ih
 
-pub lone_law : (names : List (List ℕ)) (rooms : Rooms) (all : List Message) → LoneAt names rooms all
+lone_law : (names : List (List ℕ)) (rooms : Rooms) (all : List Message) → LoneAt names rooms all
 lone_law names rooms [] = refl
 lone_law names rooms (message ∷ all) = lone_step names rooms message all (owner_of names rooms message) (lone_law names (rooms_after names rooms message) all)
+
+-- ---- what they show
+
+length-texts : (names : List (List ℕ)) (rooms : Rooms) (all : List Message) → length (texts names rooms all) ≡ length all
+length-texts names rooms [] = refl
+length-texts names rooms (m ∷ all) = ap (λ n. suc n) (length-texts names (rooms_after names rooms m) all)
+
+all_show_push : (names : List (List ℕ)) (rooms : Rooms) (all : List Message) (ts : List (List ℕ)) (message : Message) (text : List ℕ) → length ts ≡ length all
+    → AllShowGroups names rooms all ts → ShowsGroups names (rooms_end names rooms all) message text → AllShowGroups names rooms (all ++ message ∷ []) (ts ++ text ∷ [])
+all_show_push names rooms [] [] message text e all_show shows = (shows, tt)
+all_show_push names rooms [] (t ∷ ts) message text e all_show shows = absurd (omega (arith, e))
+all_show_push names rooms (m ∷ all) [] message text e all_show shows = absurd (omega (arith, e))
+all_show_push names rooms (m ∷ all) (t ∷ ts) message text e all_show shows =
+    (all_show.0, all_show_push names (rooms_after names rooms m) all ts message text (omega (arith, e)) all_show.1 shows)
+
+-- ---- a run
+
+pub run_from : (old new : State) (messages : List Message) (ts : List (List ℕ)) → ts ≡ texts (names_of old) (rooms_of old) messages
+    → AllShowGroups (names_of old) (rooms_of old) messages ts → rooms_of new ≡ rooms_end (names_of old) (rooms_of old) messages → names_of new ≡ names_of old → IsRun old messages ts new
+run_from old new messages ts replies shown rooms is_names =
+    let names = names_of old in
+    let start = rooms_of old in
+    record {
+      count = ap length replies ∙ length-texts names start messages;
+      alone = λ place. ap (at_room place (owners names start messages)) replies ∙ alone_law names place start messages;
+      lone = ap (at_none (owners names start messages)) replies ∙ lone_law names start messages;
+      shown = shown;
+      after = λ place. ap (λ (r : Rooms). r.alone place) rooms ∙ end_law names place start messages;
+      names = is_names;
+    }
 
 -- ---- a run so far
 
 pub record SoFar (old : State) (all : List Message) (answers : List (Option (List ℕ))) (new : State) : Type 0 where
   pub count : length answers ≡ length all
   pub names : names_of new ≡ names_of old
-  pub replies : told answers ≡ texts (names_of old) (rooms_of old) (kept all answers)
-  pub rooms : rooms_of new ≡ rooms_end (names_of old) (rooms_of old) (kept all answers)
-
-pub so_far_none : (old : State) → SoFar old [] [] old
-so_far_none old = record { count = refl; names = refl; replies = refl; rooms = refl }
+  pub replies : answer_texts answers ≡ texts (names_of old) (rooms_of old) (answered_messages all answers)
+  pub shown : AllShowGroups (names_of old) (rooms_of old) (answered_messages all answers) (answer_texts answers)
+  pub rooms : rooms_of new ≡ rooms_end (names_of old) (rooms_of old) (answered_messages all answers)
 
 pub so_far_answered : (old mid new : State) (all : List Message) (answers : List (Option (List ℕ))) (message : Message) (text : List ℕ) → SoFar old all answers mid
-    → text ≡ reply_text (reply_of (names_of mid) (rooms_of mid) message) → rooms_of new ≡ rooms_after (names_of mid) (rooms_of mid) message → names_of new ≡ names_of mid
-    → SoFar old (all ++ message ∷ []) (answers ++ Some text ∷ []) new
-so_far_answered old mid new all answers message text h is_text is_rooms is_names =
+    → IsAnswer mid message text new → SoFar old (all ++ message ∷ []) (answers ++ Some text ∷ []) new
+so_far_answered old mid new all answers message text h answer =
     let names = names_of old in
     let start = rooms_of old in
-    let both = kept_push all answers message (Some text) h.count in
+    let messages = answered_messages all answers in
+    let both = answered_push all answers message (Some text) h.count in
+    let as_many : length (answer_texts answers) ≡ length messages = ap length h.replies ∙ length-texts names start messages in
+    let shows : ShowsGroups names (rooms_end names start messages) message text =
+    subst (λ r. ShowsGroups names r message text) h.rooms (subst (λ ns. ShowsGroups ns (rooms_of mid) message text) h.names answer.shown) in
     record {
       count = length_push answers (Some text) ∙ ap (λ n. n + 1) h.count ∙ sym (length_push all message);
-      names = is_names ∙ h.names;
+      names = answer.names ∙ h.names;
       replies =
-          told_push answers (Some text)
+          answer_texts_push answers (Some text)
           ∙ ap (λ xs. xs ++ text ∷ []) h.replies
-          ∙ ap (λ t. texts names start (kept all answers) ++ t ∷ [])
-          (is_text ∙ ap (λ ns. reply_text (reply_of ns (rooms_of mid) message)) h.names ∙ ap (λ r. reply_text (reply_of names r message)) h.rooms)
-          ∙ sym (texts_push names start (kept all answers) message)
+          ∙ ap (λ t. texts names start messages ++ t ∷ [])
+          (answer.is_text ∙ ap (λ ns. reply_text (reply_to ns (rooms_of mid) message)) h.names ∙ ap (λ r. reply_text (reply_to names r message)) h.rooms)
+          ∙ sym (texts_push names start messages message)
           ∙ ap (texts names start) (sym both);
+      shown =
+          subst (λ ms. AllShowGroups names start ms (answer_texts (answers ++ Some text ∷ []))) (sym both)
+          (subst (AllShowGroups names start (messages ++ message ∷ [])) (sym (answer_texts_push answers (Some text)))
+          (all_show_push names start messages (answer_texts answers) message text as_many h.shown shows));
       rooms =
-          is_rooms ∙ ap (λ ns. rooms_after ns (rooms_of mid) message) h.names ∙ ap (λ r. rooms_after names r message) h.rooms
-          ∙ sym (rooms_end_push names start (kept all answers) message)
+          answer.rooms ∙ ap (λ ns. rooms_after ns (rooms_of mid) message) h.names ∙ ap (λ r. rooms_after names r message) h.rooms
+          ∙ sym (rooms_end_push names start messages message)
           ∙ ap (rooms_end names start) (sym both);
     }
 
 pub so_far_refused : (old mid new : State) (all : List Message) (answers : List (Option (List ℕ))) (message : Message) → SoFar old all answers mid → new ≡ mid
     → SoFar old (all ++ message ∷ []) (answers ++ None ∷ []) new
 so_far_refused old mid new all answers message h same =
-    let both = kept_push all answers message None h.count ∙ append-nil (kept all answers) in
+    let both = answered_push all answers message None h.count ∙ append-nil (answered_messages all answers) in
+    let texts_are = answer_texts_push answers None ∙ append-nil (answer_texts answers) in
     record {
       count = length_push answers None ∙ ap (λ n. n + 1) h.count ∙ sym (length_push all message);
       names = ap names_of same ∙ h.names;
-      replies = told_push answers None ∙ append-nil (told answers) ∙ h.replies ∙ ap (texts (names_of old) (rooms_of old)) (sym both);
+      replies = texts_are ∙ h.replies ∙ ap (texts (names_of old) (rooms_of old)) (sym both);
+      shown =
+          subst (λ ms. AllShowGroups (names_of old) (rooms_of old) ms (answer_texts (answers ++ None ∷ []))) (sym both)
+          (subst (AllShowGroups (names_of old) (rooms_of old) (answered_messages all answers)) (sym texts_are) h.shown);
       rooms = ap rooms_of same ∙ h.rooms ∙ ap (rooms_end (names_of old) (rooms_of old)) (sym both);
     }
 
-pub run_of : (old : State) (all : List Message) (answers : List (Option (List ℕ))) (new : State) → SoFar old all answers new → IsRun old all answers new
-run_of old all answers new h =
-    let names = names_of old in
-    let start = rooms_of old in
-    let messages = kept all answers in
-    record {
-      count = h.count;
-      alone = λ place. ap (at_room place (owners names start messages)) h.replies ∙ alone_law names place start messages;
-      lone = ap (at_none (owners names start messages)) h.replies ∙ lone_law names start messages;
-      after = λ place. ap (λ (r : Rooms). r.alone place) h.rooms ∙ end_law names place start messages;
-      names = h.names;
-    }
+pub answers_of : (old : State) (all : List Message) (answers : List (Option (List ℕ))) (new : State) → SoFar old all answers new → AnswersSomeOf old all answers new
+answers_of old all answers new h = record {
+  count = h.count;
+  run = run_from old new (answered_messages all answers) (answer_texts answers) h.replies h.shown h.rooms h.names;
+}
 
 -- the lists of the loop, with one more
 pub so_far_more : {A B : Type 0} (old new : State) (view : A → Message) (text_of : B → Option (List ℕ)) (items : List A) (i : ℕ) (item : A) (answers longer : List B) (answer : B)
@@ -159,5 +192,5 @@ pub so_far_more : {A B : Type 0} (old new : State) (view : A → Message) (text_
 so_far_more old new view text_of items i item answers longer answer is_longer within is_item h =
     let all : map view (take (i + 1) items) ≡ map view (take i items) ++ view item ∷ [] =
     ap (map view) (take_more items i item within ∙ ap (λ x. take i items ++ x ∷ []) (sym is_item)) ∙ map-append view (take i items) (item ∷ []) in
-    let told_all : map text_of longer ≡ map text_of answers ++ text_of answer ∷ [] = ap (map text_of) is_longer ∙ map-append text_of answers (answer ∷ []) in
-    subst (λ xs. SoFar old xs (map text_of longer) new) (sym all) (subst (λ ys. SoFar old (map view (take i items) ++ view item ∷ []) ys new) (sym told_all) h)
+    let all_texts : map text_of longer ≡ map text_of answers ++ text_of answer ∷ [] = ap (map text_of) is_longer ∙ map-append text_of answers (answer ∷ []) in
+    subst (λ xs. SoFar old xs (map text_of longer) new) (sym all) (subst (λ ys. SoFar old (map view (take i items) ++ view item ∷ []) ys new) (sym all_texts) h)

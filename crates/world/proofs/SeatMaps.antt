@@ -1,5 +1,5 @@
 -- The seats of sessions, in a map.
-use Rattle.std.proofs.Common.{◌≡◌, ℕ, ◌<◌, List, [], ◌∷◌, Option, Some, None, true, false, cond, eqb, IfSome, Result, Ok, Err, OnOk, OnErr, refl, sym, subst, ap, ◌∙◌, inl, inr, arith}
+use Rattle.std.proofs.Common.{◌≡◌, ℕ, ◌<◌, List, [], ◌∷◌, Option, Some, None, true, false, cond, eqb, IfSome, Result, Ok, Err, IfOk, OnOk, OnErr, refl, sym, subst, ap, ◌∙◌, inl, inr, arith}
 use Rattle.std.specs.Ordering.{nat_cmp, is_eq}
 use Rattle.std.specs.declared.cmp.Ordering.TheVariants.{Less, Equal, Greater}
 use Rattle.std.specs.Cmp.{nat_cmp_is}
@@ -7,12 +7,14 @@ use Rattle.std.specs.BTreeMap.{is_at}
 use Rattle.std.specs.Map.{lookup}
 use Rattle.std.proofs.lemmas.Bool.{cases_order, eq-eqb, ne_eqb}
 use Rattle.world.specs.declared.seats.Seat.{Seat}
+use Rattle.world.specs.declared.seats.Asker.{Asker}
 use Rattle.wire.specs.declared.reply.Reply.{Reply}
-use Rattle.world.specs.Alone.{move_of, moved_by}
-use Rattle.world.specs.State.{State, Named, seat_of, seat_in, IsMoved, SeatsWithin}
+use Rattle.world.specs.Alone.{move_of, after_move}
+use Rattle.world.specs.State.{State, Named, seat_of, SeatsWithin}
+use Rattle.world.specs.Steps.{seat_in, IsMoved, RepliesTo}
 
 -- the test of a number in a tree is equality
-pub is_at-nat : (a b : ℕ) → is_at (nat_cmp a) b ≡ eqb a b
+is_at-nat : (a b : ℕ) → is_at (nat_cmp a) b ≡ eqb a b
 is_at-nat a b = elim (cases_order a b) [
   | inl e ↦ ap is_eq (sym (nat_cmp_is a b Equal e)) ∙ sym (eq-eqb a b e)
   | inr h ↦ elim h [
@@ -21,7 +23,7 @@ is_at-nat a b = elim (cases_order a b) [
   ]
 ]
 
-pub lookup-is_at : {X : Type 0} (session : ℕ) (es : List (ℕ × X)) → lookup (is_at (nat_cmp session)) es ≡ lookup (λ key. eqb session key) es
+lookup-is_at : {X : Type 0} (session : ℕ) (es : List (ℕ × X)) → lookup (is_at (nat_cmp session)) es ≡ lookup (λ key. eqb session key) es
 lookup-is_at session [] = refl
 lookup-is_at session (e ∷ es) =
     ap (λ b. cond b (Some e.1) (lookup (is_at (nat_cmp session)) es)) (is_at-nat session e.0)
@@ -42,7 +44,7 @@ pub seat_within : (es : List (ℕ × Seat)) (n session : ℕ) (seat : Seat) → 
 seat_within es n session seat h e = subst (λ o. IfSome o (λ (s : Seat). s.place < n)) e (h session)
 
 moved_within : (move : Option (Option ℕ)) (place n session : ℕ) (old : ℕ → Option Seat) → place < n → (q : ℕ) → IfSome (old q) (λ (s : Seat). s.place < n)
-    → IfSome (moved_by move (seat_in place) session old q) (λ (s : Seat). s.place < n)
+    → IfSome (after_move move (seat_in place) session old q) (λ (s : Seat). s.place < n)
 moved_within None place n session old lt q h = h
 moved_within (Some None) place n session old lt q h = elim (eqb session q) as (λ b. IfSome (cond b None (old q)) (λ (s : Seat). s.place < n)) [ true ↦ tt | false ↦ h ]
 moved_within (Some (Some site)) place n session old lt q h = elim (eqb session q) as (λ b. IfSome (cond b (Some (seat_in place site)) (old q)) (λ (s : Seat). s.place < n)) [ true ↦ lt | false ↦ h ]
@@ -57,3 +59,8 @@ seats_within (Err y) reply place n m session old new lt e h moves same =
 
 abbrev pub state_of : List Named → List (ℕ × Seat) → State
 state_of rooms seats = record { rooms = rooms; seats = seats }
+
+pub moves_of : {T E : Type 0} (r : Result T E) (bytes : T → List ℕ) (asker : Asker) (reply : Reply) (old new : List (ℕ × Seat))
+    → IfOk r (λ text. RepliesTo asker reply (bytes text) old new) → OnOk r (IsMoved old new reply asker.session asker.place)
+moves_of (Ok text) bytes asker reply old new h = h.moves
+moves_of (Err fault) bytes asker reply old new h = tt

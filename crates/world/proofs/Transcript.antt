@@ -1,20 +1,18 @@
 -- What a script has read and written so far.
-use Rattle.std.proofs.Common.{◌≡◌, ℕ, List, [], ◌++◌, take, append-nil, Option, Some, None, IfSome, refl, sym, ap, subst, ◌∙◌}
-use Rattle.std.proofs.KnownBytes.{Appends-trans, Consumes-nil, Consumes-trans, Consumes-kept}
+use Rattle.std.proofs.Common.{◌≡◌, ℕ, List, [], ◌++◌, take, append-nil, Option, Some, None, IfSome, sym, ap, subst, ◌∙◌}
+use Rattle.std.proofs.KnownBytes.{Appends-trans, Consumes-trans, Consumes-kept}
 use Rattle.std.specs.Io.KnownBytes.{Appends, Consumes, Keeps, IsAtEnd}
-use Rattle.world.specs.State.{State, rooms_of}
-use Rattle.world.specs.Script.{AppendsFront, Stops, output_of, end_of}
-use Rattle.world.specs.Answered.{Wrote, WroteSome}
-use Rattle.world.proofs.Parts.{wrote_none, wrote_then, wrote_more, stops_of, stops_then, stops_front, stops_at_once, output_after, end_after}
+use Rattle.world.specs.State.{State, names_of, rooms_of}
+use Rattle.world.specs.Script.{AppendsFront, Stops, AnswersScript, lines_of, output_of, end_of}
+use Rattle.world.specs.Answered.{LinesShow, IsPastEnd, Wrote, WroteSome}
+use Rattle.world.proofs.ScriptForms.{script_run}
+use Rattle.world.proofs.Parts.{wrote_then, wrote_more, stops_of, stops_then, stops_front, stops_at_once, output_after, end_after, shown_after}
 
 -- of a reader that had r0 and has r now, and a writer that held a and holds b now
 pub record ReadSoFar (r0 r a b : Option (List ℕ)) (old now : State) (line : List ℕ) : Type 0 where
   pub taken : List ℕ
   pub consumed : Consumes r0 r taken
   pub wrote : Wrote a b old now taken line []
-
-pub read_start : (r a : Option (List ℕ)) (old : State) (line : List ℕ) → line ≡ [] → ReadSoFar r r a a old old line
-read_start r a old line e = record { taken = []; consumed = Consumes-nil r; wrote = subst (λ l. Wrote a a old old [] l []) (sym e) (wrote_none a old [] [] refl) }
 
 pub read_more : {r0 r1 r2 a b c : Option (List ℕ)} {old mid new : State} {line longer : List ℕ} (bytes : List ℕ) → ReadSoFar r0 r1 a b old mid line → Consumes r1 r2 bytes
     → Wrote b c mid new (line ++ bytes) longer [] → ReadSoFar r0 r2 a c old new longer
@@ -28,7 +26,7 @@ pub read_again : {r0 r1 r2 a b : Option (List ℕ)} {old mid : State} {line : Li
 read_again {r0 = r0} {r1 = r1} {r2 = r2} h k = record { taken = h.taken; consumed = Consumes-kept r0 r1 r2 _ h.consumed k; wrote = h.wrote }
 
 -- what is said of all that the reader had
-pub at_whole : (P : List ℕ → Type 0) (r0 r : Option (List ℕ)) (taken : List ℕ) → Consumes r0 r taken → ((rest : List ℕ) → P (taken ++ rest)) → IfSome r0 P
+at_whole : (P : List ℕ → Type 0) (r0 r : Option (List ℕ)) (taken : List ℕ) → Consumes r0 r taken → ((rest : List ℕ) → P (taken ++ rest)) → IfSome r0 P
 at_whole P None r taken k f = tt
 at_whole P (Some all) None taken k f = absurd k
 at_whole P (Some all) (Some rest) taken k f = subst P (sym k) (f rest)
@@ -56,13 +54,17 @@ module _ {r0 r1 a b : Option (List ℕ)} (r2 : Option (List ℕ)) {old mid : Sta
   at_end : (P : List ℕ → Type 0) → P (h.taken ++ []) → IfSome r0 P
   at_end P p = at_last P r0 r2 h.taken (subst (Consumes r0 r2) (append-nil h.taken) (Consumes-trans r0 r1 r2 _ _ h.consumed k)) e p
 
-  pub read_whole : (c : Option (List ℕ)) → Appends b c (output_of mid line) → IfSome r0 (λ all. Appends a c (output_of old all))
-  read_whole c t = at_end (λ all. Appends a c (output_of old all))
-      (subst (Appends a c) (sym (output_after h.wrote.answered [] ∙ ap (λ w. w ++ output_of mid (line ++ [])) (append-nil h.wrote.written) ∙ ap (λ l. h.wrote.written ++ output_of mid l) (append-nil line)))
-      (Appends-trans a b c _ _ h.wrote.adds t))
-
-  pub read_end : (new : State) → rooms_of new ≡ end_of mid line → IfSome r0 (λ all. rooms_of new ≡ end_of old all)
-  read_end new t = at_end (λ all. rooms_of new ≡ end_of old all) (t ∙ ap (end_of mid) (sym (append-nil line)) ∙ sym (end_after h.wrote.answered []))
+  pub read_whole : (c : Option (List ℕ)) (new : State) → Appends b c (output_of mid line) → IsPastEnd mid line new → IfSome r0 (λ all. AnswersScript a c old all new)
+  read_whole c new t past =
+      let answered = h.wrote.answered in
+      let shown = shown_after answered [] (subst (λ l. LinesShow (names_of mid) (rooms_of mid) (lines_of l)) (sym (append-nil line)) past.shown) in
+      let rooms = past.rooms ∙ ap (end_of mid) (sym (append-nil line)) ∙ sym (end_after answered []) in
+      at_end (λ all. AnswersScript a c old all new) (record {
+        text = output_of old (h.taken ++ []);
+        adds = subst (Appends a c) (sym (output_after answered [] ∙ ap (λ w. w ++ output_of mid (line ++ [])) (append-nil h.wrote.written) ∙ ap (λ l. h.wrote.written ++ output_of mid l) (append-nil line)))
+            (Appends-trans a b c _ _ h.wrote.adds t);
+        run = script_run old new (h.taken ++ []) rooms (past.names ∙ answered.names) shown;
+      })
 
   pub read_last : (c : Option (List ℕ)) (new : State) → Stops b c mid new line → IfSome r0 (λ all. Stops a c old new all)
   read_last c new t = at_end (λ all. Stops a c old new all) (stops_then [] h.wrote (subst (λ l. Stops b c mid new l) (sym (append-nil line)) t))

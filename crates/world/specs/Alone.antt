@@ -5,7 +5,7 @@ use Rattle.wire.specs.declared.request.Request.{Request}
 use Rattle.wire.specs.declared.request.Request.TheVariants.{Join}
 use Rattle.wire.specs.declared.reply.Reply.{Reply}
 use Rattle.wire.specs.declared.reply.Reply.TheVariants.{Joined, Left, No}
-use Rattle.wire.specs.Texts.{request_of, reply_text}
+use Rattle.wire.specs.Texts.{request_read, reply_text}
 use Rattle.room_core.specs.Room.{Room, with_entry}
 use Rattle.room_core.specs.Answers.{Outcome, join_answer, answer}
 
@@ -22,23 +22,14 @@ abbrev pub joined_name : Request → Option (List ℕ)
 joined_name (Join name) = Some name
 joined_name _ = None
 
--- a refusal that adds no entry and looks into no room
-abbrev pub refused : Reply → Outcome
-refused reply = (reply, None)
-
--- the answer to a request of a site, or to a session that joins
-abbrev pub asked : Room → Option ℕ → Request → Outcome
-asked room None request = join_answer room
-asked room (Some site) request = answer room site request
-
 -- the answer to somebody who is not in the room, whose request asks to join by a name or is another one
 abbrev pub outside_answer : Room → Option (List ℕ) → Outcome
 outside_answer room (Some name) = join_answer room
-outside_answer room None = refused (No 0 NotJoined)
+outside_answer room None = (No 0 NotJoined, None)
 
 -- the answer to a message in a room, of a site of the room or of nobody there
 abbrev pub answer_to : Room → Option ℕ → Option Request → Outcome
-answer_to room who None = refused (No 0 BadMessage)
+answer_to room who None = (No 0 BadMessage, None)
 answer_to room None (Some request) = outside_answer room (joined_name request)
 answer_to room (Some site) (Some request) = answer room site request
 
@@ -54,17 +45,17 @@ move_of (Left at) = Some None
 move_of _ = None
 
 -- what each session stands for after a move of one of them, where a site gives it this
-abbrev pub moved_by : {A : Type 0} → Option (Option ℕ) → (ℕ → A) → ℕ → (ℕ → Option A) → ℕ → Option A
-moved_by None given session old other = old other
-moved_by (Some site) given session old other = if session == other then option_map given site else old other
+abbrev pub after_move : {A : Type 0} → Option (Option ℕ) → (ℕ → A) → ℕ → (ℕ → Option A) → ℕ → Option A
+after_move None given session old other = old other
+after_move (Some site) given session old other = if session == other then option_map given site else old other
 
 -- what each session stands for after a reply to one of them
-abbrev pub moved : {A : Type 0} → Reply → (ℕ → A) → ℕ → (ℕ → Option A) → ℕ → Option A
-moved reply given session old other = moved_by (move_of reply) given session old other
+abbrev pub after_reply : {A : Type 0} → Reply → (ℕ → A) → ℕ → (ℕ → Option A) → ℕ → Option A
+after_reply reply given session old other = after_move (move_of reply) given session old other
 
 -- the answer to a message of the room, and the room after it
 abbrev pub alone_answer : Alone → Message → Outcome
-alone_answer alone message = answer_to alone.room (alone.site_of message.session) (request_of message.bytes)
+alone_answer alone message = answer_to alone.room (alone.site_of message.session) (request_read message.bytes)
 
 abbrev pub alone_reply : Alone → Message → Reply
 alone_reply alone message = (alone_answer alone message).0
@@ -72,7 +63,7 @@ alone_reply alone message = (alone_answer alone message).0
 abbrev pub alone_after : Alone → Message → Alone
 alone_after alone message = record {
   room = with_entry alone.room (alone_answer alone message).1;
-  site_of = moved (alone_reply alone message) (λ site. site) message.session alone.site_of;
+  site_of = after_reply (alone_reply alone message) (λ site. site) message.session alone.site_of;
 }
 
 -- the texts of the replies to the room's messages, one after the other, and the room after them all

@@ -5,8 +5,8 @@ use Rattle.rules.specs.declared.refusal.Refusal.TheVariants.{BadMessage, NotJoin
 use Rattle.wire.specs.declared.request.Request.{Request}
 use Rattle.wire.specs.declared.reply.Reply.{Reply}
 use Rattle.wire.specs.declared.reply.Reply.TheVariants.{No}
-use Rattle.wire.specs.Texts.{request_of, reply_text}
-use Rattle.world.specs.Alone.{Message, Alone, joined_name, moved, alone_reply, alone_after}
+use Rattle.wire.specs.Texts.{request_read, reply_text}
+use Rattle.world.specs.Alone.{Message, Alone, joined_name, after_reply, alone_reply, alone_after}
 
 -- the place of the first room of this name
 abbrev pub place_of : List (List ℕ) → List ℕ → Option ℕ
@@ -28,7 +28,7 @@ owner_from (Some place) named = Some place
 owner_from None named = named
 
 abbrev pub owner_of : List (List ℕ) → Rooms → Message → Option ℕ
-owner_of names rooms message = owner_from (rooms.inside message.session) (named_place names (request_of message.bytes))
+owner_of names rooms message = owner_from (rooms.inside message.session) (named_place names (request_read message.bytes))
 
 -- the reply to a message of no room, by the message alone
 abbrev pub lone_refusal : Option (List ℕ) → Refusal
@@ -40,7 +40,7 @@ lone_answer None = No 0 BadMessage
 lone_answer (Some request) = No 0 (lone_refusal (joined_name request))
 
 abbrev pub lone_reply : Message → Reply
-lone_reply message = lone_answer (request_of message.bytes)
+lone_reply message = lone_answer (request_read message.bytes)
 
 abbrev pub reply_at : Rooms → Message → Option ℕ → Reply
 reply_at rooms message None = lone_reply message
@@ -50,12 +50,12 @@ reply_at rooms message (Some place) = alone_reply (rooms.alone place) message
 abbrev pub after_at : Rooms → Message → Option ℕ → Rooms
 after_at rooms message None = rooms
 after_at rooms message (Some place) = record {
-  inside = moved (alone_reply (rooms.alone place) message) (λ site. place) message.session rooms.inside;
+  inside = after_reply (alone_reply (rooms.alone place) message) (λ site. place) message.session rooms.inside;
   alone = λ other. if place == other then alone_after (rooms.alone place) message else rooms.alone other;
 }
 
-abbrev pub reply_of : List (List ℕ) → Rooms → Message → Reply
-reply_of names rooms message = reply_at rooms message (owner_of names rooms message)
+abbrev pub reply_to : List (List ℕ) → Rooms → Message → Reply
+reply_to names rooms message = reply_at rooms message (owner_of names rooms message)
 
 abbrev pub rooms_after : List (List ℕ) → Rooms → Message → Rooms
 rooms_after names rooms message = after_at rooms message (owner_of names rooms message)
@@ -67,7 +67,7 @@ owners names rooms (message ∷ messages) = owner_of names rooms message ∷ own
 
 abbrev pub texts : List (List ℕ) → Rooms → List Message → List (List ℕ)
 texts names rooms [] = []
-texts names rooms (message ∷ messages) = reply_text (reply_of names rooms message) ∷ texts names (rooms_after names rooms message) messages
+texts names rooms (message ∷ messages) = reply_text (reply_to names rooms message) ∷ texts names (rooms_after names rooms message) messages
 
 abbrev pub rooms_end : List (List ℕ) → Rooms → List Message → Rooms
 rooms_end names rooms [] = rooms

@@ -5,8 +5,9 @@ use Rattle.std.specs.Fmt.{decimal}
 use Rattle.std.specs.Io.KnownBytes.{Appends, Consumes}
 use Rattle.wire.specs.Texts.{reply_text}
 use Rattle.world.specs.Alone.{Message, message_of}
-use Rattle.world.specs.Rooms.{Rooms, reply_of, rooms_after}
+use Rattle.world.specs.Rooms.{Rooms, reply_to, rooms_after}
 use Rattle.world.specs.State.{State, names_of, rooms_of}
+use Rattle.world.specs.Run.{IsRun}
 
 -- a byte joins the first line
 abbrev pub onto_first : ℕ → List (List ℕ) → List (List ℕ)
@@ -33,7 +34,7 @@ message_in (byte ∷ bytes) = if is_ascii_digit byte then number_then (byte - 48
 -- the line that goes out for a line that comes in, and the rooms after it
 abbrev pub text_for : List (List ℕ) → Rooms → Option Message → List ℕ
 text_for names rooms None = 63 ∷ 10 ∷ []
-text_for names rooms (Some message) = decimal message.session ++ (32 ∷ reply_text (reply_of names rooms message)) ++ 10 ∷ []
+text_for names rooms (Some message) = decimal message.session ++ (32 ∷ reply_text (reply_to names rooms message)) ++ 10 ∷ []
 
 abbrev pub rooms_for : List (List ℕ) → Rooms → Option Message → Rooms
 rooms_for names rooms None = rooms
@@ -54,6 +55,52 @@ lines_end names rooms (line ∷ lines) = lines_end names (rooms_for names rooms 
 -- the rooms after the lines of these bytes
 abbrev pub end_of : State → List ℕ → Rooms
 end_of state input = lines_end (names_of state) (rooms_of state) (lines_of input)
+
+-- a line is this message: its session's number in digits, a space, and its bytes
+pub record IsLineOf (line : List ℕ) (message : Message) : Type 0 where
+  pub small : message.session < 2 ^ 32
+  pub form : line ≡ decimal message.session ++ 32 ∷ message.bytes
+
+-- the messages among lines, and what goes out for the lines where these are the texts of the replies to them
+abbrev pub with_message : Option Message → List Message → List Message
+with_message None messages = messages
+with_message (Some message) messages = message ∷ messages
+
+abbrev pub messages_in : List (List ℕ) → List Message
+messages_in [] = []
+messages_in (line ∷ lines) = with_message (message_in line) (messages_in lines)
+
+abbrev pub line_for : Option Message → List (List ℕ) → List ℕ
+line_for None replies = 63 ∷ 10 ∷ []
+line_for (Some message) [] = []
+line_for (Some message) (reply ∷ replies) = decimal message.session ++ (32 ∷ reply) ++ 10 ∷ []
+
+abbrev pub later_for : Option Message → List (List ℕ) → List (List ℕ)
+later_for None replies = replies
+later_for (Some message) [] = []
+later_for (Some message) (reply ∷ replies) = replies
+
+abbrev pub lines_with : List (List ℕ) → List (List ℕ) → List ℕ
+lines_with [] replies = []
+lines_with (line ∷ lines) replies = line_for (message_in line) replies ++ lines_with lines (later_for (message_in line) replies)
+
+-- From the old state a script of these bytes is answered by this text, and the state is then the new one.
+pub record IsScriptRun (old : State) (bytes text : List ℕ) (new : State) : Type 0 where
+  -- there are replies to the messages among the lines
+  pub replies : List (List ℕ)
+  -- the text is a line for each line, with these replies
+  pub lines : text ≡ lines_with (lines_of bytes) replies
+  -- each room's are those of that room alone, and wherever one shows an object its versions are the maximal compatible groups
+  pub run : IsRun old (messages_in (lines_of bytes)) replies new
+  -- so text and rooms are computed
+  pub output : text ≡ output_of old bytes
+  pub rooms : rooms_of new ≡ end_of old bytes
+
+-- such a text is added to what a writer holds
+pub record AnswersScript (before after : Option (List ℕ)) (old : State) (bytes : List ℕ) (new : State) : Type 0 where
+  pub text : List ℕ
+  pub adds : Appends before after text
+  pub run : IsScriptRun old bytes text new
 
 -- no line ends in these bytes
 abbrev pub HasNoBreak : List ℕ → Type 0
@@ -90,31 +137,3 @@ pub record AnswersRead (had has old new : Option (List ℕ)) (from to : State) :
   pub consumed : Consumes had has bytes
   pub rooms : rooms_of to ≡ lines_end (names_of from) (rooms_of from) (ended_lines bytes)
   pub answers : Appends old new (lines_out (names_of from) (rooms_of from) (ended_lines bytes))
-
--- a line is this message: its session's number in digits, a space, and its bytes
-pub record IsLineOf (line : List ℕ) (message : Message) : Type 0 where
-  pub small : message.session < 2 ^ 32
-  pub form : line ≡ decimal message.session ++ 32 ∷ message.bytes
-
--- the messages among lines, and what goes out for the lines where these are the texts of the replies to them
-abbrev pub with_message : Option Message → List Message → List Message
-with_message None messages = messages
-with_message (Some message) messages = message ∷ messages
-
-abbrev pub messages_in : List (List ℕ) → List Message
-messages_in [] = []
-messages_in (line ∷ lines) = with_message (message_in line) (messages_in lines)
-
-abbrev pub line_for : Option Message → List (List ℕ) → List ℕ
-line_for None replies = 63 ∷ 10 ∷ []
-line_for (Some message) [] = []
-line_for (Some message) (reply ∷ replies) = decimal message.session ++ (32 ∷ reply) ++ 10 ∷ []
-
-abbrev pub later_for : Option Message → List (List ℕ) → List (List ℕ)
-later_for None replies = replies
-later_for (Some message) [] = []
-later_for (Some message) (reply ∷ replies) = replies
-
-abbrev pub lines_with : List (List ℕ) → List (List ℕ) → List ℕ
-lines_with [] replies = []
-lines_with (line ∷ lines) replies = line_for (message_in line) replies ++ lines_with lines (later_for (message_in line) replies)

@@ -1,5 +1,5 @@
--- What an answer shows of an object: the maximal compatible groups of its operations.
-use Rattle.std.specs.Prelude.{◌≡◌, ◌↔◌, ◌<◌, ◌≤◌, ℕ, List, length, map, take, Contains, Option, Some}
+-- What a reply shows of an object: the maximal compatible groups of its operations.
+use Rattle.std.specs.Prelude.{◌≡◌, ◌↔◌, ℕ, List, [], ◌∷◌, length, map, Contains, Some}
 use Rattle.std.specs.List.Sorted.{IsPermutation, IsStrictlySortedBy}
 use Rattle.op_names.specs.Names.{Name}
 use Rattle.op_names.specs.Texts.{Bytes}
@@ -14,8 +14,10 @@ use Rattle.rules.specs.Conflicts.{conflict}
 use Rattle.rules.specs.Versions.{version_of}
 use Rattle.rules.specs.Records.{operations}
 use Rattle.wire.specs.declared.reply.Reply.TheVariants.{Versions}
-use Rattle.wire.specs.Texts.{reply_of as reply_read}
-use Rattle.world.specs.State.{Named, room_at}
+use Rattle.wire.specs.Texts.{reply_read}
+use Rattle.room_core.specs.Room.{Room}
+use Rattle.world.specs.Alone.{Message}
+use Rattle.world.specs.Rooms.{Rooms, owner_of, rooms_after}
 
 -- The versions of an object after these operations: one for each maximal compatible group of the sets on it, each group
 -- once, with the group's identifier and the attributes that its own operations decide, in order of identifier.
@@ -26,20 +28,28 @@ pub record AreVersionsOf (h : List Op) (object : Name) (versions : List Version)
   pub shown : IsPermutation (map (version_of h object) groups) versions
   pub rising : IsStrictlySortedBy id_cmp (map (λ version. version.id) versions)
 
--- the first `at` entries of a room's record have this object, of this kind and with these versions
-pub record HasShown (rooms : List Named) (at : ℕ) (object : Name) (kind : Bytes) (versions : List Version) : Type 0 where
-  pub place : ℕ
-  pub within : place < length rooms
-  pub long : at ≤ length (room_at rooms place).entries
+-- the room has so many entries, and by them this object, of this kind and with these versions
+pub record HasObject (room : Room) (at : ℕ) (object : Name) (kind : Bytes) (versions : List Version) : Type 0 where
+  pub at_end : at ≡ length room.entries
   pub creation : Op
-  pub created : creation_of (operations (take at (room_at rooms place).entries)) object ≡ Some creation
+  pub created : creation_of (operations room.entries) object ≡ Some creation
   pub of_kind : kind ≡ kind_in creation.body
-  pub versions_are : AreVersionsOf (operations (take at (room_at rooms place).entries)) object versions
+  pub versions_are : AreVersionsOf (operations room.entries) object versions
 
--- where a text is a reply that shows an object, a room's record has it so
-abbrev pub ShowsGroups : List Named → List ℕ → Type 0
-ShowsGroups rooms text = (at : ℕ) (object : Name) (kind : Bytes) (versions : List Version) → reply_read text ≡ Some (Versions at object kind versions) → HasShown rooms at object kind versions
+-- the message is of a room, which after the message has the object so
+pub record OwnerHasObject (names : List (List ℕ)) (rooms : Rooms) (message : Message) (at : ℕ) (object : Name) (kind : Bytes) (versions : List Version) : Type 0 where
+  pub place : ℕ
+  pub owner : owner_of names rooms message ≡ Some place
+  pub has : HasObject ((rooms_after names rooms message).alone place).room at object kind versions
 
--- and so for each of these answers
-abbrev pub AllShowGroups : List Named → List (Option (List ℕ)) → Type 0
-AllShowGroups rooms answers = (text : List ℕ) → Contains answers (Some text) → ShowsGroups rooms text
+-- where the text of the reply to a message reads as one that shows an object, the message's own room has it so
+abbrev pub ShowsGroups : List (List ℕ) → Rooms → Message → List ℕ → Type 0
+ShowsGroups names rooms message text = (at : ℕ) (object : Name) (kind : Bytes) (versions : List Version)
+    → reply_read text ≡ Some (Versions at object kind versions) → OwnerHasObject names rooms message at object kind versions
+
+-- and so for each of these messages, which come one after the other, and the text of the reply to it
+abbrev pub AllShowGroups : List (List ℕ) → Rooms → List Message → List (List ℕ) → Type 0
+AllShowGroups names rooms [] texts = Unit {0}
+AllShowGroups names rooms (message ∷ messages) [] = Unit {0}
+AllShowGroups names rooms (message ∷ messages) (text ∷ texts) =
+    ShowsGroups names rooms message text × AllShowGroups names (rooms_after names rooms message) messages texts

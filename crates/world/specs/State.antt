@@ -1,14 +1,11 @@
 -- A world as contracts see it.
-use Rattle.std.specs.Prelude.{ℕ, ◌≡◌, ◌<◌, IfSome, ◌==◌, List, [], map, Option, Some, None, option_map, slice_index_or, if◌then◌else◌}
+use Rattle.std.specs.Prelude.{ℕ, ◌<◌, IfSome, ◌==◌, List, [], map, Option, Some, None, option_map, slice_index_or, if◌then◌else◌}
 use Rattle.std.specs.Map.{lookup}
-use Rattle.rules.specs.Bounds.{Bounds}
-use Rattle.wire.specs.declared.request.Request.{Request}
-use Rattle.wire.specs.declared.reply.Reply.{Reply}
+use Rattle.rules.specs.declared.limits.LimitValues.{LimitValues}
 use Rattle.room_core.specs.Room.{Room, empty_room}
 use Rattle.world.specs.declared.seats.Seat.{Seat}
-use Rattle.world.specs.declared.seats.Asker.{Asker}
-use Rattle.world.specs.Alone.{Alone, moved}
-use Rattle.world.specs.Rooms.{Rooms, named_place}
+use Rattle.world.specs.Alone.{Alone}
+use Rattle.world.specs.Rooms.{Rooms}
 
 -- a room under its name
 pub record Named : Type 0 where
@@ -28,13 +25,6 @@ names_of state = names_in state.rooms
 
 abbrev pub seat_of : List (ℕ × Seat) → ℕ → Option Seat
 seat_of seats session = lookup (λ key. session == key) seats
-
-abbrev pub seat_in : ℕ → ℕ → Seat
-seat_in place site = record { place = place; site = site }
-
--- the room at this place replied so to a session: each session then has the seat that it had, or is moved
-abbrev pub IsMoved : List (ℕ × Seat) → List (ℕ × Seat) → Reply → ℕ → ℕ → Type 0
-IsMoved old new reply session place = (other : ℕ) → seat_of new other ≡ moved reply (seat_in place) session (seat_of old) other
 
 -- each seat is in one of so many rooms
 abbrev pub SeatsWithin : List (ℕ × Seat) → ℕ → Type 0
@@ -67,14 +57,9 @@ rooms_of state = record {
   alone = alone_at state;
 }
 
--- who asks, and which room: a session that has a seat, or one that asks to join a room
-abbrev pub asker_of : List (List ℕ) → ℕ → Option Seat → Request → Option Asker
-asker_of names session (Some seat) request = Some (record { session = session; place = seat.place; site = Some seat.site })
-asker_of names session None request = option_map (λ place. record { session = session; place = place; site = None }) (named_place names (Some request))
-
 -- rooms of these names, and nobody in them
-abbrev pub empty_rooms : List (List ℕ) → Bounds → List Named
+abbrev pub empty_rooms : List (List ℕ) → LimitValues → List Named
 empty_rooms names limits = map (λ name. record { name = name; room = empty_room limits }) names
 
-abbrev pub new_world : List (List ℕ) → Bounds → State
+abbrev pub new_world : List (List ℕ) → LimitValues → State
 new_world names limits = record { rooms = empty_rooms names limits; seats = [] }

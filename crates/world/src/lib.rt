@@ -5,13 +5,13 @@ ghost use Rattle.std.specs.Prelude.{◌≡◌, ◌↔◌, ℕ, map, option_map, 
 ghost use Rattle.std.specs.Arc.{arc_value};
 ghost use Rattle.op_names.specs.Repeats.{first_repeat};
 ghost use Rattle.rules.specs.declared.refusal.Refusal.{Refusal};
-ghost use Rattle.wire.specs.Texts.{request_of, reply_text, reply_of as reply_read};
+ghost use Rattle.wire.specs.Texts.{request_read};
 ghost use Rattle.wire.specs.declared.reply.Reply.TheVariants.{No};
 ghost use Rattle.world.specs.Alone.{message_of, joined_name};
-ghost use Rattle.world.specs.Rooms.{place_of, lone_refusal, reply_of, rooms_after};
-ghost use Rattle.world.specs.State.{State, names_in, names_of, rooms_of, room_at, asker_of, new_world};
-ghost use Rattle.world.specs.Run.{IsRun};
-ghost use Rattle.world.specs.Shown.{ShowsGroups, AllShowGroups};
+ghost use Rattle.world.specs.Rooms.{place_of, lone_refusal};
+ghost use Rattle.world.specs.State.{State, names_in, names_of, room_at, new_world};
+ghost use Rattle.world.specs.Steps.{asker_of, IsTextOf};
+ghost use Rattle.world.specs.Run.{IsAnswer, AnswersSomeOf};
 
 mod fault;
 pub mod laws;
@@ -50,8 +50,8 @@ impl Model for World {
 }
 
 /// The request that the bytes are a text of, if there is one.
-fn request_in(alloc: Global, bytes: &[u8]) -> Result<Option<Request>, NoMemory>
-    ensures { IfOk result (λ request. request ≡ request_of bytes.now) }
+fn request_read(alloc: Global, bytes: &[u8]) -> Result<Option<Request>, NoMemory>
+    ensures { IfOk result (λ request. request ≡ request_read bytes.now) }
 {
     match read_request(alloc, bytes) {
         Ok(request) => Ok(Some(request)),
@@ -76,9 +76,8 @@ fn joined_name(request: &Request) -> Option<&RoomName>
 }
 
 /// The text of a refusal that looks into no room.
-fn refused(alloc: Global, refusal: Refusal) -> Result<String, NoMemory>
-    ensures text { IfOk result (λ text. string_bytes text ≡ reply_text (No 0 refusal)) }
-    ensures read { IfOk result (λ text. reply_read (string_bytes text) ≡ Some (No 0 refusal)) }
+fn refusal_text(alloc: Global, refusal: Refusal) -> Result<String, NoMemory>
+    ensures { IfOk result (λ text. IsTextOf (string_bytes text) (No 0 refusal)) }
 {
     write_reply(alloc, &Reply::No { at: 0, refusal })
 }
@@ -123,8 +122,10 @@ impl World {
     /// twice, with the first place, from 0, whose name stands at an earlier place too; otherwise
     /// `NoMemory`.
     pub fn new(alloc: Global, names: &[RoomName], limits: Limits) -> Result<World, RoomsFault>
-        ensures ok { IfOk result (λ world. (first_repeat bytes_eq names.now ≡ None) × (world ≡ new_world names.now limits)) }
-        ensures same_name { (place : ℕ) → IsErrOf result (RoomsFault.SameName place) ↔ (first_repeat bytes_eq names.now ≡ Some place) }
+        ensures ok { IfOk result (λ world. world ≡ new_world names.now limits) }
+        ensures apart { OnOk result (first_repeat bytes_eq names.now ≡ None) }
+        ensures same_name { (place : ℕ) → IsErrOf result (RoomsFault.SameName place)
+            ↔ (first_repeat bytes_eq names.now ≡ Some place) }
     {
         if let Some(place) = repeated_name(names) {
             return Err(RoomsFault::SameName(place));
@@ -137,7 +138,9 @@ impl World {
     /// The record of the room of this name, or `None` where there is no such room.
     #[tactic(auto, using(crate::proofs::Places::place_of_within, crate::proofs::Places::room_at_read))]
     pub fn entries(&self, name: &RoomName) -> Option<&[Arc<Entry>]>
-        ensures { option_map (λ entries. map arc_value entries.now) result ≡ option_map (λ place. (room_at self.now.rooms place).entries) (place_of (names_of self.now) name.now) }
+        ensures { let place = place_of (names_of self.now) name.now in
+            option_map (λ entries. map arc_value entries.now) result
+            ≡ option_map (λ place. (room_at self.now.rooms place).entries) place }
     {
         match place_of(&self.rooms, name) {
             Some(place) => Some(self.rooms[place].entries()),
@@ -147,37 +150,37 @@ impl World {
 
     /// Answers a message of a session: the text of the reply, which is the room's that the session
     /// is in or asks to join. Where it shows an object, its versions are the maximal compatible
-    /// groups of its operations. `NoMemory` where memory was refused, and then nothing is changed.
+    /// groups of its operations, by the record of that room. `NoMemory` where memory was refused,
+    /// and then nothing is changed.
     pub fn step(&mut self, alloc: Global, session: u32, bytes: &[u8]) -> Result<String, NoMemory>
-        ensures text { IfOk result (λ text. string_bytes text ≡ reply_text (reply_of (names_of self.old) (rooms_of self.old) (message_of session bytes.now))) }
-        ensures read { IfOk result (λ text. reply_read (string_bytes text) ≡ Some (reply_of (names_of self.old) (rooms_of self.old) (message_of session bytes.now))) }
-        ensures rooms { OnOk result (rooms_of self.new ≡ rooms_after (names_of self.old) (rooms_of self.old) (message_of session bytes.now)) }
+        ensures answer { let message = message_of session bytes.now in
+            IfOk result (λ text. IsAnswer self.old message (string_bytes text) self.new) }
         ensures names { names_of self.new ≡ names_of self.old }
-        ensures shown { IfOk result (λ text. ShowsGroups self.new.rooms (string_bytes text)) }
         ensures err { OnErr result (self.new ≡ self.old) }
     {
-        let Some(request) = request_in(alloc, bytes)? else {
-            return refused(alloc, Refusal::BadMessage);
+        let Some(request) = request_read(alloc, bytes)? else {
+            return refusal_text(alloc, Refusal::BadMessage);
         };
         let seat = seat_at(&self.seats, session);
         let Some(asker) = asker_of(&self.rooms, session, seat, &request) else {
-            return refused(alloc, lone_refusal(&request));
+            return refusal_text(alloc, lone_refusal(&request));
         };
         answer_at(alloc, &mut self.rooms, &mut self.seats, asker, request)
     }
 
     /// Answers messages in order: for each the text of its reply, or `None` where memory was
-    /// refused for it and nothing done. Wherever an answer shows an object, its versions are the
-    /// maximal compatible groups of its operations. `NoMemory` where the list of the answers can't
-    /// be made, and then nothing is changed.
+    /// refused for it and nothing done. Each room's replies are those of that room alone, and
+    /// wherever one shows an object, its versions are the maximal compatible groups of its
+    /// operations. `NoMemory` where the list of the answers can't be made, and then nothing is
+    /// changed.
     pub fn run(
         &mut self,
         alloc: Global,
         messages: &[(u32, Vec<u8>)],
     ) -> Result<Vec<Option<String>>, NoMemory>
-        ensures run { let all = map (λ message. message_of message.0 message.1.items) messages.now in
-            IfOk result (λ answers. IsRun self.old all (map (option_map string_bytes) answers.items) self.new) }
-        ensures shown { IfOk result (λ answers. AllShowGroups self.new.rooms (map (option_map string_bytes) answers.items)) }
+        ensures ok { let all = map (λ message. message_of message.0 message.1.items) messages.now in
+            IfOk result (λ answers.
+            AnswersSomeOf self.old all (map (option_map string_bytes) answers.items) self.new) }
         ensures err { OnErr result (self.new ≡ self.old) }
     {
         let mut answers = Vec::with_capacity(alloc, messages.len())?;

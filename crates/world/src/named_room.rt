@@ -6,12 +6,11 @@ ghost use Rattle.std.specs.Arc.{arc_value};
 ghost use Rattle.op_names.specs.Repeats.{first_repeat};
 ghost use Rattle.rules.specs.Records.{IsLegal};
 ghost use Rattle.wire.specs.Form.{IsReply, IsRequest};
-ghost use Rattle.wire.specs.Texts.{reply_text, reply_of as reply_read};
 ghost use Rattle.room_core.specs.Room.{with_entry};
-ghost use Rattle.room_core.specs.Plans.{IsReady, outcome, entry_in};
-ghost use Rattle.world.specs.Alone.{asked};
+ghost use Rattle.room_core.specs.Plans.{IsReady, outcome, entry_added};
 ghost use Rattle.world.specs.Rooms.{place_of};
-ghost use Rattle.world.specs.State.{Named, IsMoved, names_in, rooms_in, room_at, empty_rooms};
+ghost use Rattle.world.specs.State.{Named, names_in, rooms_in, room_at, empty_rooms};
+ghost use Rattle.world.specs.Steps.{asker_answer, RepliesTo};
 
 use crate::seats::{Asker, Seat, move_seat};
 use op_names::{NoMemory, RoomName};
@@ -92,7 +91,8 @@ fn plan(
     site: Option<u32>,
     request: Request,
 ) -> Result<Planned, NoMemory>
-    ensures planned { IfOk result (λ planned. outcome planned ≡ asked room.old.room site request) }
+    ensures planned { IfOk result (λ planned.
+        outcome planned ≡ asker_answer room.old.room site request) }
     ensures ready { IfOk result (λ planned. IsReady room.new planned.change) }
     ensures room { room.new.room ≡ room.old.room }
 {
@@ -102,17 +102,16 @@ fn plan(
     }
 }
 
-/// Writes the text of a planned answer of the room at this place, and moves the session by it.
-fn tell(
+/// The text of a planned answer of the room at this place, by which the session is moved.
+fn answer_text(
     alloc: Global,
     seats: &mut BTreeMap<u32, Seat>,
     asker: Asker,
     planned: &Planned,
 ) -> Result<String, NoMemory>
     requires { IsReply planned.now.reply }
-    ensures text { IfOk result (λ text. string_bytes text ≡ reply_text planned.now.reply) }
-    ensures read { IfOk result (λ text. reply_read (string_bytes text) ≡ Some planned.now.reply) }
-    ensures seats { OnOk result (IsMoved seats.old.entries seats.new.entries planned.now.reply asker.session asker.place) }
+    ensures ok { IfOk result (λ text.
+        RepliesTo asker planned.now.reply (string_bytes text) seats.old.entries seats.new.entries) }
     ensures err { OnErr result (seats.new.entries ≡ seats.old.entries) }
 {
     let reply = planned.reply();
@@ -131,13 +130,13 @@ fn put_in_place(
 ) -> Result<String, NoMemory>
     requires ready { IsReady room.old planned.change }
     requires range { IsReply planned.reply }
-    ensures text { IfOk result (λ text. string_bytes text ≡ reply_text planned.reply) }
-    ensures read { IfOk result (λ text. reply_read (string_bytes text) ≡ Some planned.reply) }
-    ensures room { OnOk result (room.new.room ≡ with_entry room.old.room (entry_in planned.change)) }
-    ensures seats { OnOk result (IsMoved seats.old.entries seats.new.entries planned.reply asker.session asker.place) }
+    ensures ok { IfOk result (λ text.
+        RepliesTo asker planned.reply (string_bytes text) seats.old.entries seats.new.entries) }
+    ensures room { OnOk result
+        (room.new.room ≡ with_entry room.old.room (entry_added planned.change)) }
     ensures err { OnErr result ((room.new ≡ room.old) × (seats.new.entries ≡ seats.old.entries)) }
 {
-    match tell(alloc, seats, asker, &planned) {
+    match answer_text(alloc, seats, asker, &planned) {
         Ok(text) => {
             let _reply = room.commit(planned);
             Ok(text)
@@ -167,13 +166,15 @@ impl NamedRoom {
         request: Request,
     ) -> Result<String, NoMemory>
         requires { IsRequest request }
-        ensures text { IfOk result (λ text. string_bytes text ≡ reply_text (asked self.old.room asker.site request).0) }
-        ensures read { IfOk result (λ text. reply_read (string_bytes text) ≡ Some (asked self.old.room asker.site request).0) }
         ensures legal { IsLegal self.old.room.limits self.old.room.entries }
+        ensures ok { let reply = (asker_answer self.old.room asker.site request).0 in
+            IfOk result (λ text.
+            RepliesTo asker reply (string_bytes text) seats.old.entries seats.new.entries) }
+        ensures room { let added = (asker_answer self.old.room asker.site request).1 in
+            OnOk result (self.new.room ≡ with_entry self.old.room added) }
         ensures name { self.new.name ≡ self.old.name }
-        ensures room { OnOk result (self.new.room ≡ with_entry self.old.room (asked self.old.room asker.site request).1) }
-        ensures seats { OnOk result (IsMoved seats.old.entries seats.new.entries (asked self.old.room asker.site request).0 asker.session asker.place) }
-        ensures err { OnErr result ((self.new ≡ self.old) × (seats.new.entries ≡ seats.old.entries)) }
+        ensures err { OnErr result
+            ((self.new ≡ self.old) × (seats.new.entries ≡ seats.old.entries)) }
     {
         // The record is legal and the limits are at most the full ones, so the reply is in range.
         let _record = self.state.entries();
@@ -195,14 +196,21 @@ pub(crate) fn answer_at(
 ) -> Result<String, NoMemory>
     requires place { asker.place < length rooms.old.items }
     requires range { IsRequest request }
-    ensures text { IfOk result (λ text. string_bytes text ≡ reply_text (asked (room_at rooms.old.items asker.place) asker.site request).0) }
-    ensures read { IfOk result (λ text. reply_read (string_bytes text) ≡ Some (asked (room_at rooms.old.items asker.place) asker.site request).0) }
-    ensures legal { let room = room_at rooms.old.items asker.place in IsLegal room.limits room.entries }
+    // Of the room as it was:
+    ensures legal { let room = room_at rooms.old.items asker.place in
+        IsLegal room.limits room.entries }
+    ensures ok { let room = room_at rooms.old.items asker.place in
+        let reply = (asker_answer room asker.site request).0 in
+        IfOk result (λ text.
+        RepliesTo asker reply (string_bytes text) seats.old.entries seats.new.entries) }
+    // Of the rooms:
     ensures names { names_in rooms.new.items ≡ names_in rooms.old.items }
     ensures rooms { let room = room_at rooms.old.items asker.place in
-        OnOk result (rooms_in rooms.new.items ≡ slice_set (rooms_in rooms.old.items) asker.place (with_entry room (asked room asker.site request).1)) }
-    ensures seats { OnOk result (IsMoved seats.old.entries seats.new.entries (asked (room_at rooms.old.items asker.place) asker.site request).0 asker.session asker.place) }
-    ensures err { OnErr result ((rooms.new.items ≡ rooms.old.items) × (seats.new.entries ≡ seats.old.entries)) }
+        let after = with_entry room (asker_answer room asker.site request).1 in
+        let others = rooms_in rooms.old.items in
+        OnOk result (rooms_in rooms.new.items ≡ slice_set others asker.place after) }
+    ensures err { OnErr result
+        ((rooms.new.items ≡ rooms.old.items) × (seats.new.entries ≡ seats.old.entries)) }
 {
     rooms[asker.place].answer(alloc, seats, asker, request)
 }

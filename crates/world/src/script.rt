@@ -1,12 +1,12 @@
 //! Scripts: lines of sessions and their messages, answered as they come.
 
-ghost use Rattle.std.specs.Prelude.{◌≡◌, ◌≢◌, ◌≤◌, ◌⊎◌, ℕ, List, [], ◌∷◌, ◌++◌, length, option_map, IfOk, IfSome, IfErr, OnOk, OnErr, IsErrOf, MatchOption};
+ghost use Rattle.std.specs.Prelude.{◌≡◌, ◌≢◌, ◌⊎◌, ℕ, List, [], ◌∷◌, ◌++◌, length, option_map, IfOk, IfSome, IfErr, OnOk, OnErr, IsErrOf, MatchOption};
 ghost use Rattle.std.specs.Fmt.{decimal};
 ghost use Rattle.std.specs.Io.KnownBytes.{Appends, IsAtEnd, Keeps};
 ghost use Rattle.world.specs.Alone.{message_of};
-ghost use Rattle.world.specs.State.{names_of, rooms_of};
-ghost use Rattle.world.specs.Script.{message_in, text_for, rooms_for, output_of, end_of, HasNoBreak, AppendsFront, Stops, AnswersRead};
-ghost use Rattle.world.specs.Answered.{kept_part, Adds, AnswersSome, Hands, Wrote, WroteSome};
+ghost use Rattle.world.specs.State.{names_of};
+ghost use Rattle.world.specs.Script.{message_in, output_of, HasNoBreak, AppendsFront, AnswersScript, Stops, AnswersRead};
+ghost use Rattle.world.specs.Answered.{kept_part, line_text, IsHeld, IsPastLine, IsPastEnd, Adds, AnswersSome, Hands, Wrote, WroteSome};
 
 use crate::World;
 use crate::fault::ScriptFault;
@@ -54,7 +54,8 @@ fn message_in(line: &[u8]) -> Option<(u32, &[u8])>
 /// Writes all of the bytes, in as many calls as it takes.
 fn write_out<W: Write>(output: &mut W, bytes: &[u8]) -> Result<(), ScriptFault>
     ensures ok { OnOk result (Appends (W.contents output.old) (W.contents output.new) bytes.now) }
-    ensures fault { OnErr result (AppendsFront (W.contents output.old) (W.contents output.new) bytes.now) }
+    ensures fault { OnErr result
+        (AppendsFront (W.contents output.old) (W.contents output.new) bytes.now) }
     ensures kind { IfErr result (λ fault. fault ≡ ScriptFault.Write) }
 {
     let mut written = 0;
@@ -77,7 +78,8 @@ fn write_out<W: Write>(output: &mut W, bytes: &[u8]) -> Result<(), ScriptFault>
 
 /// The bytes before the first line break, and those after it, if there is one.
 fn split_line(bytes: &[u8]) -> Option<(&[u8], &[u8])>
-    ensures { MatchOption result (HasNoBreak bytes.now) (λ parts. (bytes.now ≡ parts.0.now ++ 10 ∷ parts.1.now) × HasNoBreak parts.0.now) }
+    ensures { MatchOption result (HasNoBreak bytes.now) (λ parts.
+        (bytes.now ≡ parts.0.now ++ 10 ∷ parts.1.now) × HasNoBreak parts.0.now) }
 {
     let place = memchr(b'\n', bytes)?;
     Some((&bytes[..place], &bytes[place + 1..]))
@@ -85,7 +87,7 @@ fn split_line(bytes: &[u8]) -> Option<(&[u8], &[u8])>
 
 /// Adds bytes to the line, as many as can decide something.
 fn keep_bytes(line: &mut Vec<u8>, bytes: &[u8]) -> Result<(), NoMemory>
-    requires short { length line.old.items ≤ 16396 }
+    requires held { IsHeld line.old.items }
     ensures ok { OnOk result (line.new.items ≡ kept_part (line.old.items ++ bytes.now)) }
 {
     let room = LINE_LIMIT - line.len();
@@ -95,9 +97,11 @@ fn keep_bytes(line: &mut Vec<u8>, bytes: &[u8]) -> Result<(), NoMemory>
 
 /// Writes the answers out, and forgets them.
 fn hand_out<W: Write>(output: &mut W, answers: &mut Vec<u8>) -> Result<(), ScriptFault>
-    ensures ok { OnOk result (Appends (W.contents output.old) (W.contents output.new) answers.old.items) }
+    ensures ok { OnOk result
+        (Appends (W.contents output.old) (W.contents output.new) answers.old.items) }
     ensures empty { OnOk result (answers.new.items ≡ []) }
-    ensures fault { OnErr result (AppendsFront (W.contents output.old) (W.contents output.new) answers.old.items) }
+    ensures fault { OnErr result
+        (AppendsFront (W.contents output.old) (W.contents output.new) answers.old.items) }
     ensures kind { IfErr result (λ fault. fault ≡ ScriptFault.Write) }
 {
     write_out(output, answers.as_slice())?;
@@ -111,8 +115,11 @@ fn hand_out_many<W: Write>(
     answers: &mut Vec<u8>,
     now: bool,
 ) -> Result<(), ScriptFault>
-    ensures ok { OnOk result (Hands (W.contents output.old) (W.contents output.new) answers.old.items answers.new.items) }
-    ensures fault { OnErr result (AppendsFront (W.contents output.old) (W.contents output.new) answers.old.items) }
+    ensures ok { OnOk result
+        (Hands (W.contents output.old) (W.contents output.new)
+        answers.old.items answers.new.items) }
+    ensures fault { OnErr result
+        (AppendsFront (W.contents output.old) (W.contents output.new) answers.old.items) }
     ensures kind { IfErr result (λ fault. fault ≡ ScriptFault.Write) }
 {
     if now || answers.len() >= CHUNK {
@@ -134,7 +141,8 @@ fn flush_out<W: Write>(output: &mut W) -> Result<(), ScriptFault>
 
 /// Adds the line that goes out for a reply to the answers. On `Err` none of it is added.
 fn add_reply(answers: &mut Vec<u8>, session: u32, reply: &str) -> Result<(), NoMemory>
-    ensures ok { OnOk result (answers.new.items ≡ answers.old.items ++ (decimal session ++ (32 ∷ reply.now) ++ 10 ∷ [])) }
+    ensures ok { let line = decimal session ++ (32 ∷ reply.now) ++ 10 ∷ [] in
+        OnOk result (answers.new.items ≡ answers.old.items ++ line) }
     ensures err { OnErr result (answers.new.items ≡ answers.old.items) }
 {
     let mut digits = Buffer::new();
@@ -149,7 +157,7 @@ fn add_reply(answers: &mut Vec<u8>, session: u32, reply: &str) -> Result<(), NoM
 
 /// Where a read puts what it reads.
 fn read_buffer(alloc: Global) -> Result<Vec<u8>, NoMemory>
-    ensures { IfOk result (λ chunk. length chunk.items ≡ 65536) }
+    ensures { IfOk result (λ chunk. length chunk.items ≡ CHUNK) }
 {
     Ok(vec![in alloc; 0u8; CHUNK]?)
 }
@@ -162,11 +170,12 @@ impl World {
         line: &[u8],
         answers: &mut Vec<u8>,
     ) -> Result<(), NoMemory>
-        ensures answers { OnOk result (answers.new.items ≡ answers.old.items ++ text_for (names_of self.old) (rooms_of self.old) (message_in line.now)) }
-        ensures rooms { OnOk result (rooms_of self.new ≡ rooms_for (names_of self.old) (rooms_of self.old) (message_in line.now)) }
-        ensures names { names_of self.new ≡ names_of self.old }
+        ensures answers { OnOk result
+            (answers.new.items ≡ answers.old.items ++ line_text self.old line.now) }
+        ensures ok { OnOk result (IsPastLine self.old line.now self.new) }
         ensures none { OnErr result (answers.new.items ≡ answers.old.items) }
-        ensures err { OnErr result ((rooms_of self.new ≡ rooms_of self.old) ⊎ (rooms_of self.new ≡ rooms_for (names_of self.old) (rooms_of self.old) (message_in line.now))) }
+        ensures err { OnErr result ((self.new ≡ self.old) ⊎ IsPastLine self.old line.now self.new) }
+        ensures names { names_of self.new ≡ names_of self.old }
     {
         match message_in(line) {
             None => answers.extend_from_slice(b"?\n")?,
@@ -186,13 +195,15 @@ impl World {
         bytes: &[u8],
         answers: &mut Vec<u8>,
     ) -> Result<(), NoMemory>
-        requires clean { HasNoBreak line.old.items }
-        requires short { length line.old.items ≤ 16396 }
+        requires held { IsHeld line.old.items }
         requires bytes { HasNoBreak bytes.now }
         ensures empty { OnOk result (line.new.items ≡ []) }
-        ensures ok { OnOk result (Adds self.old self.new (line.old.items ++ bytes.now ++ 10 ∷ []) line.new.items answers.old.items answers.new.items) }
+        ensures ok { let whole = line.old.items ++ bytes.now ++ 10 ∷ [] in
+            OnOk result (Adds self.old self.new
+            whole line.new.items answers.old.items answers.new.items) }
         ensures none { OnErr result (answers.new.items ≡ answers.old.items) }
-        ensures err { OnErr result (AnswersSome self.old self.new (line.old.items ++ bytes.now ++ 10 ∷ [])) }
+        ensures err { let whole = line.old.items ++ bytes.now ++ 10 ∷ [] in
+            OnErr result (AnswersSome self.old self.new whole) }
     {
         if line.is_empty() {
             return self.answer_line(alloc, bytes, answers);
@@ -213,14 +224,17 @@ impl World {
         answers: &mut Vec<u8>,
         output: &mut W,
     ) -> Result<&'b [u8], ScriptFault>
-        requires clean { HasNoBreak line.old.items }
-        requires short { length line.old.items ≤ 16396 }
+        requires held { IsHeld line.old.items }
         requires none { answers.old.items ≡ [] }
-        ensures line { OnOk result (HasNoBreak line.new.items) }
-        ensures short { OnOk result (length line.new.items ≤ 16396) }
+        // What is held then, and what was written:
+        ensures held { OnOk result (IsHeld line.new.items) }
         ensures rest { IfOk result (λ rest. HasNoBreak rest.now) }
-        ensures ok { IfOk result (λ rest. Wrote (W.contents output.old) (W.contents output.new) self.old self.new (line.old.items ++ bytes.now) (line.new.items ++ rest.now) answers.new.items) }
-        ensures fault { OnErr result (WroteSome (W.contents output.old) (W.contents output.new) self.old self.new (line.old.items ++ bytes.now)) }
+        ensures ok { let taken = line.old.items ++ bytes.now in
+            IfOk result (λ rest. Wrote (W.contents output.old) (W.contents output.new)
+            self.old self.new taken (line.new.items ++ rest.now) answers.new.items) }
+        ensures fault { let taken = line.old.items ++ bytes.now in
+            OnErr result (WroteSome (W.contents output.old) (W.contents output.new)
+            self.old self.new taken) }
         ensures kind { IfErr result (λ fault. fault ≢ ScriptFault.Read) }
     {
         let mut rest = bytes;
@@ -242,14 +256,17 @@ impl World {
         answers: &mut Vec<u8>,
         output: &mut W,
     ) -> Result<(), ScriptFault>
-        requires clean { HasNoBreak line.old.items }
-        requires short { length line.old.items ≤ 16396 }
+        requires held { IsHeld line.old.items }
         requires none { answers.old.items ≡ [] }
-        ensures line { OnOk result (HasNoBreak line.new.items) }
-        ensures short { OnOk result (length line.new.items ≤ 16396) }
+        // What is held then, and what was written:
+        ensures held { OnOk result (IsHeld line.new.items) }
         ensures none { OnOk result (answers.new.items ≡ []) }
-        ensures ok { OnOk result (Wrote (W.contents output.old) (W.contents output.new) self.old self.new (line.old.items ++ bytes.now) line.new.items []) }
-        ensures fault { OnErr result (WroteSome (W.contents output.old) (W.contents output.new) self.old self.new (line.old.items ++ bytes.now)) }
+        ensures ok { let taken = line.old.items ++ bytes.now in
+            OnOk result (Wrote (W.contents output.old) (W.contents output.new)
+            self.old self.new taken line.new.items []) }
+        ensures fault { let taken = line.old.items ++ bytes.now in
+            OnErr result (WroteSome (W.contents output.old) (W.contents output.new)
+            self.old self.new taken) }
         ensures kind { IfErr result (λ fault. fault ≢ ScriptFault.Read) }
     {
         let rest = self.answer_lines(alloc, line, bytes, answers, output)?;
@@ -269,10 +286,13 @@ impl World {
     ) -> Result<(), ScriptFault>
         requires clean { HasNoBreak line.now }
         requires none { answers.old.items ≡ [] }
-        ensures ok { OnOk result (Appends (W.contents output.old) (W.contents output.new) (output_of self.old line.now)) }
-        ensures rooms { OnOk result (rooms_of self.new ≡ end_of self.old line.now) }
+        // What was written, and where the rooms are:
+        ensures ok { let text = output_of self.old line.now in
+            OnOk result (Appends (W.contents output.old) (W.contents output.new) text) }
+        ensures end { OnOk result (IsPastEnd self.old line.now self.new) }
         ensures names { names_of self.new ≡ names_of self.old }
-        ensures fault { OnErr result (Stops (W.contents output.old) (W.contents output.new) self.old self.new line.now) }
+        ensures fault { OnErr result
+            (Stops (W.contents output.old) (W.contents output.new) self.old self.new line.now) }
         ensures kind { IfErr result (λ fault. fault ≢ ScriptFault.Read) }
     {
         if line.is_empty() {
@@ -284,27 +304,38 @@ impl World {
     }
 
     /// Answers a script: each line of its input that is a session's number, a space and a message
-    /// by the session, a space and the text of the reply, and each other line by `?`. All whole
-    /// lines that a read gave are answered and flushed before the next read; a last line may lack
-    /// its line break.
+    /// by the session, a space and the text of the reply, and each other line by `?`. Each room's
+    /// replies are those of that room alone, and wherever one shows an object, its versions are the
+    /// maximal compatible groups of its operations. All whole lines that a read gave are answered
+    /// and flushed before the next read; a last line may lack its line break.
     ///
     /// `Read` where the input can't be read, or after 1,000,000,000 reads; `Write` where the output
     /// can't be written; `NoMemory` where memory was refused. Then some of the first lines were
     /// answered, and a front of their answers is written; on `Read` those are all the lines whose
     /// end was read, and their answers are written whole.
+    ///
+    /// The clauses say this of a reader whose bytes are known and a writer that tells what it
+    /// holds, as a slice and a `Vec` do. What a pipe or a file then does with the bytes, none says.
     pub fn script<R: Read, W: Write>(
         &mut self,
         alloc: Global,
         input: &mut R,
         output: &mut W,
     ) -> Result<(), ScriptFault>
-        ensures ok { OnOk result (IfSome (R.remaining input.old) (λ bytes. Appends (W.contents output.old) (W.contents output.new) (output_of self.old bytes))) }
-        ensures rooms { OnOk result (IfSome (R.remaining input.old) (λ bytes. rooms_of self.new ≡ end_of self.old bytes)) }
+        ensures ok { OnOk result (IfSome (R.remaining input.old) (λ bytes.
+            AnswersScript (W.contents output.old) (W.contents output.new)
+            self.old bytes self.new)) }
         ensures end { OnOk result (IsAtEnd (R.remaining input.new)) }
         ensures names { names_of self.new ≡ names_of self.old }
-        ensures fault { OnErr result (IfSome (R.remaining input.old) (λ bytes. AppendsFront (W.contents output.old) (W.contents output.new) (output_of self.old bytes))) }
-        ensures stops { OnErr result (IfSome (R.remaining input.old) (λ bytes. Stops (W.contents output.old) (W.contents output.new) self.old self.new bytes)) }
-        ensures read { IsErrOf result ScriptFault.Read → AnswersRead (R.remaining input.old) (R.remaining input.new) (W.contents output.old) (W.contents output.new) self.old self.new }
+        // Where it ends early:
+        ensures fault { OnErr result (IfSome (R.remaining input.old) (λ bytes.
+            AppendsFront (W.contents output.old) (W.contents output.new)
+            (output_of self.old bytes))) }
+        ensures stops { OnErr result (IfSome (R.remaining input.old) (λ bytes.
+            Stops (W.contents output.old) (W.contents output.new) self.old self.new bytes)) }
+        ensures read { IsErrOf result ScriptFault.Read →
+            AnswersRead (R.remaining input.old) (R.remaining input.new)
+            (W.contents output.old) (W.contents output.new) self.old self.new }
     {
         let mut buffer = read_buffer(alloc)?;
         let chunk = buffer.as_mut_slice();

@@ -2,7 +2,8 @@
 
 ghost use Rattle.std.specs.Prelude.{◌≡◌, ℕ, Some, None, IfOk, OnOk, OnErr, option_map};
 ghost use Rattle.world.specs.Alone.{move_of};
-ghost use Rattle.world.specs.State.{seat_of, IsMoved};
+ghost use Rattle.world.specs.State.{seat_of};
+ghost use Rattle.world.specs.Steps.{IsMoved};
 
 use op_names::NoMemory;
 use std::collections::BTreeMap;
@@ -54,7 +55,7 @@ pub(crate) fn move_seat(
     place: usize,
     reply: &Reply,
 ) -> Result<(), NoMemory>
-    ensures moved { OnOk result (IsMoved seats.old.entries seats.new.entries reply.now session place) }
+    ensures ok { OnOk result (IsMoved seats.old.entries seats.new.entries reply.now session place) }
     ensures err { OnErr result (seats.new.entries ≡ seats.old.entries) }
 {
     match move_of(reply) {

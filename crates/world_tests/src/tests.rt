@@ -2,10 +2,11 @@
 
 mod full_objects;
 mod rows;
+mod streams;
 
-use self::rows::{FULL, LIMITED, REFUSALS, ROOMS, SETS, SHORT};
+use self::rows::{LIMITED, REFUSALS, ROOMS, SETS, SHORT};
 use op_names::RoomName;
-use rules::Limits;
+use rules::{LimitValues, Limits};
 use std::alloc::Global;
 use std::io;
 use std::io::{ErrorKind, Read, Write};
@@ -16,20 +17,18 @@ use world::{RoomsFault, ScriptFault, World};
 pub struct Example {
     pub name: &'static str,
     pub rooms: &'static [&'static str],
-    /// Joins, entries, objects, sets on an object, keys, versions, a page.
-    pub limits: [u32; 7],
+    pub limits: LimitValues,
     /// Each line, and below it the line that answers it.
     pub parts: &'static [&'static str],
 }
 
-fn world_of(rt: &(impl Abort + AllocGlobal), names: &[&str], limits: [u32; 7]) -> World {
+fn world_of(rt: &(impl Abort + AllocGlobal), names: &[&str], limits: LimitValues) -> World {
     let mut rooms = Vec::new(rt.alloc());
     for name in names {
         let name = RoomName::parse(rt.alloc(), name.as_bytes()).expect(rt, "a name");
         rooms.push(name).expect(rt, "memory");
     }
-    let [joins, entries, objects, sets, keys, versions, page] = limits;
-    let limits = Limits::new(joins, entries, objects, sets, keys, versions, page);
+    let limits = Limits::new(limits);
     World::new(rt.alloc(), &rooms, limits.expect(rt, "limits")).expect(rt, "rooms")
 }
 
@@ -106,7 +105,7 @@ fn answers(rt: &(impl Abort + AllocGlobal), world: &mut World, input: &str, outp
 
 #[test]
 fn the_last_line_needs_no_break(rt: HostRuntime) {
-    let mut world = world_of(&rt, &["r"], FULL);
+    let mut world = world_of(&rt, &["r"], LimitValues::FULL);
     answers(&rt, &mut world, "", "");
     answers(
         &rt,
@@ -142,7 +141,7 @@ fn answers_ended(
 fn lines_of_a_length(rt: HostRuntime) {
     let brackets = ended_by(&rt, "1 ", '[', 128);
     let leave = r#"1 ["leave"]"#;
-    let mut world = world_of(&rt, &["r"], FULL);
+    let mut world = world_of(&rt, &["r"], LimitValues::FULL);
     answers(&rt, &mut world, r#"1 ["join","r"]"#, JOINED);
     answers_ended(&rt, &mut world, brackets.as_str(), ']', 128, BAD_MESSAGE);
     answers_ended(&rt, &mut world, leave, ' ', 16376, BAD_MESSAGE);
@@ -285,7 +284,7 @@ fn are_replies(rt: &impl Abort, answers: &[Option<String>], lines: &str) {
 fn messages_are_answered(rt: HostRuntime) {
     let messages = messages_of(&rt, MESSAGES);
     let name = RoomName::parse(rt.alloc(), b"a").expect(&rt, "a name");
-    let mut world = world_of(&rt, &["a", "b"], FULL);
+    let mut world = world_of(&rt, &["a", "b"], LimitValues::FULL);
     let answers = world.run(rt.alloc(), &messages).expect(&rt, "memory");
     are_replies(&rt, &answers, REPLIES);
     assert_eq!(rt; world.entries(&name).expect(&rt, "a room").len(), 2);

@@ -1,13 +1,13 @@
 //! The groups of small relations.
 
-ghost use Rattle.std.specs.Prelude.{◌≡◌, ℕ, ◌+◌, ◌<◌, ◌≤◌, OnOk, OnErr};
+ghost use Rattle.std.specs.Prelude.{◌≡◌, ◌+◌, ◌<◌, ◌≤◌, OnOk, OnErr};
 ghost use Rattle.std.specs.List.{list_any};
-ghost use Rattle.conflict.specs.Members.{places};
+ghost use Rattle.places.specs.Members.{places};
 ghost use Rattle.version_groups.specs.Kept.{AreGroups};
-ghost use Rattle.conflict_tests.specs.Tables.{pair_clash, is_paired, name_of_place};
+ghost use Rattle.conflict_tests.specs.Tables.{is_paired, max_places, name_of_place, pair_clash};
 
-use conflict::{Members, Relation};
 use op_names::{NoMemory, OpName};
+use places::{Members, Relation};
 use std::alloc::Global;
 use std::process::Abort;
 use version_groups::{AddFault, Groups};
@@ -17,7 +17,7 @@ use version_groups::{AddFault, Groups};
 struct Table<'a> {
     len: u32,
     pairs: &'a [(u32, u32)],
-    ghost few: { len ≤ 16384 },
+    ghost few: { len ≤ max_places },
 }
 
 impl Relation for Table<'_> {
@@ -40,21 +40,21 @@ impl Relation for Table<'_> {
         i != j && is_paired(self.pairs, i, j)
     }
 
-    #[tactic(auto, using(conflict::proofs::Places::put_next, conflict::proofs::Places::skip_next))]
+    #[tactic(auto, using(places::proofs::Places::put_next, places::proofs::Places::skip_next))]
     fn in_conflict_with(&self, alloc: Global, scope: &Members) -> Result<Members, NoMemory> {
         let others = scope.list(alloc)?;
-        let mut opposed = Members::empty(alloc);
+        let mut conflicting = Members::empty(alloc);
         for place in 0..self.len {
-            if is_met(self.pairs, &others, place) {
-                opposed.insert(place)?;
+            if is_in_conflict(self.pairs, &others, place) {
+                conflicting.insert(place)?;
             }
         }
-        Ok(opposed)
+        Ok(conflicting)
     }
 }
 
 /// Is a place in conflict with one of these?
-fn is_met(pairs: &[(u32, u32)], others: &[u32], place: u32) -> bool
+fn is_in_conflict(pairs: &[(u32, u32)], others: &[u32], place: u32) -> bool
     ensures { result ≡ list_any (pair_clash pairs.now place) others.now }
 {
     others
@@ -78,11 +78,12 @@ fn add_next(
     pairs: &[(u32, u32)],
     limit: usize,
 ) -> Result<(), AddFault>
-    requires few { groups.old.ops < 16384 }
+    requires few { groups.old.ops < max_places }
     requires kept { AreGroups (pair_clash pairs.now) (places groups.old.ops) groups.old.groups }
     requires some { 0 < limit }
     ensures ops { OnOk result (groups.new.ops ≡ groups.old.ops + 1) }
-    ensures groups { OnOk result (AreGroups (pair_clash pairs.now) (places groups.new.ops) groups.new.groups) }
+    ensures groups { OnOk result
+        (AreGroups (pair_clash pairs.now) (places groups.new.ops) groups.new.groups) }
     ensures err { OnErr result (groups.new ≡ groups.old) }
 {
     let relation = Table {
@@ -90,6 +91,19 @@ fn add_next(
         pairs,
     };
     groups.add(alloc, &relation, limit)
+}
+
+/// The groups of the first places of the table's relation, of which there are 32 at most.
+fn groups_of(rt: &(impl Abort + AllocGlobal), pairs: &[(u32, u32)], len: u32) -> Groups
+    requires { len ≤ max_places }
+    ensures ops { result.ops ≡ len }
+    ensures groups { AreGroups (pair_clash pairs.now) (places result.ops) result.groups }
+{
+    let mut groups = Groups::new(rt.alloc()).expect(rt, "memory");
+    for _place in 0..len {
+        add_next(&mut groups, rt.alloc(), pairs, 32).expect(rt, "a place");
+    }
+    groups
 }
 
 /// Is this set one of the groups?
@@ -144,7 +158,29 @@ fn no_place_has_one_group(rt: HostRuntime) {
     assert_eq!(rt; none.members(0).count(), 0);
     let one = Table { len: 1, pairs: &[] };
     assert_eq!(rt; one.name(0).seq(), 1);
-    let longer = none.extended(rt.alloc(), &one, 1).expect(&rt, "a place");
-    assert_eq!(rt; longer.count(), 1);
-    assert!(rt; longer.has(0, 0));
+    let planned = none.plan(rt.alloc(), &one, 1).expect(&rt, "a place");
+    assert_eq!(rt; planned.count(), 1);
+    assert!(rt; planned.has(0, 0));
+}
+
+/// Six pairs of places that are in conflict: each doubles the groups.
+const SIX_PAIRS: [(u32, u32); 6] = [(0, 1), (2, 3), (4, 5), (6, 7), (8, 9), (10, 11)];
+
+#[test]
+fn thirty_two_groups_and_no_more(rt: HostRuntime) {
+    let pairs = SIX_PAIRS;
+    let mut groups = groups_of(&rt, &pairs, 11);
+    assert_eq!(rt; groups.count(), 32);
+    let refused = add_next(&mut groups, rt.alloc(), &pairs, 32).err();
+    assert_eq!(rt; refused, Some(AddFault::TooMany));
+    assert_eq!(rt; groups.count(), 32);
+}
+
+#[test]
+fn groups_of_full_size(rt: HostRuntime) {
+    let groups = groups_of(&rt, &SIX_PAIRS[..5], 1024);
+    assert_eq!(rt; groups.count(), 32);
+    for group in 0..groups.count() {
+        assert_eq!(rt; groups.members(group).count(), 1019);
+    }
 }

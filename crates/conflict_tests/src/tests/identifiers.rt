@@ -4,8 +4,8 @@ ghost use Rattle.std.specs.Prelude.{◌≡◌, ◌<◌, All};
 ghost use Rattle.std.specs.List.{list_any};
 ghost use Rattle.conflict_tests.specs.Parities.{parities_clash, parities_name};
 
-use conflict::{Members, Relation};
 use op_names::{NoMemory, OpName};
+use places::{Members, Relation};
 use std::alloc::Global;
 use std::process::Abort;
 use version_ids::{VersionId, id_of, resolve};
@@ -34,21 +34,21 @@ impl Relation for Parities {
         i != j && i % 2 == j % 2
     }
 
-    #[tactic(auto, using(conflict::proofs::Places::put_next, conflict::proofs::Places::skip_next))]
+    #[tactic(auto, using(places::proofs::Places::put_next, places::proofs::Places::skip_next))]
     fn in_conflict_with(&self, alloc: Global, scope: &Members) -> Result<Members, NoMemory> {
         let others = scope.list(alloc)?;
-        let mut opposed = Members::empty(alloc);
+        let mut conflicting = Members::empty(alloc);
         for place in 0..5 {
-            if is_met(&others, place) {
-                opposed.insert(place)?;
+            if is_in_conflict(&others, place) {
+                conflicting.insert(place)?;
             }
         }
-        Ok(opposed)
+        Ok(conflicting)
     }
 }
 
 /// Is a place in conflict with one of these?
-fn is_met(others: &[u32], place: u32) -> bool
+fn is_in_conflict(others: &[u32], place: u32) -> bool
     ensures { result ≡ list_any (parities_clash place) others.now }
 {
     others

@@ -6,8 +6,9 @@ ghost use Rattle.conflict_tests.specs.Three.{first, second, third};
 ghost use Rattle.std.specs.Prelude.{◌≡◌, ◌<◌, [], ◌∷◌};
 ghost use Rattle.conflict.specs.Sets.{IsAddition};
 
-use conflict::{Addition, Clashes, Members, Relation};
+use conflict::{Addition, Clashes};
 use op_names::{Key, OpName, Value, VersionId};
+use places::{Members, Relation};
 use rules::{Body, Op, SharedOp};
 use state_vector::StateVector;
 use std::process::Abort;
@@ -20,7 +21,11 @@ fn change(
     key: &[u8],
     number: i64,
 ) -> SharedOp
-    ensures { result ≡ record { name = name; seen = seen ∷ []; body = Set (1, 1) [] key.now (Number number) } }
+    ensures { result ≡ record {
+      name = name;
+      seen = seen ∷ [];
+      body = Set (1, 1) [] key.now (Number number);
+    } }
 {
     let op = Op {
         name: OpName::new(name.0, name.1).expect(rt, "a name"),
@@ -80,8 +85,8 @@ fn with_third(rt: &(impl Abort + AllocGlobal)) -> Clashes
     clashes
 }
 
-/// The third author's change, prepared for the first two.
-fn third_prepared(rt: &(impl Abort + AllocGlobal), clashes: &mut Clashes) -> Addition
+/// The third author's change, planned for the first two.
+fn plan_third(rt: &(impl Abort + AllocGlobal), clashes: &mut Clashes) -> Addition
     requires object { clashes.old.object ≡ (1, 1) }
     requires ops { clashes.old.ops ≡ first ∷ second ∷ [] }
     ensures ready { IsAddition clashes.new.object clashes.new.ops result }
@@ -90,9 +95,11 @@ fn third_prepared(rt: &(impl Abort + AllocGlobal), clashes: &mut Clashes) -> Add
 {
     let op = change(rt, (3, 1), (1, 2), b"y", 1);
     let base = Members::from_places(rt.alloc(), &[0]).expect(rt, "memory");
-    let known = clashes.known(rt.alloc(), &op.seen).expect(rt, "memory");
+    let known = clashes
+        .known_places(rt.alloc(), &op.seen)
+        .expect(rt, "memory");
     clashes
-        .prepare(rt.alloc(), op, base, &known)
+        .plan(rt.alloc(), op, base, &known)
         .expect(rt, "memory")
 }
 
@@ -118,18 +125,18 @@ fn a_conflict_is_inherited(rt: HostRuntime) {
 }
 
 #[test]
-fn a_prepared_set_waits(rt: HostRuntime) {
+fn a_planned_set_waits(rt: HostRuntime) {
     let mut clashes = with_second(&rt);
-    let addition = third_prepared(&rt, &mut clashes);
+    let addition = plan_third(&rt, &mut clashes);
     assert_eq!(rt; addition.op().name.site(), 3);
     assert_eq!(rt; clashes.ops().len(), 2);
-    let longer = clashes.with(&addition);
-    assert_eq!(rt; longer.len(), 3);
-    assert_eq!(rt; longer.name(2).site(), 3);
-    assert!(rt; is_conflict(&longer, 0, 1));
-    assert!(rt; is_conflict(&longer, 1, 2));
-    assert!(rt; !is_conflict(&longer, 2, 0));
-    clashes.put(addition);
+    let all = clashes.with(&addition);
+    assert_eq!(rt; all.len(), 3);
+    assert_eq!(rt; all.name(2).site(), 3);
+    assert!(rt; is_conflict(&all, 0, 1));
+    assert!(rt; is_conflict(&all, 1, 2));
+    assert!(rt; !is_conflict(&all, 2, 0));
+    clashes.commit(addition);
     assert_eq!(rt; clashes.ops().len(), 3);
     assert_eq!(rt; clashes.name(2).site(), 3);
     assert!(rt; is_conflict(&clashes, 1, 2));
@@ -144,7 +151,9 @@ fn what_is_stored_is_shown(rt: HostRuntime) {
     assert!(rt; base.has(0));
     assert_eq!(rt; base.count(), 1);
     let seen = StateVector::from_pairs(rt.alloc(), &[(1, 1), (2, 1)]).expect(&rt, "a vector");
-    let known = clashes.known(rt.alloc(), &seen).expect(&rt, "memory");
+    let known = clashes
+        .known_places(rt.alloc(), &seen)
+        .expect(&rt, "memory");
     assert!(rt; known.has(1));
     assert_eq!(rt; known.count(), 1);
     let given = Key::parse(rt.alloc(), b"y").expect(&rt, "a key");

@@ -1,7 +1,15 @@
 //! Sets of places.
 
-use conflict::Members;
+use places::Members;
 use std::process::Abort;
+
+/// The number of sets that an object has at most.
+const FULL: u32 = 1024;
+
+/// Have the two the same places?
+fn is_same(first: &Members, second: &Members) -> bool {
+    first.is_subset(second) && second.is_subset(first)
+}
 
 /// The set of these places, one after the other.
 fn members(rt: &(impl Abort + AllocGlobal), places: &[u32]) -> Members {
@@ -16,8 +24,26 @@ fn a_set_of_places(rt: HostRuntime) {
     assert_eq!(rt; set.count(), 4);
     assert!(rt; set.has(5));
     assert!(rt; !set.has(6));
-    let copied = set.copy(rt.alloc()).expect(&rt, "memory");
-    assert!(rt; copied.has(2));
+    let copy = set.copy(rt.alloc()).expect(&rt, "memory");
+    assert!(rt; is_same(&copy, &set));
+}
+
+#[test]
+fn sets_of_full_size(rt: HostRuntime) {
+    let all = Members::first_places(rt.alloc(), FULL).expect(&rt, "memory");
+    let list = all.list(rt.alloc()).expect(&rt, "memory");
+    assert_eq!(rt; list.len(), 1024);
+    assert!(rt; is_same(&members(&rt, &list), &all));
+    let copy = all.copy(rt.alloc()).expect(&rt, "memory");
+    assert!(rt; is_same(&copy, &all));
+    let front = Members::first_places(rt.alloc(), 100).expect(&rt, "memory");
+    let both = all.intersection(rt.alloc(), &front).expect(&rt, "memory");
+    assert!(rt; is_same(&both, &front));
+    let mut rest = all.without(rt.alloc(), &front).expect(&rt, "memory");
+    assert_eq!(rt; rest.lowest_place(), Some(100));
+    assert_eq!(rt; rest.count(), 924);
+    rest.insert_all(&front).expect(&rt, "memory");
+    assert!(rt; is_same(&rest, &all));
 }
 
 #[test]

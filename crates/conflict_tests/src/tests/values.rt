@@ -6,15 +6,19 @@ ghost use Rattle.conflict_tests.specs.Chain.{chain};
 ghost use Rattle.std.specs.Prelude.{◌≡◌, ◌<◌, [], ◌∷◌, All};
 
 use attributes::attributes_of;
-use conflict::Members;
 use op_names::{Key, OpName, Value, VersionId};
+use places::Members;
 use rules::{Attrs, Body, Op, SharedOp};
 use state_vector::StateVector;
 use std::process::Abort;
 
 /// A change on the object (1, 1) by its only version, which has seen the author's earlier ones.
 fn change(rt: &(impl Abort + AllocGlobal), seq: u32, seen: u32, key: &[u8], number: i64) -> SharedOp
-    ensures { result ≡ record { name = (1, seq); seen = (1, seen) ∷ []; body = Set (1, 1) [] key.now (Number number) } }
+    ensures { result ≡ record {
+      name = (1, seq);
+      seen = (1, seen) ∷ [];
+      body = Set (1, 1) [] key.now (Number number);
+    } }
 {
     let op = Op {
         name: OpName::new(1, seq).expect(rt, "a name"),

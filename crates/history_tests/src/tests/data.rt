@@ -2,7 +2,7 @@
 
 use super::parse::name_of;
 use op_names::{Key, Kind, Value, VersionId};
-use rules::{AttrList, Attrs, AttrsFault, Body, Entry, Limits, Op, Refusal, Version};
+use rules::{AttrList, Attrs, AttrsFault, Body, Entry, LimitValues, Limits, Op, Refusal, Version};
 use state_vector::StateVector;
 use std::process::Abort;
 
@@ -47,20 +47,46 @@ fn initial_attributes(rt: HostRuntime) {
     assert!(rt; keeps_order(&rt));
 }
 
+/// The least limits.
+const LEAST: LimitValues = LimitValues {
+    joins: 1,
+    entries: 1,
+    objects: 1,
+    sets: 1,
+    keys: 1,
+    versions: 1,
+    page: 1,
+};
+
 #[test]
 fn limits(rt: HostRuntime) {
-    assert_eq!(rt;
-        Limits::new(256, 16384, 512, 1024, 64, 32, 64),
-        Some(Limits::full())
-    );
-    assert!(rt; Limits::new(1, 1, 1, 1, 1, 1, 1).is_some());
+    let full = LimitValues {
+        joins: 256,
+        entries: 16384,
+        objects: 512,
+        sets: 1024,
+        keys: 64,
+        versions: 32,
+        page: 64,
+    };
+    assert_eq!(rt; Limits::new(full), Some(Limits::full()));
+    assert!(rt; Limits::new(LEAST).is_some());
     for joins in [0, 257] {
-        assert_eq!(rt; Limits::new(joins, 1, 1, 1, 1, 1, 1), None);
+        assert_eq!(rt; Limits::new(LimitValues { joins, ..LEAST }), None);
     }
     for page in [0, 65] {
-        assert_eq!(rt; Limits::new(1, 1, 1, 1, 1, 1, page), None);
+        assert_eq!(rt; Limits::new(LimitValues { page, ..LEAST }), None);
     }
-    let small = Limits::new(1, 2, 3, 4, 5, 6, 7).unwrap_or(Limits::full());
+    let small = LimitValues {
+        joins: 1,
+        entries: 2,
+        objects: 3,
+        sets: 4,
+        keys: 5,
+        versions: 6,
+        page: 7,
+    };
+    let small = Limits::new(small).expect(&rt, "limits");
     let read = [
         small.joins(),
         small.entries(),

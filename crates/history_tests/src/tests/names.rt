@@ -77,6 +77,13 @@ fn version_ids(rt: HostRuntime) {
     assert_eq!(rt; refused, Some(ListFault::NotRising));
     let id = VersionId::from_names(rt.alloc(), &[first, second]).expect(&rt, "an identifier");
     assert_eq!(rt; id.names().len(), 2);
+    let taken = Vec::from_slice(rt.alloc(), &[first, second]).expect(&rt, "memory");
+    assert!(rt; VersionId::from_vec(taken).is_ok());
+    let refused = Vec::from_slice(rt.alloc(), &[second, first]).expect(&rt, "memory");
+    assert_eq!(rt;
+        VersionId::from_vec(refused).err(),
+        Some(ListFault::NotRising)
+    );
     assert!(rt; VersionId::empty(rt.alloc()) < id);
 }
 

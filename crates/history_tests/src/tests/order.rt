@@ -31,12 +31,15 @@ fn creation(rt: &(impl Abort + AllocGlobal), name: &str, seen: &str) -> SharedOp
     SharedOp::new(rt.alloc(), op).expect(rt, "memory")
 }
 
-/// Admits a creation, takes the memory for it and adds it.
-fn create(rt: &(impl Abort + AllocGlobal), past: &mut Past, name: &str, seen: &str) {
-    let op = creation(rt, name, seen);
+/// Admits an operation, takes the memory for it and adds it.
+pub(super) fn add(rt: &impl Abort, past: &mut Past, op: SharedOp) {
     past.admit(op.name, &op.seen).expect(rt, "admitted");
     past.reserve(op.name.site()).expect(rt, "memory");
     past.add(op).expect(rt, "memory");
+}
+
+fn create(rt: &(impl Abort + AllocGlobal), past: &mut Past, name: &str, seen: &str) {
+    add(rt, past, creation(rt, name, seen));
 }
 
 /// Two operations of site 1, then one of site 2 that counts them, then one of site 1 that counts all.

@@ -24,6 +24,8 @@ fn the_first_bad_pair_decides(rt: HostRuntime) {
         ("2,1 1,1 0,1", Some(VectorFault::NotRising)),
     ] {
         assert_eq!(rt; fault_of(&rt, pairs), fault, "{pairs}");
+        let taken = StateVector::from_vec(pairs_of(&rt, pairs)).err();
+        assert_eq!(rt; taken, fault, "{pairs}");
     }
 }
 

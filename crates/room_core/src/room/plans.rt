@@ -1,27 +1,23 @@
 //! The plans of a room's answers: to joins, to creations and sets, and to what only reads.
 
-ghost use Rattle.std.specs.Prelude.{◌≡◌, ◌≢◌, ◌<◌, ◌+◌, ◌-◌, ◌++◌, ◌∷◌, [], length, map, false, true, Some, None, IfErr, IfOk, OnOk, slice_index};
-ghost use Rattle.std.specs.Map.{lookup};
-ghost use Rattle.op_names.specs.Names.{is_op_name, is_site, same_name};
+ghost use Rattle.std.specs.Prelude.{◌≡◌, ◌≢◌, ◌<◌, ◌+◌, length, false, true, Some, None, IfErr, IfOk, OnOk};
+ghost use Rattle.op_names.specs.Names.{is_op_name, is_site};
 ghost use Rattle.rules.specs.declared.history.Op.{Op as AnyOp};
 ghost use Rattle.rules.specs.declared.history.Entry.TheVariants.{Join, Operation};
 ghost use Rattle.rules.specs.declared.refusal.Refusal.{Refusal as AnyRefusal};
 ghost use Rattle.rules.specs.Bodies.{is_set_body};
-ghost use Rattle.rules.specs.Operations.{creation_of, object_of};
+ghost use Rattle.rules.specs.Operations.{object_of};
 ghost use Rattle.rules.specs.Conflicts.{has_object};
-ghost use Rattle.rules.specs.Admission.{first_that_applies};
-ghost use Rattle.rules.specs.Records.{sites, operations, refusal, order_conditions, admits, is_placed};
-ghost use Rattle.rules.specs.Versions.{versions};
+ghost use Rattle.rules.specs.Records.{sites, operations, is_placed};
 ghost use Rattle.state_vector.specs.Vectors.{is_vector};
 ghost use Rattle.shape.specs.declared.fault.SetFault.TheVariants as set_fault;
-ghost use Rattle.shape.specs.Drawing.{Drawn};
 ghost use Rattle.shape.specs.Faults.{refusal_of};
 ghost use Rattle.shape.specs.Planned.{IsPlanned};
 ghost use Rattle.wire.specs.declared.reply.Reply.{Reply as AnyReply};
 ghost use Rattle.wire.specs.declared.reply.Reply.TheVariants.{Made, No, Taken};
 ghost use Rattle.room_core.specs.declared.planned.Change.TheVariants.{Nothing};
-ghost use Rattle.room_core.specs.Answers.{join_answer, creation_answer, set_answer, operation_answer, proposed, refused, shown, objects_from, entries_from, has_site};
-ghost use Rattle.room_core.specs.Plans.{outcome, unasked_refusal, IsReady};
+ghost use Rattle.room_core.specs.Answers.{join_answer, creation_answer, set_answer, operation_answer, operation_by, ids_with, entry_answer, refusal_answer, show_reply, list_reply, pull_reply, has_site};
+ghost use Rattle.room_core.specs.Plans.{outcome, early_refusal, order_refusal, refusal_in, spare_of, HasShape, IsAdmitted, Plans};
 
 use super::RoomState;
 use crate::objects::{object_of, objects_page, plan_at};
@@ -37,11 +33,11 @@ use wire::{IdList, Reply, VersionList};
 
 impl RoomState {
     /// The reply that refuses for this cause.
-    fn refused(&self, refusal: Refusal) -> Planned
+    fn refuse(&self, refusal: Refusal) -> Planned
         ensures reply { result.reply ≡ No (length self.now.room.entries) refusal }
         ensures change { result.change ≡ Nothing }
     {
-        Planned::told(Reply::No {
+        Planned::of_reply(Reply::No {
             at: self.at(),
             refusal,
         })
@@ -50,7 +46,7 @@ impl RoomState {
     /// Why the next join is refused, if it is.
     #[tactic(auto, unfolding(rules::specs::Records::refusal))]
     fn join_refusal(&self) -> Option<Refusal>
-        ensures { result ≡ refusal self.now.room.limits self.now.room.entries (Join (sites self.now.room.entries + 1)) }
+        ensures { result ≡ refusal_in self.now.room (Join (sites self.now.room.entries + 1)) }
     {
         if self.sites >= self.limits.joins() {
             Some(Refusal::RoomFull)
@@ -64,12 +60,10 @@ impl RoomState {
     /// Plans the next join. The room stays as it is.
     #[tactic(auto, unfolding(crate::specs::Answers::join_answer))]
     pub fn plan_join(&mut self, alloc: Global) -> Result<Planned, NoMemory>
-        ensures planned { IfOk result (λ p. outcome p ≡ join_answer self.old.room) }
-        ensures ready { IfOk result (λ p. IsReady self.new p.change) }
-        ensures room { self.new.room ≡ self.old.room }
+        ensures { Plans self.old self.new (join_answer self.old.room) result }
     {
         if let Some(refusal) = self.join_refusal() {
-            return Ok(self.refused(refusal));
+            return Ok(self.refuse(refusal));
         }
         let _bound = self.limits.joins();
         let at = self.at();
@@ -93,12 +87,11 @@ impl RoomState {
         body: Body,
     ) -> Result<Planned, NoMemory>
         requires { has_site self.old.room site ≡ true }
-        ensures planned { IfOk result (λ p. outcome p ≡ operation_answer self.old.room (record { name = (site, seq); seen = seen; body = body })) }
-        ensures ready { IfOk result (λ p. IsReady self.new p.change) }
-        ensures room { self.new.room ≡ self.old.room }
+        ensures { Plans self.old self.new
+            (operation_answer self.old.room (operation_by site seq seen body)) result }
     {
         let Some(name) = OpName::new(site, seq) else {
-            return Ok(self.unnamed(site, seq));
+            return Ok(self.refuse_out_of_range(site, seq));
         };
         // That a vector is in range is part of what stays true of it.
         let _pairs = seen.pairs();
@@ -112,7 +105,7 @@ impl RoomState {
     /// Why an operation is refused, whatever it does, if it is.
     #[tactic(auto, unfolding(rules::specs::Admission::causal_refusal))]
     fn order_refusal(&self, op: &Op) -> Option<Refusal>
-        ensures { result ≡ first_that_applies (order_conditions self.now.room.limits self.now.room.entries op.now) }
+        ensures { result ≡ order_refusal self.now.room op.now }
     {
         if self.is_full() {
             return Some(Refusal::RecordFull);
@@ -127,7 +120,7 @@ impl RoomState {
     #[tactic(auto, unfolding(rules::specs::Records::refusal))]
     fn creation_refusal(&self, op: &Op) -> Option<Refusal>
         requires { is_set_body op.now.body ≡ false }
-        ensures { result ≡ refusal self.now.room.limits self.now.room.entries (Operation op.now) }
+        ensures { result ≡ refusal_in self.now.room (Operation op.now) }
     {
         if let Some(refusal) = self.order_refusal(op) {
             return Some(refusal);
@@ -139,24 +132,25 @@ impl RoomState {
     }
 
     /// The answer to an operation of a site that has joined, whose number is out of range.
-    fn unnamed(&self, site: u32, seq: u32) -> Planned
+    fn refuse_out_of_range(&self, site: u32, seq: u32) -> Planned
         requires joined { has_site self.now.room site ≡ true }
         requires out_of_range { is_op_name (site, seq) ≡ false }
-        ensures planned { (op : AnyOp) (reply : AnyReply) → op.name ≡ (site, seq) → outcome result ≡ proposed self.now.room (Operation op) reply }
+        ensures planned { (op : AnyOp) (reply : AnyReply) → op.name ≡ (site, seq)
+            → outcome result ≡ entry_answer self.now.room (Operation op) reply }
         ensures change { result.change ≡ Nothing }
     {
         let _sites = self.sites();
         if self.is_full() {
-            self.refused(Refusal::RecordFull)
+            self.refuse(Refusal::RecordFull)
         } else {
-            self.refused(Refusal::WrongSeq)
+            self.refuse(Refusal::WrongSeq)
         }
     }
 
     /// Takes memory for one more operation of this site. The room stays as it is.
     fn reserve_operation(&mut self, site: u32) -> Result<(), NoMemory>
         ensures entry { OnOk result (0 < self.new.reserve.entries) }
-        ensures past { OnOk result (is_site site ≡ true → 0 < slice_index self.new.reserve.operations (site - 1)) }
+        ensures past { OnOk result (is_site site ≡ true → 0 < spare_of self.new site) }
         ensures shapes { self.new.reserve.shapes ≡ self.old.reserve.shapes }
         ensures room { self.new.room ≡ self.old.room }
     {
@@ -171,24 +165,21 @@ impl RoomState {
     fn plan_creation(&mut self, alloc: Global, op: Op) -> Result<Planned, NoMemory>
         requires creation { is_set_body op.body ≡ false }
         requires placed { is_placed self.old.room.entries (Operation op) ≡ true }
-        ensures planned { IfOk result (λ p. outcome p ≡ creation_answer self.old.room op) }
-        ensures ready { IfOk result (λ p. IsReady self.new p.change) }
-        ensures room { self.new.room ≡ self.old.room }
+        ensures { Plans self.old self.new (creation_answer self.old.room op) result }
     {
         if let Some(refusal) = self.creation_refusal(&op) {
-            return Ok(self.refused(refusal));
+            return Ok(self.refuse(refusal));
         }
         let op = SharedOp::new(alloc, op)?;
-        self.made(alloc, op)
+        self.plan_admitted_creation(alloc, op)
     }
 
     /// The answer to a creation that is admitted. The room stays as it is.
-    fn made(&mut self, alloc: Global, op: SharedOp) -> Result<Planned, NoMemory>
+    fn plan_admitted_creation(&mut self, alloc: Global, op: SharedOp) -> Result<Planned, NoMemory>
         requires creation { is_set_body op.body ≡ false }
-        requires admitted { admits self.old.room.limits self.old.room.entries (Operation op) ≡ true }
-        ensures planned { IfOk result (λ p. outcome p ≡ (Made (length self.old.room.entries) op.name, Some (Operation op))) }
-        ensures ready { IfOk result (λ p. IsReady self.new p.change) }
-        ensures room { self.new.room ≡ self.old.room }
+        requires admitted { IsAdmitted self.old.room (Operation op) }
+        ensures { Plans self.old self.new
+            (Made (length self.old.room.entries) op.name, Some (Operation op)) result }
     {
         let name = op.name;
         self.reserve_operation(name.site())?;
@@ -210,12 +201,10 @@ impl RoomState {
     fn plan_set(&mut self, alloc: Global, op: Op) -> Result<Planned, NoMemory>
         requires set { is_set_body op.body ≡ true }
         requires placed { is_placed self.old.room.entries (Operation op) ≡ true }
-        ensures planned { IfOk result (λ p. outcome p ≡ set_answer self.old.room op) }
-        ensures ready { IfOk result (λ p. IsReady self.new p.change) }
-        ensures room { self.new.room ≡ self.old.room }
+        ensures { Plans self.old self.new (set_answer self.old.room op) result }
     {
-        if let Some(refusal) = self.unasked_refusal(&op) {
-            return Ok(self.refused(refusal));
+        if let Some(refusal) = self.early_refusal(&op) {
+            return Ok(self.refuse(refusal));
         }
         let op = SharedOp::new(alloc, op)?;
         self.plan_asked_set(alloc, op)
@@ -225,31 +214,29 @@ impl RoomState {
     fn plan_asked_set(&mut self, alloc: Global, op: SharedOp) -> Result<Planned, NoMemory>
         requires set { is_set_body op.body ≡ true }
         requires placed { is_placed self.old.room.entries (Operation op) ≡ true }
-        requires asked { unasked_refusal self.old.room op ≡ None }
-        ensures planned { IfOk result (λ p. outcome p ≡ set_answer self.old.room op) }
-        ensures ready { IfOk result (λ p. IsReady self.new p.change) }
-        ensures room { self.new.room ≡ self.old.room }
+        requires asked { early_refusal self.old.room op ≡ None }
+        ensures { Plans self.old self.new (set_answer self.old.room op) result }
     {
         match self.plan_at_object(alloc, op.share()?) {
-            Ok(planned) => self.taken(alloc, op, planned),
-            Err(fault) => self.not_taken(fault),
+            Ok(planned) => self.plan_admitted_set(alloc, op, planned),
+            Err(fault) => self.refuse_set(fault),
         }
     }
 
     /// The answer to a set that its object takes. The room stays as it is.
-    fn taken(
+    fn plan_admitted_set(
         &mut self,
         alloc: Global,
         op: SharedOp,
         mut planned: PlannedSet,
     ) -> Result<Planned, NoMemory>
         requires set { is_set_body op.body ≡ true }
-        requires admitted { admits self.old.room.limits self.old.room.entries (Operation op) ≡ true }
+        requires admitted { IsAdmitted self.old.room (Operation op) }
         requires added { planned.addition.op ≡ op }
-        requires shape { (d : Drawn) × (lookup (same_name (object_of op)) self.old.reserve.shapes ≡ Some d) × IsPlanned d planned }
-        ensures planned { IfOk result (λ p. outcome p ≡ (Taken (length self.old.room.entries) planned.ids, Some (Operation op))) }
-        ensures ready { IfOk result (λ p. IsReady self.new p.change) }
-        ensures room { self.new.room ≡ self.old.room }
+        requires shape { let shapes = self.old.reserve.shapes
+            in HasShape shapes (object_of op) (λ d. IsPlanned d planned) }
+        ensures { Plans self.old self.new
+            (Taken (length self.old.room.entries) planned.ids, Some (Operation op)) result }
     {
         self.reserve_operation(op.name.site())?;
         let entry = op.entry()?;
@@ -270,9 +257,9 @@ impl RoomState {
     }
 
     /// Why a set is refused before its object is asked, if it is.
-    fn unasked_refusal(&self, op: &Op) -> Option<Refusal>
+    fn early_refusal(&self, op: &Op) -> Option<Refusal>
         requires { is_set_body op.now.body ≡ true }
-        ensures { result ≡ unasked_refusal self.now.room op.now }
+        ensures { result ≡ early_refusal self.now.room op.now }
     {
         if let Some(refusal) = self.order_refusal(op) {
             return Some(refusal);
@@ -287,12 +274,16 @@ impl RoomState {
     fn plan_at_object(&mut self, alloc: Global, op: SharedOp) -> Result<PlannedSet, SetFault>
         requires set { is_set_body op.body ≡ true }
         requires vector { is_vector op.seen ≡ true }
-        requires asked { unasked_refusal self.old.room op ≡ None }
-        ensures shape { IfOk result (λ p. (d : Drawn) × (lookup (same_name (object_of op)) self.new.reserve.shapes ≡ Some d) × IsPlanned d p) }
+        requires asked { early_refusal self.old.room op ≡ None }
+        // Ok comes with the plan of the set for its object as it then is.
+        ensures shape { IfOk result
+            (λ p. HasShape self.new.reserve.shapes (object_of op) (λ d. IsPlanned d p)) }
         ensures added { IfOk result (λ p. p.addition.op ≡ op) }
-        ensures ids { IfOk result (λ p. p.ids ≡ map (λ version. version.id) (versions (operations self.old.room.entries ++ op ∷ []) (object_of op))) }
-        ensures taken { OnOk result (refusal self.old.room.limits self.old.room.entries (Operation op) ≡ None) }
-        ensures refused { IfErr result (λ fault. fault ≢ set_fault.NoMemory → refusal self.old.room.limits self.old.room.entries (Operation op) ≡ refusal_of fault) }
+        ensures ids { IfOk result (λ p. p.ids ≡ ids_with self.old.room op) }
+        // It comes exactly where the room doesn't refuse the set, but for want of memory.
+        ensures taken { OnOk result (refusal_in self.old.room (Operation op) ≡ None) }
+        ensures refused { IfErr result (λ fault. fault ≢ set_fault.NoMemory
+            → refusal_in self.old.room (Operation op) ≡ refusal_of fault) }
         ensures room { self.new.room ≡ self.old.room }
     {
         let object = object_of(&op);
@@ -300,12 +291,13 @@ impl RoomState {
     }
 
     /// The answer to a set that its object doesn't take, and `NoMemory`.
-    fn not_taken(&self, fault: SetFault) -> Result<Planned, NoMemory>
-        ensures refused { IfOk result (λ p. (why : AnyRefusal) × (refusal_of fault ≡ Some why) × (outcome p ≡ refused self.now.room why)) }
+    fn refuse_set(&self, fault: SetFault) -> Result<Planned, NoMemory>
+        ensures refused { IfOk result (λ p. (why : AnyRefusal) × (refusal_of fault ≡ Some why)
+            × (outcome p ≡ refusal_answer self.now.room why)) }
         ensures change { IfOk result (λ p. p.change ≡ Nothing) }
     {
         match fault.refusal() {
-            Some(refusal) => Ok(self.refused(refusal)),
+            Some(refusal) => Ok(self.refuse(refusal)),
             None => Err(NoMemory),
         }
     }
@@ -314,13 +306,13 @@ impl RoomState {
 impl RoomState {
     /// Plans to show an object.
     pub(super) fn plan_show(&self, alloc: Global, object: OpName) -> Result<Planned, NoMemory>
-        ensures reply { IfOk result (λ p. p.reply ≡ shown self.now.room object (creation_of (operations self.now.room.entries) object)) }
+        ensures reply { IfOk result (λ p. p.reply ≡ show_reply self.now.room object) }
         ensures change { IfOk result (λ p. p.change ≡ Nothing) }
     {
         let Some(shape) = self.objects.get(&object) else {
-            return Ok(self.refused(Refusal::NoSuchObject));
+            return Ok(self.refuse(Refusal::NoSuchObject));
         };
-        Ok(Planned::told(Reply::Versions {
+        Ok(Planned::of_reply(Reply::Versions {
             at: self.at(),
             object,
             kind: shape.kind().copy(alloc)?,
@@ -330,15 +322,15 @@ impl RoomState {
 
     /// Plans to give a page of the objects.
     pub(super) fn plan_list(&self, alloc: Global, from: u32) -> Result<Planned, NoMemory>
-        ensures reply { IfOk result (λ p. p.reply ≡ objects_from self.now.room from) }
+        ensures reply { IfOk result (λ p. p.reply ≡ list_reply self.now.room from) }
         ensures change { IfOk result (λ p. p.change ≡ Nothing) }
     {
         let total = self.count_objects();
         if from > total {
-            return Ok(self.refused(Refusal::TooFar));
+            return Ok(self.refuse(Refusal::TooFar));
         }
         let page = self.limits.page() as usize;
-        Ok(Planned::told(Reply::Objects {
+        Ok(Planned::of_reply(Reply::Objects {
             at: self.at(),
             from,
             total,
@@ -348,15 +340,15 @@ impl RoomState {
 
     /// Plans to give a page of the record.
     pub(super) fn plan_pull(&self, alloc: Global, from: u32) -> Result<Planned, NoMemory>
-        ensures reply { IfOk result (λ p. p.reply ≡ entries_from self.now.room from) }
+        ensures reply { IfOk result (λ p. p.reply ≡ pull_reply self.now.room from) }
         ensures change { IfOk result (λ p. p.change ≡ Nothing) }
     {
         let at = self.at();
         if from > at {
-            return Ok(self.refused(Refusal::TooFar));
+            return Ok(self.refuse(Refusal::TooFar));
         }
         let page = self.limits.page() as usize;
         let entries = entries_page(alloc, self.entries(), from as usize, page)?;
-        Ok(Planned::told(Reply::Entries { at, from, entries }))
+        Ok(Planned::of_reply(Reply::Entries { at, from, entries }))
     }
 }

@@ -1,9 +1,7 @@
 //! What a room answers: who asks for what, and after the arrow the reply.
 
 use super::Example;
-
-/// The full limits: joins, entries, objects, sets on an object, keys, versions, a page.
-pub const FULL: [u32; 7] = [256, 16384, 512, 1024, 64, 32, 64];
+use rules::LimitValues;
 
 const CREATED: &str = r#"join => ["joined",0,1]
 1 ["new",1,[],"rect",[["x",0]]] => ["made",1,[1,1]]"#;
@@ -18,7 +16,7 @@ const THIRD_SITE: &str = r#"join => ["joined",5,3]"#;
 pub const EXAMPLES: &[Example] = &[
     Example {
         name: "two versions",
-        limits: FULL,
+        limits: LimitValues::FULL,
         parts: &[
             CREATED,
             r#"1 ["show",[1,1]] => ["versions",2,[1,1],"rect",[[[],[["x",0]]]]]"#,
@@ -29,7 +27,7 @@ pub const EXAMPLES: &[Example] = &[
     },
     Example {
         name: "a set that is in both groups",
-        limits: FULL,
+        limits: LimitValues::FULL,
         parts: &[
             CREATED,
             FIVE,
@@ -41,7 +39,7 @@ pub const EXAMPLES: &[Example] = &[
     },
     Example {
         name: "conflict is inherited",
-        limits: FULL,
+        limits: LimitValues::FULL,
         parts: &[
             CREATED,
             FIVE,
@@ -53,7 +51,7 @@ pub const EXAMPLES: &[Example] = &[
     },
     Example {
         name: "six versions of five sets",
-        limits: FULL,
+        limits: LimitValues::FULL,
         parts: &[
             r#"join => ["joined",0,1]
 1 ["new",1,[],"rect",[]] => ["made",1,[1,1]]
@@ -70,7 +68,7 @@ join => ["joined",5,5]
     },
     Example {
         name: "equal values are no conflict",
-        limits: FULL,
+        limits: LimitValues::FULL,
         parts: &[
             CREATED,
             FIVE,
@@ -80,7 +78,7 @@ join => ["joined",5,5]
     },
     Example {
         name: "what a set must know",
-        limits: FULL,
+        limits: LimitValues::FULL,
         parts: &[
             CREATED,
             FIVE,
@@ -95,7 +93,7 @@ join => ["joined",5,5]
     },
     Example {
         name: "what isn't there",
-        limits: FULL,
+        limits: LimitValues::FULL,
         parts: &[
             CREATED,
             FIVE,
@@ -108,7 +106,7 @@ join => ["joined",5,5]
     },
     Example {
         name: "pages",
-        limits: FULL,
+        limits: LimitValues::FULL,
         parts: &[
             CREATED,
             FIVE,
@@ -123,7 +121,7 @@ join => ["joined",5,5]
     },
     Example {
         name: "a later set against an earlier one",
-        limits: FULL,
+        limits: LimitValues::FULL,
         parts: &[
             CREATED,
             FIVE,
@@ -134,7 +132,7 @@ join => ["joined",5,5]
     },
     Example {
         name: "who may ask",
-        limits: FULL,
+        limits: LimitValues::FULL,
         parts: &[
             CREATED,
             r#"0 ["leave"] => ["no",0,2,"not-joined"]
@@ -147,7 +145,10 @@ join => ["joined",5,5]
 pub const LIMITED: &[Example] = &[
     Example {
         name: "two versions",
-        limits: [256, 16384, 512, 1024, 64, 2, 64],
+        limits: LimitValues {
+            versions: 2,
+            ..LimitValues::FULL
+        },
         parts: &[
             CREATED,
             FIVE,
@@ -159,7 +160,10 @@ pub const LIMITED: &[Example] = &[
     },
     Example {
         name: "one set",
-        limits: [256, 16384, 512, 1, 64, 32, 64],
+        limits: LimitValues {
+            sets: 1,
+            ..LimitValues::FULL
+        },
         parts: &[
             CREATED,
             FIVE,
@@ -168,7 +172,10 @@ pub const LIMITED: &[Example] = &[
     },
     Example {
         name: "one key",
-        limits: [256, 16384, 512, 1024, 1, 32, 64],
+        limits: LimitValues {
+            keys: 1,
+            ..LimitValues::FULL
+        },
         parts: &[
             CREATED,
             FIVE,
@@ -177,7 +184,10 @@ pub const LIMITED: &[Example] = &[
     },
     Example {
         name: "one object",
-        limits: [256, 16384, 1, 1024, 64, 32, 64],
+        limits: LimitValues {
+            objects: 1,
+            ..LimitValues::FULL
+        },
         parts: &[
             CREATED,
             r#"1 ["new",2,[[1,1]],"rect",[]] => ["no",2,16,"too-many-objects"]"#,
@@ -185,7 +195,10 @@ pub const LIMITED: &[Example] = &[
     },
     Example {
         name: "one join",
-        limits: [1, 16384, 512, 1024, 64, 32, 64],
+        limits: LimitValues {
+            joins: 1,
+            ..LimitValues::FULL
+        },
         parts: &[
             r#"join => ["joined",0,1]
 join => ["no",1,5,"room-full"]"#,
@@ -193,7 +206,10 @@ join => ["no",1,5,"room-full"]"#,
     },
     Example {
         name: "two entries",
-        limits: [256, 2, 512, 1024, 64, 32, 64],
+        limits: LimitValues {
+            entries: 2,
+            ..LimitValues::FULL
+        },
         parts: &[
             CREATED,
             r#"join => ["no",2,6,"record-full"]
@@ -203,7 +219,10 @@ join => ["no",1,5,"room-full"]"#,
     },
     Example {
         name: "pages of two",
-        limits: [256, 16384, 512, 1024, 64, 32, 2],
+        limits: LimitValues {
+            page: 2,
+            ..LimitValues::FULL
+        },
         parts: &[
             CREATED,
             FIVE,
@@ -215,7 +234,10 @@ join => ["no",1,5,"room-full"]"#,
     },
     Example {
         name: "pages of two objects",
-        limits: [256, 16384, 512, 1024, 64, 32, 2],
+        limits: LimitValues {
+            page: 2,
+            ..LimitValues::FULL
+        },
         parts: &[
             CREATED,
             r#"1 ["new",2,[[1,1]],"line",[]] => ["made",2,[1,2]]

@@ -1,9 +1,7 @@
 //! Sets that are taken, and the versions then.
 
 use super::table::Example;
-
-/// The full limits: joins, entries, objects, sets on an object, keys, versions, a page.
-pub const FULL: [u32; 7] = [256, 16384, 512, 1024, 64, 32, 64];
+use rules::LimitValues;
 
 /// `x` is 5, by the author who created the object.
 pub const FIVE: &str = "1,2 | 1,1 | - | x=5 => -";
@@ -24,29 +22,45 @@ pub const FIVE_ALONE: &str = "-: x=5";
 pub const FIVE_OR_NINE: &str = "1,2: x=5
 2,1: x=9";
 
+/// Sets by authors that saw the creation alone: five keys have two values each, and one has one. The
+/// answer is not looked at.
+pub const ELEVEN_AUTHORS: &[&str] = &[
+    "2,1 | 1,1 | - | a=1 => ",
+    "3,1 | 1,1 | - | a=2 => ",
+    "4,1 | 1,1 | - | b=1 => ",
+    "5,1 | 1,1 | - | b=2 => ",
+    "6,1 | 1,1 | - | c=1 => ",
+    "7,1 | 1,1 | - | c=2 => ",
+    "8,1 | 1,1 | - | d=1 => ",
+    "9,1 | 1,1 | - | d=2 => ",
+    "10,1 | 1,1 | - | e=1 => ",
+    "11,1 | 1,1 | - | e=2 => ",
+    "12,1 | 1,1 | - | f=1 => ",
+];
+
 pub const EXAMPLES: &[Example] = &[
     Example {
         name: "one set",
-        limits: FULL,
+        limits: LimitValues::FULL,
         lines: &[FIVE],
         versions: FIVE_ALONE,
     },
     Example {
         name: "two values of one key",
-        limits: FULL,
+        limits: LimitValues::FULL,
         lines: &[FIVE, NINE],
         versions: FIVE_OR_NINE,
     },
     Example {
         name: "another key in both versions",
-        limits: FULL,
+        limits: LimitValues::FULL,
         lines: &[FIVE, NINE, "3,1 | 1,1 | - | fill=red => 1,2 | 2,1"],
         versions: "1,2: fill=red x=5
 2,1: fill=red x=9",
     },
     Example {
         name: "a conflict is inherited",
-        limits: FULL,
+        limits: LimitValues::FULL,
         lines: &[
             FIVE,
             NINE,
@@ -58,7 +72,7 @@ pub const EXAMPLES: &[Example] = &[
     },
     Example {
         name: "six versions of five sets",
-        limits: FULL,
+        limits: LimitValues::FULL,
         lines: &[
             "1,2 | 1,1 | - | x=1 => -",
             "2,1 | 1,1 | - | y=2 => -",
@@ -75,13 +89,13 @@ pub const EXAMPLES: &[Example] = &[
     },
     Example {
         name: "one value of one key",
-        limits: FULL,
+        limits: LimitValues::FULL,
         lines: &[FIVE, "2,1 | 1,1 | - | x=5 => -"],
         versions: FIVE_ALONE,
     },
     Example {
         name: "a value that was replaced",
-        limits: FULL,
+        limits: LimitValues::FULL,
         lines: &[
             FIVE,
             "1,3 | 1,2 | - | x=6 => -",
@@ -92,14 +106,14 @@ pub const EXAMPLES: &[Example] = &[
     },
     Example {
         name: "a version as its author saw it",
-        limits: FULL,
+        limits: LimitValues::FULL,
         lines: &[FIVE, NINE, "3,1 | 1,2 | - | fill=red => 1,2 3,1 | 2,1"],
         versions: "1,2 3,1: fill=red x=5
 2,1: x=9",
     },
     Example {
         name: "a conflict with a base",
-        limits: FULL,
+        limits: LimitValues::FULL,
         lines: &[
             FIVE,
             "1,3 | 1,2 | - | fill=red => -",
@@ -110,7 +124,7 @@ pub const EXAMPLES: &[Example] = &[
     },
     Example {
         name: "one of two versions goes on",
-        limits: FULL,
+        limits: LimitValues::FULL,
         lines: &[FIVE, NINE, "2,2 | 1,1 2,1 | - | line=3 => 1,2 | 2,1 2,2"],
         versions: "1,2: x=5
 2,1 2,2: line=3 x=9",

@@ -1,12 +1,11 @@
 //! An object, and all operations of the history that it is in.
 
-ghost use Rattle.std.specs.Prelude.{◌≡◌, ◌<◌, ◌∷◌, ◌++◌, [], true, false, None, filter, OnOk, OnErr};
+ghost use Rattle.std.specs.Prelude.{◌≡◌, ◌∷◌, ◌++◌, [], true, false, OnOk};
 ghost use Rattle.state_vector.specs.Vectors.{is_vector};
-ghost use Rattle.rules.specs.Admission.{causal_refusal};
 ghost use Rattle.rules.specs.Bodies.{is_set_body};
 ghost use Rattle.rules.specs.Operations.{is_set_on};
 ghost use Rattle.conflict.specs.Sets.{AreSetsOf};
-ghost use Rattle.shape.specs.Drawing.{with_set};
+ghost use Rattle.shape.specs.Objects.{with_set};
 ghost use Rattle.shape_tests.specs.InHistory.{IsNextSet};
 
 use super::table::{ids_of, name_of, set_of, text_of_ids, text_of_versions, vector_of};
@@ -70,9 +69,9 @@ impl Model for Object {
 
     ghost Value = { ObjectIn };
 
-    ghost view = { λ object. record { name = object.name; history = object.past.history; drawing = object.shape.drawing } };
+    ghost view = { λ object. record { name = object.name; history = object.past.history; object = object.shape.object } };
 
-    ghost invariant = { λ object. IsInHistory (record { name = object.name; history = object.past.history; drawing = object.shape.drawing }) };
+    ghost invariant = { λ object. IsInHistory (record { name = object.name; history = object.past.history; object = object.shape.object }) };
 }
 
 fn initial(rt: &(impl Abort + AllocGlobal)) -> Attrs {
@@ -101,7 +100,7 @@ fn creation(rt: &(impl Abort + AllocGlobal), name: &str, seen: &str) -> SharedOp
 }
 
 /// The object (1, 1), with `x` 0, and nothing else.
-pub fn created(rt: &(impl Abort + AllocGlobal), limits: Limits) -> Object {
+pub(super) fn created(rt: &(impl Abort + AllocGlobal), limits: Limits) -> Object {
     let creation = creation(rt, "1,1", "-");
     let name = creation.name;
     let mut past = Past::new(rt.alloc()).expect(rt, "memory");
@@ -121,8 +120,8 @@ fn in_two_steps(
     before: &[VersionId],
     after: &[VersionId],
 ) -> bool
-    requires { AreSetsOf shape.old.drawing.creation.name (shape.old.drawing.sets ++ op ∷ []) }
-    ensures { shape.new.drawing ≡ with_set shape.old.drawing op }
+    requires { AreSetsOf shape.old.object.creation.name (shape.old.object.sets ++ op ∷ []) }
+    ensures { shape.new.object ≡ with_set shape.old.object op }
 {
     let planned = shape.plan_set(rt.alloc(), op).expect(rt, "planned");
     let is_planned = planned.ids() == after;
@@ -166,13 +165,13 @@ impl Object {
     }
 
     /// The identifiers of its versions.
-    pub fn ids(&self, rt: &(impl Abort + AllocGlobal)) -> String {
+    pub(super) fn ids(&self, rt: &(impl Abort + AllocGlobal)) -> String {
         let ids = self.shape.ids(rt.alloc()).expect(rt, "memory");
         text_of_ids(rt, &ids)
     }
 
     /// Is the set of a line answered as the line says?
-    pub fn answers(&mut self, rt: &(impl Abort + AllocGlobal), line: &str) -> bool {
+    pub(super) fn answers(&mut self, rt: &(impl Abort + AllocGlobal), line: &str) -> bool {
         let (set, expected) = line.split_once(" => ").expect(rt, "an arrow");
         match self.set(rt.alloc(), set_of(rt, set)) {
             Ok(()) => self.ids(rt).as_str() == expected,
@@ -194,12 +193,22 @@ impl Object {
 
     /// Is the set of a line taken, at the second time where memory is wanting at the first? The
     /// versions are these until it is.
-    pub fn takes(&mut self, rt: &(impl Abort + AllocGlobal), line: &str, before: &str) -> bool {
+    pub(super) fn takes(
+        &mut self,
+        rt: &(impl Abort + AllocGlobal),
+        line: &str,
+        before: &str,
+    ) -> bool {
         self.is_taken(rt, line) || (self.shows(rt, before) && self.is_taken(rt, line))
     }
 
     /// Another object is created.
-    pub fn create_another(&mut self, rt: &(impl Abort + AllocGlobal), name: &str, seen: &str) {
+    pub(super) fn create_another(
+        &mut self,
+        rt: &(impl Abort + AllocGlobal),
+        name: &str,
+        seen: &str,
+    ) {
         let creation = creation(rt, name, seen);
         self.past
             .admit(creation.name, &creation.seen)
@@ -209,7 +218,12 @@ impl Object {
 
     /// Takes the set of a line in two steps. Are the identifiers those before until it is committed,
     /// and are those that are planned the ones of the line?
-    pub fn plans(&mut self, rt: &(impl Abort + AllocGlobal), line: &str, before: &str) -> bool {
+    pub(super) fn plans(
+        &mut self,
+        rt: &(impl Abort + AllocGlobal),
+        line: &str,
+        before: &str,
+    ) -> bool {
         let (set, after) = line.split_once(" => ").expect(rt, "an arrow");
         let (before, after) = (ids_of(rt, before), ids_of(rt, after));
         self.set_in_steps(rt, set_of(rt, set), &before, &after)
@@ -231,13 +245,18 @@ impl Object {
         is_right
     }
 
+    /// The number of its versions.
+    pub(super) fn version_count(&self, rt: &(impl Abort + AllocGlobal)) -> usize {
+        self.shape.ids(rt.alloc()).expect(rt, "memory").len()
+    }
+
     /// The kind of the object.
-    pub fn kind(&self) -> &str {
+    pub(super) fn kind(&self) -> &str {
         self.shape.kind().text()
     }
 
     /// Are these the versions, and their identifiers the object's?
-    pub fn shows(&self, rt: &(impl Abort + AllocGlobal), expected: &str) -> bool {
+    pub(super) fn shows(&self, rt: &(impl Abort + AllocGlobal), expected: &str) -> bool {
         let versions = self.shape.show(rt.alloc()).expect(rt, "memory");
         let ids = self.shape.ids(rt.alloc()).expect(rt, "memory");
         let are_ids = versions.len() == ids.len()

@@ -5,15 +5,14 @@
 //! of the object then, or why the set is not taken. A version is ID: KEY=VALUE .., a line each.
 
 use op_names::{Key, OpName, Value, VersionId};
-use rules::{Body, Op, SharedOp, Version};
+use rules::{Body, LimitValues, Op, SharedOp, Version};
 use state_vector::StateVector;
 use std::process::Abort;
 
 /// Lines that the object answers one after the other, and what it shows then.
 pub struct Example {
     pub name: &'static str,
-    /// Joins, entries, objects, sets on an object, keys, versions, a page.
-    pub limits: [u32; 7],
+    pub limits: LimitValues,
     pub lines: &'static [&'static str],
     pub versions: &'static str,
 }
@@ -35,7 +34,7 @@ fn pairs_of(rt: &(impl Abort + AllocGlobal), text: &str) -> Vec<(u32, u32)> {
 }
 
 /// The name in the text.
-pub fn name_of(rt: &impl Abort, text: &str) -> OpName {
+pub(super) fn name_of(rt: &impl Abort, text: &str) -> OpName {
     let (site, seq) = pair_of(rt, text);
     OpName::new(site, seq).expect(rt, "a name")
 }
@@ -51,7 +50,7 @@ fn id_of(rt: &(impl Abort + AllocGlobal), text: &str) -> VersionId {
 }
 
 /// The identifiers in the text.
-pub fn ids_of(rt: &(impl Abort + AllocGlobal), text: &str) -> Vec<VersionId> {
+pub(super) fn ids_of(rt: &(impl Abort + AllocGlobal), text: &str) -> Vec<VersionId> {
     let mut ids = Vec::new(rt.alloc());
     for id in text.split(" | ") {
         ids.push(id_of(rt, id)).expect(rt, "memory");
@@ -60,7 +59,7 @@ pub fn ids_of(rt: &(impl Abort + AllocGlobal), text: &str) -> Vec<VersionId> {
 }
 
 /// The vector that counts these.
-pub fn vector_of(rt: &(impl Abort + AllocGlobal), text: &str) -> StateVector {
+pub(super) fn vector_of(rt: &(impl Abort + AllocGlobal), text: &str) -> StateVector {
     StateVector::from_pairs(rt.alloc(), &pairs_of(rt, text)).expect(rt, "a vector")
 }
 
@@ -82,7 +81,7 @@ fn body_of(rt: &(impl Abort + AllocGlobal), version: &str, change: &str) -> Body
 }
 
 /// The set of a line on the object (1, 1).
-pub fn set_of(rt: &(impl Abort + AllocGlobal), line: &str) -> SharedOp {
+pub(super) fn set_of(rt: &(impl Abort + AllocGlobal), line: &str) -> SharedOp {
     let (name, others) = line.split_once(" | ").expect(rt, "a vector");
     let (seen, others) = others.split_once(" | ").expect(rt, "a version");
     let (version, change) = others.split_once(" | ").expect(rt, "a change");
@@ -105,7 +104,7 @@ fn write_id(rt: &impl Abort, text: &mut String, id: &VersionId) {
 }
 
 /// The text of identifiers.
-pub fn text_of_ids(rt: &(impl Abort + AllocGlobal), ids: &[VersionId]) -> String {
+pub(super) fn text_of_ids(rt: &(impl Abort + AllocGlobal), ids: &[VersionId]) -> String {
     let mut text = String::new(rt.alloc());
     for (place, id) in ids.iter().enumerate() {
         let bar = if place == 0 { "" } else { " | " };
@@ -124,7 +123,7 @@ fn write_pair(rt: &impl Abort, text: &mut String, pair: &(Key, Value)) {
 }
 
 /// The text of versions.
-pub fn text_of_versions(rt: &(impl Abort + AllocGlobal), versions: &[Version]) -> String {
+pub(super) fn text_of_versions(rt: &(impl Abort + AllocGlobal), versions: &[Version]) -> String {
     let mut text = String::new(rt.alloc());
     for (place, version) in versions.iter().enumerate() {
         let line = if place == 0 { "" } else { "\n" };

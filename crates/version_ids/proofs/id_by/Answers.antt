@@ -1,11 +1,11 @@
 use Rattle.std.proofs.lemmas.Result.{IfOk-weaker}
-use Rattle.conflict.specs.Members.{places}
-use Rattle.conflict.proofs.Rising.{among_places}
+use Rattle.places.specs.Members.{places}
+use Rattle.places.proofs.Rising.{among_places}
 use Rattle.version_ids.proofs.Scopes.{identified}
 use Rattle.version_ids.proofs.id_by.Goals as goal
 
 pub returns : goal.returns
 returns g c =
     let n = g.R.Relation.size c.args.relation.now in
-    IfOk-weaker c.id_of_opposed.result _ _
-    (λ id e. identified (g.R.Relation.clashes c.args.relation.now) (g.R.Relation.name_at c.args.relation.now) n (places n) c.args.group.now c.args.opposed.now id (among_places n c.args.group.now c.count.ensures.rises c.requires.group) c.requires.opposed e) c.id_of_opposed.ensures
+    IfOk-weaker c.id_of_conflicting.result _ _
+    (λ id e. identified (g.R.Relation.clashes c.args.relation.now) (g.R.Relation.name_at c.args.relation.now) n (places n) c.args.group.now c.args.conflicting.now id (among_places n c.args.group.now c.rises.ensures c.requires.group) c.requires.conflicting e) c.id_of_conflicting.ensures

@@ -6,14 +6,15 @@ ghost use Rattle.serde_json.specs.View.{view};
 ghost use Rattle.rules.specs.declared.history.Entry.{Entry as AnyEntry};
 ghost use Rattle.wire.specs.Form.{IsEntryText, IsEntryValue};
 ghost use Rattle.wire.specs.Reading.{Gives};
-ghost use Rattle.wire.specs.Entries.{join_at, new_at, set_at, entry_in};
-ghost use Rattle.wire.specs.Texts.{entry_of as entry_in_text};
+ghost use Rattle.wire.specs.Entries.{join_at, new_at, set_at, entry_of};
+ghost use Rattle.wire.specs.Texts.{entry_read};
 
 use super::part::{
     Part, attrs_of, id_of, key_of, kind_of, name_of, read_text, seen_of, value_of, whole_of,
     worded_of,
 };
 use crate::fault::ReadFault;
+use op_names::MAX_SITE;
 use rules::{Body, Entry, Op};
 use serde_json::Value;
 use std::alloc::Global;
@@ -26,7 +27,7 @@ fn join_of(fields: &[Value]) -> Result<Entry, ReadFault>
     let [site] = fields else {
         return Err(ReadFault::Bad);
     };
-    let site = whole_of(site, 1, 256)?;
+    let site = whole_of(site, 1, MAX_SITE)?;
     Ok(Entry::Join(site))
 }
 
@@ -72,9 +73,9 @@ impl Part for Entry {
 
     ghost seen = { λ entry. entry };
 
-    ghost read_in = { entry_in };
+    ghost read_in = { entry_of };
 
-    #[tactic(auto, unfolding(crate::specs::Entries::entry_in))]
+    #[tactic(auto, unfolding(crate::specs::Entries::entry_of))]
     fn read(alloc: Global, value: &Value) -> Result<Entry, ReadFault> {
         let (word, fields) = worded_of(value)?;
         match word {
@@ -91,7 +92,7 @@ impl Part for Arc<Entry> {
 
     ghost seen = { λ entry. arc_value entry };
 
-    ghost read_in = { entry_in };
+    ghost read_in = { entry_of };
 
     fn read(alloc: Global, value: &Value) -> Result<Arc<Entry>, ReadFault> {
         let entry = Entry::read(alloc, value)?;
@@ -104,8 +105,8 @@ pub fn entry_of(alloc: Global, value: &Value) -> Result<Entry, ReadFault>
     ensures ok { IfOk result (IsEntryValue (view value.now)) }
     ensures bad { IsErrOf result ReadFault.Bad
         → (e : AnyEntry) → ¬ IsEntryValue (view value.now) e }
-    ensures value { IfOk result (λ entry. entry_in (view value.now) ≡ Some entry) }
-    ensures none { IsErrOf result ReadFault.Bad → entry_in (view value.now) ≡ None }
+    ensures value { IfOk result (λ entry. entry_of (view value.now) ≡ Some entry) }
+    ensures none { IsErrOf result ReadFault.Bad → entry_of (view value.now) ≡ None }
 {
     Entry::read(alloc, value)
 }
@@ -115,8 +116,8 @@ pub fn entry_of(alloc: Global, value: &Value) -> Result<Entry, ReadFault>
 pub fn read_entry(alloc: Global, bytes: &[u8]) -> Result<Entry, ReadFault>
     ensures ok { IfOk result (IsEntryText bytes.now) }
     ensures bad { IsErrOf result ReadFault.Bad → (e : AnyEntry) → ¬ IsEntryText bytes.now e }
-    ensures value { IfOk result (λ entry. entry_in_text bytes.now ≡ Some entry) }
-    ensures none { IsErrOf result ReadFault.Bad → entry_in_text bytes.now ≡ None }
+    ensures value { IfOk result (λ entry. entry_read bytes.now ≡ Some entry) }
+    ensures none { IsErrOf result ReadFault.Bad → entry_read bytes.now ≡ None }
 {
     read_text(alloc, bytes)
 }

@@ -33,7 +33,8 @@ pub(crate) fn text_of(value: &Value) -> Result<&str, ReadFault>
 /// A list of a word and what follows it.
 #[tactic(auto, unfolding(crate::specs::Reading::worded_in))]
 pub(crate) fn worded_of(value: &Value) -> Result<(&str, &[Value]), ReadFault>
-    ensures { Gives (λ worded. (worded.0.now, map view worded.1.now)) result (worded_in (view value.now)) }
+    ensures { Gives (λ worded. (worded.0.now, map view worded.1.now)) result
+        (worded_in (view value.now)) }
 {
     let [first, rest @ ..] = items_of(value)? else {
         return Err(ReadFault::Bad);
@@ -152,7 +153,7 @@ pub(crate) fn seen_of(alloc: Global, value: &Value) -> Result<StateVector, ReadF
     ensures { Gives (λ seen. seen) result (seen_in (view value.now)) }
 {
     let pairs: Vec<(u32, u32)> = list_of(alloc, value)?;
-    Ok(StateVector::from_pairs(alloc, &pairs)?)
+    Ok(StateVector::from_vec(pairs)?)
 }
 
 impl Part for OpName {
@@ -172,7 +173,7 @@ pub(crate) fn id_of(alloc: Global, value: &Value) -> Result<VersionId, ReadFault
     ensures { Gives (λ id. id) result (id_in (view value.now)) }
 {
     let names: Vec<OpName> = list_of(alloc, value)?;
-    Ok(VersionId::from_names(alloc, &names)?)
+    Ok(VersionId::from_vec(names)?)
 }
 
 #[tactic(auto, unfolding(crate::specs::Reading::key_in))]

@@ -6,8 +6,8 @@ ghost use Rattle.rules.specs.declared.version.Version.{Version as AnyVersion};
 ghost use Rattle.wire.specs.declared.reply.Reply.{Reply as AnyReply};
 ghost use Rattle.wire.specs.Form.{IsReplyText, IsReplyValue};
 ghost use Rattle.wire.specs.Reading.{Gives, whole_in, id_in};
-ghost use Rattle.wire.specs.Replies.{at_in, ids_in, shown_in, version_in, versions_in, object_in, joined_at, made_at, taken_at, versions_at, objects_at, entries_at, left_at, refusal_with, refusal_fields, no_at, reply_in};
-ghost use Rattle.wire.specs.Texts.{reply_of as reply_in_text};
+ghost use Rattle.wire.specs.Replies.{at_in, ids_in, shown_in, version_in, versions_in, object_in, joined_at, made_at, taken_at, versions_at, objects_at, entries_at, left_at, refusal_with, refusal_fields, no_at, reply_of};
+ghost use Rattle.wire.specs.Texts.{reply_read};
 
 use super::part::{
     Part, id_of, items_of, kind_of, list_of, name_of, read_text, text_of, whole_of, worded_of,
@@ -16,8 +16,9 @@ use super::rising::rising;
 use crate::fault::ReadFault;
 use crate::lists::{EntryList, IdList, ObjectList, VersionList};
 use crate::reply::Reply;
-use op_names::{Key, Kind, OpName, VersionId};
-use rules::{AttrList, Entry, Refusal, Version};
+use crate::request::MAX_FROM;
+use op_names::{Key, Kind, MAX_SITE, OpName, VersionId};
+use rules::{AttrList, Entry, Limits, Refusal, Version};
 use serde_json::Value;
 use std::alloc::Global;
 use std::sync::Arc;
@@ -27,14 +28,14 @@ use std::sync::Arc;
 fn at_of(value: &Value) -> Result<u32, ReadFault>
     ensures { Gives (λ at. at) result (at_in (view value.now)) }
 {
-    whole_of(value, 0, 16384)
+    whole_of(value, 0, Limits::MAX_ENTRIES)
 }
 
 /// The place that a page begins at.
 fn from_of(value: &Value) -> Result<u32, ReadFault>
-    ensures { Gives (λ from. from) result (whole_in 0 65535 (view value.now)) }
+    ensures { Gives (λ from. from) result (whole_in 0 MAX_FROM (view value.now)) }
 {
-    whole_of(value, 0, 65535)
+    whole_of(value, 0, MAX_FROM)
 }
 
 impl Part for VersionId {
@@ -121,7 +122,7 @@ fn joined_of(fields: &[Value]) -> Result<Reply, ReadFault>
         return Err(ReadFault::Bad);
     };
     let at = at_of(at)?;
-    let site = whole_of(site, 1, 256)?;
+    let site = whole_of(site, 1, MAX_SITE)?;
     Ok(Reply::Joined { at, site })
 }
 
@@ -244,9 +245,9 @@ impl Part for Reply {
 
     ghost seen = { λ reply. reply };
 
-    ghost read_in = { reply_in };
+    ghost read_in = { reply_of };
 
-    #[tactic(auto, unfolding(crate::specs::Replies::reply_in))]
+    #[tactic(auto, unfolding(crate::specs::Replies::reply_of))]
     fn read(alloc: Global, value: &Value) -> Result<Reply, ReadFault> {
         let (word, fields) = worded_of(value)?;
         match word {
@@ -268,8 +269,8 @@ pub fn reply_of(alloc: Global, value: &Value) -> Result<Reply, ReadFault>
     ensures ok { IfOk result (IsReplyValue (view value.now)) }
     ensures bad { IsErrOf result ReadFault.Bad
         → (r : AnyReply) → ¬ IsReplyValue (view value.now) r }
-    ensures value { IfOk result (λ reply. reply_in (view value.now) ≡ Some reply) }
-    ensures none { IsErrOf result ReadFault.Bad → reply_in (view value.now) ≡ None }
+    ensures value { IfOk result (λ reply. reply_of (view value.now) ≡ Some reply) }
+    ensures none { IsErrOf result ReadFault.Bad → reply_of (view value.now) ≡ None }
 {
     Reply::read(alloc, value)
 }
@@ -279,8 +280,8 @@ pub fn reply_of(alloc: Global, value: &Value) -> Result<Reply, ReadFault>
 pub fn read_reply(alloc: Global, bytes: &[u8]) -> Result<Reply, ReadFault>
     ensures ok { IfOk result (IsReplyText bytes.now) }
     ensures bad { IsErrOf result ReadFault.Bad → (r : AnyReply) → ¬ IsReplyText bytes.now r }
-    ensures value { IfOk result (λ reply. reply_in_text bytes.now ≡ Some reply) }
-    ensures none { IsErrOf result ReadFault.Bad → reply_in_text bytes.now ≡ None }
+    ensures value { IfOk result (λ reply. reply_read bytes.now ≡ Some reply) }
+    ensures none { IsErrOf result ReadFault.Bad → reply_read bytes.now ≡ None }
 {
     read_text(alloc, bytes)
 }

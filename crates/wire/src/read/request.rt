@@ -5,20 +5,18 @@ ghost use Rattle.serde_json.specs.View.{view};
 ghost use Rattle.wire.specs.declared.request.Request.{Request as AnyRequest};
 ghost use Rattle.wire.specs.Form.{IsRequestText, IsRequestValue};
 ghost use Rattle.wire.specs.Reading.{Gives};
-ghost use Rattle.wire.specs.Requests.{join_at, new_at, set_at, show_at, list_at, pull_at, leave_at, request_in};
-ghost use Rattle.wire.specs.Texts.{request_of as request_in_text};
+ghost use Rattle.wire.specs.Requests.{join_at, new_at, set_at, show_at, list_at, pull_at, leave_at, request_of};
+ghost use Rattle.wire.specs.Texts.{request_read};
 
 use super::part::{
     Part, attrs_of, id_of, key_of, kind_of, name_of, read_text, room_of, seen_of, value_of,
     whole_of, worded_of,
 };
 use crate::fault::ReadFault;
-use crate::request::Request;
+use crate::request::{MAX_FROM, MAX_REQUEST_LEN, Request};
+use op_names::MAX_SEQ;
 use serde_json::Value;
 use std::alloc::Global;
-
-/// How many bytes a request may have.
-const MAX_REQUEST_LEN: usize = 16_384;
 
 #[tactic(auto, unfolding(crate::specs::Requests::join_at))]
 fn join_of(alloc: Global, fields: &[Value]) -> Result<Request, ReadFault>
@@ -38,7 +36,7 @@ fn new_of(alloc: Global, fields: &[Value]) -> Result<Request, ReadFault>
     let [seq, seen, kind, attrs] = fields else {
         return Err(ReadFault::Bad);
     };
-    let seq = whole_of(seq, 1, 16384)?;
+    let seq = whole_of(seq, 1, MAX_SEQ)?;
     let seen = seen_of(alloc, seen)?;
     let kind = kind_of(alloc, kind)?;
     let attrs = attrs_of(alloc, attrs)?;
@@ -57,7 +55,7 @@ fn set_of(alloc: Global, fields: &[Value]) -> Result<Request, ReadFault>
     let [seq, seen, object, version, key, value] = fields else {
         return Err(ReadFault::Bad);
     };
-    let seq = whole_of(seq, 1, 16384)?;
+    let seq = whole_of(seq, 1, MAX_SEQ)?;
     let seen = seen_of(alloc, seen)?;
     let object = name_of(object)?;
     let version = id_of(alloc, version)?;
@@ -91,7 +89,7 @@ fn list_of(fields: &[Value]) -> Result<Request, ReadFault>
     let [from] = fields else {
         return Err(ReadFault::Bad);
     };
-    let from = whole_of(from, 0, 65535)?;
+    let from = whole_of(from, 0, MAX_FROM)?;
     Ok(Request::List { from })
 }
 
@@ -102,7 +100,7 @@ fn pull_of(fields: &[Value]) -> Result<Request, ReadFault>
     let [from] = fields else {
         return Err(ReadFault::Bad);
     };
-    let from = whole_of(from, 0, 65535)?;
+    let from = whole_of(from, 0, MAX_FROM)?;
     Ok(Request::Pull { from })
 }
 
@@ -121,9 +119,9 @@ impl Part for Request {
 
     ghost seen = { λ request. request };
 
-    ghost read_in = { request_in };
+    ghost read_in = { request_of };
 
-    #[tactic(auto, unfolding(crate::specs::Requests::request_in))]
+    #[tactic(auto, unfolding(crate::specs::Requests::request_of))]
     fn read(alloc: Global, value: &Value) -> Result<Request, ReadFault> {
         let (word, fields) = worded_of(value)?;
         match word {
@@ -144,15 +142,15 @@ pub fn request_of(alloc: Global, value: &Value) -> Result<Request, ReadFault>
     ensures ok { IfOk result (IsRequestValue (view value.now)) }
     ensures bad { IsErrOf result ReadFault.Bad
         → (q : AnyRequest) → ¬ IsRequestValue (view value.now) q }
-    ensures value { IfOk result (λ request. request_in (view value.now) ≡ Some request) }
-    ensures none { IsErrOf result ReadFault.Bad → request_in (view value.now) ≡ None }
+    ensures value { IfOk result (λ request. request_of (view value.now) ≡ Some request) }
+    ensures none { IsErrOf result ReadFault.Bad → request_of (view value.now) ≡ None }
 {
     Request::read(alloc, value)
 }
 
-#[tactic(auto, unfolding(crate::specs::Texts::request_of))]
+#[tactic(auto, unfolding(crate::specs::Texts::request_read))]
 fn request_in_bytes(alloc: Global, bytes: &[u8]) -> Result<Request, ReadFault>
-    ensures { Gives (λ request. request) result (request_in_text bytes.now) }
+    ensures { Gives (λ request. request) result (request_read bytes.now) }
 {
     if bytes.len() > MAX_REQUEST_LEN {
         return Err(ReadFault::Bad);
@@ -165,8 +163,8 @@ fn request_in_bytes(alloc: Global, bytes: &[u8]) -> Result<Request, ReadFault>
 pub fn read_request(alloc: Global, bytes: &[u8]) -> Result<Request, ReadFault>
     ensures ok { IfOk result (IsRequestText bytes.now) }
     ensures bad { IsErrOf result ReadFault.Bad → (q : AnyRequest) → ¬ IsRequestText bytes.now q }
-    ensures value { IfOk result (λ request. request_in_text bytes.now ≡ Some request) }
-    ensures none { IsErrOf result ReadFault.Bad → request_in_text bytes.now ≡ None }
+    ensures value { IfOk result (λ request. request_read bytes.now ≡ Some request) }
+    ensures none { IsErrOf result ReadFault.Bad → request_read bytes.now ≡ None }
 {
     request_in_bytes(alloc, bytes)
 }

@@ -2,6 +2,7 @@
 
 ghost use Rattle.std.specs.Prelude.{◌≡◌, ◌≤◌, length, IfOk, string_bytes};
 ghost use Rattle.serde_json.specs.Written.{compact_text};
+ghost use Rattle.wire.specs.declared.request.TheConstants.{MAX_REQUEST_LEN};
 ghost use Rattle.wire.specs.Form.{request_form, IsRequest, IsRequestText};
 
 use super::part::{Written, compact};
@@ -44,7 +45,8 @@ pub fn write_request(alloc: Global, request: &Request) -> Result<String, NoMemor
     ensures text { IfOk result (λ text. string_bytes text
         ≡ compact_text (request_form request.now)) }
     ensures is_read { IfOk result (λ text. IsRequest request.now
-        → length (string_bytes text) ≤ 16384 → IsRequestText (string_bytes text) request.now) }
+        → length (string_bytes text) ≤ MAX_REQUEST_LEN
+        → IsRequestText (string_bytes text) request.now) }
 {
     compact(alloc, request)
 }

@@ -1,7 +1,7 @@
 //! Objects with as many versions or sets as an object may have.
 
-use super::rows::FULL;
 use super::{answers, output_of, world_of};
+use rules::LimitValues;
 use std::process::Abort;
 use wire::{Reply, read_reply};
 
@@ -47,7 +47,7 @@ fn versions_in(rt: &(impl Abort + AllocGlobal), answer: &[u8]) -> usize {
 
 #[test]
 fn an_object_has_32_versions_at_most(rt: HostRuntime) {
-    let mut world = world_of(&rt, &["r"], FULL);
+    let mut world = world_of(&rt, &["r"], LimitValues::FULL);
     let _joined = output_of(&rt, &mut world, SITES);
     for row in PAIRS.lines() {
         let (line, versions) = row.split_once(" => ").expect(&rt, "an arrow");
@@ -82,7 +82,7 @@ fn chain(rt: &(impl Abort + AllocGlobal), sets: u32) -> (String, String) {
 
 #[test]
 fn an_object_has_1024_sets_at_most(rt: HostRuntime) {
-    let mut world = world_of(&rt, &["r"], FULL);
+    let mut world = world_of(&rt, &["r"], LimitValues::FULL);
     let _created = output_of(
         &rt,
         &mut world,

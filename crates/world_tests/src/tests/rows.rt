@@ -1,9 +1,7 @@
 //! What scripts are answered: a line, and below it the line that answers it.
 
 use super::Example;
-
-/// The full limits: joins, entries, objects, sets on an object, keys, versions, a page.
-pub const FULL: [u32; 7] = [256, 16384, 512, 1024, 64, 32, 64];
+use rules::LimitValues;
 
 const ROOM: &[&str] = &["r"];
 
@@ -39,7 +37,7 @@ pub const SETS: &[Example] = &[
     Example {
         name: "two versions",
         rooms: ROOM,
-        limits: FULL,
+        limits: LimitValues::FULL,
         parts: &[
             CREATED,
             r#"1 ["show",[1,1]]
@@ -53,7 +51,7 @@ pub const SETS: &[Example] = &[
     Example {
         name: "a set that is in both groups",
         rooms: ROOM,
-        limits: FULL,
+        limits: LimitValues::FULL,
         parts: &[
             CREATED,
             FIVE,
@@ -68,7 +66,7 @@ pub const SETS: &[Example] = &[
     Example {
         name: "conflict is inherited",
         rooms: ROOM,
-        limits: FULL,
+        limits: LimitValues::FULL,
         parts: &[
             CREATED,
             FIVE,
@@ -84,7 +82,7 @@ pub const SETS: &[Example] = &[
     Example {
         name: "six versions of five sets",
         rooms: ROOM,
-        limits: FULL,
+        limits: LimitValues::FULL,
         parts: &[
             r#"1 ["join","r"]
 1 ["joined",0,1]
@@ -113,7 +111,7 @@ pub const SETS: &[Example] = &[
     Example {
         name: "equal values are no conflict",
         rooms: ROOM,
-        limits: FULL,
+        limits: LimitValues::FULL,
         parts: &[
             CREATED,
             FIVE,
@@ -126,7 +124,7 @@ pub const SETS: &[Example] = &[
     Example {
         name: "a later set against an earlier one",
         rooms: ROOM,
-        limits: FULL,
+        limits: LimitValues::FULL,
         parts: &[
             CREATED,
             FIVE,
@@ -145,7 +143,7 @@ pub const REFUSALS: &[Example] = &[
     Example {
         name: "creations that are refused, and others",
         rooms: ROOM,
-        limits: FULL,
+        limits: LimitValues::FULL,
         parts: &[
             CREATED,
             r#"1 ["new",1,[],"rect",[]]
@@ -177,7 +175,7 @@ pub const REFUSALS: &[Example] = &[
     Example {
         name: "what a set must know",
         rooms: ROOM,
-        limits: FULL,
+        limits: LimitValues::FULL,
         parts: &[
             CREATED,
             FIVE,
@@ -198,7 +196,7 @@ pub const REFUSALS: &[Example] = &[
     Example {
         name: "no requests, and what isn't there",
         rooms: ROOM,
-        limits: FULL,
+        limits: LimitValues::FULL,
         parts: &[
             CREATED,
             FIVE,
@@ -226,7 +224,7 @@ pub const REFUSALS: &[Example] = &[
     Example {
         name: "lines of another form",
         rooms: ROOM,
-        limits: FULL,
+        limits: LimitValues::FULL,
         parts: &[
             r#"x ["leave"]
 ?
@@ -251,7 +249,7 @@ pub const ROOMS: &[Example] = &[
     Example {
         name: "rooms count their own sites",
         rooms: TWO_ROOMS,
-        limits: FULL,
+        limits: LimitValues::FULL,
         parts: &[
             FOUR_JOINS,
             r#"1 ["join","zz"]
@@ -265,7 +263,7 @@ pub const ROOMS: &[Example] = &[
     Example {
         name: "two rooms in turn",
         rooms: TWO_ROOMS,
-        limits: FULL,
+        limits: LimitValues::FULL,
         parts: &[
             r#"1 ["join","a"]
 1 ["joined",0,1]
@@ -300,7 +298,7 @@ pub const ROOMS: &[Example] = &[
     Example {
         name: "a session leaves, and comes back to another room under a new site",
         rooms: TWO_ROOMS,
-        limits: FULL,
+        limits: LimitValues::FULL,
         parts: &[
             FOUR_JOINS,
             r#"1 ["leave"]
@@ -324,7 +322,7 @@ pub const ROOMS: &[Example] = &[
     Example {
         name: "pages",
         rooms: ROOM,
-        limits: FULL,
+        limits: LimitValues::FULL,
         parts: &[
             CREATED,
             FIVE,
@@ -352,7 +350,10 @@ pub const LIMITED: &[Example] = &[
     Example {
         name: "two versions",
         rooms: ROOM,
-        limits: [256, 16384, 512, 1024, 64, 2, 64],
+        limits: LimitValues {
+            versions: 2,
+            ..LimitValues::FULL
+        },
         parts: &[
             CREATED,
             FIVE,
@@ -367,7 +368,10 @@ pub const LIMITED: &[Example] = &[
     Example {
         name: "one set",
         rooms: ROOM,
-        limits: [256, 16384, 512, 1, 64, 32, 64],
+        limits: LimitValues {
+            sets: 1,
+            ..LimitValues::FULL
+        },
         parts: &[
             CREATED,
             FIVE,
@@ -378,7 +382,10 @@ pub const LIMITED: &[Example] = &[
     Example {
         name: "one key",
         rooms: ROOM,
-        limits: [256, 16384, 512, 1024, 1, 32, 64],
+        limits: LimitValues {
+            keys: 1,
+            ..LimitValues::FULL
+        },
         parts: &[
             CREATED,
             FIVE,
@@ -389,7 +396,10 @@ pub const LIMITED: &[Example] = &[
     Example {
         name: "one object",
         rooms: ROOM,
-        limits: [256, 16384, 1, 1024, 64, 32, 64],
+        limits: LimitValues {
+            objects: 1,
+            ..LimitValues::FULL
+        },
         parts: &[
             CREATED,
             r#"1 ["new",2,[[1,1]],"rect",[]]
@@ -399,7 +409,10 @@ pub const LIMITED: &[Example] = &[
     Example {
         name: "one join in each room",
         rooms: TWO_ROOMS,
-        limits: [1, 16384, 512, 1024, 64, 32, 64],
+        limits: LimitValues {
+            joins: 1,
+            ..LimitValues::FULL
+        },
         parts: &[
             r#"1 ["join","a"]
 1 ["joined",0,1]
@@ -412,7 +425,10 @@ pub const LIMITED: &[Example] = &[
     Example {
         name: "two entries",
         rooms: ROOM,
-        limits: [256, 2, 512, 1024, 64, 32, 64],
+        limits: LimitValues {
+            entries: 2,
+            ..LimitValues::FULL
+        },
         parts: &[
             CREATED,
             r#"2 ["join","r"]
@@ -424,7 +440,10 @@ pub const LIMITED: &[Example] = &[
     Example {
         name: "pages of two",
         rooms: ROOM,
-        limits: [256, 16384, 512, 1024, 64, 32, 2],
+        limits: LimitValues {
+            page: 2,
+            ..LimitValues::FULL
+        },
         parts: &[
             CREATED,
             FIVE,
@@ -443,6 +462,6 @@ pub const LIMITED: &[Example] = &[
 pub const SHORT: &Example = &Example {
     name: "two sets",
     rooms: ROOM,
-    limits: FULL,
+    limits: LimitValues::FULL,
     parts: &[CREATED, FIVE, NINE],
 };

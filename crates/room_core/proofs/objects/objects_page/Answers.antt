@@ -3,13 +3,13 @@ use Rattle.std.proofs.lemmas.List.{drop-map}
 use Rattle.op_names.specs.Names.{Name}
 use Rattle.op_names.specs.Texts.{Bytes}
 use Rattle.rules.specs.Bodies.{kind_in}
-use Rattle.shape.specs.Drawing.{Drawn}
-use Rattle.room_core.specs.Room.{kinds_of}
+use Rattle.shape.specs.Objects.{Stored}
+use Rattle.room_core.specs.State.{kinds_of}
 use Rattle.room_core.proofs.Fronts.{found_more, page_counted}
 use Rattle.room_core.proofs.objects.objects_page.Goals as goal
 
-abbrev kind_of : Name × Drawn → Name × Bytes
-kind_of shape = (shape.0, kind_in shape.1.drawing.creation.body)
+abbrev kind_of : Name × Stored → Name × Bytes
+kind_of shape = (shape.0, kind_in shape.1.object.creation.body)
 
 pub loop-place-preserved : goal.loop-place-preserved
 loop-place-preserved c =

@@ -1,5 +1,5 @@
 use Rattle.std.proofs.Common.{◌≡◌, take}
-use Rattle.room_core.specs.Room.{kinds_of}
+use Rattle.room_core.specs.State.{kinds_of}
 use Rattle.room_core.proofs.objects.objects_page.Given as goal
 
 abbrev pub invariant-loop-place : goal.invariant-loop-place

@@ -17,8 +17,7 @@ pub loop-first-preserved : goal.loop-first-preserved
 loop-first-preserved g c =
     let empty = rw c.in_ok-ended.was at c.end_line-ended.ensures.empty in
     record {
-      clean = rw empty tt;
-      short = omega (arith, ap length empty);
+      held = record { clean = rw empty tt; short = omega (arith, ap length empty) };
       wrote = wrote_hands (wrote_line c.loop-first.self c.end_line-ended.new.self c.loop-first.line.items _ _ c.loop-first.rest.now _ _ _ c.in-Some.ensures.0 c.loop-first.invariant.wrote (rw c.in_ok-ended.was at c.end_line-ended.ensures.ok))
           c.in_ok-hand_out_many.ensures.ok;
     }

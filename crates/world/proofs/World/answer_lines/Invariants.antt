@@ -1,12 +1,10 @@
-use Rattle.std.proofs.Common.{◌≤◌, ◌++◌, length}
-use Rattle.world.specs.Script.{HasNoBreak}
-use Rattle.world.specs.Answered.{Wrote}
+use Rattle.std.proofs.Common.{◌++◌, length}
+use Rattle.world.specs.Answered.{IsHeld, Wrote}
 use Rattle.world.proofs.World.answer_lines.Given as goal
 
 abbrev pub invariant-loop-first : goal.invariant-loop-first
 invariant-loop-first g l = record {
-  clean : HasNoBreak l.line.items;
-  short : length l.line.items ≤ 16396;
+  held : IsHeld l.line.items;
   wrote : Wrote (g.W.Write.contents l.fn.output) (g.W.Write.contents l.output) l.fn.self l.self (l.fn.line.items ++ l.bytes) (l.line.items ++ l.rest) l.answers.items;
 }
 

@@ -1,7 +1,7 @@
 use Rattle.std.proofs.Common.{take, arith}
-use Rattle.std.proofs.lemmas.Result.{on_ok_weaker, on_err_weaker}
-use Rattle.world.proofs.Changed.{err_of}
-use Rattle.world.proofs.Transcript.{read_whole, read_end, read_last, read_stop, read_part, read_more, read_again, read_none, read_nothing, stop_front}
+use Rattle.std.proofs.lemmas.Result.{on_err_weaker}
+use Rattle.world.proofs.Changed.{both_ok, err_of}
+use Rattle.world.proofs.Transcript.{read_whole, read_last, read_stop, read_part, read_more, read_again, read_none, read_nothing, stop_front}
 use Rattle.world.proofs.EndedLines.{read_fault, no_fault}
 use Rattle.world.proofs.World.script.Goals as goal
 use Rattle.world.proofs.World.script.Goals.{in-Ok+in_ok-take_bytes-in-Ok, in-Err+else-ne}
@@ -12,12 +12,8 @@ returns-in_err-buffer-clause-stops g c = err_of c.from_residual.result (read_not
 pub returns-in-Ok-eq0-clause-ok : goal.returns-in-Ok-eq0-clause-ok
 returns-in-Ok-eq0-clause-ok g c =
     let h = c.in-Ok-eq0.ensures.bytes in
-    on_ok_weaker c.finish.result (λ t. read_whole _ c.loop.invariant.told (read_none _ _ _ _ (omega arith) h.0) (h.1 (omega arith) (omega arith)) _ (rw c.as_slice.ensures.value at t)) c.finish.ensures.ok
-
-pub returns-in-Ok-eq0-clause-rooms : goal.returns-in-Ok-eq0-clause-rooms
-returns-in-Ok-eq0-clause-rooms g c =
-    let h = c.in-Ok-eq0.ensures.bytes in
-    on_ok_weaker c.finish.result (λ t. read_end _ c.loop.invariant.told (read_none _ _ _ _ (omega arith) h.0) (h.1 (omega arith) (omega arith)) _ (rw c.as_slice.ensures.value at t)) c.finish.ensures.rooms
+    both_ok c.finish.result (λ t past. read_whole _ c.loop.invariant.told (read_none _ _ _ _ (omega arith) h.0) (h.1 (omega arith) (omega arith)) _ _ (rw c.as_slice.ensures.value at t) (rw c.as_slice.ensures.value at past))
+    c.finish.ensures.ok c.finish.ensures.end
 
 pub returns-in-Ok-eq0-clause-fault : goal.returns-in-Ok-eq0-clause-fault
 returns-in-Ok-eq0-clause-fault g c =
@@ -47,15 +43,13 @@ pub loop-preserved : goal.loop-preserved
 loop-preserved g c = elim c.match-read.branch [
   | in-Ok+in_ok-take_bytes-in-Ok w ↦ rw (w.self-is, w.output-is, w.line-is, w.answers-is) (record {
     room = omega (arith, c.read.auto.buf, c.loop.invariant.room);
-    clean = w.in_ok-take_bytes-in-Ok.ensures.line;
-    short = w.in_ok-take_bytes-in-Ok.ensures.short;
+    held = w.in_ok-take_bytes-in-Ok.ensures.held;
     none = w.in_ok-take_bytes-in-Ok.ensures.none;
     told = read_more (take w.in-Ok.count c.read.new.buf) c.loop.invariant.told w.in-Ok.ensures.bytes.0 w.in_ok-take_bytes-in-Ok.ensures.ok;
   })
   | in-Err+else-ne w ↦ rw (w.self-is, w.output-is, w.line-is, w.answers-is) (record {
     room = omega (arith, c.read.auto.buf, c.loop.invariant.room);
-    clean = c.loop.invariant.clean;
-    short = c.loop.invariant.short;
+    held = c.loop.invariant.held;
     none = c.loop.invariant.none;
     told = read_again c.loop.invariant.told w.in-Err.ensures.bytes;
   })
@@ -71,7 +65,7 @@ pub returns-in-Ok-eq0-clause-read : goal.returns-in-Ok-eq0-clause-read
 returns-in-Ok-eq0-clause-read g c = no_fault c.finish.result _ c.finish.ensures.kind
 
 pub returns-then-ne-clause-read : goal.returns-then-ne-clause-read
-returns-then-ne-clause-read g c = λ is. read_fault (read_again c.loop.invariant.told c.in-Err.ensures.bytes) c.loop.invariant.clean
+returns-then-ne-clause-read g c = λ is. read_fault (read_again c.loop.invariant.told c.in-Err.ensures.bytes) c.loop.invariant.held.clean
 
 pub returns-clause-read : goal.returns-clause-read
-returns-clause-read g c = λ is. read_fault c.loop.invariant.told c.loop.invariant.clean
+returns-clause-read g c = λ is. read_fault c.loop.invariant.told c.loop.invariant.held.clean

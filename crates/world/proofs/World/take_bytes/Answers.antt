@@ -14,15 +14,11 @@ pub returns-in_err-keep_bytes-clause-fault : goal.returns-in_err-keep_bytes-clau
 returns-in_err-keep_bytes-clause-fault g c =
     err_of c.from_residual-in_err-keep_bytes.result (some_of (wrote_kept (wrote_hands c.in_ok-rest.ensures.ok (hands_all {after = []} c.in_ok-hand_out.ensures.ok refl)) c.in_ok-flush_out.ensures.kept))
 
-pub returns-clause-line : goal.returns-clause-line
-returns-clause-line g c =
-    (answered_kept c.answer_lines.new.self c.answer_lines.new.line.items c.in_ok-rest.rest.now c.keep_bytes.new.line.items c.in_ok-keep_bytes.ensures.ok c.in_ok-rest.ensures.line c.in_ok-rest.ensures.rest).0
-
-pub returns-clause-short : goal.returns-clause-short
-returns-clause-short g c =
-    (answered_kept c.answer_lines.new.self c.answer_lines.new.line.items c.in_ok-rest.rest.now c.keep_bytes.new.line.items c.in_ok-keep_bytes.ensures.ok c.in_ok-rest.ensures.line c.in_ok-rest.ensures.rest).1
+pub returns-clause-held : goal.returns-clause-held
+returns-clause-held g c =
+    (answered_kept c.answer_lines.new.self c.answer_lines.new.line.items c.in_ok-rest.rest.now c.keep_bytes.new.line.items c.in_ok-keep_bytes.ensures.ok c.in_ok-rest.ensures.held.clean c.in_ok-rest.ensures.rest).0
 
 pub returns-clause-ok : goal.returns-clause-ok
 returns-clause-ok g c =
     wrote_cut (wrote_kept (wrote_hands c.in_ok-rest.ensures.ok (hands_all {after = []} c.in_ok-hand_out.ensures.ok refl)) c.in_ok-flush_out.ensures.kept)
-    (answered_kept c.answer_lines.new.self c.answer_lines.new.line.items c.in_ok-rest.rest.now c.keep_bytes.new.line.items c.in_ok-keep_bytes.ensures.ok c.in_ok-rest.ensures.line c.in_ok-rest.ensures.rest).2
+    (answered_kept c.answer_lines.new.self c.answer_lines.new.line.items c.in_ok-rest.rest.now c.keep_bytes.new.line.items c.in_ok-keep_bytes.ensures.ok c.in_ok-rest.ensures.held.clean c.in_ok-rest.ensures.rest).1

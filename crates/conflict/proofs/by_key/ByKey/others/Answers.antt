@@ -2,7 +2,7 @@ use Rattle.std.proofs.Common.{◌≡◌, ◌∙◌, ap, get_or, []}
 use Rattle.std.specs.Prelude.{not, filter}
 use Rattle.std.proofs.lemmas.Result.{IfOk-weaker}
 use Rattle.std.proofs.lemmas.List.{get_or_default}
-use Rattle.conflict.specs.Members.{has, places}
+use Rattle.places.specs.Members.{has, places}
 use Rattle.conflict.specs.Indexes.{OfKey, KeyIndex, key_at}
 use Rattle.conflict.proofs.Keyed.{others_with, others_without}
 use Rattle.conflict.proofs.by_key.ByKey.others.Goals as goal

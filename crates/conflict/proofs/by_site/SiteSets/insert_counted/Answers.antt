@@ -4,7 +4,7 @@ use Rattle.std.specs.Fn.{Called, ComputesKey}
 use Rattle.std.specs.List.Sorted.{IsNonDecreasingBy, IsPartitionedBy, IsPartitionPoint}
 use Rattle.std.proofs.lemmas.List.Sorted.{IsPartitionedBy-leb, IsPartitionPoint-from_clause}
 use Rattle.state_vector.specs.Vectors.{count_of}
-use Rattle.conflict.specs.Members.{has, with_all}
+use Rattle.places.specs.Members.{has, with_all}
 use Rattle.conflict.specs.Indexes.{OfSite, IsRising, counted_of}
 use Rattle.conflict.proofs.Sited.{counted_whole, counted_cut}
 use Rattle.conflict.proofs.by_site.SiteSets.insert_counted.Goals as goal

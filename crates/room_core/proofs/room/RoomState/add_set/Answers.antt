@@ -7,7 +7,7 @@ use Rattle.rules.specs.Admission.{causal_refusal}
 use Rattle.rules.specs.Operations.{object_of}
 use Rattle.rules.specs.Records.{admits}
 use Rattle.rules.proofs.Conditions.{room_for_operation}
-use Rattle.shape.specs.Drawing.{with_set}
+use Rattle.shape.specs.Objects.{with_set}
 use Rattle.room_core.specs.Plans.{CanSet}
 use Rattle.room_core.proofs.Replay.{replay_changed}
 use Rattle.room_core.proofs.room.RoomState.add_set.Goals as goal
@@ -17,9 +17,9 @@ invariant_of-self c =
     let can = subst (λ s. CanSet s (arc_value c.args.entry) c.args.op c.args.planned) (sym c.self.view_is) c.requires in
     let e = c.commit_at.ensures.changed in
     let object = c.object_of-object.ensures ∙ ap object_of c.deref.ensures in
-    let there = ap (λ (n : Name). lookup (same_name n) c.self.inside.objects.entries) (sym object) ∙ e.2 in
-    rw (c.push_reserved.ensures.items, c.add_reserved.ensures, e.4, object)
-    (replay_changed arc_value _ _ c.args.entry _ _ _ c.self.invariant e.0 e.1 can.operation can.admitted can.set c.commit_at.ensures.unique there (e.3 ∙ ap (λ (o : Op). with_set e.0.drawing o) can.added))
+    let there = ap (λ (n : Name). lookup (same_name n) c.self.inside.objects.entries) (sym object) ∙ e.1 in
+    rw (c.push_reserved.ensures.items, c.add_reserved.ensures, e.2.2, object)
+    (replay_changed arc_value _ _ c.args.entry _ _ _ c.self.invariant e.0 e.2.0 can.operation can.admitted can.set c.commit_at.ensures.unique there (e.2.1 ∙ ap (λ (o : Op). with_set e.0.object o) can.added))
 
 pub add_reserved-requires-clause-admitted : goal.add_reserved-requires-clause-admitted
 add_reserved-requires-clause-admitted c =

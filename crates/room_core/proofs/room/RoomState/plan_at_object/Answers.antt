@@ -9,23 +9,24 @@ use Rattle.rules.specs.Operations.{object_of}
 use Rattle.rules.specs.Records.{operations, refusal}
 use Rattle.rules.specs.Versions.{versions}
 use Rattle.shape.specs.declared.fault.SetFault.TheVariants.{NoMemory}
-use Rattle.shape.specs.Drawing.{Drawn}
+use Rattle.shape.specs.Objects.{Stored}
 use Rattle.shape.specs.Faults.{refusal_of}
-use Rattle.room_core.specs.Plans.{IsPlannedAt, unasked_refusal}
-use Rattle.room_core.specs.Room.{Room, State}
+use Rattle.room_core.specs.Plans.{IsPlannedAt, early_refusal}
+use Rattle.room_core.specs.Room.{Room}
+use Rattle.room_core.specs.State.{State}
 use Rattle.room_core.proofs.AtObject.{can_ask, none_refused, planned_ids, planned_there, refused_alike, still_replay}
 use Rattle.room_core.proofs.room.RoomState.plan_at_object.Goals as goal
 
 abbrev room_in : goal.After-plan_at-arg-1 → Room
 room_in c = record { limits = c.self.inside.limits; entries = map arc_value c.self.inside.entries.items }
 
-asked : (c : goal.After-plan_at-arg-1) → unasked_refusal (room_in c) c.args.op ≡ None
-asked c = subst (λ (s : State). unasked_refusal s.room c.args.op ≡ None) (sym c.self.view_is) c.requires.asked
+asked : (c : goal.After-plan_at-arg-1) → early_refusal (room_in c) c.args.op ≡ None
+asked c = subst (λ (s : State). early_refusal s.room c.args.op ≡ None) (sym c.self.view_is) c.requires.asked
 
 pub plan_at-requires : goal.plan_at-requires
 plan_at-requires c =
     let room = room_in c in
-    subst (λ (n : Name). (d : Drawn) × (lookup (same_name n) c.self.inside.objects.entries ≡ Some d) × AreSetsOf d.drawing.creation.name (d.drawing.sets ++ c.args.op ∷ [])) (sym (c.object_of-object.ensures ∙ ap object_of c.deref.ensures))
+    subst (λ (n : Name). (d : Stored) × (lookup (same_name n) c.self.inside.objects.entries ≡ Some d) × AreSetsOf d.object.creation.name (d.object.sets ++ c.args.op ∷ [])) (sym (c.object_of-object.ensures ∙ ap object_of c.deref.ensures))
     (can_ask room.limits room.entries c.self.inside.sites c.self.inside.objects.entries c.self.inside.past.history c.self.invariant c.args.op c.requires.set c.requires.vector (asked c))
 
 planned : (c : goal.After-plan_at) → IsPlannedAt (object_of c.args.op) c.args.op c.self.inside.objects.entries c.plan_at.new.objects.entries c.plan_at.result

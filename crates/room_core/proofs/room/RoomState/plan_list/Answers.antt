@@ -6,7 +6,8 @@ use Rattle.rules.specs.Records.{objects}
 use Rattle.wire.specs.declared.reply.Reply.{Reply}
 use Rattle.wire.specs.declared.reply.Reply.TheVariants.{No, Objects}
 use Rattle.room_core.specs.Answers.{page}
-use Rattle.room_core.specs.Room.{State, all_objects, kinds_of}
+use Rattle.room_core.specs.Room.{all_objects}
+use Rattle.room_core.specs.State.{State, kinds_of}
 use Rattle.room_core.proofs.Lookup.{kinds_listed}
 use Rattle.room_core.proofs.room.RoomState.plan_list.Goals as goal
 
@@ -19,6 +20,6 @@ returns-clause-reply c =
     let size : c.page-page.result ≡ room.limits.page = c.page-page.ensures.value ∙ ap (λ (s : State). s.room.limits.page) c.self.view_is in
     let within : c.args.from ≤ total = omega (arith, c.count_objects-total.ensures, c.if-from-total.false) in
     let reply : Reply = Objects (length room.entries) c.args.from total (page room c.args.from (all_objects room.entries)) in
-    c.told.ensures.reply
+    c.of_reply.ensures.reply
     ∙ (λ i. Objects (c.at.ensures i) c.args.from (c.count_objects-total.ensures i) ((c.in_ok-objects_page.ensures ∙ (λ j. take (size j) (drop c.args.from (kinds j)))) i))
     ∙ sym (ap (λ b. cond b (No (length room.entries) TooFar) reply) (le-ltb total c.args.from within))

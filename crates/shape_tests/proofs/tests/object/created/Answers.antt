@@ -12,8 +12,8 @@ invariant_of-result g c =
     let added = rw c.expect-2.ensures at c.add.ensures.ok in
     let history : c.add.new.self.history ≡ creation ∷ [] = added ∙ (λ i. empty i ++ copy i ∷ []) in
     let admitted = admitted_itself c.expect-past.result.history creation c.deref.result.now c.deref-2.result.now c.deref.ensures c.deref-2.ensures (rw c.expect.ensures at c.admit.ensures.admitted) in
-    let drawn = rw c.expect-shape.ensures at c.create.ensures in
+    let object = rw c.expect-shape.ensures at c.create.ensures in
     let name = ap (λ (op : Op). op.name) c.deref.ensures in
-    rw (history, drawn, name)
+    rw (history, object, name)
     (alone creation c.args.limits c.creation-creation.ensures.creation
     (ap (λ h. causal_refusal h creation.name creation.seen) (sym empty) ∙ admitted) c.creation-creation.ensures.vector)

@@ -1,5 +1,5 @@
 use Rattle.std.proofs.Common.{◌∙◌}
-use Rattle.shape.specs.Drawing.{with_set}
+use Rattle.shape.specs.Objects.{with_set}
 use Rattle.shape_tests.proofs.tests.object.in_two_steps.Goals as goal
 
 pub plan_set-requires : goal.plan_set-requires
@@ -11,4 +11,4 @@ commit-requires g c = rw c.expect-planned.ensures at c.plan_set.ensures.planned
 pub returns : goal.returns
 returns g c =
     let op = rw c.expect-planned.ensures at c.plan_set.ensures.op in
-    c.commit.ensures ∙ (λ i. with_set (c.plan_set.ensures.drawing i) (op i))
+    c.commit.ensures ∙ (λ i. with_set (c.plan_set.ensures.object i) (op i))

@@ -1,5 +1,5 @@
 use Rattle.wire.specs.Form.{IsEntryText}
-use Rattle.wire.specs.Texts.{entry_of}
+use Rattle.wire.specs.Texts.{entry_read}
 use Rattle.wire.proofs.ByForm.{given_value, given_none, given_ok, given_bad, text_takes, text_again}
 use Rattle.wire.proofs.Entries.{exact_entry}
 use Rattle.wire.proofs.read.entry.read_entry.Goals as goal
@@ -11,9 +11,9 @@ pub returns-clause-bad : goal.returns-clause-bad
 returns-clause-bad c = given_bad _ _ (IsEntryText c.args.bytes.now) (text_again exact_entry c.args.bytes.now) c.read_text.ensures
 
 pub returns-clause-value : goal.returns-clause-value
-unfolding entry_of
+unfolding entry_read
 returns-clause-value c = given_value _ _ c.read_text.ensures
 
 pub returns-clause-none : goal.returns-clause-none
-unfolding entry_of
+unfolding entry_read
 returns-clause-none c = given_none _ _ c.read_text.ensures

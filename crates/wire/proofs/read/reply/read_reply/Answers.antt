@@ -1,5 +1,5 @@
 use Rattle.wire.specs.Form.{IsReplyText}
-use Rattle.wire.specs.Texts.{reply_of}
+use Rattle.wire.specs.Texts.{reply_read}
 use Rattle.wire.proofs.ByForm.{given_value, given_none, given_ok, given_bad, text_takes, text_again}
 use Rattle.wire.proofs.Replies.{exact_reply}
 use Rattle.wire.proofs.read.reply.read_reply.Goals as goal
@@ -11,9 +11,9 @@ pub returns-clause-bad : goal.returns-clause-bad
 returns-clause-bad c = given_bad _ _ (IsReplyText c.args.bytes.now) (text_again exact_reply c.args.bytes.now) c.read_text.ensures
 
 pub returns-clause-value : goal.returns-clause-value
-unfolding reply_of
+unfolding reply_read
 returns-clause-value c = given_value _ _ c.read_text.ensures
 
 pub returns-clause-none : goal.returns-clause-none
-unfolding reply_of
+unfolding reply_read
 returns-clause-none c = given_none _ _ c.read_text.ensures

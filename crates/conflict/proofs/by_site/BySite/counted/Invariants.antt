@@ -1,7 +1,0 @@
-use Rattle.std.proofs.Common.{◌≡◌, drop, []}
-use Rattle.conflict.specs.Indexes.{with_counted}
-use Rattle.conflict.proofs.by_site.BySite.counted.Given as goal
-
--- what is counted so far with the sites to come is what all sites make
-abbrev pub invariant-loop-sets : goal.invariant-loop-sets
-invariant-loop-sets l = with_counted l.seen l.counted (drop l.sets-index l.self.sites) ≡ with_counted l.seen [] l.self.sites

@@ -1,0 +1,405 @@
+-- Words of 64 bits, and the places that they have.
+use Rattle.std.proofs.Common.{◌≡◌, ℕ, zero, suc, ◌+◌, ◌*◌, ◌/◌, ◌%◌, ◌^◌, ◌<◌, ◌≤◌, ◌-◌, min, max, replicate, take, Bool, true, false, not, ◌&&◌, ◌||◌, List, [], ◌∷◌, ◌++◌, length, get_or, set, map, refl, sym, ap, ◌∙◌, inl, inr, arith, eqb, w64}
+use Rattle.std.specs.Prelude.{filter, bit_and, bit_or, bit_xor}
+use Rattle.std.specs.Int.{bit_at}
+use Rattle.std.specs.Int.Bits.{or_zero_r}
+use Rattle.std.specs.List.{list_any, range_with_len}
+use Rattle.std.specs.List.Sorted.{IsStrictlyIncreasing}
+use Rattle.std.specs.Ordering.{nat_cmp}
+use Rattle.std.specs.declared.cmp.Ordering.TheVariants.{Less, Equal, Greater}
+use Rattle.std.specs.Cmp.{nat_cmp_is}
+use Rattle.std.proofs.lemmas.Bool.{true≢false, cases_Bool, cases_eq, cases_lt, cases_order, eq-eqb, eqb-true, ne_eqb, le-ltb, lt-ltb, or_right, or_cases, and_parts, and_from, false_from_ne_true, true_from_ne_false}
+use Rattle.std.proofs.lemmas.Cmp.{nat_cmp_total}
+use Rattle.std.proofs.lemmas.List.{get_or_past, get_or_append_left, get_or-append_right, get_or-replicate, length-replicate, take_all, get_or-set_same, get_or-set_other, length-append}
+use Rattle.std.proofs.lemmas.List.Kept.{IsStrictlyIncreasing-filter}
+use Rattle.std.proofs.lemmas.List.FromFn.{length-range_with_len, get_or-range_with_len, get_or-map-range_with_len, length-map-range_with_len, map-range_with_len_more}
+use Rattle.std.proofs.lemmas.Nat.Bits.{bit_at_and, bit_at_or, bit_at_xor, bit_at-zero, bit_at-lt, bit_at_set_same, bit_at_set_other, same_from_bits, bit_at_above}
+use Rattle.rules.proofs.Lists.{In-filter, In-filter_back, In-range_back, any_from, any_back, all_from, all_back}
+use Rattle.rules.proofs.Relation.{same_answer}
+use Rattle.rules.proofs.Sorting.{Rises, rises_same}
+use Rattle.places.specs.Members.{has, with_place, is_within, places, with_all}
+use Rattle.places.specs.Words.{has_bit, places_in}
+use Rattle.places.proofs.Places.{has_if_in, in_if_has, has-filter, has-filter_past}
+
+-- ---- rising lists
+
+abbrev pub Up : List ℕ → Type 0
+Up xs = Rises nat_cmp nat_cmp_total xs
+
+pub same_set : (xs ys : List ℕ) → Up xs → Up ys → ((x : ℕ) → has xs x ≡ has ys x) → xs ≡ ys
+same_set xs ys u v f =
+    rises_same nat_cmp nat_cmp_total xs ys u v
+    (λ z m. in_if_has ys z (sym (f z) ∙ has_if_in xs z m))
+    (λ z m. in_if_has xs z (f z ∙ has_if_in ys z m))
+
+pub less : (a b : ℕ) → a < b → nat_cmp a b ≡ Less
+less a b l = sym (nat_cmp_is a b Less l)
+
+pub below_from_less : (a b : ℕ) → nat_cmp a b ≡ Less → a < b
+below_from_less a b e = elim (cases_order a b) [
+  | inl q ↦ (let f : Equal ≡ nat_cmp a b = nat_cmp_is a b Equal q in let g : Equal ≡ Less = f ∙ e in cc)
+  | inr c ↦ elim c [ inl l ↦ l | inr g ↦ (let f : Greater ≡ nat_cmp a b = nat_cmp_is a b Greater g in let h : Greater ≡ Less = f ∙ e in cc) ]
+]
+
+pub up_range : (a n : ℕ) → Up (range_with_len a n)
+up_range a zero = tt
+up_range a (suc n) = ((λ y m. let b = In-range_back (a + 1) n y m in less a y (omega (arith, b.0))), up_range (a + 1) n)
+
+pub up_filter : (p : ℕ → Bool) (xs : List ℕ) → Up xs → Up (filter p xs)
+up_filter p [] u = tt
+up_filter p (x ∷ xs) u = elim (cases_Bool (p x)) [
+  | inl t ↦ rw t ((λ y m. u.0 y (In-filter_back p y xs m).0), up_filter p xs u.1)
+  | inr t ↦ rw t (up_filter p xs u.1)
+]
+
+pub kept_rises : (p : ℕ → Bool) (n : ℕ) → IsStrictlyIncreasing (filter p (places n))
+kept_rises p n = IsStrictlyIncreasing-filter p (places n) (λ k l.
+    let h = length-range_with_len 0 n in
+    let here = get_or-range_with_len 0 n k 0 (omega (arith, h, l)) in
+    let next = get_or-range_with_len 0 n (k + 1) 0 (omega (arith, h, l)) in
+    omega (arith, here, next))
+
+pub or_turned : (a b : Bool) → (a || b) ≡ (b || a)
+or_turned true true = refl
+or_turned true false = refl
+or_turned false true = refl
+or_turned false false = refl
+
+pub or_grouped : (a b c : Bool) → (a || (b || c)) ≡ ((a || b) || c)
+or_grouped true b c = refl
+or_grouped false b c = refl
+
+or_again : (a b : Bool) → (a || b) ≡ ((a || b) || a)
+or_again true b = refl
+or_again false true = refl
+or_again false false = refl
+
+pub has-with_place : (p : ℕ) (xs : List ℕ) (x : ℕ) → has (with_place p xs) x ≡ (has xs x || eqb p x)
+has-with_place p [] x = or_turned (eqb p x) false
+has-with_place p (y ∷ ys) x = elim (cases_lt y p) [
+  | inl l ↦ rw (lt-ltb y p l, has-with_place p ys x) (or_grouped (eqb y x) (has ys x) (eqb p x))
+  | inr g ↦ elim (cases_eq y p) [
+    | inl e ↦ rw (le-ltb y p g, eq-eqb y p e, e) (or_again (eqb p x) (has ys x))
+    | inr d ↦ rw (le-ltb y p g, ne_eqb y p d) (or_turned (eqb p x) (eqb y x || has ys x))
+  ]
+]
+
+pub up_with_place : (p : ℕ) (xs : List ℕ) → Up xs → Up (with_place p xs)
+up_with_place p [] u = ((λ y m. absurd m), tt)
+up_with_place p (y ∷ ys) u = elim (cases_lt y p) [
+  | inl l ↦ rw (lt-ltb y p l) (
+    (λ z m. elim (or_cases (has ys z) (eqb p z) (sym (has-with_place p ys z) ∙ has_if_in (with_place p ys) z m)) [
+      | inl h ↦ u.0 z (in_if_has ys z h)
+      | inr e ↦ (let q = eqb-true p z e in less y z (omega arith))
+    ]),
+    up_with_place p ys u.1,
+  )
+  | inr g ↦ elim (cases_eq y p) [
+    | inl e ↦ rw (le-ltb y p g, eq-eqb y p e) u
+    | inr d ↦ rw (le-ltb y p g, ne_eqb y p d) (
+      (λ z m. elim m [
+        | inl e ↦ less p z (omega arith)
+        | inr r ↦ (let l = below_from_less y z (u.0 z r) in less p z (omega arith))
+      ]),
+      u,
+    )
+  ]
+]
+
+pub has-with_all : (xs ys : List ℕ) (x : ℕ) → has (with_all xs ys) x ≡ (has xs x || has ys x)
+has-with_all xs [] x = or_turned false (has xs x)
+has-with_all xs (y ∷ ys) x = has-with_all (with_place y xs) ys x ∙ rw (has-with_place y xs x) (sym (or_grouped (has xs x) (eqb y x) (has ys x)))
+
+pub up_with_all : (xs ys : List ℕ) → Up xs → Up (with_all xs ys)
+up_with_all xs [] u = u
+up_with_all xs (y ∷ ys) u = up_with_all (with_place y xs) ys (up_with_place y xs u)
+
+pub and_turned : (a b : Bool) → (a && b) ≡ (b && a)
+and_turned true true = refl
+and_turned true false = refl
+and_turned false true = refl
+and_turned false false = refl
+
+pub has-kept : (p : ℕ → Bool) (xs : List ℕ) (x : ℕ) → has (filter p xs) x ≡ (has xs x && p x)
+has-kept p xs x = same_answer (has (filter p xs) x) (has xs x && p x)
+    (λ e. let m = In-filter_back p x xs (in_if_has (filter p xs) x e) in and_from (has xs x) (p x) (has_if_in xs x m.0) m.1)
+    (λ e. let h = and_parts (has xs x) (p x) e in has_if_in (filter p xs) x (In-filter p x xs (in_if_has xs x h.0) h.1))
+
+-- ---- the places of words
+
+pub past : (w : List ℕ) (x : ℕ) → 64 * length w ≤ x → has_bit w x ≡ false
+unfolding has_bit
+past w x l = rw (get_or_past w (x / 64) 0 (omega arith), bit_at-zero (x % 64)) refl
+
+pub has-places_in : (w : List ℕ) (x : ℕ) → has (places_in w) x ≡ has_bit w x
+unfolding places_in
+has-places_in w x = elim (cases_lt x (64 * length w)) [
+  | inl l ↦ has-filter (has_bit w) (64 * length w) x l
+  | inr l ↦ has-filter_past (has_bit w) (64 * length w) x l ∙ sym (past w x l)
+]
+
+pub up_places_in : (w : List ℕ) → Up (places_in w)
+unfolding places_in
+up_places_in w = up_filter (has_bit w) (places (64 * length w)) (up_range 0 (64 * length w))
+
+pub places_in_rises : (w : List ℕ) → IsStrictlyIncreasing (places_in w)
+unfolding places_in
+places_in_rises w = kept_rises (has_bit w) (64 * length w)
+
+pub places_in_none : places_in [] ≡ []
+unfolding places_in
+places_in_none = refl
+
+-- ---- bits
+
+bits_and : (p q : ℕ) → p < 2 → q < 2 → eqb (min p q) 1 ≡ (eqb p 1 && eqb q 1)
+bits_and zero zero l m = refl
+bits_and zero (suc zero) l m = refl
+bits_and zero (suc (suc q)) l m = absurd (omega arith)
+bits_and (suc zero) zero l m = refl
+bits_and (suc zero) (suc zero) l m = refl
+bits_and (suc zero) (suc (suc q)) l m = absurd (omega arith)
+bits_and (suc (suc p)) q l m = absurd (omega arith)
+
+bits_or : (p q : ℕ) → p < 2 → q < 2 → eqb (max p q) 1 ≡ (eqb p 1 || eqb q 1)
+bits_or zero zero l m = refl
+bits_or zero (suc zero) l m = refl
+bits_or zero (suc (suc q)) l m = absurd (omega arith)
+bits_or (suc zero) zero l m = refl
+bits_or (suc zero) (suc zero) l m = refl
+bits_or (suc zero) (suc (suc q)) l m = absurd (omega arith)
+bits_or (suc (suc p)) q l m = absurd (omega arith)
+
+bits_minus : (p q : ℕ) → p < 2 → q < 2 → eqb ((p + min p q) % 2) 1 ≡ (eqb p 1 && not (eqb q 1))
+bits_minus zero zero l m = refl
+bits_minus zero (suc zero) l m = refl
+bits_minus zero (suc (suc q)) l m = absurd (omega arith)
+bits_minus (suc zero) zero l m = refl
+bits_minus (suc zero) (suc zero) l m = refl
+bits_minus (suc zero) (suc (suc q)) l m = absurd (omega arith)
+bits_minus (suc (suc p)) q l m = absurd (omega arith)
+
+-- what words have that are made of two others word by word
+pub bits_of_both : (w a b : List ℕ) → ((k : ℕ) → get_or w k 0 ≡ bit_and (get_or a k 0) (get_or b k 0)) → (x : ℕ) → has_bit w x ≡ (has_bit a x && has_bit b x)
+unfolding has_bit
+bits_of_both w a b e x =
+    let p = get_or a (x / 64) 0 in
+    let q = get_or b (x / 64) 0 in
+    let i = x % 64 in
+    ap (λ v. eqb (bit_at v i) 1) (e (x / 64))
+    ∙ ap (λ v. eqb v 1) (bit_at_and p q i)
+    ∙ bits_and (bit_at p i) (bit_at q i) (bit_at-lt p i) (bit_at-lt q i)
+
+pub bits_of_either : (w a b : List ℕ) → ((k : ℕ) → get_or w k 0 ≡ bit_or (get_or a k 0) (get_or b k 0)) → (x : ℕ) → has_bit w x ≡ (has_bit a x || has_bit b x)
+unfolding has_bit
+bits_of_either w a b e x =
+    let p = get_or a (x / 64) 0 in
+    let q = get_or b (x / 64) 0 in
+    let i = x % 64 in
+    ap (λ v. eqb (bit_at v i) 1) (e (x / 64))
+    ∙ ap (λ v. eqb v 1) (bit_at_or p q i)
+    ∙ bits_or (bit_at p i) (bit_at q i) (bit_at-lt p i) (bit_at-lt q i)
+
+pub bits_of_minus : (w a b : List ℕ) → ((k : ℕ) → get_or w k 0 ≡ bit_xor (get_or a k 0) (bit_and (get_or a k 0) (get_or b k 0))) → (x : ℕ) → has_bit w x ≡ (has_bit a x && not (has_bit b x))
+unfolding has_bit
+bits_of_minus w a b e x =
+    let p = get_or a (x / 64) 0 in
+    let q = get_or b (x / 64) 0 in
+    let i = x % 64 in
+    ap (λ v. eqb (bit_at v i) 1) (e (x / 64))
+    ∙ ap (λ v. eqb v 1) (bit_at_xor p (bit_and p q) i)
+    ∙ ap (λ v. eqb ((bit_at p i + v) % 2) 1) (bit_at_and p q i)
+    ∙ bits_minus (bit_at p i) (bit_at q i) (bit_at-lt p i) (bit_at-lt q i)
+
+-- ---- what the functions of the words give
+
+-- zeros behind the words change nothing
+abbrev zeros : ℕ → List ℕ
+zeros d = replicate d 0
+
+zero_at : (d j : ℕ) → get_or (zeros d) j 0 ≡ 0
+zero_at d j = elim (cases_lt j d) [
+  | inl b ↦ get_or-replicate d j 0 0 b
+  | inr g ↦ get_or_past (zeros d) j 0 (let h : length (zeros d) ≡ d = length-replicate d 0 in omega arith)
+]
+
+pub padded : (w : List ℕ) (n d : ℕ) → length w ≤ n → (k : ℕ) → get_or (take n w ++ replicate d 0) k 0 ≡ get_or w k 0
+padded w n d l k = ap (λ (v : List ℕ). get_or (v ++ zeros d) k 0) (take_all n w l) ∙ (elim (cases_lt k (length w)) [
+  | inl b ↦ get_or_append_left w (zeros d) 0 k b
+  | inr g ↦ get_or-append_right w (zeros d) (length w) k 0 refl g ∙ zero_at d (k - length w) ∙ sym (get_or_past w k 0 g)
+])
+
+-- words with the same words have the same places
+bits_agree : (w v : List ℕ) → ((k : ℕ) → get_or w k 0 ≡ get_or v k 0) → (x : ℕ) → has_bit w x ≡ has_bit v x
+unfolding has_bit
+bits_agree w v e x = ap (λ n. eqb (bit_at n (x % 64)) 1) (e (x / 64))
+
+pub places_in_agree : (w v : List ℕ) → ((k : ℕ) → get_or w k 0 ≡ get_or v k 0) → places_in w ≡ places_in v
+places_in_agree w v e = same_set (places_in w) (places_in v) (up_places_in w) (up_places_in v) (λ x. has-places_in w x ∙ bits_agree w v e x ∙ sym (has-places_in v x))
+
+-- a place put in
+module _ (w u : List ℕ) (p v : ℕ) (same : (k : ℕ) → get_or u k 0 ≡ get_or w k 0) (inside : p / 64 < length u) (here : v ≡ get_or u (p / 64) 0) where
+  abbrev put : List ℕ
+  put = set u (p / 64) (bit_or v (1 * 2 ^ (p % 64) % 2 ^ 64))
+
+  put_bit : (x : ℕ) → has_bit put x ≡ (has_bit w x || eqb p x)
+  unfolding has_bit
+  put_bit x = elim (cases_eq (x / 64) (p / 64)) [
+    | inl e ↦
+        (let now : get_or put (x / 64) 0 ≡ bit_or v (1 * 2 ^ (p % 64) % 2 ^ 64) = ap (λ k. get_or put k 0) e ∙ get_or-set_same u (p / 64) (bit_or v (1 * 2 ^ (p % 64) % 2 ^ 64)) 0 inside in
+        let was : v ≡ get_or w (x / 64) 0 = here ∙ same (p / 64) ∙ ap (λ k. get_or w k 0) (sym e) in
+        elim (cases_eq (x % 64) (p % 64)) [
+          | inl f ↦
+              (let q : p ≡ x = omega arith in
+              let one : bit_at (get_or put (x / 64) 0) (x % 64) ≡ 1 = ap (λ n. bit_at n (x % 64)) now ∙ ap (bit_at (bit_or v (1 * 2 ^ (p % 64) % 2 ^ 64))) f ∙ bit_at_set_same w64 v (p % 64) (omega arith) in
+              eq-eqb (bit_at (get_or put (x / 64) 0) (x % 64)) 1 one ∙ sym (or_right (eqb (bit_at (get_or w (x / 64) 0) (x % 64)) 1) (eqb p x) (eq-eqb p x q)))
+          | inr f ↦
+              (let q : eqb p x ≡ false = ne_eqb p x (λ (e : p ≡ x). f (omega arith)) in
+              ap (λ n. eqb (bit_at n (x % 64)) 1) now
+              ∙ ap (λ n. eqb n 1) (bit_at_set_other w64 v (p % 64) (omega arith) (x % 64) f)
+              ∙ ap (λ n. eqb (bit_at n (x % 64)) 1) was
+              ∙ or_turned false (eqb (bit_at (get_or w (x / 64) 0) (x % 64)) 1)
+              ∙ ap (λ b. eqb (bit_at (get_or w (x / 64) 0) (x % 64)) 1 || b) (sym q))
+        ])
+    | inr d ↦
+        (let q : eqb p x ≡ false = ne_eqb p x (λ (e : p ≡ x). d (omega arith)) in
+        ap (λ n. eqb (bit_at n (x % 64)) 1) (get_or-set_other u (p / 64) (x / 64) (bit_or v (1 * 2 ^ (p % 64) % 2 ^ 64)) 0 d ∙ same (x / 64))
+        ∙ or_turned false (eqb (bit_at (get_or w (x / 64) 0) (x % 64)) 1)
+        ∙ ap (λ b. eqb (bit_at (get_or w (x / 64) 0) (x % 64)) 1 || b) (sym q))
+  ]
+
+  pub put_places_in : places_in put ≡ with_place p (places_in w)
+  put_places_in = same_set (places_in put) (with_place p (places_in w)) (up_places_in put) (up_with_place p (places_in w) (up_places_in w))
+      (λ x. has-places_in put x ∙ put_bit x ∙ sym (has-with_place p (places_in w) x ∙ ap (λ b. b || eqb p x) (has-places_in w x)))
+
+-- each word of a in that of b
+module _ (a b : List ℕ) where
+  pub within_yes : ((k : ℕ) → k < length a → bit_and (get_or a k 0) (get_or b k 0) ≡ get_or a k 0) → true ≡ is_within (places_in a) (places_in b)
+  within_yes f =
+      let e : (x : ℕ) → has_bit a x ≡ (has_bit a x && has_bit b x) = bits_of_both a a b (λ k. elim (cases_lt k (length a)) [
+        | inl l ↦ sym (f k l)
+        | inr g ↦ (let z = get_or_past a k 0 g in rw z refl)
+      ]) in
+      sym (all_from (has (places_in b)) (places_in a) (λ x m.
+      has-places_in b x ∙ (and_parts (has_bit a x) (has_bit b x) (sym (e x) ∙ sym (has-places_in a x) ∙ has_if_in (places_in a) x m)).1))
+
+  bit_here : (k i : ℕ) → i < 64 → (w : List ℕ) → has_bit w (k * 64 + i) ≡ eqb (bit_at (get_or w k 0) i) 1
+  unfolding has_bit
+  bit_here k i l w =
+      let p : (k * 64 + i) / 64 ≡ k = omega arith in
+      let q : (k * 64 + i) % 64 ≡ i = omega arith in
+      rw (p, q) refl
+
+  pub within_no : (k : ℕ) → get_or a k 0 < 2 ^ 64 → (bit_and (get_or a k 0) (get_or b k 0) ≡ get_or a k 0 → ⊥) → false ≡ is_within (places_in a) (places_in b)
+  within_no k small d = sym (false_from_ne_true (is_within (places_in a) (places_in b)) (λ e. d (same_from_bits (bit_and (get_or a k 0) (get_or b k 0)) (get_or a k 0) (λ i.
+      let p = get_or a k 0 in
+      let q = get_or b k 0 in
+      bit_at_and p q i ∙ (elim (cases_lt i 64) [
+        | inr g ↦ (let z = bit_at_above p 64 i small g in omega arith)
+        | inl l ↦ elim (cases_eq (bit_at p i) 1) [
+          | inr n ↦ (let s = bit_at-lt p i in omega arith)
+          | inl o ↦
+              (let x : ℕ = k * 64 + i in
+              let here : has (places_in a) x ≡ true = has-places_in a x ∙ bit_here k i l a ∙ eq-eqb (bit_at p i) 1 o in
+              let there : has (places_in b) x ≡ true = all_back (has (places_in b)) (places_in a) e x (in_if_has (places_in a) x here) in
+              let r : bit_at q i ≡ 1 = eqb-true (bit_at q i) 1 (sym (bit_here k i l b) ∙ sym (has-places_in b x) ∙ there) in
+              omega arith)
+        ]
+      ])))))
+
+  pub intersects_no : ((k : ℕ) → k < length a → bit_and (get_or a k 0) (get_or b k 0) ≡ 0) → false ≡ list_any (has (places_in b)) (places_in a)
+  intersects_no f =
+      let e : (x : ℕ) → false ≡ (has_bit a x && has_bit b x) = λ x. sym (past [] x (omega arith)) ∙ bits_of_both [] a b (λ k. elim (cases_lt k (length a)) [
+        | inl l ↦ sym (f k l)
+        | inr g ↦ (let z = get_or_past a k 0 g in rw z refl)
+      ]) x in
+      sym (false_from_ne_true (list_any (has (places_in b)) (places_in a)) (λ t.
+      let c = any_back (has (places_in b)) (places_in a) t in
+      true≢false (sym (and_from (has_bit a c.0) (has_bit b c.0) (sym (has-places_in a c.0) ∙ has_if_in (places_in a) c.0 c.1) (sym (has-places_in b c.0) ∙ c.2)) ∙ sym (e c.0))))
+
+  pub intersects_yes : (k : ℕ) → get_or a k 0 < 2 ^ 64 → (bit_and (get_or a k 0) (get_or b k 0) ≡ 0 → ⊥) → true ≡ list_any (has (places_in b)) (places_in a)
+  intersects_yes k small d = sym (true_from_ne_false (list_any (has (places_in b)) (places_in a)) (λ e. d (same_from_bits (bit_and (get_or a k 0) (get_or b k 0)) 0 (λ i.
+      let p = get_or a k 0 in
+      let q = get_or b k 0 in
+      bit_at_and p q i ∙ (elim (cases_lt i 64) [
+        | inr g ↦ (let z = bit_at_above p 64 i small g in let y = bit_at-zero i in omega arith)
+        | inl l ↦ elim (cases_eq (bit_at p i) 1) [
+          | inr n ↦ (let s = bit_at-lt p i in let y = bit_at-zero i in omega arith)
+          | inl o ↦
+              (let x : ℕ = k * 64 + i in
+              let here : has (places_in a) x ≡ true = has-places_in a x ∙ bit_here k i l a ∙ eq-eqb (bit_at p i) 1 o in
+              let s = bit_at-lt q i in
+              let y = bit_at-zero i in
+              let n : bit_at q i ≡ 1 → ⊥ = λ r. true≢false (sym (any_from (has (places_in b)) x (places_in a) (in_if_has (places_in a) x here) (has-places_in b x ∙ bit_here k i l b ∙ eq-eqb (bit_at q i) 1 r)) ∙ e) in
+              elim (cases_eq (bit_at q i) 1) [ inl r ↦ absurd (n r) | inr r ↦ omega arith ])
+        ]
+      ])))))
+
+-- words made one by one
+mapped : (f : ℕ → ℕ) (n k : ℕ) → (n ≤ k → f k ≡ 0) → get_or (map f (places n)) k 0 ≡ f k
+mapped f n k z = elim (cases_lt k n) [
+  | inl l ↦ get_or-map-range_with_len f 0 n k k 0 l (omega arith)
+  | inr g ↦ get_or_past (map f (places n)) k 0 (let h = length-map-range_with_len f 0 n in omega arith) ∙ sym (z g)
+]
+
+module _ (a b w : List ℕ) where
+  pub places_in_both : w ≡ map (λ k. bit_and (get_or a k 0) (get_or b k 0)) (places (length a)) → places_in w ≡ filter (has (places_in b)) (places_in a)
+  places_in_both e =
+      same_set (places_in w) (filter (has (places_in b)) (places_in a)) (up_places_in w) (up_filter (has (places_in b)) (places_in a) (up_places_in a))
+      (λ x.
+      has-places_in w x
+      ∙ bits_of_both w a b (λ k. ap (λ v. get_or v k 0) e ∙ mapped (λ k. bit_and (get_or a k 0) (get_or b k 0)) (length a) k (λ g. let z = get_or_past a k 0 g in rw z refl)) x
+      ∙ sym (has-kept (has (places_in b)) (places_in a) x ∙ (λ i. has-places_in a x i && has-places_in b x i)))
+
+  pub places_in_minus : w ≡ map (λ k. bit_xor (get_or a k 0) (bit_and (get_or a k 0) (get_or b k 0))) (places (length a)) → places_in w ≡ filter (λ x. not (has (places_in b) x)) (places_in a)
+  places_in_minus e =
+      same_set (places_in w) (filter (λ x. not (has (places_in b) x)) (places_in a)) (up_places_in w) (up_filter (λ x. not (has (places_in b) x)) (places_in a) (up_places_in a))
+      (λ x.
+      has-places_in w x
+      ∙ bits_of_minus w a b (λ k. ap (λ v. get_or v k 0) e ∙ mapped (λ k. bit_xor (get_or a k 0) (bit_and (get_or a k 0) (get_or b k 0))) (length a) k (λ g. let z = get_or_past a k 0 g in rw z refl)) x
+      ∙ sym (has-kept (λ x. not (has (places_in b) x)) (places_in a) x ∙ (λ i. has-places_in a x i && not (has-places_in b x i))))
+
+  pub places_in_joined : ((k : ℕ) → k < length b → get_or w k 0 ≡ bit_or (get_or a k 0) (get_or b k 0)) → ((k : ℕ) → length b ≤ k → get_or w k 0 ≡ get_or a k 0) → places_in w ≡ with_all (places_in a) (places_in b)
+  places_in_joined f g =
+      same_set (places_in w) (with_all (places_in a) (places_in b)) (up_places_in w) (up_with_all (places_in a) (places_in b) (up_places_in a))
+      (λ x.
+      has-places_in w x
+      ∙ bits_of_either w a b (λ k. elim (cases_lt k (length b)) [
+        | inl l ↦ f k l
+        | inr r ↦ (let z = get_or_past b k 0 r in rw (z, or_zero_r (get_or a k 0)) (g k r))
+      ]) x
+      ∙ sym (has-with_all (places_in a) (places_in b) x ∙ (λ i. has-places_in a x i || has-places_in b x i)))
+
+-- one word more of words made one by one
+pub one_more : (f : ℕ → ℕ) (old new : List ℕ) (n v : ℕ) → old ≡ map f (places n) → v ≡ f n → new ≡ old ++ v ∷ [] → new ≡ map f (places (n + 1))
+one_more f old new n v e q p = p ∙ (λ i. e i ++ q i ∷ []) ∙ sym (map-range_with_len_more f 0 n n (omega arith))
+
+-- ---- what loops keep
+
+-- the words below a place are joined, and the others are as they were
+pub record JoinedBelow (first others words : List ℕ) (at : ℕ) : Type 0 where
+  pub long : length others ≤ length words
+  pub few : length words ≤ 2 ^ 26
+  pub joined : (k : ℕ) → k < at → get_or words k 0 ≡ bit_or (get_or first k 0) (get_or others k 0)
+  pub rest : (k : ℕ) → at ≤ k → get_or words k 0 ≡ get_or first k 0
+
+-- only zeros are left out
+pub record AreFront (all words : List ℕ) : Type 0 where
+  pub same : (k : ℕ) → get_or words k 0 ≡ get_or all k 0
+  pub few : length words ≤ length all
+
+pub front_popped : (all words rest : List ℕ) (v : ℕ) → AreFront all words → words ≡ rest ++ v ∷ [] → v ≡ 0 → AreFront all rest
+front_popped all words rest v f e z = record {
+  same = λ k. sym (at_end k) ∙ ap (λ l. get_or l k 0) (sym e) ∙ f.same k;
+  few = (let g = f.few in let l = ap length e ∙ length-append rest (v ∷ []) in omega arith);
+}
+  where
+    at_end : (k : ℕ) → get_or (rest ++ v ∷ []) k 0 ≡ get_or rest k 0
+    at_end k = elim (cases_lt k (length rest)) [
+      | inl b ↦ get_or_append_left rest (v ∷ []) 0 k b
+      | inr g ↦ get_or-append_right rest (v ∷ []) (length rest) k 0 refl g ∙ last (k - length rest) ∙ sym (get_or_past rest k 0 g)
+    ]
+      where
+        last : (j : ℕ) → get_or (v ∷ []) j 0 ≡ 0
+        last zero = z
+        last (suc j) = refl

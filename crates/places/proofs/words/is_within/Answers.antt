@@ -1,0 +1,12 @@
+use Rattle.std.proofs.Common.{◌∙◌, ap, get_or, arith, rules}
+use Rattle.std.specs.Prelude.{bit_and}
+use Rattle.places.proofs.WordPlaces.{within_yes, within_no}
+use Rattle.places.proofs.words.is_within.Goals as goal
+
+pub returns-then-first-at : goal.returns-then-first-at
+returns-then-first-at c =
+    within_no c.args.first.now c.args.second.now c.loop-at.at (search rules)
+    (λ e. c.if-first-at.true (ap (bit_and (get_or c.args.first.now c.loop-at.at 0)) c.word.ensures ∙ e))
+
+pub returns : goal.returns
+returns c = within_yes c.args.first.now c.args.second.now (λ k l. c.loop-at.invariant k (omega arith))

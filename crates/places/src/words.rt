@@ -1,0 +1,178 @@
+//! Sets of places as words: place p is in the set where bit p % 64 of word p / 64 is 1.
+
+ghost use Rattle.std.specs.Prelude.{◌≡◌, ◌≤◌, ◌^◌, slice_index, length, filter, not, IfOk, OnOk, OnErr};
+ghost use Rattle.std.specs.List.{list_any};
+ghost use Rattle.places.specs.Members.{has, is_within, places, with_all, with_place, IsLowest};
+ghost use Rattle.places.specs.Words.{has_bit, places_in};
+
+use op_names::NoMemory;
+use std::alloc::Global;
+
+/// A word, or 0 past the last one.
+pub(crate) fn word(words: &[u64], at: usize) -> u64
+    ensures { result ≡ slice_index words.now at }
+{
+    if at < words.len() { words[at] } else { 0 }
+}
+
+/// Do the words have the place?
+pub(crate) fn has_bit(words: &[u64], place: u32) -> bool
+    ensures { result ≡ has (places_in words.now) place }
+{
+    (word(words, (place / 64) as usize) >> (place % 64)) & 1 == 1
+}
+
+/// Puts a place in.
+pub(crate) fn set_bit(words: &mut Vec<u64>, place: u32) -> Result<(), NoMemory>
+    requires { length words.old.items ≤ 2 ^ 26 }
+    ensures ok { OnOk result
+        (places_in words.new.items ≡ with_place place (places_in words.old.items)) }
+    ensures few { length words.new.items ≤ 2 ^ 26 }
+    ensures err { OnErr result (words.new.items ≡ words.old.items) }
+{
+    let at = (place / 64) as usize;
+    if words.len() <= at {
+        words.resize(at + 1, 0)?;
+    }
+    words[at] |= 1u64 << (place % 64);
+    Ok(())
+}
+
+/// Is each place of the first words one of the second?
+pub(crate) fn is_within(first: &[u64], second: &[u64]) -> bool
+    ensures { result ≡ is_within (places_in first.now) (places_in second.now) }
+{
+    for at in 0..first.len() {
+        if first[at] & word(second, at) != first[at] {
+            return false;
+        }
+    }
+    true
+}
+
+/// Have the two a place in common?
+pub(crate) fn intersects(first: &[u64], second: &[u64]) -> bool
+    ensures { result ≡ list_any (has (places_in second.now)) (places_in first.now) }
+{
+    for at in 0..first.len() {
+        if first[at] & word(second, at) != 0 {
+            return true;
+        }
+    }
+    false
+}
+
+/// Leaves the last words out that are 0.
+fn trim(words: &mut Vec<u64>)
+    ensures same { places_in words.new.items ≡ places_in words.old.items }
+    ensures few { length words.new.items ≤ length words.old.items }
+{
+    while !words.is_empty() && words[words.len() - 1] == 0 {
+        words.pop();
+    }
+}
+
+/// The places of both.
+pub(crate) fn intersection(
+    alloc: Global,
+    first: &[u64],
+    second: &[u64],
+) -> Result<Vec<u64>, NoMemory>
+    ensures both { IfOk result (λ both. places_in both.items
+        ≡ filter (has (places_in second.now)) (places_in first.now)) }
+    ensures few { IfOk result (λ both. length both.items ≤ length first.now) }
+{
+    let mut both = Vec::with_capacity(alloc, first.len())?;
+    for at in 0..first.len() {
+        both.push(first[at] & word(second, at))?;
+    }
+    trim(&mut both);
+    Ok(both)
+}
+
+/// The places of the first that the second don't have.
+pub(crate) fn difference(alloc: Global, first: &[u64], second: &[u64]) -> Result<Vec<u64>, NoMemory>
+    ensures others { IfOk result (λ others. places_in others.items
+        ≡ filter (λ place. not (has (places_in second.now) place)) (places_in first.now)) }
+    ensures few { IfOk result (λ others. length others.items ≤ length first.now) }
+{
+    let mut others = Vec::with_capacity(alloc, first.len())?;
+    for at in 0..first.len() {
+        others.push(first[at] ^ (first[at] & word(second, at)))?;
+    }
+    trim(&mut others);
+    Ok(others)
+}
+
+/// Puts the places of others in.
+pub(crate) fn join(words: &mut Vec<u64>, others: &[u64]) -> Result<(), NoMemory>
+    requires own { length words.old.items ≤ 2 ^ 26 }
+    requires other { length others.now ≤ 2 ^ 26 }
+    ensures ok { OnOk result (places_in words.new.items
+        ≡ with_all (places_in words.old.items) (places_in others.now)) }
+    ensures few { length words.new.items ≤ 2 ^ 26 }
+    ensures err { OnErr result (words.new.items ≡ words.old.items) }
+{
+    if words.len() < others.len() {
+        words.resize(others.len(), 0)?;
+    }
+    for at in 0..others.len() {
+        words[at] |= others[at];
+    }
+    Ok(())
+}
+
+/// The words of the first places.
+pub(crate) fn first_places(alloc: Global, len: u32) -> Result<Vec<u64>, NoMemory>
+    ensures first { IfOk result (λ words. places_in words.items ≡ places len) }
+    ensures few { IfOk result (λ words. length words.items ≤ 2 ^ 26) }
+{
+    let mut words = Vec::with_capacity(alloc, (len / 64) as usize + 1)?;
+    words.resize((len / 64) as usize, u64::MAX)?;
+    if !len.is_multiple_of(64) {
+        words.push((1u64 << (len % 64)) - 1)?;
+    }
+    Ok(words)
+}
+
+/// The lowest place, if there is one.
+pub(crate) fn lowest_place(words: &[u64]) -> Option<u32>
+    requires { length words.now ≤ 2 ^ 26 }
+    ensures { IsLowest result (places_in words.now) }
+{
+    for at in 0..words.len() {
+        if words[at] != 0 {
+            return Some(at as u32 * 64 + words[at].trailing_zeros());
+        }
+    }
+    None
+}
+
+/// How many places the words have.
+pub(crate) fn count_bits(words: &[u64]) -> usize
+    requires { length words.now ≤ 2 ^ 26 }
+    ensures { result ≡ length (places_in words.now) }
+{
+    let mut count = 0;
+    for word in words {
+        count += word.count_ones() as usize;
+    }
+    count
+}
+
+/// The places of the words, in rising order.
+pub(crate) fn list(alloc: Global, words: &[u64]) -> Result<Vec<u32>, NoMemory>
+    requires { length words.now ≤ 2 ^ 26 }
+    ensures { IfOk result (λ list. list.items ≡ places_in words.now) }
+{
+    let mut list = Vec::new(alloc);
+    for at in 0..words.len() {
+        let mut left = words[at];
+        while left != 0 {
+            let bit = left.trailing_zeros();
+            list.push(at as u32 * 64 + bit)?;
+            left &= !(1u64 << bit);
+        }
+    }
+    Ok(list)
+}

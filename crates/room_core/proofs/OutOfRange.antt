@@ -1,0 +1,27 @@
+-- The answer to an operation whose number is out of range.
+use Rattle.std.proofs.Common.{◌≡◌, ℕ, ◌≤◌, true, false, cond, length, Some, ap, ◌∙◌, arith, leb}
+use Rattle.std.proofs.lemmas.Bool.{and_parts, and_from, le-leb, leb-true}
+use Rattle.op_names.specs.Names.{Name, is_site, is_op_name}
+use Rattle.rules.specs.declared.history.Op.{Op}
+use Rattle.rules.specs.declared.history.Entry.TheVariants.{Operation}
+use Rattle.rules.specs.declared.refusal.Refusal.TheVariants.{RecordFull, WrongSeq}
+use Rattle.rules.specs.Records.{sites, refusal}
+use Rattle.rules.proofs.Conditions.{unnamed_refusal}
+use Rattle.wire.specs.declared.reply.Reply.{Reply}
+use Rattle.room_core.specs.Room.{Room}
+use Rattle.room_core.specs.Answers.{entry_answer, refusal_answer, entry_or_refusal, has_site}
+
+is_site_if : (room : Room) (site : ℕ) → has_site room site ≡ true → sites room.entries ≤ 256 → is_site site ≡ true
+is_site_if room site joined few =
+    let parts = and_parts (leb 1 site) (leb site (sites room.entries)) joined in
+    and_from _ _ parts.0 (le-leb site 256 (omega (arith, few, leb-true site (sites room.entries) parts.1)))
+
+module _ (room : Room) (site seq : ℕ) (joined : has_site room site ≡ true) (few : sites room.entries ≤ 256) (small : room.limits.entries ≤ 16384) (out : is_op_name (site, seq) ≡ false) (op : Op) (named : op.name ≡ (site, seq)) where
+  refused_so : refusal room.limits room.entries (Operation op) ≡ cond (leb room.limits.entries (length room.entries)) (Some RecordFull) (Some WrongSeq)
+  refused_so = unnamed_refusal room.limits room.entries op (ap (λ (n : Name). is_site n.0) named ∙ is_site_if room site joined few) (ap is_op_name named ∙ out) small
+
+  pub full : (reply : Reply) → leb room.limits.entries (length room.entries) ≡ true → entry_answer room (Operation op) reply ≡ refusal_answer room RecordFull
+  full reply t = ap (λ why. entry_or_refusal room why (Operation op) reply) (refused_so ∙ ap (λ b. cond b (Some RecordFull) (Some WrongSeq)) t)
+
+  pub not_full : (reply : Reply) → leb room.limits.entries (length room.entries) ≡ false → entry_answer room (Operation op) reply ≡ refusal_answer room WrongSeq
+  not_full reply f = ap (λ why. entry_or_refusal room why (Operation op) reply) (refused_so ∙ ap (λ b. cond b (Some RecordFull) (Some WrongSeq)) f)

@@ -1,0 +1,14 @@
+use Rattle.std.proofs.Common.{◌≡◌, ◌∙◌}
+use Rattle.std.specs.Prelude.{filter}
+use Rattle.places.specs.Members.{has}
+use Rattle.version_ids.proofs.Scopes.{kept_low}
+use Rattle.version_ids.proofs.names_in_conflict.Goals as goal
+
+pub names_at-requires : goal.names_at-requires
+names_at-requires g c =
+    kept_low (g.R.Relation.size c.args.relation.now) c.args.group.now c.in_ok-named.named c.deref.result.now (has c.args.conflicting.now) c.requires c.in_ok-named.ensures (c.deref.ensures.value ∙ c.in_ok-places.ensures)
+
+pub returns : goal.returns
+returns g c =
+    let same : c.deref.result.now ≡ filter (has c.args.conflicting.now) c.args.group.now = c.deref.ensures.value ∙ c.in_ok-places.ensures ∙ c.in_ok-named.ensures in
+    rw (← same) c.names_at.ensures

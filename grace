@@ -5,17 +5,20 @@ set -u
 root=$(cd "$(dirname "${BASH_SOURCE[0]}")" && pwd) || exit 1
 program=$root/crates/grace/out/grace
 
-# The program's crates, each after those that it stands on; crates of tests are no part of it.
+# The lines of the program's crates, each after those that it stands on, as crates.txt has them.
 crates() {
-    grep -v -e '^#' -e '_tests:' "$root/crates.txt"
+    tac "$root/crates.txt" | awk -F: '
+        BEGIN { needed["grace"] = 1 }
+        $1 in needed { print; count = split($2, below, " "); for (i = 1; i <= count; i++) needed[below[i]] = 1 }
+    ' | tac
 }
 
 # A sum of all that the program is made from, which no test, edit or document is part of.
 sum_of_sources() {
     {
         crates
-        (cd "$root" &&
-            find crates \( -name out -o -name '*_tests' -o -name tests -o -name tests.rt \) -prune \
+        (cd "$root/crates" &&
+            find $(crates | cut -d: -f1) \( -name out -o -name tests -o -name tests.rt \) -prune \
                 -o -type f \( -name '*.rt' -o -name '*.antt' \) -print0 |
             LC_ALL=C sort -z | xargs -0 sha256sum)
     } | sha256sum

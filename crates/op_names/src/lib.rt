@@ -15,6 +15,6 @@ pub use fault::{ListFault, NameFault, NoMemory};
 pub use key::Key;
 pub use kind::Kind;
 pub use op_name::{MAX_SEQ, MAX_SITE, OpName};
-pub use room_name::RoomName;
+pub use room_name::{RoomName, repeated_name};
 pub use value::{MAX_VALUE_LEN, Value, ValueText};
 pub use version_id::VersionId;

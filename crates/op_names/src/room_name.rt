@@ -1,7 +1,9 @@
 //! The names of rooms.
 
-ghost use Rattle.std.specs.Prelude.{◌≡◌, List, ℕ, true, false, IfOk};
+ghost use Rattle.std.specs.Prelude.{◌≡◌, List, ℕ, true, false, IfOk, bytes_eq};
+ghost use Rattle.std.specs.List.{list_any};
 ghost use Rattle.op_names.specs.Faults.{FailsBy, OnFault};
+ghost use Rattle.op_names.specs.Repeats.{first_repeat};
 ghost use Rattle.op_names.specs.Texts.{label_fault, is_room_name};
 
 use crate::fault::{NameFault, NoMemory};
@@ -11,7 +13,7 @@ use std::alloc::Global;
 use std::marker::Model;
 
 /// The name of a room: 1 to 64 bytes of a-z, 0-9 and `-`. Names are ordered by bytes.
-#[derive(Debug, Drop, PartialEq, Eq, PartialOrd, Ord)]
+#[derive(Debug, Drop, PartialEq, Eq, PartialOrd, Ord, Hash)]
 pub struct RoomName {
     text: Text,
 }
@@ -53,4 +55,24 @@ impl RoomName {
         let text = self.text.copy(alloc)?;
         Ok(RoomName { text })
     }
+}
+
+/// Is this name among these?
+fn has_name(names: &[RoomName], name: &RoomName) -> bool
+    ensures { result ≡ list_any (λ earlier. bytes_eq earlier name.now) names.now }
+{
+    names.iter().any(|earlier| *earlier == *name)
+}
+
+/// The first place whose name stands at an earlier place too, or `None` where all names differ.
+/// Compares each name with all before it.
+pub fn repeated_name(names: &[RoomName]) -> Option<usize>
+    ensures { result ≡ first_repeat bytes_eq names.now }
+{
+    for (place, name) in names.iter().enumerate() {
+        if has_name(&names[..place], name) {
+            return Some(place);
+        }
+    }
+    None
 }

@@ -1,11 +1,11 @@
 -- What a room answers to a set is what the set's object answers.
-use Rattle.std.proofs.Common.{◌≡◌, ◌≢◌, ℕ, true, List, [], ◌∷◌, ◌++◌, map, refl, sym, ap, ◌∙◌, subst, not, cond, None, Some, leb, length, append_assoc}
-use Rattle.std.specs.Prelude.{Option, Result, IfErr, IfOk, OnOk, is_some}
+use Rattle.std.proofs.Common.{◌≡◌, ◌≢◌, ℕ, true, List, [], ◌∷◌, ◌++◌, map, sym, ap, ◌∙◌, subst, not, cond, None, Some, leb, length, append_assoc}
+use Rattle.std.specs.Prelude.{Result, IfErr, IfOk, OnOk}
 use Rattle.std.specs.Map.{lookup}
-use Rattle.std.proofs.lemmas.Bool.{and_from, and_parts, not-false, true≢false}
+use Rattle.std.proofs.lemmas.Bool.{not-false}
 use Rattle.std.proofs.lemmas.Result.{IfErr-weaker, IfOk-weaker, on_ok_weaker}
 use Rattle.op_names.specs.Names.{Name, same_name}
-use Rattle.state_vector.specs.Vectors.{counts, is_vector}
+use Rattle.state_vector.specs.Vectors.{is_vector}
 use Rattle.rules.specs.declared.history.Op.{Op}
 use Rattle.rules.specs.declared.history.Entry.{Entry}
 use Rattle.rules.specs.declared.history.Entry.TheVariants.{Operation}
@@ -15,29 +15,25 @@ use Rattle.rules.specs.Admission.{Condition, causal_conditions, causal_refusal, 
 use Rattle.rules.specs.Bodies.{is_set_body}
 use Rattle.rules.specs.declared.limits.LimitValues.{LimitValues}
 use Rattle.rules.specs.Conflicts.{has_object}
-use Rattle.rules.specs.Operations.{creation_of, is_set_on, object_of}
-use Rattle.rules.specs.Records.{IsLegal, creation_conditions, operations, order_conditions, refusal, set_conditions, version_conditions}
+use Rattle.rules.specs.Operations.{IsCausallyOrdered, IsHistory, object_of}
+use Rattle.rules.specs.Records.{creation_conditions, operations, order_conditions, refusal, set_conditions, version_conditions}
 use Rattle.rules.specs.Versions.{versions}
 use Rattle.rules.proofs.Conditions.{none_of_both, not_first}
-use Rattle.rules.proofs.Counted.{same_name-refl}
 use Rattle.rules.proofs.Founded.{history_if_legal, ordered_if_legal}
 use Rattle.conflict.specs.Sets.{AreSetsOf}
-use Rattle.shape.specs.Objects.{Object, Stored, set_refusal, shown_ids, with_set}
-use Rattle.shape.proofs.Next.{next_history, next_set, object_with_set}
-use Rattle.shape.proofs.Objects.{refusal_beside, versions_beside}
+use Rattle.shape.specs.Objects.{Stored, set_refusal}
 use Rattle.shape.proofs.Refusals.{first_of_front, front_passed}
 use Rattle.shape.specs.declared.fault.SetFault.{SetFault}
 use Rattle.shape.specs.declared.fault.SetFault.TheVariants.{NoMemory}
 use Rattle.shape.specs.Faults.{refusal_of}
 use Rattle.shape.specs.Planned.{IsPlanned, Plan as SetPlan}
-use Rattle.room_core.specs.Plans.{IsPlannedAt}
+use Rattle.objects.specs.Changes.{IsPlannedAt}
+use Rattle.objects.proofs.AtObject.{ids_with_set, may_be_planned, object_there, refused_by_object}
+use Rattle.objects.proofs.WithSets.{lookup_set}
 use Rattle.room_core.specs.Replay.{IsReplay}
 use Rattle.wire.specs.declared.reply.Reply.TheVariants.{Taken}
 use Rattle.room_core.specs.Answers.{entry_or_refusal, refusal_answer, set_answer}
 use Rattle.room_core.specs.Room.{Room}
-use Rattle.room_core.specs.State.{objects_with_sets, without_spare}
-use Rattle.room_core.proofs.WithSets.{lookup_set}
-use Rattle.room_core.proofs.Lookup.{has_object_by_name, has_shape, is_there}
 use Rattle.room_core.proofs.Replay.{replay_same}
 
 module _ (l : LimitValues) (r : List Entry) (o : Op) (sets : is_set_body o.body ≡ true) where
@@ -65,64 +61,25 @@ module _ (l : LimitValues) (r : List Entry) (o : Op) (sets : is_set_body o.body 
     has : has_object (operations r) o ≡ true
     has = not-false (has_object (operations r) o) (not_first (not (has_object (operations r) o), NoSuchObject) [] (none_of_both (order_conditions l r o) ((not (has_object (operations r) o), NoSuchObject) ∷ []) asked).1).0
 
-    module _ (legal : IsLegal l r) (shapes : List (Name × Stored)) (are : without_spare shapes ≡ objects_with_sets l r) where
-      some_of : {X : Type 0} (q : Option X) → is_some q ≡ true → (x : X) × (q ≡ Some x)
-      some_of None e = absurd (true≢false (sym e))
-      some_of (Some x) e = (x, refl)
-
-      -- its object is there
-      pub object_there : (d : Stored) × (lookup (same_name (object_of o)) shapes ≡ Some d)
-      object_there =
-          let created = and_parts (counts o.seen (object_of o)) (is_some (creation_of (operations r) (object_of o))) (sym (has_object_by_name (operations r) o) ∙ has) in
-          some_of (lookup (same_name (object_of o)) shapes) (has_shape l r shapes are (object_of o) ∙ created.1)
-
-      module _ (vector : is_vector o.seen ≡ true) (d : Stored) (there : lookup (same_name (object_of o)) shapes ≡ Some d) where
-        abbrev h : List Op
-        h = operations r
-
-        abbrev it : Object
-        it = d.object
-
-        is_on_it : is_set_on it.creation.name o ≡ true
-        is_on_it = and_from (is_set_body o.body) (same_name (object_of o) it.creation.name) sets (same_name-refl (object_of o) it.creation.name (sym (is_there l r shapes are (object_of o) d there).named))
-
-        -- the set may be planned on it
-        pub may_be_planned : AreSetsOf it.creation.name (it.sets ++ o ∷ [])
-        may_be_planned =
-            subst (λ s. AreSetsOf it.creation.name (s ++ o ∷ [])) (is_there l r shapes are (object_of o) d there).of_history.all
-            (next_set h o (history_if_legal l r legal) (ordered_if_legal l r legal) ready vector it.creation.name is_on_it)
-
-        -- it is refusal_answer for the object's cause
-        pub refused_by_object : refusal l r (Operation o) ≡ set_refusal it o
-        refused_by_object =
-            let t = is_there l r shapes are (object_of o) d there in
-            passes
-            ∙ ap (λ b. first_that_applies (version_conditions b h o)) (sym t.bounds)
-            ∙ sym (refusal_beside h it t.of_history o is_on_it)
-
-        -- and with it the object has the identifiers that the room answers
-        pub ids_with_set : shown_ids (with_set it o) ≡ map (λ version. version.id) (versions (h ++ o ∷ []) (object_of o))
-        ids_with_set =
-            let t = is_there l r shapes are (object_of o) d there in
-            let next = next_history h o (history_if_legal l r legal) (ordered_if_legal l r legal) ready vector in
-            ap (map (λ version. version.id)) (
-            versions_beside (h ++ o ∷ []) (with_set it o) (object_with_set h o it t.of_history is_on_it) next
-            ∙ ap (versions (h ++ o ∷ [])) t.named
-            )
-
 -- ---- what a plan at the object is to the room
 
 module _ (l : LimitValues) (r : List Entry) (joined : ℕ) (shapes : List (Name × Stored)) (history : List Op) (replay : IsReplay l r joined shapes history) (o : Op) (sets : is_set_body o.body ≡ true)
     (vector : is_vector o.seen ≡ true) (asked : first_that_applies (early l r o sets) ≡ None) where
+  is_history : IsHistory (operations r)
+  is_history = history_if_legal l r replay.legal
+
+  ordered : IsCausallyOrdered (operations r)
+  ordered = ordered_if_legal l r replay.legal
+
   -- the object is there, and the set may be planned on it
   pub can_ask : (d : Stored) × (lookup (same_name (object_of o)) shapes ≡ Some d) × AreSetsOf d.object.creation.name (d.object.sets ++ o ∷ [])
   can_ask =
-      let there = object_there l r o sets asked replay.legal shapes replay.shapes_are in
-      (there.0, there.1, may_be_planned l r o sets asked replay.legal shapes replay.shapes_are vector there.0 there.1)
+      let there = object_there l r shapes replay.shapes_are o sets (has l r o sets asked) in
+      (there.0, there.1, may_be_planned l r shapes replay.shapes_are o sets there.0 there.1 is_history ordered (ready l r o sets asked) vector)
 
   module _ (new : List (Name × Stored)) (answer : Result SetPlan SetFault) (p : IsPlannedAt (object_of o) o shapes new answer) where
     by_object : refusal l r (Operation o) ≡ set_refusal p.before.object o
-    by_object = refused_by_object l r o sets asked replay.legal shapes replay.shapes_are vector p.before p.was
+    by_object = passes l r o sets asked ∙ refused_by_object l r shapes replay.shapes_are o sets p.before p.was
 
     pub still_replay : IsReplay l r joined new history
     still_replay = subst (λ s. IsReplay l r joined s history) (sym p.now) (replay_same l r joined shapes history replay (same_name (object_of o)) p.before p.after p.was p.kept)
@@ -132,7 +89,7 @@ module _ (l : LimitValues) (r : List Entry) (joined : ℕ) (shapes : List (Name 
         IfOk-weaker answer _ _ (λ plan i. (p.after, ap (lookup (same_name (object_of o))) p.now ∙ lookup_set (same_name (object_of o)) p.before p.after shapes p.was, i)) p.planned
 
     pub planned_ids : IfOk answer (λ plan. plan.ids ≡ map (λ version. version.id) (versions (operations r ++ o ∷ []) (object_of o)))
-    planned_ids = IfOk-weaker answer _ _ (λ plan e. e ∙ ids_with_set l r o sets asked replay.legal shapes replay.shapes_are vector p.before p.was) p.ids
+    planned_ids = IfOk-weaker answer _ _ (λ plan e. e ∙ ids_with_set l r shapes replay.shapes_are o sets p.before p.was is_history ordered (ready l r o sets asked) vector) p.ids
 
     pub none_refused : OnOk answer (refusal l r (Operation o) ≡ None)
     none_refused = on_ok_weaker answer (λ e. by_object ∙ e) p.taken

@@ -1,7 +1,6 @@
-pub mod WithSets
-pub mod Lookup
+pub mod ObjectKinds
 pub mod Replay
 pub mod OutOfRange
-pub mod Shown
 pub mod AtObject
 pub mod Fronts
+pub mod Seen

@@ -1,10 +1,10 @@
 -- A room with one more entry is the replay of its record with that entry.
-use Rattle.std.proofs.Common.{◌≡◌, ◌≢◌, ℕ, ◌+◌, Bool, true, false, not, List, [], ◌∷◌, ◌++◌, length, map, refl, sym, ap, ◌∙◌, subst, arith, Option, Some, None, cond, ◌&&◌, leb}
-use Rattle.std.specs.Prelude.{find, is_none}
+use Rattle.std.proofs.Common.{◌≡◌, ℕ, ◌+◌, Bool, true, false, List, [], ◌∷◌, ◌++◌, length, map, sym, ap, ◌∙◌, subst, arith, Some, None, ◌&&◌, leb}
+use Rattle.std.specs.Prelude.{is_none}
 use Rattle.std.specs.List.{IsDistinct}
 use Rattle.std.specs.Map.{keys_of, lookup, set_value}
-use Rattle.std.proofs.lemmas.Bool.{and_parts, false_from_ne_true}
-use Rattle.std.proofs.lemmas.List.{append-nil, length_push, map-append}
+use Rattle.std.proofs.lemmas.Bool.{and_parts}
+use Rattle.std.proofs.lemmas.List.{length_push, map-append}
 use Rattle.op_names.specs.Names.{Name, same_name}
 use Rattle.state_vector.specs.Vectors.{is_vector}
 use Rattle.rules.specs.declared.history.Op.{Op}
@@ -13,70 +13,41 @@ use Rattle.rules.specs.declared.history.Entry.TheVariants.{Join, Operation}
 use Rattle.rules.specs.declared.limits.LimitValues.{LimitValues}
 use Rattle.rules.specs.Bodies.{is_set_body}
 use Rattle.rules.specs.Admission.{count_at_site}
-use Rattle.rules.specs.Operations.{before, creation_of, is_creation_of, is_on, is_set_on, object_of}
-use Rattle.rules.specs.Records.{operations, objects, sites, admits, is_placed, refusal, IsLegal}
-use Rattle.rules.proofs.Counted.{same_name-true}
-use Rattle.rules.proofs.Lists.{In, Contains-from_In, any_back, find_is}
-use Rattle.rules.proofs.Records.{filter-push, operations-join, operations-push, sites-join, sites-operation, objects-join, objects-creation, legal_push}
+use Rattle.rules.specs.Operations.{object_of}
+use Rattle.rules.specs.Records.{operations, sites, admits, is_placed, refusal, IsLegal}
+use Rattle.rules.proofs.Records.{operations-join, operations-push, sites-join, sites-operation, objects-join, legal_push}
 use Rattle.rules.proofs.Conditions.{room_for_join, room_for_operation, room_for_object}
 use Rattle.rules.proofs.Founded.{founded_if_legal, history_if_legal}
-use Rattle.rules.proofs.Histories.{follows_if}
+use Rattle.rules.proofs.Histories.{IsNumbered, follows_if}
 use Rattle.shape.specs.Objects.{Stored, with_set}
 use Rattle.shape.proofs.Next.{numbered_if}
+use Rattle.objects.proofs.Lookup.{none_there}
+use Rattle.objects.proofs.NewNames.{no_set_yet, not_created}
+use Rattle.objects.proofs.OneMore.{length-objects-creation, objects-set, with_creation, with_join, with_set_on}
+use Rattle.objects.proofs.WithSets.{objects_with_sets_same}
 use Rattle.room_core.specs.Replay.{IsReplay}
-use Rattle.room_core.proofs.WithSets.{objects_with_sets_at, objects_with_sets_push, objects_with_sets_same, objects_with_sets_set}
-use Rattle.room_core.proofs.Lookup.{none_there}
 
 -- the vector of an operation that is admitted is one
 pub vector_if : (l : LimitValues) (r : List Entry) (o : Op) → is_placed r (Operation o) ≡ true → is_vector o.seen ≡ true
 vector_if l r o p = (and_parts (leb 1 o.name.0 && leb o.name.0 (sites r)) (is_vector o.seen) p).1
 
-objects-set : (r : List Entry) (o : Op) → is_set_body o.body ≡ true → objects (r ++ Operation o ∷ []) ≡ objects r
-objects-set r o t =
-    ap (λ (h : List Op). Rattle.std.specs.Prelude.filter (λ op. not (is_set_body op.body)) h) (operations-push r o)
-    ∙ filter-push (λ (op : Op). not (is_set_body op.body)) (operations r) o
-    ∙ ap (λ b. objects r ++ cond (not b) (o ∷ []) []) t
-    ∙ append-nil (objects r)
-
 -- ---- an operation that is admitted
 
 module _ (l : LimitValues) (r : List Entry) (legal : IsLegal l r) (o : Op) (a : admits l r (Operation o) ≡ true) where
-  -- has a new name
-  name_is_new : (x : Op) → In x (operations r) → x.name ≢ o.name
-  name_is_new x m e =
-      let h = operations r in
+  numbered : IsNumbered (operations r)
+  numbered = numbered_if (history_if_legal l r legal)
+
+  next_seq : o.name.1 ≡ count_at_site (operations r) o.name.0 + 1
+  next_seq =
       let v = vector_if l r o (and_parts (is_placed r (Operation o)) (is_none (refusal l r (Operation o))) a).0 in
-      let next = (follows_if h o (room_for_operation l r o a).1 v).seq in
-      let last = (numbered_if (history_if_legal l r legal)).numbered x (Contains-from_In x h m) in
-      let seq : x.name.1 ≡ o.name.1 = ap (λ (n : Name). n.1) e in
-      let count : count_at_site h x.name.0 ≡ count_at_site h o.name.0 = ap (λ (n : Name). count_at_site h n.0) e in
-      omega (arith, next, last, seq, count)
-
-  -- no set is on what has its name
-  no_set_yet : (x : Op) → In x (operations r) → is_set_on o.name x ≡ false
-  no_set_yet x m = false_from_ne_true (is_set_on o.name x) (λ t.
-      let h = operations r in
-      let p = and_parts (is_set_body x.body) (is_on o.name x) t in
-      let c = any_back (λ (y : Op). is_creation_of (object_of x) y && before y x) h ((founded_if_legal l r legal).object x (Contains-from_In x h m) p.0) in
-      let q = and_parts (is_creation_of (object_of x) c.0) (before c.0 x) c.2 in
-      let named = same_name-true c.0.name (object_of x) (and_parts (not (is_set_body c.0.body)) (same_name c.0.name (object_of x)) q.0).1 in
-      name_is_new c.0 c.1 (named ∙ same_name-true (object_of x) o.name p.1))
-
-  pub not_created : creation_of (operations r) o.name ≡ None
-  not_created = go (creation_of (operations r) o.name) refl
-    where
-      go : (q : Option Op) → creation_of (operations r) o.name ≡ q → q ≡ None
-      go None e = refl
-      go (Some x) e =
-          let f = find_is (is_creation_of o.name) x (operations r) e in
-          absurd (name_is_new x f.0 (same_name-true x.name o.name (and_parts (not (is_set_body x.body)) (same_name x.name o.name) f.1).1))
+      (follows_if (operations r) o (room_for_operation l r o a).1 v).seq
 
 -- ---- one more entry
 
 module _ (l : LimitValues) (r : List Entry) (joined : ℕ) (shapes : List (Name × Stored)) (history : List Op) (replay : IsReplay l r joined shapes history) where
   -- an admitted creation is of no object that is there
   pub new_name : (o : Op) → admits l r (Operation o) ≡ true → lookup (same_name o.name) shapes ≡ None
-  new_name o a = none_there l r shapes replay.shapes_are o.name (not_created l r replay.legal o a)
+  new_name o a = none_there l r shapes replay.shapes_are o.name (not_created (operations r) (numbered l r replay.legal o a) o (next_seq l r replay.legal o a))
 
   replay_join : (site : ℕ) → admits l r (Join site) ≡ true → IsReplay l (r ++ Join site ∷ []) (joined + 1) shapes history
   replay_join site a =
@@ -84,7 +55,7 @@ module _ (l : LimitValues) (r : List Entry) (joined : ℕ) (shapes : List (Name 
       record {
         legal = legal_push l r (Join site) replay.legal a;
         joins = (let e = sites-join r site in omega (arith, e, replay.joins));
-        shapes_are = replay.shapes_are ∙ (λ i. objects_with_sets_at l (sym (operations-join r site) i) (sym (objects-join r site) i));
+        shapes_are = with_join l r shapes replay.shapes_are site;
         past = replay.past ∙ sym (operations-join r site);
         few = omega (arith, replay.joins, room.0);
         short = (let e = length_push r (Join site) in omega (arith, e, room.1));
@@ -95,13 +66,11 @@ module _ (l : LimitValues) (r : List Entry) (joined : ℕ) (shapes : List (Name 
       → IsReplay l (r ++ Operation o ∷ []) joined (shapes ++ (o.name, d) ∷ []) (history ++ o ∷ [])
   replay_creation o d a creates made =
       let room = room_for_operation l r o a in
-      let more : length (objects (r ++ Operation o ∷ [])) ≡ length (objects r) + 1 = ap length (objects-creation r o creates) ∙ length_push (objects r) o in
+      let more = length-objects-creation r o creates in
       record {
         legal = legal_push l r (Operation o) replay.legal a;
         joins = replay.joins ∙ sym (sites-operation r o);
-        shapes_are =
-            objects_with_sets_push l (operations r) o (objects r) shapes d creates (no_set_yet l r replay.legal o a) replay.shapes_are made
-            ∙ (λ i. objects_with_sets_at l (sym (operations-push r o) i) (sym (objects-creation r o creates) i));
+        shapes_are = with_creation l r shapes replay.shapes_are o d creates (no_set_yet (operations r) (numbered l r replay.legal o a) o (next_seq l r replay.legal o a) (founded_if_legal l r replay.legal)) made;
         past = ap (λ (h : List Op). h ++ o ∷ []) replay.past ∙ sym (operations-push r o);
         few = replay.few;
         short = (let e = length_push r (Operation o) in omega (arith, e, room.0));
@@ -116,9 +85,7 @@ module _ (l : LimitValues) (r : List Entry) (joined : ℕ) (shapes : List (Name 
       record {
         legal = legal_push l r (Operation o) replay.legal a;
         joins = replay.joins ∙ sym (sites-operation r o);
-        shapes_are =
-            objects_with_sets_set l (operations r) o d w shapes (objects r) sets unique replay.shapes_are there taken
-            ∙ (λ i. objects_with_sets_at l (sym (operations-push r o) i) (sym (objects-set r o sets) i));
+        shapes_are = with_set_on l r shapes replay.shapes_are o d w sets unique there taken;
         past = ap (λ (h : List Op). h ++ o ∷ []) replay.past ∙ sym (operations-push r o);
         few = replay.few;
         short = (let e = length_push r (Operation o) in omega (arith, e, room.0));

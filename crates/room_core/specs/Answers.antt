@@ -8,14 +8,15 @@ use Rattle.rules.specs.declared.history.Body.TheVariants.{New, Set}
 use Rattle.rules.specs.declared.history.Entry.{Entry}
 use Rattle.rules.specs.declared.history.Entry.TheVariants.{Join, Operation}
 use Rattle.rules.specs.declared.refusal.Refusal.{Refusal}
-use Rattle.rules.specs.declared.refusal.Refusal.TheVariants.{NotJoined, AlreadyJoined, NoSuchObject, TooFar}
-use Rattle.rules.specs.Bodies.{is_set_body, kind_in}
+use Rattle.rules.specs.declared.refusal.Refusal.TheVariants.{NotJoined, AlreadyJoined, TooFar}
+use Rattle.rules.specs.Bodies.{is_set_body}
 use Rattle.rules.specs.Operations.{creation_of, object_of}
 use Rattle.rules.specs.Records.{operations, objects, sites, refusal}
 use Rattle.rules.specs.Versions.{versions}
+use Rattle.objects.specs.Shown.{shown_by}
 use Rattle.wire.specs.declared.request.Request.{Request}
 use Rattle.wire.specs.declared.reply.Reply.{Reply}
-use Rattle.wire.specs.declared.reply.Reply.TheVariants.{Joined, Made, Taken, Versions, Objects, Entries, Left, No}
+use Rattle.wire.specs.declared.reply.Reply.TheVariants.{Joined, Made, Taken, Objects, Entries, Left, No}
 use Rattle.room_core.specs.Room.{Room, all_objects, with_entry}
 
 -- a reply, and the entry that is added if there is one
@@ -66,8 +67,7 @@ operation_answer room op = if is_set_body op.body then set_answer room op else c
 
 -- the versions of an object, by its creation
 abbrev pub versions_reply : Room → Name → Option Op → Reply
-versions_reply room name None = No (length room.entries) NoSuchObject
-versions_reply room name (Some op) = Versions (length room.entries) name (kind_in op.body) (versions (operations room.entries) name)
+versions_reply room name op = shown_by room.entries name op
 
 abbrev pub show_reply : Room → Name → Reply
 show_reply room name = versions_reply room name (creation_of (operations room.entries) name)

@@ -5,3 +5,4 @@ pub mod State
 pub mod Answers
 pub mod Plans
 pub mod Replay
+pub mod Logs

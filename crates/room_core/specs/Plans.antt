@@ -1,8 +1,6 @@
 -- What is planned for a room.
-use Rattle.std.specs.Prelude.{ℕ, ◌≡◌, ◌≢◌, ◌<◌, ◌+◌, ◌-◌, ◌++◌, ◌∷◌, not, true, false, List, [], Option, Some, None, Result, IfErr, IfOk, OnOk, slice_index}
+use Rattle.std.specs.Prelude.{ℕ, ◌≡◌, ◌<◌, ◌+◌, ◌-◌, ◌++◌, ◌∷◌, not, true, false, [], Option, Some, None, Result, IfOk, slice_index}
 use Rattle.std.specs.Arc.{arc_value}
-use Rattle.std.specs.Map.{lookup, set_value}
-use Rattle.op_names.specs.Names.{Name, same_name}
 use Rattle.rules.specs.declared.history.Op.{Op}
 use Rattle.rules.specs.declared.history.Entry.{Entry}
 use Rattle.rules.specs.declared.history.Entry.TheVariants.{Join, Operation}
@@ -13,11 +11,9 @@ use Rattle.rules.specs.Bodies.{is_set_body}
 use Rattle.rules.specs.Conflicts.{has_object}
 use Rattle.rules.specs.Operations.{object_of}
 use Rattle.rules.specs.Records.{sites, operations, order_conditions, admits, refusal}
-use Rattle.shape.specs.declared.fault.SetFault.{SetFault}
-use Rattle.shape.specs.declared.fault.SetFault.TheVariants.{NoMemory}
-use Rattle.shape.specs.Objects.{Stored, set_refusal, shown_ids, with_set}
-use Rattle.shape.specs.Faults.{refusal_of}
+use Rattle.shape.specs.Objects.{Stored}
 use Rattle.shape.specs.Planned.{IsPlanned, Plan as SetPlan}
+use Rattle.objects.specs.Changes.{HasShape}
 use Rattle.wire.specs.declared.reply.Reply.{Reply}
 use Rattle.room_core.specs.Room.{Room}
 use Rattle.room_core.specs.State.{State}
@@ -55,10 +51,6 @@ order_refusal room op = first_that_applies (order_conditions room.limits room.en
 abbrev pub IsAdmitted : Room → Entry → Type 0
 IsAdmitted room entry = admits room.limits room.entries entry ≡ true
 
--- a shape stands under this name, and this holds of it
-abbrev pub HasShape : List (Name × Stored) → Name → (Stored → Type 0) → Type 0
-HasShape shapes name Holds = (d : Stored) × (lookup (same_name name) shapes ≡ Some d) × Holds d
-
 -- for how many more operations of a site there is memory
 abbrev pub spare_of : State → ℕ → ℕ
 spare_of s site = slice_index s.reserve.operations (site - 1)
@@ -90,24 +82,6 @@ pub record CanSet (s : State) (entry : Entry) (op : Op) (planned : SetPlan) : Ty
 abbrev pub early_refusal : Room → Op → Option Refusal
 early_refusal room op = first_that_applies
     (order_conditions room.limits room.entries op ++ (not (has_object (operations room.entries) op), NoSuchObject) ∷ [])
-
--- the object there was `before` and is `after`, which differ in memory alone, and the answer to this set is the object's
-pub record IsPlannedAt (object : Name) (op : Op) (old new : List (Name × Stored)) (answer : Result SetPlan SetFault) : Type 0 where
-  pub before : Stored
-  pub after : Stored
-  pub was : lookup (same_name object) old ≡ Some before
-  pub now : new ≡ set_value (same_name object) old after
-  pub kept : after.object ≡ before.object
-  pub planned : IfOk answer (λ plan. IsPlanned after plan)
-  pub added : IfOk answer (λ plan. plan.addition.op ≡ op)
-  pub ids : IfOk answer (λ plan. plan.ids ≡ shown_ids (with_set before.object op))
-  pub taken : OnOk answer (set_refusal before.object op ≡ None)
-  pub refused : IfErr answer (λ fault. fault ≢ NoMemory → set_refusal before.object op ≡ refusal_of fault)
-
--- the object under this name got this set, and the others stayed
-abbrev pub IsCommittedAt : Name → Op → List (Name × Stored) → List (Name × Stored) → Type 0
-IsCommittedAt object op old new = HasShape old object
-    (λ before. (after : Stored) × (after.object ≡ with_set before.object op) × (new ≡ set_value (same_name object) old after))
 
 -- the change can be made in this state, and takes no memory
 abbrev pub IsReady : State → Change → Type 0

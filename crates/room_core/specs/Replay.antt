@@ -6,7 +6,7 @@ use Rattle.rules.specs.declared.history.Entry.{Entry}
 use Rattle.rules.specs.declared.limits.LimitValues.{LimitValues}
 use Rattle.rules.specs.Records.{sites, operations, objects, IsLegal}
 use Rattle.shape.specs.Objects.{Stored}
-use Rattle.room_core.specs.State.{objects_with_sets, without_spare}
+use Rattle.objects.specs.Objects.{objects_with_sets, without_spare}
 
 -- the record r is legal and within the limits; the number of its sites, its objects with their sets and its operations are these
 pub record IsReplay (limits : LimitValues) (r : List Entry) (joined : ℕ) (shapes : List (Name × Stored)) (history : List Op) : Type 0 where

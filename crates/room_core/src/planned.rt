@@ -1,7 +1,9 @@
 //! An answer that is built, and not yet made.
 
-ghost use Rattle.std.specs.Prelude.{◌≡◌};
+ghost use Rattle.std.specs.Prelude.{◌≡◌, option_map};
+ghost use Rattle.std.specs.Arc.{arc_value};
 ghost use Rattle.room_core.specs.declared.planned.Change.TheVariants.{Nothing};
+ghost use Rattle.room_core.specs.Plans.{entry_added};
 
 use rules::{Entry, SharedOp};
 use shape::{PlannedSet, Shape};
@@ -44,6 +46,18 @@ impl Planned {
         ensures { result.now ≡ self.now.reply }
     {
         &self.reply
+    }
+
+    /// The entry that will be added, if there is one.
+    pub fn entry(&self) -> Option<&Arc<Entry>>
+        ensures { option_map (λ e. arc_value e.now) result ≡ entry_added self.now.change }
+    {
+        match &self.change {
+            Change::Nothing => None,
+            Change::Joins(entry) | Change::Creates(entry, _, _) | Change::Sets(entry, _, _) => {
+                Some(entry)
+            }
+        }
     }
 
     /// A reply that changes nothing.

@@ -10,12 +10,13 @@ ghost use Rattle.room_core.specs.Room.{with_entry, empty_room};
 ghost use Rattle.room_core.specs.Answers.{join_answer, answer, site_answer, has_site, room_after};
 ghost use Rattle.room_core.specs.Plans.{entry_added, spare_of, IsReady, Plans, CanJoin, CanCreate, CanSet};
 
+mod calls;
 mod plans;
 
-use crate::objects::{commit_at, insert_reserved, object_of};
 use crate::planned::{Change, Planned};
 use causal::Past;
 use indexmap::IndexMap;
+use objects::{commit_at, insert_reserved, object_of};
 use op_names::{NoMemory, OpName};
 use rules::{Body, Entry, Limits, Refusal, SharedOp};
 use shape::{PlannedSet, Shape};

@@ -1,8 +1,7 @@
-//! The worked rows of one room.
+//! What a room answers that no script reaches.
 
-mod rows;
+mod logs;
 
-use self::rows::{EXAMPLES, LIMITED};
 use op_names::Kind;
 use room_core::{Limits, RoomState};
 use rules::{Attrs, LimitValues};
@@ -10,13 +9,18 @@ use state_vector::StateVector;
 use std::process::Abort;
 use wire::{Reply, Request, read_request, write_reply};
 
-/// Lines that a room of these limits answers one after the other.
-pub struct Example {
-    pub name: &'static str,
-    pub limits: LimitValues,
-    /// Lines SITE REQUEST => REPLY, or join => REPLY where the next site joins.
-    pub parts: &'static [&'static str],
-}
+/// What is asked of a room with one site as a site that hasn't joined.
+const NOT_JOINED: &str = r#"0 ["leave"] => ["no",0,2,"not-joined"]
+2 ["leave"] => ["no",0,2,"not-joined"]"#;
+
+/// What is asked of a room after 16,384 entries: a join, 512 creations, and 31 sets on each object
+/// but one.
+const AT_THE_END: &str = r#"join => ["no",16384,6,"record-full"]
+1 ["new",16384,[[1,16383]],"rect",[]] => ["no",16384,6,"record-full"]
+1 ["set",16384,[[1,16383]],[1,1],[],"x",1] => ["no",16384,6,"record-full"]
+1 ["show",[1,1]] => ["versions",16384,[1,1],"rect",[[[],[["x",15872]]]]]
+1 ["list",511] => ["objects",16384,511,512,[[[1,512],"rect"]]]
+1 ["pull",16384] => ["entries",16384,16384,[]]"#;
 
 fn text(rt: &(impl Abort + AllocGlobal), reply: &Reply) -> String {
     write_reply(rt.alloc(), reply).expect(rt, "memory")
@@ -46,7 +50,7 @@ fn request_of(rt: &(impl Abort + AllocGlobal), text: &str) -> Request {
     read_request(rt.alloc(), text.as_bytes()).expect(rt, "a request")
 }
 
-/// Does the room answer the line as the line says?
+/// Does the room answer the line, SITE REQUEST => REPLY or join => REPLY where the next site joins?
 fn answers(rt: &(impl Abort + AllocGlobal), room: &mut RoomState, line: &str) -> bool {
     let (asked, expected) = line.split_once(" => ").expect(rt, "an arrow");
     let reply = match asked.split_once(' ') {
@@ -59,30 +63,17 @@ fn answers(rt: &(impl Abort + AllocGlobal), room: &mut RoomState, line: &str) ->
     reply.as_str() == expected
 }
 
-fn holds(rt: &(impl Abort + AllocGlobal), example: &Example) -> bool {
-    let mut room = room_of(rt, example.limits);
-    for part in example.parts {
-        for line in part.lines() {
-            if !answers(rt, &mut room, line) {
-                return false;
-            }
-        }
-    }
-    true
-}
-
-#[test]
-fn rooms_answer(rt: HostRuntime) {
-    for example in EXAMPLES {
-        assert!(rt; holds(&rt, example), "{}", example.name);
+fn answers_lines(rt: &(impl Abort + AllocGlobal), room: &mut RoomState, lines: &str) {
+    for line in lines.lines() {
+        assert!(rt; answers(rt, room, line), "{line}");
     }
 }
 
 #[test]
-fn limits_are_kept(rt: HostRuntime) {
-    for example in LIMITED {
-        assert!(rt; holds(&rt, example), "{}", example.name);
-    }
+fn sites_that_have_not_joined(rt: HostRuntime) {
+    let mut room = room_of(&rt, LimitValues::FULL);
+    let _ = join_text(&rt, &mut room);
+    answers_lines(&rt, &mut room, NOT_JOINED);
 }
 
 /// A creation of this number, which may be out of range.
@@ -186,9 +177,7 @@ fn a_full_room_still_shows(rt: HostRuntime) {
         ask_next(&rt, &mut room, seen, seen + 1);
     }
     assert_eq!(rt; room.entries().len(), 16384);
-    for line in rows::AT_THE_END.lines() {
-        assert!(rt; answers(&rt, &mut room, line), "{line}");
-    }
+    answers_lines(&rt, &mut room, AT_THE_END);
     assert_eq!(rt; page_of(&rt, &mut room, Request::Pull { from: 16000 }), 64);
     assert_eq!(rt; page_of(&rt, &mut room, Request::List { from: 100 }), 64);
     assert_eq!(rt; room.entries().len(), 16384);

@@ -15,4 +15,5 @@ pub mod Conflicts
 pub mod Versions
 pub mod Records
 pub mod Shared
+pub mod Equality
 pub mod Examples

@@ -8,7 +8,7 @@ use state_vector::StateVector;
 use std::alloc::Global;
 
 /// What an operation does.
-#[derive(Debug, Drop, PartialEq, Eq)]
+#[derive(Debug, Drop)]
 pub enum Body {
     /// Creates an object, which has the operation's name.
     New {
@@ -49,8 +49,55 @@ impl Body {
     }
 }
 
+impl PartialEq for Body {
+    ghost use Rattle.std.specs.Cmp.{partial_equiv_from_equiv};
+    ghost use Rattle.rules.specs.Equality.{same_body, same_body-equivalence};
+
+    ghost eq = { same_body };
+
+    ghost laws = { partial_equiv_from_equiv same_body-equivalence };
+
+    fn eq(&self, other: &Body) -> bool {
+        match (self, other) {
+            (
+                Body::New { kind, attrs },
+                Body::New {
+                    kind: other_kind,
+                    attrs: other_attrs,
+                },
+            ) => *kind == *other_kind && *attrs == *other_attrs,
+            (
+                Body::Set {
+                    object,
+                    version,
+                    key,
+                    value,
+                },
+                Body::Set {
+                    object: other_object,
+                    version: other_version,
+                    key: other_key,
+                    value: other_value,
+                },
+            ) => {
+                *object == *other_object
+                    && *version == *other_version
+                    && *key == *other_key
+                    && *value == *other_value
+            }
+            _ => false,
+        }
+    }
+}
+
+impl Eq for Body {
+    ghost use Rattle.rules.specs.Equality.{same_body-equivalence};
+
+    ghost laws = { same_body-equivalence };
+}
+
 /// An operation: its name, what its author had seen, and what it does.
-#[derive(Debug, Drop, PartialEq, Eq)]
+#[derive(Debug, Drop)]
 pub struct Op {
     pub name: OpName,
     pub seen: StateVector,
@@ -72,8 +119,27 @@ impl Op {
     }
 }
 
+impl PartialEq for Op {
+    ghost use Rattle.std.specs.Cmp.{partial_equiv_from_equiv};
+    ghost use Rattle.rules.specs.Equality.{same_operation, same_operation-equivalence};
+
+    ghost eq = { same_operation };
+
+    ghost laws = { partial_equiv_from_equiv same_operation-equivalence };
+
+    fn eq(&self, other: &Op) -> bool {
+        self.name == other.name && self.seen == other.seen && self.body == other.body
+    }
+}
+
+impl Eq for Op {
+    ghost use Rattle.rules.specs.Equality.{same_operation-equivalence};
+
+    ghost laws = { same_operation-equivalence };
+}
+
 /// An entry of a room's record: a site that joined, or an operation.
-#[derive(Debug, Drop, PartialEq, Eq)]
+#[derive(Debug, Drop)]
 pub enum Entry {
     Join(u32),
     Operation(Op),
@@ -89,4 +155,27 @@ impl Entry {
             Entry::Operation(op) => Ok(Entry::Operation(op.copy(alloc)?)),
         }
     }
+}
+
+impl PartialEq for Entry {
+    ghost use Rattle.std.specs.Cmp.{partial_equiv_from_equiv};
+    ghost use Rattle.rules.specs.Equality.{same_entry, same_entry-equivalence};
+
+    ghost eq = { same_entry };
+
+    ghost laws = { partial_equiv_from_equiv same_entry-equivalence };
+
+    fn eq(&self, other: &Entry) -> bool {
+        match (self, other) {
+            (Entry::Join(site), Entry::Join(other_site)) => *site == *other_site,
+            (Entry::Operation(op), Entry::Operation(other_op)) => *op == *other_op,
+            _ => false,
+        }
+    }
+}
+
+impl Eq for Entry {
+    ghost use Rattle.rules.specs.Equality.{same_entry-equivalence};
+
+    ghost laws = { same_entry-equivalence };
 }

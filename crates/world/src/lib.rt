@@ -20,8 +20,8 @@ mod script;
 mod seats;
 
 pub use fault::ScriptFault;
-use named_room::{NamedRoom, answer_at, empty_rooms, place_of, repeated_name};
-use op_names::{NoMemory, RoomName};
+use named_room::{NamedRoom, answer_at, empty_rooms, place_of};
+use op_names::{NoMemory, RoomName, repeated_name};
 pub use room_core::RoomsFault;
 use rules::{Entry, Limits};
 use seats::{Asker, Seat, seat_at};

@@ -1,6 +1,6 @@
 use Rattle.std.proofs.Common.{arith, ◌∙◌, map}
 use Rattle.std.specs.Arc.{arc_value}
-use Rattle.room_core.proofs.Lookup.{objects_counted}
+use Rattle.objects.proofs.Lookup.{objects_counted}
 use Rattle.room_core.proofs.room.RoomState.count_objects.Goals as goal
 
 pub overflow_cast-result : goal.overflow_cast-result

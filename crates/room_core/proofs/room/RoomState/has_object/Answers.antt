@@ -3,7 +3,7 @@ use Rattle.std.specs.Arc.{arc_value}
 use Rattle.rules.specs.Conflicts.{has_object}
 use Rattle.rules.specs.Records.{operations}
 use Rattle.room_core.specs.State.{State}
-use Rattle.room_core.proofs.Lookup.{has_shape, no_object_if_not_counted, object_if_counted}
+use Rattle.objects.proofs.Lookup.{has_shape, no_object_if_not_counted, object_if_counted}
 use Rattle.room_core.proofs.room.RoomState.has_object.Goals as goal
 
 pub returns-then-has : goal.returns-then-has

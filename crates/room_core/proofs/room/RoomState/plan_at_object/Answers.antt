@@ -11,7 +11,8 @@ use Rattle.rules.specs.Versions.{versions}
 use Rattle.shape.specs.declared.fault.SetFault.TheVariants.{NoMemory}
 use Rattle.shape.specs.Objects.{Stored}
 use Rattle.shape.specs.Faults.{refusal_of}
-use Rattle.room_core.specs.Plans.{IsPlannedAt, early_refusal}
+use Rattle.objects.specs.Changes.{IsPlannedAt}
+use Rattle.room_core.specs.Plans.{early_refusal}
 use Rattle.room_core.specs.Room.{Room}
 use Rattle.room_core.specs.State.{State}
 use Rattle.room_core.proofs.AtObject.{can_ask, none_refused, planned_ids, planned_there, refused_alike, still_replay}

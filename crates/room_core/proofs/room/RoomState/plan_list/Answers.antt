@@ -8,7 +8,7 @@ use Rattle.wire.specs.declared.reply.Reply.TheVariants.{No, Objects}
 use Rattle.room_core.specs.Answers.{page}
 use Rattle.room_core.specs.Room.{all_objects}
 use Rattle.room_core.specs.State.{State, kinds_of}
-use Rattle.room_core.proofs.Lookup.{kinds_listed}
+use Rattle.room_core.proofs.ObjectKinds.{kinds_listed}
 use Rattle.room_core.proofs.room.RoomState.plan_list.Goals as goal
 
 pub returns-clause-reply : goal.returns-clause-reply

@@ -1,0 +1,60 @@
+//! Rooms that threads ask.
+
+mod apart;
+mod closed;
+mod many;
+mod refused;
+mod told;
+
+use op_names::RoomName;
+use room_lock::{Joined, Pass, RoomLedger, Rooms};
+use std::process::Abort;
+use std::sync::Wait;
+use wire::{Request, read_request, write_reply};
+
+/// The creation of a rectangle as a site's first operation, which has seen nothing.
+const CREATION: &str = r#"["new",1,[],"rect",[["x",0]]]"#;
+
+fn room_name(rt: &(impl Abort + AllocGlobal), text: &str) -> RoomName {
+    RoomName::parse(rt.alloc(), text.as_bytes()).expect(rt, "a name")
+}
+
+fn request_of(rt: &(impl Abort + AllocGlobal), text: &str) -> Request {
+    read_request(rt.alloc(), text.as_bytes()).expect(rt, "a request")
+}
+
+/// The pass of the next site of the room.
+fn entered<P: RoomLedger>(
+    rt: &(impl Wait + Abort + AllocGlobal),
+    rooms: &Rooms<P>,
+    name: &RoomName,
+) -> Pass<P> {
+    match rooms.join(rt, rt.alloc(), name).expect(rt, "memory") {
+        Joined::Entered(pass, _) => pass,
+        Joined::Refused(_) => panic!(rt; "a refused join"),
+    }
+}
+
+/// The text of the reply to a request of the pass's site.
+fn asked<P: RoomLedger>(
+    rt: &(impl Wait + Abort + AllocGlobal),
+    rooms: &Rooms<P>,
+    pass: &mut Pass<P>,
+    request: &str,
+) -> String {
+    let request = request_of(rt, request);
+    let reply = rooms
+        .call(rt, rt.alloc(), pass, request)
+        .expect(rt, "an answer");
+    write_reply(rt.alloc(), &reply).expect(rt, "memory")
+}
+
+/// How many entries the room has.
+fn size_of<P: RoomLedger>(
+    rt: &(impl Wait + Abort + AllocGlobal),
+    rooms: &Rooms<P>,
+    name: &RoomName,
+) -> usize {
+    let size = rooms.with(rt, name, |room| room.entries().len());
+    size.expect(rt, "a room")
+}

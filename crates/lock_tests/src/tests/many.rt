@@ -1,0 +1,224 @@
+//! Eight threads that ask four rooms, and what the rooms have when they are closed.
+
+ghost use Rattle.std.specs.Prelude.{◌≡◌, length};
+
+use super::{CREATION, asked, entered, request_of, room_name};
+use op_names::{Key, OpName, RoomName, Value, VersionId};
+use room_core::RoomState;
+use room_lock::{Opened, Pass, RoomLedger, RoomRecord, Rooms, open_histories};
+use rules::{Body, Entry, Limits, Op};
+use state_vector::StateVector;
+use std::marker::Brand;
+use std::process::Abort;
+use std::sync::ledger::Blank;
+use std::sync::{Arc, Wait};
+use std::thread;
+use std::thread::Threads;
+use wire::{Reply, Request};
+
+/// How many operations of each of three sites a pass has seen, and among how many entries.
+#[derive(Drop)]
+struct Counted {
+    entries: usize,
+    operations: [u32; 4],
+}
+
+impl Counted {
+    /// Counts on, up to all that was seen.
+    fn go_on(&mut self, seen: &[Arc<Entry>]) {
+        let from = self.entries.min(seen.len());
+        for entry in &seen[from..] {
+            if let Entry::Operation(op) = &**entry {
+                let site = op.name.site() as usize;
+                if site < 4 {
+                    self.operations[site] = op.name.seq();
+                }
+            }
+        }
+        self.entries = seen.len();
+    }
+
+    /// The vector that counts these operations.
+    fn vector(&self, rt: &(impl Abort + AllocGlobal)) -> StateVector {
+        let mut pairs = Vec::new(rt.alloc());
+        for site in 1..4 {
+            let count = self.operations[site as usize];
+            if count > 0 {
+                pairs.push((site, count)).expect(rt, "memory");
+            }
+        }
+        StateVector::from_pairs(rt.alloc(), &pairs).expect(rt, "a vector")
+    }
+}
+
+/// The identifier of the first version that is shown.
+fn first_version(rt: &(impl Abort + AllocGlobal), reply: &Reply) -> VersionId {
+    match reply {
+        Reply::Versions { versions, .. } => match versions.as_slice().first() {
+            Some(version) => version.id.copy(rt.alloc()).expect(rt, "memory"),
+            None => panic!(rt; "no version"),
+        },
+        _ => panic!(rt; "no versions"),
+    }
+}
+
+/// The key that is set: in most turns one of the site's own, and now and then one that all set.
+fn key_of(rt: &(impl Abort + AllocGlobal), site: u32, turn: u32) -> Key {
+    let text = match (turn % 25, site) {
+        (0, _) => "x",
+        (_, 2) => "y",
+        (_, _) => "z",
+    };
+    Key::parse(rt.alloc(), text.as_bytes()).expect(rt, "a key")
+}
+
+/// Shows the object that all sites share, and then sets a key of the first version that it has.
+fn shows_and_sets<P: RoomLedger>(
+    rt: &(impl Wait + Abort + AllocGlobal),
+    rooms: &Rooms<P>,
+    pass: &mut Pass<P>,
+    counted: &mut Counted,
+    turn: u32,
+) {
+    let shown = rooms.call(rt, rt.alloc(), pass, request_of(rt, r#"["show",[1,1]]"#));
+    let version = first_version(rt, &shown.expect(rt, "an answer"));
+    counted.go_on(pass.seen());
+    let set = Request::Set {
+        seq: turn.saturating_add(1),
+        seen: counted.vector(rt),
+        object: OpName::new(1, 1).expect(rt, "a name"),
+        version,
+        key: key_of(rt, pass.site(), turn),
+        value: Value::Number(i64::from(turn)),
+    };
+    match rooms
+        .call(rt, rt.alloc(), pass, set)
+        .expect(rt, "an answer")
+    {
+        Reply::Taken { .. } => {}
+        _ => panic!(rt; "a refused set"),
+    }
+}
+
+/// A session of 200 calls.
+fn session<P: RoomLedger>(
+    rt: &(impl Wait + Abort + AllocGlobal),
+    rooms: &Rooms<P>,
+    name: &RoomName,
+) -> Pass<P> {
+    let mut pass = entered(rt, rooms, name);
+    let mut counted = Counted {
+        entries: 0,
+        operations: [0; 4],
+    };
+    for turn in 0..100 {
+        shows_and_sets(rt, rooms, &mut pass, &mut counted, turn);
+    }
+    pass
+}
+
+/// The request that an operation was.
+fn request_that_was(rt: &(impl Abort + AllocGlobal), op: &Op) -> Request {
+    let alloc = rt.alloc();
+    let seq = op.name.seq();
+    let seen = op.seen.copy(alloc).expect(rt, "memory");
+    match &op.body {
+        Body::New { kind, attrs } => Request::New {
+            seq,
+            seen,
+            kind: kind.copy(alloc).expect(rt, "memory"),
+            attrs: attrs.copy(alloc).expect(rt, "memory"),
+        },
+        Body::Set {
+            object,
+            version,
+            key,
+            value,
+        } => Request::Set {
+            seq,
+            seen,
+            object: *object,
+            version: version.copy(alloc).expect(rt, "memory"),
+            key: key.copy(alloc).expect(rt, "memory"),
+            value: value.copy(alloc).expect(rt, "memory"),
+        },
+    }
+}
+
+/// Does the room take the entry as its next one?
+fn takes(rt: &(impl Abort + AllocGlobal), room: &mut RoomState, entry: &Entry) -> bool {
+    let reply = match entry {
+        Entry::Join(_) => room.join(rt.alloc()),
+        Entry::Operation(op) => {
+            room.answer(rt.alloc(), op.name.site(), request_that_was(rt, op))
+        }
+    };
+    match reply.expect(rt, "memory") {
+        Reply::Joined { .. } | Reply::Made { .. } | Reply::Taken { .. } => true,
+        _ => false,
+    }
+}
+
+/// Does a new room take the whole record, of three joins, a creation and 200 sets?
+fn is_taken_whole(rt: &(impl Abort + AllocGlobal), record: &RoomRecord) -> bool {
+    let entries = record.entries.as_slice();
+    let mut room = RoomState::new(rt.alloc(), Limits::full()).expect(rt, "memory");
+    for entry in entries {
+        if !takes(rt, &mut room, entry) {
+            return false;
+        }
+    }
+    entries.len() == 204 && room.entries().len() == 204
+}
+
+/// The passes of the first sites, which create the objects, and of eight threads, two a room.
+fn passes_of<P: RoomLedger + Send + Sync, R: Threads + Wait + Sync + Abort + AllocGlobal>(
+    rt: &R,
+    rooms: &Rooms<P>,
+    names: &[RoomName],
+) -> Vec<Pass<P>>
+    requires { length names.now ≡ 4 }
+{
+    let mut firsts = Vec::new(rt.alloc());
+    for name in names {
+        let mut pass = entered(rt, rooms, name);
+        let _reply = asked(rt, rooms, &mut pass, CREATION);
+        firsts.push(pass).expect(rt, "memory");
+    }
+    let ask = |place: usize| session(rt, rooms, &names[place % 4]);
+    let mut passes = thread::map_indices(rt, rt.alloc(), 8, &ask).expect(rt, "memory");
+    passes.append(&mut firsts).expect(rt, "memory");
+    passes
+}
+
+fn many_threads_in<P: RoomLedger + Send + Sync, R: Threads + Wait + Sync + Abort + AllocGlobal>(
+    rt: &R,
+    blank: Blank,
+    histories: Vec<Opened>,
+    limits: Limits,
+)
+    requires name { blank.name ≡ P.name }
+    requires parts { (blank.parts ≡ P.parts) × (blank.parts ≡ 1033) }
+    requires limits { limits ≡ P.limits }
+    requires histories { (histories.items ≡ P.books) × (length histories.items ≡ 4) }
+{
+    let names = [
+        room_name(rt, "a"),
+        room_name(rt, "b"),
+        room_name(rt, "c"),
+        room_name(rt, "d"),
+    ];
+    let rooms = Rooms::<P>::new(rt.alloc(), blank, histories, &names, limits).expect(rt, "rooms");
+    let passes = passes_of(rt, &rooms, &names);
+    let records = rooms.close(rt.alloc(), passes).expect(rt, "records");
+    assert_eq!(rt; records.len(), 4);
+    for record in &records {
+        assert!(rt; is_taken_whole(rt, record));
+    }
+}
+
+#[test]
+fn many_threads(rt: HostRuntime) {
+    let histories = open_histories(rt.alloc(), 4).expect(&rt, "memory");
+    many_threads_in::<Brand, _>(&rt, Blank::new(1033), histories, Limits::full());
+}

@@ -1,0 +1,23 @@
+//! Rooms behind locks. Threads call them through passes, and each room keeps one record, which all of
+//! its passes have seen beginnings of.
+#![tactic(auto)]
+
+mod account;
+mod closing;
+mod fault;
+mod histories;
+mod joined;
+mod keeper;
+pub mod laws;
+mod ledger;
+mod pass;
+mod room;
+mod rooms;
+
+pub use fault::{CloseFault, RoomRecord};
+pub use histories::{Opened, open_histories};
+pub use joined::Joined;
+pub use ledger::RoomLedger;
+pub use pass::Pass;
+pub use room_core::{CallFault, RoomsFault};
+pub use rooms::Rooms;

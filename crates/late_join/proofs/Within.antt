@@ -1,0 +1,293 @@
+-- A legal record is within its limits, and no entry stands twice in it.
+use Rattle.std.proofs.Common.{◌≡◌, ℕ, ◌+◌, ◌<◌, ◌≤◌, Bool, true, false, cond, not, List, [], ◌∷◌, ◌++◌, length, refl, sym, ap, ◌∙◌, subst, arith, inl, inr, Option, Some, None, eqb, leb, ltb, ◌&&◌, append_assoc}
+use Rattle.std.specs.Prelude.{filter, flat_map, bytes_eq, is_none}
+use Rattle.std.proofs.lemmas.Bool.{true≢false, cases_Bool, and_parts, false_from_ne_true, leb-false, eqb-true, cases_lt, lt-ltb}
+use Rattle.std.proofs.lemmas.List.{append-nil, length_push}
+use Rattle.op_names.specs.Names.{Name}
+use Rattle.op_names.specs.Texts.{Bytes}
+use Rattle.state_vector.specs.Vectors.{is_vector}
+use Rattle.rules.specs.declared.history.Op.{Op}
+use Rattle.rules.specs.declared.history.Body.{Body}
+use Rattle.rules.specs.declared.history.Body.TheVariants.{New, Set}
+use Rattle.rules.specs.declared.history.Entry.{Entry}
+use Rattle.rules.specs.declared.history.Entry.TheVariants.{Join, Operation}
+use Rattle.rules.specs.declared.refusal.Refusal.TheVariants.{NoSuchObject, NoSuchVersion, ObjectFull, TooManyKeys, TooManyVersions}
+use Rattle.rules.specs.declared.limits.LimitValues.{LimitValues}
+use Rattle.rules.specs.Bodies.{is_set_body, keys_in}
+use Rattle.rules.specs.Lists.{sort_by}
+use Rattle.rules.specs.Operations.{by_name, is_on, is_set_on, object_of, sets_on}
+use Rattle.rules.specs.Admission.{first_that_applies}
+use Rattle.rules.specs.Conflicts.{base, has_object}
+use Rattle.rules.specs.Versions.{groups, keys_of}
+use Rattle.rules.specs.Records.{operation_in, operations, objects, sites, admits, is_placed, refusal, order_conditions, set_conditions, creation_conditions, has_new_key, has_too_many_keys, has_too_many_versions, IsLegal, IsLegalAfter}
+use Rattle.rules.proofs.Lists.{In, Contains-from_In, In-append_cases, In-append_left, In-append_right, In-filter_map, In-flat_map, In-flat_map_back}
+use Rattle.rules.proofs.Once.{Once, Once-append, length_within}
+use Rattle.rules.proofs.Reordered.{SameMembers, In-each_once, In-each_once_back, Once-each_once, same_key_is, same_key_itself}
+use Rattle.rules.proofs.Sets.{in_sets_on, in_sets_on_back}
+use Rattle.rules.proofs.Shown.{sort-length}
+use Rattle.rules.proofs.Objects.{groups_kept}
+use Rattle.rules.proofs.Records.{filter-push, operations-join, operations-push, sites-join, sites-operation, objects-join, objects-creation, legal_push}
+use Rattle.rules.proofs.Conditions.{none_of_both, not_first, none_applies, room_for_join, room_for_operation, room_for_object}
+use Rattle.rules.proofs.Founded.{history_if_legal}
+use Rattle.rules.proofs.Histories.{follows_if}
+use Rattle.shape.proofs.Next.{numbered_if}
+use Rattle.shape.proofs.KeyCounts.{keys_as_many, one_more_key, as_many_keys}
+
+-- ---- keys
+
+pub record OneKey (body : Body) : Type 0 where
+  pub key : Bytes
+  pub is : keys_in body ≡ key ∷ []
+
+pub one_key_of_set : (body : Body) → is_set_body body ≡ true → OneKey body
+one_key_of_set (New kind attrs) e = absurd (true≢false (sym e))
+one_key_of_set (Set object version key value) e = record { key = key; is = refl }
+
+-- sets that have all that others have have no fewer keys
+pub keys_within : (f g : List Op) → ((x : Op) → In x f → In x g) → length (keys_of f) ≤ length (keys_of g)
+keys_within f g w =
+    let all : List Op → List Bytes = λ k. flat_map (λ op. keys_in op.body) k in
+    length_within (keys_of f) (keys_of g) (Once-each_once bytes_eq same_key_is same_key_itself (all f)) (λ key m.
+    let c = In-flat_map_back (λ (op : Op). keys_in op.body) key f (In-each_once_back bytes_eq same_key_is same_key_itself key (all f) m) in
+    In-each_once bytes_eq same_key_is same_key_itself key (all g) (In-flat_map (λ (op : Op). keys_in op.body) c.0 key g (w c.0 c.1) c.2))
+
+-- ---- one object, and one operation more
+
+module _ (h : List Op) (o : Op) (object : Name) where
+  abbrev test : Op → Bool
+  test = is_set_on object
+
+  module _ (beside : is_set_on object o ≡ false) where
+    same : filter test (h ++ o ∷ []) ≡ filter test h
+    same = filter-push test h o ∙ ap (λ b. filter test h ++ cond b (o ∷ []) []) beside ∙ append-nil (filter test h)
+
+    pub sets_beside : sets_on (h ++ o ∷ []) object ≡ sets_on h object
+    unfolding sets_on
+    sets_beside = ap (sort_by by_name) same
+
+    pub groups_beside : groups (h ++ o ∷ []) object ≡ groups h object
+    groups_beside = sym (groups_kept object test (λ x e. e) (h ++ o ∷ [])) ∙ ap (λ l. groups l object) same ∙ groups_kept object test (λ x e. e) h
+
+  module _ (on : is_set_on object o ≡ true) where
+    more : filter test (h ++ o ∷ []) ≡ filter test h ++ o ∷ []
+    more = filter-push test h o ∙ ap (λ b. filter test h ++ cond b (o ∷ []) []) on
+
+    pub sets_with : length (sets_on (h ++ o ∷ []) object) ≡ length (sets_on h object) + 1
+    unfolding sets_on
+    sets_with =
+        let a = sort-length by_name (filter test (h ++ o ∷ [])) in
+        let c = sort-length by_name (filter test h) in
+        let d = ap length more ∙ length_push (filter test h) o in
+        omega (arith, a, c, d)
+
+    pub sets_with_same : SameMembers (sets_on (h ++ o ∷ []) object) (sets_on h object ++ o ∷ [])
+    sets_with_same = record {
+      to = λ x m.
+          let c = in_sets_on_back (h ++ o ∷ []) object x m in
+          elim (In-append_cases x h (o ∷ []) c.0) [
+            | inl l ↦ In-append_left x (sets_on h object) (o ∷ []) (in_sets_on h object x l c.1)
+            | inr r ↦ In-append_right x (sets_on h object) (o ∷ []) r
+          ];
+      back = λ x m. elim (In-append_cases x (sets_on h object) (o ∷ []) m) [
+        | inl l ↦ (let c = in_sets_on_back h object x l in in_sets_on (h ++ o ∷ []) object x (In-append_left x h (o ∷ []) c.0) c.1)
+        | inr r ↦ elim r [
+          | inl e ↦ in_sets_on (h ++ o ∷ []) object x (In-append_right x h (o ∷ []) (inl e)) (ap test e ∙ on)
+          | inr z ↦ absurd z
+        ]
+      ];
+    }
+
+    -- where the set's key is within the limit, so are the keys with it
+    pub keys_with : (b : LimitValues) → has_too_many_keys b (sets_on h object) o ≡ false → length (keys_of (sets_on h object)) ≤ b.keys → length (keys_of (sets_on (h ++ o ∷ []) object)) ≤ b.keys
+    keys_with b few within =
+        let key = one_key_of_set o.body (and_parts (is_set_body o.body) (is_on object o) on).0 in
+        let same = keys_as_many (sets_on (h ++ o ∷ []) object) (sets_on h object ++ o ∷ []) sets_with_same in
+        elim (cases_Bool (has_new_key (sets_on h object) o)) [
+          | inl t ↦
+              (let full : leb b.keys (length (keys_of (sets_on h object))) ≡ false = rw t at few in
+              let one = one_more_key (sets_on h object) o key.key key.is t in
+              omega (arith, same, one, leb-false b.keys (length (keys_of (sets_on h object))) full))
+          | inr f ↦
+              (let one = as_many_keys (sets_on h object) o key.key key.is f in
+              omega (arith, same, one, within))
+        ]
+
+-- ---- what stays within the limits
+
+-- an object that has a set
+pub record Fits (b : LimitValues) (h : List Op) (object : Name) : Type 0 where
+  pub sets : length (sets_on h object) ≤ b.sets
+  pub keys : length (keys_of (sets_on h object)) ≤ b.keys
+  pub versions : length (groups h object) ≤ b.versions
+
+pub record IsWithin (b : LimitValues) (r : List Entry) : Type 0 where
+  pub length : length r ≤ b.entries
+  pub joins : (site : ℕ) → In (Join site) r → (1 ≤ site) × (site ≤ sites r)
+  pub few : sites r ≤ b.joins
+  pub objects : Rattle.std.proofs.Common.length (objects r) ≤ b.objects
+  pub once : Once r
+  pub fits : (o : Op) → In o (operations r) → is_set_body o.body ≡ true → Fits b (operations r) (object_of o)
+
+-- what is asked of a set that is admitted
+record Room (b : LimitValues) (h : List Op) (o : Op) : Type 0 where
+  sets : length (sets_on h (object_of o)) < b.sets
+  keys : has_too_many_keys b (sets_on h (object_of o)) o ≡ false
+  versions : length (groups (h ++ o ∷ []) (object_of o)) ≤ b.versions
+
+at_most : (n limit : ℕ) → ltb limit n ≡ false → n ≤ limit
+at_most n limit f = elim (cases_lt limit n) [ inl l ↦ absurd (true≢false (sym (lt-ltb limit n l) ∙ f)) | inr g ↦ g ]
+
+room_if : (b : LimitValues) (r : List Entry) (o : Op) → admits b r (Operation o) ≡ true → is_set_body o.body ≡ true → Room b (operations r) o
+room_if b r o a e =
+    let h = operations r in
+    let x = none_of_both (order_conditions b r o) (cond (is_set_body o.body) (set_conditions b h o) (creation_conditions b r)) (none_applies b r (Operation o) a) in
+    let y : first_that_applies (set_conditions b h o) ≡ None = rw e at x.1 in
+    let sets = sets_on h (object_of o) in
+    let d = (has_too_many_versions b h o, TooManyVersions) ∷ [] in
+    let c = (has_too_many_keys b sets o, TooManyKeys) ∷ d in
+    let f = (leb b.sets (length sets), ObjectFull) ∷ c in
+    let first = not_first (not (has_object h o), NoSuchObject) ((is_none (base h o), NoSuchVersion) ∷ f) y in
+    let second = not_first (is_none (base h o), NoSuchVersion) f first.1 in
+    let third = not_first (leb b.sets (length sets), ObjectFull) c second.1 in
+    let fourth = not_first (has_too_many_keys b sets o, TooManyKeys) d third.1 in
+    let fifth = not_first (has_too_many_versions b h o, TooManyVersions) [] fourth.1 in
+    record { sets = leb-false b.sets (length sets) third.0; keys = fourth.0; versions = at_most (length (groups (h ++ o ∷ []) (object_of o))) b.versions fifth.0 }
+
+-- a name that is admitted is new
+new_name : (b : LimitValues) (r : List Entry) (o : Op) → IsLegal b r → admits b r (Operation o) ≡ true → In o (operations r) → ⊥
+new_name b r o legal a m =
+    let h = operations r in
+    let v = (and_parts (leb 1 o.name.0 && leb o.name.0 (sites r)) (is_vector o.seen) (and_parts (is_placed r (Operation o)) (is_none (refusal b r (Operation o))) a).0).1 in
+    let next = (follows_if h o (room_for_operation b r o a).1 v).seq in
+    let last = (numbered_if (history_if_legal b r legal)).numbered o (Contains-from_In o h m) in
+    omega (arith, next, last)
+
+module _ (b : LimitValues) (r : List Entry) (legal : IsLegal b r) (w : IsWithin b r) where
+  within_join : (site : ℕ) → admits b r (Join site) ≡ true → IsWithin b (r ++ Join site ∷ [])
+  within_join site a =
+      let room = room_for_join b r site a in
+      let next = eqb-true site (sites r + 1) (and_parts (is_placed r (Join site)) (is_none (refusal b r (Join site))) a).0 in
+      let more = sites-join r site in
+      record {
+        length = (let e = length_push r (Join site) in omega (arith, e, room.1));
+        joins = λ s m. elim (In-append_cases (Join s) r (Join site ∷ []) m) [
+          | inl l ↦ (let c = w.joins s l in (c.0, omega (arith, c.1, more)))
+          | inr q ↦ elim q [
+            | inl e ↦ (let same : s ≡ site = cc in (omega (arith, same, next), omega (arith, same, next, more)))
+            | inr z ↦ absurd z
+          ]
+        ];
+        few = omega (arith, more, room.0);
+        objects = (let e = ap Rattle.std.proofs.Common.length (objects-join r site) in omega (arith, e, w.objects));
+        once = Once-append r (Join site ∷ []) w.once ((λ m. m), tt) (λ x m n. elim n [
+          | inl e ↦ (let c = w.joins site (subst (λ z. In z r) e m) in omega (arith, c.1, next))
+          | inr z ↦ z
+        ]);
+        fits = λ o m t. subst (λ h. Fits b h (object_of o)) (sym (operations-join r site)) (w.fits o (subst (λ h. In o h) (operations-join r site) m) t);
+      }
+
+  module _ (p : Op) (a : admits b r (Operation p) ≡ true) where
+    abbrev h : List Op
+    h = operations r
+
+    fits_on : (object : Name) → object_of p ≡ object → is_set_on object p ≡ true → length (keys_of (sets_on h object)) ≤ b.keys → Fits b (h ++ p ∷ []) object
+    fits_on object e on keys =
+        let room = subst (λ n. (length (sets_on h n) < b.sets) × (has_too_many_keys b (sets_on h n) p ≡ false) × (length (groups (h ++ p ∷ []) n) ≤ b.versions)) e
+        (let k = room_if b r p a (and_parts (is_set_body p.body) (is_on object p) on).0 in (k.sets, k.keys, k.versions)) in
+        record {
+          sets = (let n = sets_with h p object on in omega (arith, n, room.0));
+          keys = keys_with h p object on b room.1 keys;
+          versions = room.2;
+        }
+
+    fits_beside : (object : Name) → is_set_on object p ≡ false → Fits b h object → Fits b (h ++ p ∷ []) object
+    fits_beside object f k = record {
+      sets = (let e = ap length (sets_beside h p object f) in omega (arith, e, k.sets));
+      keys = (let e = ap (λ s. length (keys_of s)) (sets_beside h p object f) in omega (arith, e, k.keys));
+      versions = (let e = ap length (groups_beside h p object f) in omega (arith, e, k.versions));
+    }
+
+    -- the keys of an object, with a set or without, are within the limit
+    keys_now : (object : Name) → length (keys_of (sets_on h object)) ≤ b.keys
+    keys_now object = go (sets_on h object) refl
+      where
+        go : (s : List Op) → sets_on h object ≡ s → length (keys_of s) ≤ b.keys
+        go [] e = omega arith
+        go (x ∷ s) e =
+            let c = in_sets_on_back h object x (subst (λ l. In x l) (sym e) (inl refl)) in
+            let d = and_parts (is_set_body x.body) (is_on object x) c.1 in
+            let k = w.fits x c.0 d.0 in
+            let named : object_of x ≡ object = Rattle.rules.proofs.Counted.same_name-true (object_of x) object d.1 in
+            subst (λ l. length (keys_of l) ≤ b.keys) e (subst (λ n. length (keys_of (sets_on h n)) ≤ b.keys) named k.keys)
+
+    fits_with : (o : Op) → In o (h ++ p ∷ []) → is_set_body o.body ≡ true → Fits b (h ++ p ∷ []) (object_of o)
+    fits_with o m t = elim (cases_Bool (is_set_on (object_of o) p)) [
+      | inl on ↦
+          (let named : object_of p ≡ object_of o = Rattle.rules.proofs.Counted.same_name-true (object_of p) (object_of o) (and_parts (is_set_body p.body) (is_on (object_of o) p) on).1 in
+          fits_on (object_of o) named on (keys_now (object_of o)))
+      | inr f ↦ elim (In-append_cases o h (p ∷ []) m) [
+        | inl l ↦ fits_beside (object_of o) f (w.fits o l t)
+        | inr q ↦ elim q [
+          | inl e ↦
+              (let mine : is_set_on (object_of p) p ≡ true = Rattle.std.proofs.lemmas.Bool.and_from (is_set_body p.body) (is_on (object_of p) p) (sym (ap (λ (z : Op). is_set_body z.body) e) ∙ t) (Rattle.rules.proofs.Counted.same_name-refl (object_of p) (object_of p) refl) in
+              absurd (true≢false (sym mine ∙ sym (ap (λ (z : Op). is_set_on (object_of z) p) e) ∙ f)))
+          | inr z ↦ absurd z
+        ]
+      ]
+    ]
+
+    creates : Op → Bool
+    creates op = not (is_set_body op.body)
+
+    objects_with : Rattle.std.proofs.Common.length (objects (r ++ Operation p ∷ [])) ≤ b.objects
+    objects_with = elim (cases_Bool (is_set_body p.body)) [
+      | inl t ↦
+          (let e : objects (r ++ Operation p ∷ []) ≡ objects r =
+          ap (λ (k : List Op). filter (λ op. not (is_set_body op.body)) k) (operations-push r p)
+          ∙ filter-push (λ (op : Op). not (is_set_body op.body)) h p
+          ∙ ap (λ c. objects r ++ cond (not c) (p ∷ []) []) t
+          ∙ append-nil (objects r) in
+          let n = ap length e in
+          omega (arith, n, w.objects))
+      | inr f ↦
+          (let n : length (objects (r ++ Operation p ∷ [])) ≡ length (objects r) + 1 = ap length (objects-creation r p f) ∙ length_push (objects r) p in
+          omega (arith, n, room_for_object b r p a f))
+    ]
+
+    within_operation : IsWithin b (r ++ Operation p ∷ [])
+    within_operation = record {
+      length = (let e = length_push r (Operation p) in let room = room_for_operation b r p a in omega (arith, e, room.0));
+      joins = λ s m. elim (In-append_cases (Join s) r (Operation p ∷ []) m) [
+        | inl l ↦ (let c = w.joins s l in let e = sites-operation r p in (c.0, omega (arith, c.1, e)))
+        | inr q ↦ elim q [ inl e ↦ cc | inr z ↦ absurd z ]
+      ];
+      few = (let e = sites-operation r p in omega (arith, e, w.few));
+      objects = objects_with;
+      once = Once-append r (Operation p ∷ []) w.once ((λ m. m), tt) (λ x m n. elim n [
+        | inl e ↦ new_name b r p legal a (In-filter_map operation_in (Operation p) p r (subst (λ z. In z r) e m) refl)
+        | inr z ↦ z
+      ]);
+      fits = λ o m t. subst (λ k. Fits b k (object_of o)) (sym (operations-push r p)) (fits_with o (subst (λ k. In o k) (operations-push r p) m) t);
+    }
+
+within_after : (b : LimitValues) (r rest : List Entry) → IsLegal b r → IsWithin b r → IsLegalAfter b r rest → IsWithin b (r ++ rest)
+within_after b r [] l w g = subst (IsWithin b) (sym (append-nil r)) w
+within_after b r (Join site ∷ rest) l w g =
+    subst (IsWithin b) (append_assoc r (Join site ∷ []) rest)
+    (within_after b (r ++ Join site ∷ []) rest (legal_push b r (Join site) l g.0) (within_join b r l w site g.0) g.1)
+within_after b r (Operation o ∷ rest) l w g =
+    subst (IsWithin b) (append_assoc r (Operation o ∷ []) rest)
+    (within_after b (r ++ Operation o ∷ []) rest (legal_push b r (Operation o) l g.0) (within_operation b r l w o g.0) g.1)
+
+within_empty : (b : LimitValues) → IsWithin b []
+within_empty b = record {
+  length = omega arith;
+  joins = λ s m. absurd m;
+  few = omega arith;
+  objects = omega arith;
+  once = tt;
+  fits = λ o m t. absurd m;
+}
+
+pub within : (b : LimitValues) (r : List Entry) → IsLegal b r → IsWithin b r
+within b r g = within_after b [] r tt (within_empty b) g

@@ -1,0 +1,181 @@
+//! The rows.
+
+use super::Example;
+use rules::LimitValues;
+
+/// Two sites, and an object of the first.
+const CREATED: &str = r#"["join",1] => taken
+["join",2] => taken
+["new",[1,1],[],"rect",[["x",0]]] => taken"#;
+
+/// Each site sets the same key.
+const SET: &str = r#"["set",[2,1],[[1,1]],[1,1],[],"x",9] => taken
+["set",[1,2],[[1,1]],[1,1],[],"x",5] => taken"#;
+
+const SHOWN: &str =
+    r#"1 1 => ["versions",5,[1,1],"rect",[[[[1,2]],[["x",5]]],[[[2,1]],[["x",9]]]]]"#;
+
+pub const EXAMPLES: &[Example] = &[
+    Example {
+        name: "in another order than the room's",
+        limits: LimitValues::FULL,
+        parts: &[CREATED, SET, SHOWN],
+    },
+    Example {
+        name: "without the creation",
+        limits: LimitValues::FULL,
+        parts: &[
+            r#"["join",1] => taken
+["join",2] => taken
+["set",[2,1],[[1,1]],[1,1],[],"x",9] => early
+1 1 => ["no",2,11,"no-such-object"]"#,
+        ],
+    },
+    Example {
+        name: "given again",
+        limits: LimitValues::FULL,
+        parts: &[
+            CREATED,
+            SET,
+            r#"["join",1] => repeat
+["set",[1,2],[[1,1]],[1,1],[],"x",5] => repeat
+["new",[1,1],[],"rect",[["x",0]]] => repeat"#,
+            SHOWN,
+        ],
+    },
+    Example {
+        name: "before the site's join",
+        limits: LimitValues::FULL,
+        parts: &[
+            r#"["new",[3,1],[],"rect",[]] => early
+["join",3] => taken
+["new",[3,1],[],"rect",[]] => taken"#,
+        ],
+    },
+    Example {
+        name: "before the site's operation before it",
+        limits: LimitValues::FULL,
+        parts: &[
+            CREATED,
+            r#"["set",[1,3],[[1,2]],[1,1],[],"x",6] => early
+["set",[1,2],[[1,1]],[1,1],[],"x",5] => taken
+["set",[1,3],[[1,2]],[1,1],[],"x",6] => taken"#,
+        ],
+    },
+    Example {
+        name: "a repeat of what is no entry of the record",
+        limits: LimitValues::FULL,
+        parts: &[
+            CREATED,
+            SET,
+            r#"["set",[1,2],[[1,1],[2,9]],[9,9],[],"y",1] => repeat"#,
+        ],
+    },
+    Example {
+        name: "a count of the site's own operations that is wrong",
+        limits: LimitValues::FULL,
+        parts: &[
+            CREATED,
+            r#"["set",[1,2],[],[1,1],[],"x",5] => own-count
+["set",[2,1],[[1,1],[2,1]],[1,1],[],"x",9] => own-count
+["set",[1,2],[[1,2]],[1,1],[],"x",5] => own-count"#,
+        ],
+    },
+    Example {
+        name: "an operation without what it counts",
+        limits: LimitValues::FULL,
+        parts: &[
+            CREATED,
+            SET,
+            r#"["join",3] => taken
+["new",[3,1],[[2,1]],"rect",[]] => not-closed
+["new",[3,1],[[1,1],[2,1]],"rect",[]] => taken"#,
+        ],
+    },
+    Example {
+        name: "objects and versions that aren't there",
+        limits: LimitValues::FULL,
+        parts: &[
+            CREATED,
+            r#"["set",[2,1],[],[1,1],[],"x",9] => no-such-object
+["set",[2,1],[[1,1]],[1,1],[[1,2]],"x",9] => no-such-version
+["set",[2,1],[[1,1]],[1,1],[],"x",9] => taken
+1 1 => ["versions",4,[1,1],"rect",[[[],[["x",9]]]]]"#,
+        ],
+    },
+];
+
+pub const LIMITED: &[Example] = &[
+    Example {
+        name: "two joins",
+        limits: LimitValues {
+            joins: 2,
+            ..LimitValues::FULL
+        },
+        parts: &[
+            r#"["join",3] => room-full
+["join",2] => taken
+["join",2] => repeat
+["join",1] => taken"#,
+        ],
+    },
+    Example {
+        name: "three entries",
+        limits: LimitValues {
+            entries: 3,
+            ..LimitValues::FULL
+        },
+        parts: &[
+            CREATED,
+            r#"["join",3] => record-full
+["set",[2,1],[[1,1]],[1,1],[],"x",9] => record-full"#,
+        ],
+    },
+    Example {
+        name: "one object",
+        limits: LimitValues {
+            objects: 1,
+            ..LimitValues::FULL
+        },
+        parts: &[CREATED, r#"["new",[2,1],[],"rect",[]] => too-many-objects"#],
+    },
+    Example {
+        name: "one set",
+        limits: LimitValues {
+            sets: 1,
+            ..LimitValues::FULL
+        },
+        parts: &[
+            CREATED,
+            r#"["set",[2,1],[[1,1]],[1,1],[],"x",9] => taken
+["set",[1,2],[[1,1]],[1,1],[],"x",5] => object-full
+1 1 => ["versions",4,[1,1],"rect",[[[],[["x",9]]]]]"#,
+        ],
+    },
+    Example {
+        name: "one key",
+        limits: LimitValues {
+            keys: 1,
+            ..LimitValues::FULL
+        },
+        parts: &[
+            CREATED,
+            r#"["set",[2,1],[[1,1]],[1,1],[],"x",9] => taken
+["set",[1,2],[[1,1]],[1,1],[],"fill","red"] => too-many-keys"#,
+        ],
+    },
+    Example {
+        name: "two versions",
+        limits: LimitValues {
+            versions: 2,
+            ..LimitValues::FULL
+        },
+        parts: &[
+            CREATED,
+            SET,
+            r#"["join",3] => taken
+["set",[3,1],[[1,1]],[1,1],[],"x",1] => too-many-versions
+1 1 => ["versions",6,[1,1],"rect",[[[[1,2]],[["x",5]]],[[[2,1]],[["x",9]]]]]"#,
+        ],
+    },
+];

@@ -1,13 +1,11 @@
 -- The sets at the places of a set of places, in order.
-use Rattle.std.proofs.Common.{◌≡◌, ℕ, zero, suc, ◌+◌, ◌<◌, ◌≤◌, Bool, false, not, List, [], ◌∷◌, ◌++◌, length, map, refl, sym, ap, ◌∙◌, subst, arith, inl, inr, take}
-use Rattle.std.specs.Prelude.{All, filter, flat_map, IsTrue}
+use Rattle.std.proofs.Common.{◌≡◌, ℕ, zero, suc, ◌+◌, ◌<◌, ◌≤◌, Bool, false, not, List, [], ◌∷◌, length, map, sym, subst, arith, inl, inr}
+use Rattle.std.specs.Prelude.{All, filter, IsTrue}
 use Rattle.std.specs.List.{range_with_len}
 use Rattle.std.specs.List.Sorted.{IsStrictlyIncreasing}
 use Rattle.std.proofs.lemmas.Bool.{cases_Bool}
-use Rattle.std.proofs.lemmas.List.{map-append, reverse-append}
 use Rattle.op_names.specs.Names.{Name}
 use Rattle.rules.specs.declared.history.Op.{Op}
-use Rattle.rules.specs.AttrLists.{Attr}
 use Rattle.rules.specs.Operations.{IsCausallyOrdered, before, is_set_on}
 use Rattle.rules.proofs.Lists.{In, In-from_Contains, Contains-from_In, In-filter_back, In-map_back, In-range_back}
 use Rattle.rules.proofs.Relation.{not_before_self}
@@ -15,30 +13,6 @@ use Rattle.places.specs.Members.{has}
 use Rattle.conflict.specs.Sets.{at, AreSetsOf}
 use Rattle.conflict.proofs.SetsAt.{at_in}
 use Rattle.places.proofs.Rising.{among_places}
-use Rattle.attributes.specs.Pairs.{given_backwards, given_by, with_all, with_new}
-
--- ---- one set back
-
-with_all-append : (attrs xs ys : List Attr) → with_all attrs (xs ++ ys) ≡ with_all (with_all attrs xs) ys
-with_all-append attrs [] ys = refl
-with_all-append attrs (x ∷ xs) ys = with_all-append (with_new x attrs) xs ys
-
-given_push : (ops : List Op) (op : Op) → given_backwards (ops ++ op ∷ []) ≡ given_by op.body ++ given_backwards ops
-given_push ops op = ap (flat_map (λ (x : Op). given_by x.body)) (reverse-append ops (op ∷ []))
-
--- a loop down the places: what it has with what is to come
-pub less_given : (k : List Op) (places : List ℕ) (n place : ℕ) (old new whole : List Attr) → take (n + 1) places ≡ take n places ++ place ∷ [] → new ≡ with_all old (given_by (at k place).body)
-    → with_all old (given_backwards (map (at k) (take (n + 1) places))) ≡ whole → with_all new (given_backwards (map (at k) (take n places))) ≡ whole
-less_given k places n place old new whole t e i =
-    let rest : List Op = map (at k) (take n places) in
-    ap (λ z. with_all z (given_backwards rest)) e
-    ∙ sym (with_all-append old (given_by (at k place).body) (given_backwards rest))
-    ∙ ap (with_all old) (sym (given_push rest (at k place)))
-    ∙ ap (λ ops. with_all old (given_backwards ops)) (sym (map-append (at k) (take n places) (place ∷ [])))
-    ∙ ap (λ ps. with_all old (given_backwards (map (at k) ps))) (sym t)
-    ∙ i
-
--- ---- the members in order of place
 
 pub is_set : (k : List Op) (members : List ℕ) → All (λ place. place < length k) members → (x : Op) → In x (map (at k) members) → In x k
 is_set k members w x m =

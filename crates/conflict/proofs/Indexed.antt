@@ -20,15 +20,6 @@ pub by_result : {X A E : Type 0} (r : Result A E) (P : X → Type 0) (new done o
 by_result (Ok a) P new done old e f p q = subst P (sym e) p
 by_result (Err a) P new done old e f p q = subst P (sym f) q
 
--- nothing is in it yet
-pub index_none : {C : Type 0} (of : C → ℕ → Bool) (class : ℕ → C) (found : ℕ → List ℕ) → IsIndex of 0 0 class found
-index_none of class found = record {
-  each = λ i l. absurd (omega arith);
-  some = λ i l. absurd (omega arith);
-  all = λ c p l t. absurd (omega arith);
-  apart = λ i j l m e. absurd (omega arith);
-}
-
 pub index_agrees : {C : Type 0} (of other : C → ℕ → Bool) (n size : ℕ) (class : ℕ → C) (found : ℕ → List ℕ) → ((c : C) (p : ℕ) → p < n → of c p ≡ other c p) → IsIndex of n size class found → IsIndex other n size class found
 index_agrees of other n size class found same index = record {
   each = λ i l. index.each i l ∙ filter_agree (of (class i)) (other (class i)) (places n) (λ p m. same (class i) p (below n p m));

@@ -21,7 +21,7 @@ use Rattle.conflict.specs.Indexes.{IsIndex, OfKey, KeyIndex, AreByKey, key_at, g
 use Rattle.conflict.proofs.Images.{filter_inner}
 use Rattle.places.proofs.Places.{in_if_has, below, has-filter}
 use Rattle.conflict.proofs.SetsAt.{at_in, at_push, place_of}
-use Rattle.conflict.proofs.Indexed.{filter_all, index_none, index_agrees, index_skipped, index_grown, index_begun}
+use Rattle.conflict.proofs.Indexed.{filter_all, index_agrees, index_skipped, index_grown, index_begun}
 
 one_key : (c d : Bytes) (body : Body) → gives c body ≡ true → gives d body ≡ true → c ≡ d
 one_key c d (New kind attrs) e f = absurd (true≢false (sym e))
@@ -44,12 +44,6 @@ pub given_none : (k : List Op) (n : ℕ) (kind : Bytes) (attrs : List Attr) (o :
 given_none k n kind attrs o e f key = ap (λ (x : Op). gives key x.body) (sym e) ∙ ap (gives key) f
 
 -- ---- one set more
-
-pub by_key_none : (k : List Op) → AreByKey k (record { len = 0; keys = [] })
-by_key_none k = record {
-  within = omega arith;
-  entries = index_none (of_key k) (λ i. (key_at [] i).key) (λ i. (key_at [] i).places);
-}
 
 pub by_key_push : (k : List Op) (o : Op) (index : KeyIndex) → AreByKey k index → AreByKey (k ++ o ∷ []) index
 by_key_push k o index w =

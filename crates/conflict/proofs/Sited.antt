@@ -18,7 +18,7 @@ use Rattle.places.proofs.Places.{In-places, below, has_if_in, in_if_has, kept_ne
 use Rattle.conflict.proofs.SetsAt.{at_in, at_push}
 use Rattle.places.proofs.WordPlaces.{Up, same_set, up_range, up_filter, up_with_all, has-with_all, kept_rises, or_turned, or_grouped}
 use Rattle.conflict.proofs.Growth.{in_history, never_before}
-use Rattle.conflict.proofs.Indexed.{filter_all, index_none, index_agrees, index_grown, index_begun}
+use Rattle.conflict.proofs.Indexed.{filter_all, index_agrees, index_grown, index_begun}
 
 one_site : (k : List Op) (s t p : ℕ) → of_site k s p ≡ true → of_site k t p ≡ true → s ≡ t
 one_site k s t p e f = sym (eqb-true (at k p).name.0 s e) ∙ eqb-true (at k p).name.0 t f
@@ -37,13 +37,6 @@ in_order {object} {k} w p q l m e =
     ]
 
 -- ---- one set more
-
-pub by_site_none : (k : List Op) → AreBySite k (record { len = 0; sites = [] })
-by_site_none k = record {
-  within = omega arith;
-  entries = index_none (of_site k) (λ i. (site_at [] i).site) (λ i. (site_at [] i).places);
-  numbers = λ i l. absurd (omega arith);
-}
 
 pub by_site_push : (k : List Op) (o : Op) (index : SiteIndex) → AreBySite k index → AreBySite (k ++ o ∷ []) index
 by_site_push k o index w =

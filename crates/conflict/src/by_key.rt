@@ -87,12 +87,7 @@ impl ByKey {
         ensures { let count = length self.now.keys
             in IsPlaceOf (λ i. (key_at self.now.keys i).key) count key.now result }
     {
-        for i in 0..self.keys.len() {
-            if self.keys[i].key == *key {
-                return Some(i);
-            }
-        }
-        None
+        self.keys.iter().position(|sets| sets.key == *key)
     }
 
     /// Puts the next set in, whose key stands there.

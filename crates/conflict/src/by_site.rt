@@ -108,12 +108,7 @@ impl BySite {
         ensures { let count = length self.now.sites
             in IsPlaceOf (λ i. (site_at self.now.sites i).site) count site result }
     {
-        for i in 0..self.sites.len() {
-            if self.sites[i].site == site {
-                return Some(i);
-            }
-        }
-        None
+        self.sites.iter().position(|sets| sets.site == site)
     }
 
     /// Puts the next set in, whose site stands there.

@@ -3,15 +3,12 @@ use Rattle.std.proofs.Common.{◌≡◌, ℕ, ◌<◌, ◌-◌, ◌%◌, ◌==�
 use Rattle.std.specs.Prelude.{All, nat_lt}
 use Rattle.std.proofs.lemmas.Bool.{cases_Bool, eq-eqb}
 use Rattle.std.proofs.lemmas.List.Elements.{All-nil, All-cons}
-use Rattle.std.proofs.lemmas.Bool.Decides.{nat_tests}
 use Rattle.op_names.specs.Names.{Name}
 use Rattle.rules.proofs.Lists.{In, Contains-from_In}
 use Rattle.places.specs.Members.{with_place, with_all, set_of}
 use Rattle.places.specs.Relations.{IsRelation}
 use Rattle.conflict_tests.specs.Parities.{parities_clash, parities_name}
-
-eqb_swap : (i j : ℕ) → (i == j) ≡ (j == i)
-eqb_swap i j = grind (arith, nat_tests)
+use Rattle.conflict_tests.proofs.Tables.{eqb_swap}
 
 pub parities_are_relation : IsRelation 5 parities_name parities_clash
 parities_are_relation = record {

@@ -10,7 +10,7 @@ use Rattle.std.specs.declared.cmp.Ordering.TheVariants.{Less, Equal, Greater}
 use Rattle.std.specs.Cmp.{nat_cmp_is}
 use Rattle.std.proofs.lemmas.Bool.{true≢false, cases_Bool, cases_eq, cases_lt, cases_order, eq-eqb, eqb-true, ne_eqb, le-ltb, lt-ltb, or_right, or_cases, and_parts, and_from, false_from_ne_true, true_from_ne_false}
 use Rattle.std.proofs.lemmas.Cmp.{nat_cmp_total}
-use Rattle.std.proofs.lemmas.List.{get_or_past, get_or_append_left, get_or-append_right, get_or-replicate, length-replicate, take_all, get_or-set_same, get_or-set_other, length-append}
+use Rattle.std.proofs.lemmas.List.{get_or_past, get_or_append_left, get_or-append_right, get_or-replicate, length-replicate, take_all, get_or-set_same, get_or-set_other}
 use Rattle.std.proofs.lemmas.List.Kept.{IsStrictlyIncreasing-filter}
 use Rattle.std.proofs.lemmas.List.FromFn.{length-range_with_len, get_or-range_with_len, get_or-map-range_with_len, length-map-range_with_len, map-range_with_len_more}
 use Rattle.std.proofs.lemmas.Nat.Bits.{bit_at_and, bit_at_or, bit_at_xor, bit_at-zero, bit_at-lt, bit_at_set_same, bit_at_set_other, same_from_bits, bit_at_above}
@@ -387,19 +387,3 @@ pub record JoinedBelow (first others words : List ℕ) (at : ℕ) : Type 0 where
 pub record AreFront (all words : List ℕ) : Type 0 where
   pub same : (k : ℕ) → get_or words k 0 ≡ get_or all k 0
   pub few : length words ≤ length all
-
-pub front_popped : (all words rest : List ℕ) (v : ℕ) → AreFront all words → words ≡ rest ++ v ∷ [] → v ≡ 0 → AreFront all rest
-front_popped all words rest v f e z = record {
-  same = λ k. sym (at_end k) ∙ ap (λ l. get_or l k 0) (sym e) ∙ f.same k;
-  few = (let g = f.few in let l = ap length e ∙ length-append rest (v ∷ []) in omega arith);
-}
-  where
-    at_end : (k : ℕ) → get_or (rest ++ v ∷ []) k 0 ≡ get_or rest k 0
-    at_end k = elim (cases_lt k (length rest)) [
-      | inl b ↦ get_or_append_left rest (v ∷ []) 0 k b
-      | inr g ↦ get_or-append_right rest (v ∷ []) (length rest) k 0 refl g ∙ last (k - length rest) ∙ sym (get_or_past rest k 0 g)
-    ]
-      where
-        last : (j : ℕ) → get_or (v ∷ []) j 0 ≡ 0
-        last zero = z
-        last (suc j) = refl

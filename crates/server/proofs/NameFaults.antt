@@ -1,5 +1,6 @@
 -- The faults of names of which one is bad or stands twice.
 use Rattle.std.proofs.Common.{◌≡◌, ◌≢◌, ℕ, ◌<◌, List, [], ◌∷◌, ◌&&◌, length, get_or, map, zero, suc, Bool, true, false, Result, Ok, Err, IfErr, IsErrAnd, Some, cond, bytes_eq, refl, sym, subst, ap, ◌∙◌, arith}
+use Rattle.std.proofs.Math.Bool.{and-false}
 use Rattle.std.specs.List.{list_all}
 use Rattle.std.specs.Option.{option_map}
 use Rattle.op_names.specs.Repeats.{first_repeat}
@@ -13,15 +14,11 @@ use Rattle.server.specs.declared.fault.Fault.TheVariants.{BadRoomName, RoomNamed
 use Rattle.server.specs.Faults.{of_name, of_rooms}
 use Rattle.server.specs.Service.{MayEnd}
 
-and_false : (b : Bool) → (b && false) ≡ false
-and_false true = refl
-and_false false = refl
-
 -- one member fails
 pub one_fails : {X Y : Type 0} (p : Y → Bool) (f : X → Y) (xs : List X) (i : ℕ) (x : X) → i < length xs → p (f (get_or xs i x)) ≡ false → list_all p (map f xs) ≡ false
 one_fails p f [] i x within fails = absurd (omega (arith, within))
 one_fails p f (y ∷ xs) zero x within fails = ap (λ b. b && list_all p (map f xs)) fails
-one_fails p f (y ∷ xs) (suc i) x within fails = ap (λ b. p (f y) && b) (one_fails p f xs i x (omega (arith, within)) fails) ∙ and_false (p (f y))
+one_fails p f (y ∷ xs) (suc i) x within fails = ap (λ b. p (f y) && b) (one_fails p f xs i x (omega (arith, within)) fails) ∙ and-false (p (f y))
 
 bad_name : (fault : NameFault) → of_name fault ≢ NoMemory → (fault ≢ name.NoMemory) × (of_name fault ≡ BadRoomName)
 bad_name name.Empty other = (λ e. absurd (cc), refl)

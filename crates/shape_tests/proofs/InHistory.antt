@@ -1,17 +1,17 @@
 -- An object stays in the history of its room as the history grows.
-use Rattle.std.proofs.Common.{◌≡◌, true, false, ◌&&◌, List, [], ◌∷◌, ◌++◌, refl, sym, ap, ◌∙◌, subst, None}
+use Rattle.std.proofs.Common.{◌≡◌, true, false, List, [], ◌∷◌, ◌++◌, refl, sym, ap, ◌∙◌, subst, None}
 use Rattle.state_vector.specs.Vectors.{is_vector}
 use Rattle.rules.specs.declared.history.Op.{Op}
 use Rattle.rules.specs.declared.limits.LimitValues.{LimitValues}
 use Rattle.rules.specs.Bodies.{is_set_body}
-use Rattle.rules.specs.Operations.{is_on, is_set_on}
+use Rattle.rules.specs.Operations.{is_set_on}
 use Rattle.rules.specs.Admission.{causal_refusal}
 use Rattle.rules.proofs.Lists.{In-from_Contains}
 use Rattle.rules.proofs.Histories.{history_push, numbered_empty}
 use Rattle.conflict.specs.Sets.{AreSetsOf}
 use Rattle.shape.specs.Objects.{with_set}
 use Rattle.shape_tests.specs.InHistory.{ObjectIn, IsInHistory, MayFollow}
-use Rattle.shape.proofs.Next.{next_history, next_ordered, next_set, object_with_set, object_beside, object_alone}
+use Rattle.shape.proofs.Next.{next_history, next_ordered, next_set, object_with_set, object_alone}
 
 -- an operation that was asked for by two owners
 pub admitted_itself : (h : List Op) (op first second : Op) → first ≡ op → second ≡ op → causal_refusal h first.name second.seen ≡ None → causal_refusal h op.name op.seen ≡ None
@@ -29,14 +29,6 @@ module _ (s : ObjectIn) (i : IsInHistory s) (o : Op) (f : MayFollow s.history o)
     is_history = next_history s.history o i.is_history i.ordered f.admitted f.vector;
     ordered = next_ordered s.history o i.is_history i.ordered f.admitted f.vector;
     object = object_with_set s.history o s.object i.object (ap (λ n. is_set_on n o) i.named ∙ t);
-    named = i.named;
-  }
-
-  pub beside : is_set_body o.body ≡ false → IsInHistory (record { name = s.name; history = s.history ++ o ∷ []; object = s.object })
-  beside t = record {
-    is_history = next_history s.history o i.is_history i.ordered f.admitted f.vector;
-    ordered = next_ordered s.history o i.is_history i.ordered f.admitted f.vector;
-    object = object_beside s.history o s.object i.object (ap (λ b. b && is_on s.object.creation.name o) t);
     named = i.named;
   }
 

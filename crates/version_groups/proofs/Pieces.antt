@@ -1,5 +1,5 @@
 -- The pieces of the step, as the functions of the code have them.
-use Rattle.std.proofs.Common.{◌≡◌, ℕ, ◌+◌, ◌<◌, Bool, true, false, not, ◌||◌, arith, refl, List, [], ◌∷◌, ◌++◌, map, length, ◌∙◌, ap, take, get_or}
+use Rattle.std.proofs.Common.{◌≡◌, ℕ, ◌+◌, ◌<◌, Bool, true, false, not, ◌||◌, arith, refl, sym, List, [], ◌∷◌, ◌++◌, map, length, ◌∙◌, ap, take, get_or}
 use Rattle.std.specs.List.{list_all, filter}
 use Rattle.std.proofs.lemmas.List.{append-nil, take_more, map-append}
 use Rattle.std.proofs.lemmas.List.Elements.{filter-append}
@@ -46,11 +46,30 @@ compatible_is n name clash r place l one conflicting first compatible o m f e =
     or_none true = refl
     or_none false = refl
 
-pub incompatible_more : (p : ℕ → Bool) (f : List ℕ → List ℕ) (xs ys : List (List ℕ)) (i : ℕ) (y : List ℕ) → i < length xs → list_all p (get_or xs i []) ≡ false
-    → ys ≡ map f (incompatible_groups p (take i xs)) → y ≡ f (get_or xs i []) → ys ++ y ∷ [] ≡ map f (incompatible_groups p (take (i + 1) xs))
-incompatible_more p f xs ys i y l t e h =
-    rw (take_more xs i [] l, e, h, filter-append (λ g. not (list_all p g)) (take i xs) (get_or xs i [] ∷ []), t, map-append f (incompatible_groups p (take i xs)) (get_or xs i [] ∷ []))
+-- one more of a list by a function
+pub map_more : (f : List ℕ → List ℕ) (xs ys new : List (List ℕ)) (i : ℕ) (x y : List ℕ) → i < length xs → x ≡ get_or xs i x → ys ≡ map f (take i xs) → y ≡ f x → new ≡ ys ++ y ∷ [] → new ≡ map f (take (i + 1) xs)
+map_more f xs ys new i x y l s e h n =
+    n
+    ∙ (λ j. e j ++ h j ∷ [])
+    ∙ sym (ap (map f) (take_more xs i x l) ∙ map-append f (take i xs) (get_or xs i x ∷ []) ∙ ap (λ z. map f (take i xs) ++ f z ∷ []) (sym s))
 
-pub incompatible_skip : (p : ℕ → Bool) (f : List ℕ → List ℕ) (xs ys : List (List ℕ)) (i : ℕ) → i < length xs → list_all p (get_or xs i []) ≡ true
-    → ys ≡ map f (incompatible_groups p (take i xs)) → ys ≡ map f (incompatible_groups p (take (i + 1) xs))
-incompatible_skip p f xs ys i l t e = rw (take_more xs i [] l, filter-append (λ g. not (list_all p g)) (take i xs) (get_or xs i [] ∷ []), t, append-nil (incompatible_groups p (take i xs))) e
+module _ (p : ℕ → Bool) (xs : List (List ℕ)) (i : ℕ) (x : List ℕ) (l : i < length xs) (s : x ≡ get_or xs i x) where
+  one_more : take (i + 1) xs ≡ take i xs ++ x ∷ []
+  one_more = take_more xs i x l ∙ ap (λ z. take i xs ++ z ∷ []) (sym s)
+
+  pub incompatible_more : list_all p x ≡ false → incompatible_groups p (take (i + 1) xs) ≡ incompatible_groups p (take i xs) ++ x ∷ []
+  incompatible_more t = ap (incompatible_groups p) one_more ∙ rw (filter-append (λ g. not (list_all p g)) (take i xs) (x ∷ []), t)
+
+  pub incompatible_skip : list_all p x ≡ true → incompatible_groups p (take (i + 1) xs) ≡ incompatible_groups p (take i xs)
+  incompatible_skip t = ap (incompatible_groups p) one_more ∙ rw (filter-append (λ g. not (list_all p g)) (take i xs) (x ∷ []), t, append-nil (incompatible_groups p (take i xs)))
+
+pub candidates_more : (p : ℕ → Bool) (f : List ℕ → List ℕ) (xs ys new : List (List ℕ)) (i : ℕ) (x y : List ℕ) → i < length xs → x ≡ get_or xs i x → list_all p x ≡ false
+    → ys ≡ map f (incompatible_groups p (take i xs)) → y ≡ f x → new ≡ ys ++ y ∷ [] → new ≡ map f (incompatible_groups p (take (i + 1) xs))
+candidates_more p f xs ys new i x y l s t e h n =
+    n
+    ∙ (λ j. e j ++ h j ∷ [])
+    ∙ sym (ap (map f) (incompatible_more p xs i x l s t) ∙ map-append f (incompatible_groups p (take i xs)) (x ∷ []))
+
+pub candidates_stay : (p : ℕ → Bool) (f : List ℕ → List ℕ) (xs ys new : List (List ℕ)) (i : ℕ) (x : List ℕ) → i < length xs → x ≡ get_or xs i x → list_all p x ≡ true
+    → ys ≡ map f (incompatible_groups p (take i xs)) → new ≡ ys → new ≡ map f (incompatible_groups p (take (i + 1) xs))
+candidates_stay p f xs ys new i x l s t e n = n ∙ e ∙ sym (ap (map f) (incompatible_skip p xs i x l s t))

@@ -3,7 +3,7 @@
 
 ghost use Rattle.std.specs.Prelude.{◌≡◌, ◌-◌, ◌<◌, map, filter, not, IfOk, OnOk, All};
 ghost use Rattle.std.specs.List.{list_any};
-ghost use Rattle.places.specs.Members.{has, is_within, places};
+ghost use Rattle.places.specs.Members.{has, is_within, places, with_place};
 ghost use Rattle.version_groups.specs.Kept.{AreGroups};
 ghost use Rattle.version_groups.specs.Steps.{group_after, candidate, incompatible_groups, sift, next_groups, AreBelow};
 
@@ -59,47 +59,18 @@ fn step(
     ensures { IfOk result (λ next.
         next.items ≡ next_groups (has compatible.now) place kept.now) }
 {
-    let mut next = grow_all(alloc, kept, compatible, place)?;
-    let candidates = candidates_of(alloc, kept, compatible, place)?;
+    let (mut next, candidates) = groups_and_candidates(alloc, kept, compatible, place)?;
     add_candidates(&mut next, candidates)?;
     Ok(next)
 }
 
-/// A group with the place where they are compatible, else the group as it is.
-#[tactic(auto, using(crate::proofs::Pieces::group_with_place, crate::proofs::Pieces::group_without_place))]
-fn grow(
-    alloc: Global,
-    group: &Members,
-    compatible: &Members,
-    place: u32,
-) -> Result<Members, NoMemory>
-    requires { AreBelow place group.now }
-    ensures { IfOk result (λ members.
-        members ≡ group_after (has compatible.now) place group.now) }
+/// A group with the place.
+fn with_place(alloc: Global, group: &Members, place: u32) -> Result<Members, NoMemory>
+    ensures { IfOk result (λ members. members ≡ with_place place group.now) }
 {
     let mut members = group.copy(alloc)?;
-    if group.is_subset(compatible) {
-        members.insert(place)?;
-    }
+    members.insert(place)?;
     Ok(members)
-}
-
-/// Each group, with the place where they are compatible.
-fn grow_all(
-    alloc: Global,
-    groups: &[Members],
-    compatible: &Members,
-    place: u32,
-) -> Result<Vec<Members>, NoMemory>
-    requires { All (AreBelow place) groups.now }
-    ensures { IfOk result (λ all.
-        all.items ≡ map (group_after (has compatible.now) place) groups.now) }
-{
-    let mut all = Vec::new(alloc);
-    for group in groups {
-        all.push(grow(alloc, group, compatible, place)?)?;
-    }
-    Ok(all)
 }
 
 /// What of a group is compatible with the place, and the place.
@@ -119,25 +90,30 @@ fn candidate_of(
     Ok(members)
 }
 
-/// A candidate for each group that isn't all compatible with the place.
-#[tactic(auto, using(crate::proofs::Pieces::incompatible_more, crate::proofs::Pieces::incompatible_skip))]
-fn candidates_of(
+/// Each group, with the place where they are compatible, and a candidate for each that isn't.
+fn groups_and_candidates(
     alloc: Global,
     groups: &[Members],
     compatible: &Members,
     place: u32,
-) -> Result<VecDeque<Members>, NoMemory>
+) -> Result<(Vec<Members>, VecDeque<Members>), NoMemory>
     requires { All (AreBelow place) groups.now }
-    ensures { let is_compatible = has compatible.now in IfOk result (λ all. all.items
+    ensures groups { IfOk result (λ both. both.0.items
+        ≡ map (group_after (has compatible.now) place) groups.now) }
+    ensures candidates { let is_compatible = has compatible.now in IfOk result (λ both. both.1.items
         ≡ map (candidate is_compatible place) (incompatible_groups is_compatible groups.now)) }
 {
-    let mut all = VecDeque::new(alloc);
+    let mut next = Vec::new(alloc);
+    let mut candidates = VecDeque::new(alloc);
     for group in groups {
-        if !group.is_subset(compatible) {
-            all.push_back(candidate_of(alloc, group, compatible, place)?)?;
+        if group.is_subset(compatible) {
+            next.push(with_place(alloc, group, place)?)?;
+        } else {
+            next.push(group.copy(alloc)?)?;
+            candidates.push_back(candidate_of(alloc, group, compatible, place)?)?;
         }
     }
-    Ok(all)
+    Ok((next, candidates))
 }
 
 /// Puts each candidate behind the groups, but those that lie in a group or in a later candidate.

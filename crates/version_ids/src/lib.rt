@@ -10,7 +10,7 @@ ghost use Rattle.places.specs.Relations.{IsRelation};
 ghost use Rattle.version_ids.specs.Scopes.{places_in_conflict, AreAmong};
 
 pub use op_names::VersionId;
-use op_names::{ListFault, NoMemory, OpName};
+use op_names::{NoMemory, OpName};
 use places::{Members, Relation};
 use std::alloc::Global;
 
@@ -117,7 +117,7 @@ fn id_of_conflicting<R: Relation>(
     // With the length of a relation comes what it keeps.
     let _ = relation.len();
     let names = names_in_conflict(alloc, relation, conflicting, group)?;
-    id_of_names(alloc, names)
+    Ok(id_of_names(names))
 }
 
 /// The names of those members of a group that are among some places.
@@ -153,16 +153,12 @@ fn names_at<R: Relation>(
 }
 
 /// The identifier of these names, of which no two are the same.
-fn id_of_names(alloc: Global, mut names: Vec<OpName>) -> Result<VersionId, NoMemory>
+fn id_of_names(mut names: Vec<OpName>) -> VersionId
     requires { HasNoRepeats names.items }
-    ensures { IfOk result (λ id. id ≡ sort_by name_cmp names.items) }
+    ensures { result ≡ sort_by name_cmp names.items }
 {
     names.sort_unstable();
-    match VersionId::from_names(alloc, &names) {
-        Ok(id) => Ok(id),
-        Err(ListFault::NoMemory) => Err(NoMemory),
-        Err(ListFault::NotRising) => unreachable!(),
-    }
+    VersionId::from_vec(names).unwrap()
 }
 
 /// The known places that an identifier names.

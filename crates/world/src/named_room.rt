@@ -1,13 +1,11 @@
 //! A room under its name, and the list of the rooms.
 
-ghost use Rattle.std.specs.Prelude.{◌≡◌, ◌<◌, ℕ, List, length, map, Some, None, IfOk, OnOk, OnErr, string_bytes, bytes_eq, slice_set};
-ghost use Rattle.std.specs.List.{list_any};
+ghost use Rattle.std.specs.Prelude.{◌≡◌, ◌<◌, ℕ, List, length, map, Some, None, IfOk, OnOk, OnErr, string_bytes, slice_set};
 ghost use Rattle.std.specs.Arc.{arc_value};
-ghost use Rattle.op_names.specs.Repeats.{first_repeat};
 ghost use Rattle.rules.specs.Records.{IsLegal};
 ghost use Rattle.wire.specs.Form.{IsReply, IsRequest};
 ghost use Rattle.room_core.specs.Room.{with_entry};
-ghost use Rattle.room_core.specs.Plans.{IsReady, outcome, entry_added};
+ghost use Rattle.room_core.specs.Plans.{IsReady, Plans, entry_added};
 ghost use Rattle.world.specs.Rooms.{place_of};
 ghost use Rattle.world.specs.State.{Named, names_in, rooms_in, room_at, empty_rooms};
 ghost use Rattle.world.specs.Steps.{asker_answer, RepliesTo};
@@ -41,25 +39,6 @@ impl Model for NamedRoom {
     ghost invariant = { λ r. AllByRecursion IsEntry r.state.room.entries };
 }
 
-/// Is this name among these?
-fn has_name(names: &[RoomName], name: &RoomName) -> bool
-    ensures { result ≡ list_any (λ earlier. bytes_eq earlier name.now) names.now }
-{
-    names.iter().any(|earlier| *earlier == *name)
-}
-
-/// The first place whose name stands at an earlier place too.
-pub(crate) fn repeated_name(names: &[RoomName]) -> Option<usize>
-    ensures { result ≡ first_repeat bytes_eq names.now }
-{
-    for (place, name) in names.iter().enumerate() {
-        if has_name(&names[..place], name) {
-            return Some(place);
-        }
-    }
-    None
-}
-
 /// Rooms of these names, with nobody in them.
 pub(crate) fn empty_rooms(
     alloc: Global,
@@ -91,10 +70,7 @@ fn plan(
     site: Option<u32>,
     request: Request,
 ) -> Result<Planned, NoMemory>
-    ensures planned { IfOk result (λ planned.
-        outcome planned ≡ asker_answer room.old.room site request) }
-    ensures ready { IfOk result (λ planned. IsReady room.new planned.change) }
-    ensures room { room.new.room ≡ room.old.room }
+    ensures { Plans room.old room.new (asker_answer room.old.room site request) result }
 {
     match site {
         Some(site) => room.plan(alloc, site, request),

@@ -11,7 +11,7 @@ ghost use Rattle.shape_tests.specs.InHistory.{IsNextSet};
 use super::table::{ids_of, name_of, set_of, text_of_ids, text_of_versions, vector_of};
 use causal::{NotAdmitted, Past};
 use op_names::{Key, Kind, NoMemory, OpName, Value, VersionId};
-use rules::{Attrs, Body, Op, Refusal, SharedOp};
+use rules::{Attrs, Body, Op, SharedOp};
 use shape::{Limits, SetFault, Shape};
 use state_vector::StateVector;
 use std::alloc::Global;
@@ -25,17 +25,6 @@ pub enum Fault {
     /// It is no set on the object.
     NotOnObject,
     NotTaken(SetFault),
-}
-
-impl Fault {
-    /// The word of the refusal.
-    fn word(self) -> &'static str {
-        match self {
-            Fault::NotAdmitted(fault) => Refusal::from(fault).word(),
-            Fault::NotOnObject => "not on the object",
-            Fault::NotTaken(fault) => fault.refusal().map_or("no memory", Refusal::word),
-        }
-    }
 }
 
 impl From<NotAdmitted> for Fault {
@@ -81,14 +70,14 @@ fn initial(rt: &(impl Abort + AllocGlobal)) -> Attrs {
     Attrs::from_pairs(pairs).expect(rt, "attributes")
 }
 
-fn creation(rt: &(impl Abort + AllocGlobal), name: &str, seen: &str) -> SharedOp
+fn creation(rt: &(impl Abort + AllocGlobal)) -> SharedOp
     ensures creation { is_set_body result.body ≡ false }
     ensures vector { is_vector result.seen ≡ true }
 {
     let kind = Kind::parse(rt.alloc(), b"rect").expect(rt, "a kind");
     let op = Op {
-        name: name_of(rt, name),
-        seen: vector_of(rt, seen),
+        name: name_of(rt, "1,1"),
+        seen: vector_of(rt, "-"),
         body: Body::New {
             kind,
             attrs: initial(rt),
@@ -100,13 +89,14 @@ fn creation(rt: &(impl Abort + AllocGlobal), name: &str, seen: &str) -> SharedOp
 }
 
 /// The object (1, 1), with `x` 0, and nothing else.
-pub(super) fn created(rt: &(impl Abort + AllocGlobal), limits: Limits) -> Object {
-    let creation = creation(rt, "1,1", "-");
+pub(super) fn created(rt: &(impl Abort + AllocGlobal)) -> Object {
+    let creation = creation(rt);
     let name = creation.name;
     let mut past = Past::new(rt.alloc()).expect(rt, "memory");
     past.admit(name, &creation.seen).expect(rt, "admitted");
     let copy = creation.share().expect(rt, "memory");
     past.add(copy).expect(rt, "memory");
+    let limits = Limits::full();
     let shape = Shape::create(rt.alloc(), creation, limits).expect(rt, "memory");
     Object { name, past, shape }
 }
@@ -170,19 +160,9 @@ impl Object {
         text_of_ids(rt, &ids)
     }
 
-    /// Is the set of a line answered as the line says?
-    pub(super) fn answers(&mut self, rt: &(impl Abort + AllocGlobal), line: &str) -> bool {
-        let (set, expected) = line.split_once(" => ").expect(rt, "an arrow");
-        match self.set(rt.alloc(), set_of(rt, set)) {
-            Ok(()) => self.ids(rt).as_str() == expected,
-            Err(fault) => fault.word() == expected,
-        }
-    }
-
     /// Is the set of a line taken? Otherwise memory is wanting.
     fn is_taken(&mut self, rt: &(impl Abort + AllocGlobal), line: &str) -> bool {
-        let (set, _) = line.split_once(" => ").expect(rt, "an arrow");
-        match self.set(rt.alloc(), set_of(rt, set)) {
+        match self.set(rt.alloc(), set_of(rt, line)) {
             Err(Fault::NotTaken(SetFault::NoMemory)) => false,
             answer => {
                 answer.expect(rt, "taken");
@@ -202,31 +182,17 @@ impl Object {
         self.is_taken(rt, line) || (self.shows(rt, before) && self.is_taken(rt, line))
     }
 
-    /// Another object is created.
-    pub(super) fn create_another(
-        &mut self,
-        rt: &(impl Abort + AllocGlobal),
-        name: &str,
-        seen: &str,
-    ) {
-        let creation = creation(rt, name, seen);
-        self.past
-            .admit(creation.name, &creation.seen)
-            .expect(rt, "admitted");
-        self.past.add(creation).expect(rt, "memory");
-    }
-
-    /// Takes the set of a line in two steps. Are the identifiers those before until it is committed,
-    /// and are those that are planned the ones of the line?
+    /// Takes the set of a line in two steps. Are these the identifiers until it is committed, and are
+    /// those that are planned the ones after it?
     pub(super) fn plans(
         &mut self,
         rt: &(impl Abort + AllocGlobal),
         line: &str,
         before: &str,
+        after: &str,
     ) -> bool {
-        let (set, after) = line.split_once(" => ").expect(rt, "an arrow");
         let (before, after) = (ids_of(rt, before), ids_of(rt, after));
-        self.set_in_steps(rt, set_of(rt, set), &before, &after)
+        self.set_in_steps(rt, set_of(rt, line), &before, &after)
     }
 
     fn set_in_steps(
@@ -243,11 +209,6 @@ impl Object {
         let is_right = in_two_steps(rt, &mut self.shape, op, before, after);
         self.past.add(copy).expect(rt, "memory");
         is_right
-    }
-
-    /// The number of its versions.
-    pub(super) fn version_count(&self, rt: &(impl Abort + AllocGlobal)) -> usize {
-        self.shape.ids(rt.alloc()).expect(rt, "memory").len()
     }
 
     /// The kind of the object.

@@ -1,21 +1,13 @@
 //! Sets and versions as the lines of tables.
 //!
-//! A set is NAME | SEEN | VERSION | KEY=VALUE => ANSWER. Names and the pairs of a vector are written
-//! SITE,NUMBER with a space between two of them, and none at all as -. The answer is the identifiers
-//! of the object then, or why the set is not taken. A version is ID: KEY=VALUE .., a line each.
+//! A set is NAME | SEEN | VERSION | KEY=VALUE. Names and the pairs of a vector are written
+//! SITE,NUMBER with a space between two of them, and none at all as -. Identifiers have | between
+//! two of them. A version is ID: KEY=VALUE .., a line each.
 
 use op_names::{Key, OpName, Value, VersionId};
-use rules::{Body, LimitValues, Op, SharedOp, Version};
+use rules::{Body, Op, SharedOp, Version};
 use state_vector::StateVector;
 use std::process::Abort;
-
-/// Lines that the object answers one after the other, and what it shows then.
-pub struct Example {
-    pub name: &'static str,
-    pub limits: LimitValues,
-    pub lines: &'static [&'static str],
-    pub versions: &'static str,
-}
 
 fn pair_of(rt: &impl Abort, text: &str) -> (u32, u32) {
     let (site, number) = text.split_once(',').expect(rt, "a comma");

@@ -105,7 +105,9 @@ pub const SETS: &[Example] = &[
 4 ["set",1,[[1,1]],[1,1],[],"y",8]
 4 ["taken",9,[[[1,2],[2,1]],[[1,2],[4,1]],[[2,1],[3,1]],[[3,1],[4,1]]]]
 5 ["set",1,[[1,1]],[1,1],[],"x",9]
-5 ["taken",10,[[[1,2],[2,1]],[[1,2],[4,1]],[[2,1],[3,1]],[[2,1],[5,1]],[[3,1],[4,1]],[[4,1],[5,1]]]]"#,
+5 ["taken",10,[[[1,2],[2,1]],[[1,2],[4,1]],[[2,1],[3,1]],[[2,1],[5,1]],[[3,1],[4,1]],[[4,1],[5,1]]]]
+1 ["show",[1,1]]
+1 ["versions",11,[1,1],"rect",[[[[1,2],[2,1]],[["x",1],["y",2]]],[[[1,2],[4,1]],[["x",1],["y",8]]],[[[2,1],[3,1]],[["x",7],["y",2]]],[[[2,1],[5,1]],[["x",9],["y",2]]],[[[3,1],[4,1]],[["x",7],["y",8]]],[[[4,1],[5,1]],[["x",9],["y",8]]]]]"#,
         ],
     },
     Example {
@@ -134,6 +136,66 @@ pub const SETS: &[Example] = &[
 2 ["taken",5,[[[1,3]],[[2,1]]]]
 1 ["show",[1,1]]
 1 ["versions",6,[1,1],"rect",[[[[1,3]],[["x",6]]],[[[2,1]],[["x",5]]]]]"#,
+        ],
+    },
+    Example {
+        name: "a version as its author saw it",
+        rooms: ROOM,
+        limits: LimitValues::FULL,
+        parts: &[
+            CREATED,
+            FIVE,
+            NINE,
+            THIRD_SITE,
+            r#"3 ["set",1,[[1,2]],[1,1],[],"fill","red"]
+3 ["taken",6,[[[1,2],[3,1]],[[2,1]]]]
+1 ["show",[1,1]]
+1 ["versions",7,[1,1],"rect",[[[[1,2],[3,1]],[["fill","red"],["x",5]]],[[[2,1]],[["x",9]]]]]"#,
+        ],
+    },
+    Example {
+        name: "a conflict with a base",
+        rooms: ROOM,
+        limits: LimitValues::FULL,
+        parts: &[
+            CREATED,
+            FIVE,
+            r#"1 ["set",3,[[1,2]],[1,1],[],"fill","red"]
+1 ["taken",4,[[]]]
+2 ["set",1,[[1,1]],[1,1],[],"x",9]
+2 ["taken",5,[[[1,2],[1,3]],[[2,1]]]]
+1 ["show",[1,1]]
+1 ["versions",6,[1,1],"rect",[[[[1,2],[1,3]],[["fill","red"],["x",5]]],[[[2,1]],[["x",9]]]]]"#,
+        ],
+    },
+    Example {
+        name: "one of two versions goes on",
+        rooms: ROOM,
+        limits: LimitValues::FULL,
+        parts: &[
+            CREATED,
+            FIVE,
+            NINE,
+            r#"2 ["set",2,[[1,1],[2,1]],[1,1],[],"line",3]
+2 ["taken",5,[[[1,2]],[[2,1],[2,2]]]]
+1 ["show",[1,1]]
+1 ["versions",6,[1,1],"rect",[[[[1,2]],[["x",5]]],[[[2,1],[2,2]],[["line",3],["x",9]]]]]"#,
+        ],
+    },
+    Example {
+        name: "other operations of an author count",
+        rooms: ROOM,
+        limits: LimitValues::FULL,
+        parts: &[
+            CREATED,
+            r#"1 ["set",2,[[1,1]],[1,1],[],"x",5]
+1 ["taken",2,[[]]]
+1 ["new",3,[[1,2]],"rect",[]]
+1 ["made",3,[1,3]]
+1 ["set",4,[[1,3]],[1,1],[],"x",7]
+1 ["taken",4,[[]]]
+1 ["show",[1,1]]
+1 ["versions",5,[1,1],"rect",[[[],[["x",7]]]]]"#,
         ],
     },
 ];
@@ -394,6 +456,26 @@ pub const LIMITED: &[Example] = &[
         ],
     },
     Example {
+        name: "the first refusal that applies",
+        rooms: ROOM,
+        limits: LimitValues {
+            sets: 1,
+            keys: 1,
+            versions: 1,
+            ..LimitValues::FULL
+        },
+        parts: &[
+            CREATED,
+            FIVE,
+            r#"2 ["set",1,[[1,1]],[1,1],[[1,2]],"fill","red"]
+2 ["no",4,12,"no-such-version"]
+2 ["set",1,[[1,1]],[1,1],[],"fill","red"]
+2 ["no",4,13,"object-full"]
+1 ["show",[1,1]]
+1 ["versions",4,[1,1],"rect",[[[],[["x",5]]]]]"#,
+        ],
+    },
+    Example {
         name: "one object",
         rooms: ROOM,
         limits: LimitValues {
@@ -434,6 +516,8 @@ pub const LIMITED: &[Example] = &[
             r#"2 ["join","r"]
 2 ["no",2,6,"record-full"]
 1 ["new",2,[[1,1]],"rect",[]]
+1 ["no",2,6,"record-full"]
+1 ["set",2,[[1,1]],[1,1],[],"x",5]
 1 ["no",2,6,"record-full"]"#,
         ],
     },
@@ -454,6 +538,27 @@ pub const LIMITED: &[Example] = &[
 1 ["entries",5,2,[["join",2],["set",[1,2],[[1,1]],[1,1],[],"x",5]]]
 1 ["pull",4]
 1 ["entries",5,4,[["set",[2,1],[[1,1]],[1,1],[],"x",9]]]"#,
+        ],
+    },
+    Example {
+        name: "pages of two objects",
+        rooms: ROOM,
+        limits: LimitValues {
+            page: 2,
+            ..LimitValues::FULL
+        },
+        parts: &[
+            CREATED,
+            r#"1 ["new",2,[[1,1]],"line",[]]
+1 ["made",2,[1,2]]
+1 ["new",3,[[1,2]],"text",[]]
+1 ["made",3,[1,3]]
+1 ["list",0]
+1 ["objects",4,0,3,[[[1,1],"rect"],[[1,2],"line"]]]
+1 ["list",1]
+1 ["objects",4,1,3,[[[1,2],"line"],[[1,3],"text"]]]
+1 ["list",2]
+1 ["objects",4,2,3,[[[1,3],"text"]]]"#,
         ],
     },
 ];

@@ -115,7 +115,7 @@ impl Read for Bytewise<'_> {
 #[test]
 fn a_byte_at_a_read(rt: HostRuntime) {
     let mut world = world_of(&rt, &["r"], LimitValues::FULL);
-    let input = ended_by(&rt, "1 [\"leave\"]\n1 ", 'x', 100_000);
+    let input = ended_by(&rt, "1 [\"leave\"]\n1 ", 'x', 1_500_000);
     let mut reader = Bytewise {
         bytes: input.as_bytes(),
     };

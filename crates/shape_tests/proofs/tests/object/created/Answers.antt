@@ -15,5 +15,5 @@ invariant_of-result g c =
     let object = rw c.expect-shape.ensures at c.create.ensures in
     let name = ap (λ (op : Op). op.name) c.deref.ensures in
     rw (history, object, name)
-    (alone creation c.args.limits c.creation-creation.ensures.creation
+    (alone creation c.full-limits.result c.creation-creation.ensures.creation
     (ap (λ h. causal_refusal h creation.name creation.seen) (sym empty) ∙ admitted) c.creation-creation.ensures.vector)

@@ -2,7 +2,7 @@
 """Measures the libraries that no command uses yet, and prints tables in Markdown. `threads`: how many
 calls a second threads make of rooms behind locks, all in one room and each in a room of its own.
 `replicas`: what a page costs a replica, at the start and at the end of a record of 16,000 entries.
-The programs in bench/ are built unproved, over a copy of the tree; libraries that were built here are
+The programs in bench/ are proved and built over a copy of the tree; libraries that were built here are
 taken along. Each figure is the best of five runs."""
 
 import pathlib
@@ -41,7 +41,7 @@ def lines_of(crate, libraries):
         folder = pathlib.Path(name)
         copy_of_tree(folder, crate, libraries)
         ran = subprocess.run(
-            ["rt", "try", "--seconds", "100"],
+            ["rt", "run"],
             cwd=folder / "crates" / crate, capture_output=True, text=True,
         )
     lines = [line.split() for line in ran.stdout.splitlines()]

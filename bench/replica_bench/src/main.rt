@@ -85,7 +85,7 @@ fn measured(rt: &(impl Clock + Abort + AllocGlobal)) -> Vec<u128> {
 fn main(rt: HostRuntime) {
     for _round in 0..5 {
         for (place, spent) in measured(&rt).iter().enumerate() {
-            let last = place * 50 + 49;
+            let last = place.saturating_mul(50).saturating_add(49);
             let _ = println!(rt; "pages {last} {spent}");
         }
     }

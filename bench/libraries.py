@@ -2,7 +2,8 @@
 """Measures the libraries that no command uses yet, and prints tables in Markdown. `threads`: how many
 calls a second threads make of rooms behind locks, all in one room and each in a room of its own.
 `replicas`: what a page costs a replica, at the start and at the end of a record of 16,000 entries.
-The programs in bench/ are proved and built over a copy of the tree; libraries that were built here are
+The programs in bench/, whose names end in .in since the gate
+reads no source outside crates/, are proved and built over a copy of the tree; libraries that were built here are
 taken along. Each figure is the best of five runs."""
 
 import pathlib
@@ -30,7 +31,10 @@ def copy_of_tree(folder, crate, libraries):
         shutil.copy2(ROOT / name, target)
     for library in ROOT.glob("crates/*/out/rlib"):
         shutil.copytree(library, folder / library.relative_to(ROOT), dirs_exist_ok=True)
-    shutil.copytree(ROOT / "bench" / crate, folder / "crates" / crate)
+    for source in (ROOT / "bench" / crate).rglob("*.in"):
+        target = folder / "crates" / crate / source.relative_to(ROOT / "bench" / crate).with_suffix("")
+        target.parent.mkdir(parents=True, exist_ok=True)
+        shutil.copy2(source, target)
     with open(folder / "crates.txt", "a") as crates:
         crates.write(f"{crate}: {libraries}\n")
 

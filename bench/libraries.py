@@ -2,9 +2,9 @@
 """Measures the libraries that no command uses yet, and prints tables in Markdown. `threads`: how many
 calls a second threads make of rooms behind locks, all in one room and each in a room of its own.
 `replicas`: what a page costs a replica, at the start and at the end of a record of 16,000 entries.
-The programs in bench/, whose names end in .in since the gate
-reads no source outside crates/, are proved and built over a copy of the tree; libraries that were built here are
-taken along. Each figure is the best of five runs."""
+The programs in bench/ are proved and built over a copy of the tree; their names end in .in, since the
+gate takes no source outside crates/. Libraries that were built here are taken along. Each figure is
+the best of five runs."""
 
 import pathlib
 import shutil

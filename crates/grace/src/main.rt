@@ -17,6 +17,7 @@ fn main(rt: HostRuntime) -> ExitCode {
         Ok(words) => {
             let (mut input, mut output, mut errors) = (rt.stdin(), rt.stdout(), rt.stderr());
             ExitCode::from(server::run(
+                &rt,
                 rt.alloc(),
                 words.as_slice(),
                 &mut input,

@@ -4,3 +4,4 @@ pub mod OutOfRange
 pub mod AtObject
 pub mod Fronts
 pub mod Seen
+pub mod Shows

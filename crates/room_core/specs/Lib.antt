@@ -6,3 +6,4 @@ pub mod Answers
 pub mod Plans
 pub mod Replay
 pub mod Logs
+pub mod Shown

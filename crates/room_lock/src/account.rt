@@ -4,13 +4,12 @@ ghost use Rattle.std.specs.Prelude.{◌≡◌, ◌+◌, ◌<◌, ◌≤◌, ◌^
 ghost use Rattle.std.specs.Arc.{arc_value};
 ghost use Rattle.room_core.specs.Logs.{none_or_one};
 
-use crate::keeper::Keeper;
 use crate::ledger::RoomLedger;
 use rules::Entry;
 use shared_history::{Front, History};
 use std::marker::Model;
-use std::sync::ledger::Share;
-use std::sync::{Arc, Mutex, Wait};
+use std::sync::ledger::{Blank, Share};
+use std::sync::{Arc, Wait};
 
 /// A room's history, of which the room has seen all, and its share.
 #[derive(Drop)]
@@ -31,6 +30,20 @@ impl<P: RoomLedger> Model for Account<P> {
     ghost invariant = { λ a. a.front.history ≡ a.history };
 }
 
+/// The whole amount of a new ledger as one share. Its book is given up, so from here on a share grows
+/// by what another one gives, and by nothing else.
+pub(crate) fn whole_amount<P: RoomLedger>(blank: Blank) -> Share<P>
+    requires name { blank.name ≡ P.name }
+    requires parts { blank.parts ≡ P.parts }
+    requires some { 0 < blank.parts }
+    ensures parts { result.parts ≡ blank.parts }
+    ensures amount { result.amount ≡ 2 ^ 63 }
+{
+    let (mut book, mut whole) = blank.open::<P>();
+    book.add(&mut whole, 1 << 63);
+    whole
+}
+
 impl<P: RoomLedger> Account<P> {
     /// The beginning of the history that was seen.
     pub(crate) fn front(&self) -> &Front
@@ -44,13 +57,13 @@ impl<P: RoomLedger> Account<P> {
     pub(crate) fn add(
         &mut self,
         rt: &impl Wait,
-        keeper: &Mutex<Keeper<P>>,
         to: &mut Share<P>,
         own: Option<&Arc<Entry>>,
     )
         requires count { length self.old.front.entries < 2 ^ 62 }
         requires amount { length (none_or_one (option_map (λ e. arc_value e.now) own))
             ≤ self.old.amount }
+        requires own_part { 0 < self.old.parts }
         requires part { 0 < to.old.parts }
         // The history stays, and gets the entry:
         ensures history { self.new.front.history ≡ self.old.front.history }
@@ -66,7 +79,7 @@ impl<P: RoomLedger> Account<P> {
         ensures to_parts { to.new.parts ≡ to.old.parts }
     {
         if let Some(entry) = own {
-            keeper.lock(rt).move_one(&mut self.share, to);
+            self.share.transfer(to, 1);
             self.front.add(rt, &self.history, entry);
         }
     }

@@ -7,7 +7,6 @@ mod closing;
 mod fault;
 mod histories;
 mod joined;
-mod keeper;
 pub mod laws;
 mod ledger;
 mod pass;

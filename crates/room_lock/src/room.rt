@@ -17,7 +17,6 @@ use crate::closing::added_together;
 use crate::fault::{CloseFault, RoomRecord};
 use crate::histories::Opened;
 use crate::joined::Joined;
-use crate::keeper::Keeper;
 use crate::ledger::RoomLedger;
 use crate::pass::Pass;
 use op_names::{NoMemory, RoomName};
@@ -25,8 +24,8 @@ use room_core::{CallFault, RoomState};
 use rules::Limits;
 use std::alloc::Global;
 use std::marker::Model;
+use std::sync::Wait;
 use std::sync::ledger::Share;
-use std::sync::{Mutex, Wait};
 use wire::{Reply, Request};
 
 /// What lies under a room's lock: the room, its history with the room's share, and a spare part for
@@ -106,7 +105,6 @@ impl<P: RoomLedger> Room<P> {
     pub(crate) fn enter(
         &mut self,
         rt: &impl Wait,
-        keeper: &Mutex<Keeper<P>>,
         alloc: Global,
         name: &RoomName,
     ) -> Result<Joined<P>, NoMemory>
@@ -126,8 +124,7 @@ impl<P: RoomLedger> Room<P> {
             return Ok(Joined::Refused(reply));
         };
         let mut share = self.spare.split_off(1, 0);
-        self.account
-            .add(rt, keeper, &mut share, log.added().first());
+        self.account.add(rt, &mut share, log.added().first());
         Ok(Joined::Entered(
             Pass {
                 room,
@@ -145,7 +142,6 @@ impl<P: RoomLedger> Room<P> {
     pub(crate) fn call(
         &mut self,
         rt: &impl Wait,
-        keeper: &Mutex<Keeper<P>>,
         alloc: Global,
         pass: &mut Pass<P>,
         request: Request,
@@ -168,7 +164,7 @@ impl<P: RoomLedger> Room<P> {
         let reply = self.state.call_from_front(alloc, &mut pass.log, request)?;
         show_size(&self.state);
         let own = pass.log.added().get(had);
-        self.account.add(rt, keeper, &mut pass.share, own);
+        self.account.add(rt, &mut pass.share, own);
         pass.front = self.account.front().copy();
         Ok(reply)
     }

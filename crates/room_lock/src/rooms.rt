@@ -10,11 +10,11 @@ ghost use Rattle.room_lock.specs.Closing.{IsClosed, passes_of};
 ghost use Rattle.room_lock.specs.Kept.{SPARE_PARTS};
 ghost use Rattle.room_lock.specs.Told.{IsCall, IsJoin, IsRefusal};
 
+use crate::account::whole_amount;
 use crate::closing::close_all;
 use crate::fault::{CloseFault, RoomRecord};
 use crate::histories::Opened;
 use crate::joined::Joined;
-use crate::keeper::Keeper;
 use crate::ledger::RoomLedger;
 use crate::pass::Pass;
 use crate::room::Room;
@@ -32,7 +32,6 @@ use wire::{Reply, Request};
 #[derive(Drop)]
 pub struct Rooms<P: RoomLedger> {
     rooms: IndexMap<RoomName, Mutex<Room<P>>>,
-    keeper: Mutex<Keeper<P>>,
 }
 
 impl<P: RoomLedger> Model for Rooms<P> {
@@ -77,7 +76,7 @@ impl<P: RoomLedger> Rooms<P> {
                 refusal: Refusal::NoSuchRoom,
             }));
         };
-        room.lock(rt).enter(rt, &self.keeper, alloc, name)
+        room.lock(rt).enter(rt, alloc, name)
     }
 
     /// Answers a request of the pass's site. Then the pass has seen the room's whole record. Otherwise
@@ -100,7 +99,7 @@ impl<P: RoomLedger> Rooms<P> {
         if room.place() != pass.place {
             return Err(CallFault::Torn { place: 0 });
         }
-        room.call(rt, &self.keeper, alloc, pass, request)
+        room.call(rt, alloc, pass, request)
     }
 
     /// Lends the room of this name to `f`, and gives its answer, or `None` where there is no such room.
@@ -135,8 +134,7 @@ impl<P: RoomLedger> Rooms<P> {
                 site: stray.site(),
             });
         }
-        let Rooms { rooms, keeper: _ } = self;
-        close_all(alloc, rooms, &passes)
+        close_all(alloc, self.rooms, &passes)
     }
 }
 
@@ -173,8 +171,7 @@ impl<P: RoomLedger> Rooms<P> {
         if names.len() > MAX_ROOMS {
             return Err(RoomsFault::NoMemory);
         }
-        let (mut book, mut rest) = blank.open::<P>();
-        book.add(&mut rest, 1 << 63);
+        let mut rest = whole_amount::<P>(blank);
         let mut rooms = IndexMap::new(alloc);
         for opened in histories {
             let place = rooms.len();
@@ -182,10 +179,7 @@ impl<P: RoomLedger> Rooms<P> {
             let room = Room::new(alloc, limits, opened, place, &mut rest)?;
             insert_new(&mut rooms, name, Mutex::new(room))?;
         }
-        Ok(Rooms {
-            rooms,
-            keeper: Mutex::new(Keeper { book }),
-        })
+        Ok(Rooms { rooms })
     }
 }
 

@@ -7,13 +7,19 @@ use Rattle.room_core.specs.declared.fault.RoomsFault.TheVariants as rooms
 use Rattle.world.specs.declared.fault.ScriptFault.{ScriptFault}
 use Rattle.world.specs.declared.fault.ScriptFault.TheVariants as script
 use Rattle.server.specs.declared.fault.Fault.{Fault}
-use Rattle.server.specs.declared.fault.Fault.TheVariants.{BadRoomName, RoomNamedTwice, Input, Output, NoMemory}
+use Rattle.server.specs.declared.fault.Fault.TheVariants.{BadRoomName, RoomNamedTwice, Input, Output, CannotListen, Accept, NoWorker, RoomsTorn, NoMemory}
+use Rattle.server.specs.declared.serve.ServeFault.{ServeFault}
+use Rattle.server.specs.declared.serve.ServeFault.TheVariants as serving
 
 abbrev pub status_of : Fault → ℕ
 status_of BadRoomName = 2
 status_of RoomNamedTwice = 2
 status_of Input = 3
 status_of Output = 3
+status_of CannotListen = 3
+status_of Accept = 3
+status_of NoWorker = 3
+status_of RoomsTorn = 3
 status_of NoMemory = 4
 
 abbrev pub of_name : NameFault → Fault
@@ -28,3 +34,9 @@ abbrev pub of_script : ScriptFault → Fault
 of_script script.Read = Input
 of_script script.Write = Output
 of_script script.NoMemory = NoMemory
+
+abbrev pub of_serving : ServeFault → Fault
+of_serving serving.NoWorker = NoWorker
+of_serving serving.Torn = RoomsTorn
+of_serving serving.Write = Output
+of_serving serving.NoMemory = NoMemory

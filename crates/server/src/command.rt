@@ -2,29 +2,76 @@
 
 use crate::fault::Fault;
 use crate::script::script_over;
+use crate::serve::{Service, serve_over};
 use clap::error::ErrorKind;
-use clap::{Arg, ArgAction, ArgMatches, Command, Error};
+use clap::{Arg, ArgAction, ArgMatches, Command, Error, value_parser};
+use log::Log;
 use std::alloc::{AllocError, Global};
 use std::io::{Read, Write};
+use std::net::Net;
+use std::sync::Wait;
+use std::thread::Threads;
+use std::time::Duration;
 
 /// What `--version` shows: what the number means stands in docs/DECISIONS.md.
 pub(crate) const VERSION: &str = "0.1.0";
 
-/// The commands of the program.
-fn grace<'a>(alloc: Global) -> Result<Command<'a>, AllocError> {
-    let rooms = Arg::new(alloc, "ROOM")
+/// The names of rooms, last on the command line.
+fn rooms<'a>(alloc: Global) -> Arg<'a> {
+    Arg::new(alloc, "ROOM")
         .required(true)
         .num_args(1..)
         .action(ArgAction::Append)
-        .help("The name of a room: 1 to 64 of a-z, 0-9 and -");
-    let script = Command::new(alloc, "script")
+        .help("The name of a room: 1 to 64 of a-z, 0-9 and -")
+}
+
+/// `grace script`.
+fn script_command<'a>(alloc: Global) -> Result<Command<'a>, AllocError> {
+    Command::new(alloc, "script")
         .about("Answers a script: lines SESSION MESSAGE from standard input")
-        .arg(rooms)?;
+        .arg(rooms(alloc))
+}
+
+/// `grace serve`.
+fn serve_command<'a>(alloc: Global) -> Result<Command<'a>, AllocError> {
+    let address = Arg::new(alloc, "ADDRESS")
+        .required(true)
+        .action(ArgAction::Set)
+        .help("Where it listens: a host and a port, as 127.0.0.1:8080");
+    let sessions = Arg::new(alloc, "SESSIONS")
+        .required(true)
+        .action(ArgAction::Set)
+        .value_parser(value_parser!(u32).range(1..=100_000))
+        .help("How many connections it accepts in all, 1 to 100000");
+    let workers = Arg::new(alloc, "WORKERS")
+        .required(true)
+        .action(ArgAction::Set)
+        .value_parser(value_parser!(u32).range(1..=64))
+        .help("How many of them it serves at a time, 1 to 64");
+    let idle = Arg::new(alloc, "idle")
+        .long("idle")
+        .value_name("SECONDS")
+        .action(ArgAction::Set)
+        .value_parser(value_parser!(u32))
+        .default_value("300")
+        .help("How long it waits for a client that is silent or stuck; 0 is for good");
+    Command::new(alloc, "serve")
+        .about("Serves sessions over WebSocket, then prints the rooms' records")
+        .arg(idle)?
+        .arg(address)?
+        .arg(sessions)?
+        .arg(workers)?
+        .arg(rooms(alloc))
+}
+
+/// The commands of the program.
+fn grace<'a>(alloc: Global) -> Result<Command<'a>, AllocError> {
     Command::new(alloc, "grace")
         .about("A group drawing server with object versions")
         .version(VERSION)
         .subcommand_required(true)
-        .subcommand(script)
+        .subcommand(script_command(alloc)?)?
+        .subcommand(serve_command(alloc)?)
 }
 
 /// Shows the text of a command line that was not read: help on `output` with status 0, a mistake on
@@ -54,39 +101,81 @@ fn show<W: Write, E: Write>(alloc: Global, error: &Error, output: &mut W, errors
     }
 }
 
+/// What `grace serve` is asked to do, where all words are there.
+fn service_of<'a>(words: &ArgMatches<'a>) -> Option<Service<'a>> {
+    let address = words.get_str("ADDRESS")?;
+    let sessions = words.get_one("SESSIONS")?;
+    let workers = words.get_one("WORKERS")?;
+    let idle = words.get_one("idle")?;
+    Some(Service {
+        address,
+        sessions,
+        workers,
+        idle: if idle == 0 {
+            None
+        } else {
+            Some(Duration::from_secs(idle))
+        },
+    })
+}
+
 /// Runs the command that was read.
-fn run_read<R: Read, W: Write, E: Write>(
+fn run_read<H, R, W, E>(
+    rt: &H,
     alloc: Global,
     matches: &ArgMatches,
     input: &mut R,
     output: &mut W,
     errors: &mut E,
-) -> u8 {
+) -> u8
+where
+    H: Threads + Wait + Log + Net + Sync,
+    H::Stream: Send,
+    R: Read,
+    W: Write,
+    E: Write,
+{
     match matches.subcommand() {
         Some(("script", words)) => {
             let names = words.get_strs("ROOM").unwrap_or(&[]);
             script_over(alloc, names, input, output, errors)
         }
-        // The command line has no other command.
+        Some(("serve", words)) => {
+            let names = words.get_strs("ROOM").unwrap_or(&[]);
+            match service_of(words) {
+                Some(service) => serve_over(rt, alloc, names, service, output, errors),
+                None => 2,
+            }
+        }
+        // The command line has no other command, and each word is required or has a default.
         _ => 2,
     }
 }
 
 /// Runs the program: `words` are the program's name and its arguments. Gives the status: 0 done,
-/// 2 a mistake in the command line, 3 input or output failed, 4 want of memory.
-pub fn run<R: Read, W: Write, E: Write>(
+/// 2 a mistake in the command line, 3 input, output, a connection or the rooms failed, 4 want of
+/// memory.
+pub fn run<H, R, W, E>(
+    rt: &H,
     alloc: Global,
     words: &[String],
     input: &mut R,
     output: &mut W,
     errors: &mut E,
-) -> u8 {
+) -> u8
+where
+    H: Threads + Wait + Log + Net + Sync,
+    H::Stream: Send,
+    R: Read,
+    W: Write,
+    E: Write,
+{
     let Ok(command) = grace(alloc) else {
         Fault::NoMemory.write_line(errors);
         return Fault::NoMemory.status();
     };
     match command.try_get_matches_from(words) {
-        Ok(matches) => run_read(alloc, &matches, input, output, errors),
+        Ok(matches) => run_read(rt, alloc, &matches, input, output, errors),
         Err(error) => show(alloc, &error, output, errors),
     }
 }

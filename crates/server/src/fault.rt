@@ -3,7 +3,8 @@
 ghost use Rattle.std.specs.Prelude.{◌≡◌};
 ghost use Rattle.server.specs.declared.fault.Fault.TheVariants.{NoMemory};
 
-use op_names::NameFault;
+use crate::serve::ServeFault;
+use op_names::{NameFault, NoMemory};
 use std::alloc::{AllocError, AllocFailed};
 use std::io::Write;
 use thiserror::Error;
@@ -20,6 +21,14 @@ pub(crate) enum Fault {
     Input,
     #[error("output failed")]
     Output,
+    #[error("cannot listen")]
+    CannotListen,
+    #[error("accept failed")]
+    Accept,
+    #[error("no worker")]
+    NoWorker,
+    #[error("rooms torn")]
+    RoomsTorn,
     #[error("no memory")]
     NoMemory,
 }
@@ -27,13 +36,18 @@ pub(crate) enum Fault {
 impl Fault {
     ghost use Rattle.server.specs.Faults.{status_of};
 
-    /// 2 for the command line, 3 for input and output, 4 for memory.
+    /// 2 for the command line, 3 for input, output, connections and rooms, 4 for memory.
     pub(crate) fn status(self) -> u8
         ensures { result ≡ status_of self }
     {
         match self {
             Fault::BadRoomName | Fault::RoomNamedTwice => 2,
-            Fault::Input | Fault::Output => 3,
+            Fault::Input
+            | Fault::Output
+            | Fault::CannotListen
+            | Fault::Accept
+            | Fault::NoWorker
+            | Fault::RoomsTorn => 3,
             Fault::NoMemory => 4,
         }
     }
@@ -45,6 +59,10 @@ impl Fault {
             Fault::RoomNamedTwice => "grace: room named twice\n",
             Fault::Input => "grace: input failed\n",
             Fault::Output => "grace: output failed\n",
+            Fault::CannotListen => "grace: cannot listen\n",
+            Fault::Accept => "grace: accept failed\n",
+            Fault::NoWorker => "grace: no worker\n",
+            Fault::RoomsTorn => "grace: rooms torn\n",
             Fault::NoMemory => "grace: no memory\n",
         };
         let _ = errors.write_all(line.as_bytes());
@@ -64,6 +82,14 @@ impl<T: Drop> From<AllocFailed<T>> for Fault {
     ghost from_gives = { λ _ fault. fault ≡ NoMemory };
 
     fn from(_fault: AllocFailed<T>) -> Fault {
+        Fault::NoMemory
+    }
+}
+
+impl From<NoMemory> for Fault {
+    ghost from_gives = { λ _ fault. fault ≡ NoMemory };
+
+    fn from(_fault: NoMemory) -> Fault {
         Fault::NoMemory
     }
 }
@@ -107,6 +133,22 @@ impl From<ScriptFault> for Fault {
             ScriptFault::Read => Fault::Input,
             ScriptFault::Write => Fault::Output,
             ScriptFault::NoMemory => Fault::NoMemory,
+        }
+    }
+}
+
+impl From<ServeFault> for Fault {
+    ghost use Rattle.std.specs.Prelude.{◌≡◌};
+    ghost use Rattle.server.specs.Faults.{of_serving};
+
+    ghost from_gives = { λ fault gives. gives ≡ of_serving fault };
+
+    fn from(fault: ServeFault) -> Fault {
+        match fault {
+            ServeFault::NoWorker => Fault::NoWorker,
+            ServeFault::Torn => Fault::RoomsTorn,
+            ServeFault::Write => Fault::Output,
+            ServeFault::NoMemory => Fault::NoMemory,
         }
     }
 }

@@ -1,12 +1,16 @@
 //! The program over words, readers and writers: what `main` calls, and what tests call in its place.
 #![tactic(auto)]
 
+mod accept;
 mod command;
 mod fault;
+mod record;
 mod script;
+mod serve;
 
 pub use command::run;
 pub use script::script_over;
+pub use serve::{ServeFault, Service, serve_over, serve_streams};
 
 #[cfg(test)]
 mod tests;

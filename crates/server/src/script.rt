@@ -14,7 +14,7 @@ use std::io::{Read, Write};
 use world::World;
 
 /// The names of rooms that these texts are, or the fault of the first that is none.
-fn room_names(alloc: Global, names: &[&str]) -> Result<Vec<RoomName>, Fault>
+pub(crate) fn room_names(alloc: Global, names: &[&str]) -> Result<Vec<RoomName>, Fault>
     ensures ok { IfOk result (λ rooms. rooms.items ≡ texts_of names.now) }
     ensures good { OnOk result (list_all is_room_name (texts_of names.now) ≡ true) }
     ensures fault { IfErr result (λ fault. fault ≢ Fault.NoMemory →

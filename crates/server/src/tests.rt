@@ -1,10 +1,16 @@
+mod serving;
+
 use super::*;
 use crate::command::VERSION;
 use crate::fault::Fault;
 use std::alloc::Global;
 use std::io;
 use std::io::{ErrorKind, Read, Write};
+use log::Log;
+use std::net::Net;
 use std::process::Abort;
+use std::sync::Wait;
+use std::thread::Threads;
 
 /// A reader that gives these bytes, and then fails.
 #[derive(Drop)]
@@ -57,7 +63,11 @@ impl Outcome {
 }
 
 /// Runs the program with these words, which stand with commas between them.
-fn run_words(rt: &(impl Abort + AllocGlobal), words: &str, input: &str) -> Outcome {
+fn run_words<H>(rt: &H, words: &str, input: &str) -> Outcome
+where
+    H: Threads + Wait + Log + Net + Sync + Abort + AllocGlobal,
+    H::Stream: Send,
+{
     let mut line = Vec::new(rt.alloc());
     for word in words.split(',') {
         let word = word.to_string(rt.alloc()).expect(rt, "memory");
@@ -66,7 +76,7 @@ fn run_words(rt: &(impl Abort + AllocGlobal), words: &str, input: &str) -> Outco
     let mut reader = input.as_bytes();
     let mut output = Vec::new(rt.alloc());
     let mut errors = Vec::new(rt.alloc());
-    let status = run(rt.alloc(), &line, &mut reader, &mut output, &mut errors);
+    let status = run(rt, rt.alloc(), &line, &mut reader, &mut output, &mut errors);
     Outcome {
         status,
         output,
@@ -81,7 +91,15 @@ grace,script => error: the following required arguments were not provided:
 grace,script,r,--x => error: unexpected argument '--x' found
 grace,script,R => grace: bad room name
 grace,script,r,r => grace: room named twice
-grace,script,r,r, => grace: bad room name"#;
+grace,script,r,r, => grace: bad room name
+grace,serve => error: the following required arguments were not provided:
+grace,serve,127.0.0.1:0,0,1,r => error: invalid value '0' for '<SESSIONS>': 0 is not in 1..=100000
+grace,serve,127.0.0.1:0,100001,1,r => error: invalid value '100001' for '<SESSIONS>': 100001 is not in 1..=100000
+grace,serve,127.0.0.1:0,1,0,r => error: invalid value '0' for '<WORKERS>': 0 is not in 1..=64
+grace,serve,127.0.0.1:0,1,65,r => error: invalid value '65' for '<WORKERS>': 65 is not in 1..=64
+grace,serve,--idle,x,127.0.0.1:0,1,1,r => error: invalid value 'x' for '--idle <SECONDS>': invalid digit found in string
+grace,serve,127.0.0.1:0,1,1,R => grace: bad room name
+grace,serve,127.0.0.1:0,1,1,r,r => grace: room named twice"#;
 
 /// Is this the first line of the bytes, and is it ended?
 fn begins_with_line(bytes: &[u8], line: &str) -> bool {
@@ -91,7 +109,11 @@ fn begins_with_line(bytes: &[u8], line: &str) -> bool {
     }
 }
 
-fn is_mistake(rt: &(impl Abort + AllocGlobal), words: &str, line: &str) -> bool {
+fn is_mistake<H>(rt: &H, words: &str, line: &str) -> bool
+where
+    H: Threads + Wait + Log + Net + Sync + Abort + AllocGlobal,
+    H::Stream: Send,
+{
     let ran = run_words(rt, words, "0 [\"leave\"]\n");
     ran.status == 2 && ran.output.is_empty() && begins_with_line(ran.errors.as_slice(), line)
 }
@@ -105,7 +127,11 @@ fn faults_of_the_command_line(rt: HostRuntime) {
 }
 
 /// Is this how the output begins, and is nothing else written?
-fn shows(rt: &(impl Abort + AllocGlobal), words: &str, start: &str) -> bool {
+fn shows<H>(rt: &H, words: &str, start: &str) -> bool
+where
+    H: Threads + Wait + Log + Net + Sync + Abort + AllocGlobal,
+    H::Stream: Send,
+{
     let ran = run_words(rt, words, "");
     ran.status == 0 && ran.errors.is_empty() && ran.output.starts_with(start.as_bytes())
 }
@@ -194,7 +220,7 @@ fn help_on_an_output_that_fails(rt: HostRuntime) {
     }
     let mut errors = Vec::new(rt.alloc());
     let mut input = LEAVE.as_bytes();
-    let status = run(rt.alloc(), &words, &mut input, &mut Closed, &mut errors);
+    let status = run(&rt, rt.alloc(), &words, &mut input, &mut Closed, &mut errors);
     assert_eq!(rt; status, 3);
     assert_eq!(rt; errors.as_slice(), b"grace: output failed\n".as_slice());
 }

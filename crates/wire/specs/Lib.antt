@@ -2,6 +2,7 @@ pub mod Form
 pub mod Rising
 pub mod Reading
 pub mod Requests
+pub mod Joining
 pub mod Entries
 pub mod Replies
 pub mod Faults

@@ -1,5 +1,7 @@
 //! What a session may ask for.
 
+ghost use Rattle.std.specs.Prelude.{◌≡◌, option_map};
+
 use op_names::{Key, Kind, OpName, RoomName, Value, VersionId};
 use rules::Attrs;
 use state_vector::StateVector;
@@ -47,4 +49,23 @@ pub enum Request {
     },
     /// To be in no room.
     Leave,
+}
+
+impl Request {
+    ghost use Rattle.wire.specs.Joining.{joined_name};
+
+    /// The name of the room that it asks to join, if it asks to join one.
+    pub fn joined_name(&self) -> Option<&RoomName>
+        ensures { option_map (λ name. name.now) result ≡ joined_name self.now }
+    {
+        match self {
+            Request::Join { room } => Some(room),
+            Request::New { .. } => None,
+            Request::Set { .. } => None,
+            Request::Show { .. } => None,
+            Request::List { .. } => None,
+            Request::Pull { .. } => None,
+            Request::Leave => None,
+        }
+    }
 }

@@ -11,7 +11,8 @@ use Rattle.room_core.specs.Room.{Room, with_entry}
 use Rattle.room_core.specs.Answers.{Outcome}
 use Rattle.world.specs.declared.seats.Seat.{Seat}
 use Rattle.world.specs.declared.seats.Asker.{Asker}
-use Rattle.world.specs.Alone.{Message, Alone, joined_name, outside_answer, answer_to, move_of, after_move, after_reply, alone_answer, alone_after}
+use Rattle.wire.specs.Joining.{joined_name}
+use Rattle.world.specs.Alone.{Message, Alone, outside_answer, answer_to, move_of, after_move, after_reply, alone_answer, alone_after}
 use Rattle.world.specs.Rooms.{Rooms, place_of, named_place, owner_from, owner_of, after_at, rooms_after}
 use Rattle.world.specs.State.{State, Named, names_in, names_of, seat_of, no_room, rooms_in, room_at, site_at, alone_at, rooms_of, SeatsWithin}
 use Rattle.world.specs.Steps.{asker_answer, asker_of, seat_in, IsMoved}

@@ -7,22 +7,23 @@ use Rattle.rules.specs.declared.refusal.Refusal.{Refusal}
 use Rattle.rules.specs.declared.refusal.Refusal.TheVariants.{BadMessage}
 use Rattle.rules.specs.declared.version.Version.{Version}
 use Rattle.rules.specs.Records.{operations, IsLegal}
-use Rattle.rules.proofs.Founded.{history_if_legal}
 use Rattle.wire.specs.declared.request.Request.{Request}
 use Rattle.wire.specs.declared.reply.Reply.TheVariants.{Versions, No}
 use Rattle.wire.specs.Texts.{request_read, reply_text, reply_read}
 use Rattle.room_core.specs.Room.{Room, with_entry}
 use Rattle.room_core.specs.Answers.{Outcome}
+use Rattle.room_core.specs.Shown.{HasObject}
+use Rattle.room_core.proofs.Shows.{IsShownBy, has_if_shown}
 use Rattle.world.specs.declared.seats.Asker.{Asker}
 use Rattle.world.specs.Alone.{Message, alone_answer, alone_after}
 use Rattle.world.specs.Rooms.{Rooms, owner_of, reply_at, after_at, reply_to, rooms_after}
 use Rattle.world.specs.State.{State, names_of, rooms_in, room_at, seat_of, alone_at, rooms_of}
 use Rattle.world.specs.Steps.{asker_answer, asker_of, IsTextOf, RepliesTo}
-use Rattle.world.specs.Shown.{AreVersionsOf, HasObject, OwnerHasObject, ShowsGroups}
+use Rattle.world.specs.Shown.{OwnerHasObject, ShowsGroups}
 use Rattle.world.specs.Run.{IsAnswer}
 use Rattle.world.proofs.Changed.{owner_is, answer_is, asked_after}
 use Rattle.world.proofs.LongLines.{bad_reply, bad_after}
-use Rattle.world.proofs.RoomShows.{IsShownBy, room_shows, versions_are}
+use Rattle.world.proofs.RoomShows.{room_shows}
 
 -- the room at a place, which the message is of, answers with versions
 module _ (state : State) (message : Message) (place : ℕ) (who : Option ℕ) (asks : Request)
@@ -43,15 +44,7 @@ module _ (state : State) (message : Message) (place : ℕ) (who : Option ℕ) (a
         ∙ ap (with_entry (room_at state.rooms place)) by_room.nothing
 
     has_object : HasObject (room_at state.rooms place) at object kind vs
-    has_object = record {
-      at_end = by_room.at_end;
-      creation = by_room.creation;
-      created = by_room.created;
-      of_kind = by_room.of_kind;
-      versions_are =
-          subst (AreVersionsOf (operations (room_at state.rooms place).entries) object) (sym by_room.are_versions)
-          (versions_are (operations (room_at state.rooms place).entries) object (history_if_legal (room_at state.rooms place).limits (room_at state.rooms place).entries legal));
-    }
+    has_object = has_if_shown (room_at state.rooms place) at object kind vs _ legal by_room
 
     pub owner_has_object : OwnerHasObject (names_of state) (rooms_of state) message at object kind vs
     owner_has_object = record {

@@ -2,9 +2,9 @@
 use Rattle.std.specs.Prelude.{ℕ, ◌==◌, List, [], ◌∷◌, Option, Some, None, option_map, if◌then◌else◌}
 use Rattle.rules.specs.declared.refusal.Refusal.TheVariants.{BadMessage, NotJoined}
 use Rattle.wire.specs.declared.request.Request.{Request}
-use Rattle.wire.specs.declared.request.Request.TheVariants.{Join}
 use Rattle.wire.specs.declared.reply.Reply.{Reply}
 use Rattle.wire.specs.declared.reply.Reply.TheVariants.{Joined, Left, No}
+use Rattle.wire.specs.Joining.{joined_name}
 use Rattle.wire.specs.Texts.{request_read, reply_text}
 use Rattle.room_core.specs.Room.{Room, with_entry}
 use Rattle.room_core.specs.Answers.{Outcome, join_answer, answer}
@@ -16,11 +16,6 @@ pub record Message : Type 0 where
 
 abbrev pub message_of : ℕ → List ℕ → Message
 message_of session bytes = record { session = session; bytes = bytes }
-
--- the name of the room that a request asks to join
-abbrev pub joined_name : Request → Option (List ℕ)
-joined_name (Join name) = Some name
-joined_name _ = None
 
 -- the answer to somebody who is not in the room, whose request asks to join by a name or is another one
 abbrev pub outside_answer : Room → Option (List ℕ) → Outcome

@@ -5,8 +5,9 @@ use Rattle.rules.specs.declared.refusal.Refusal.TheVariants.{BadMessage, NotJoin
 use Rattle.wire.specs.declared.request.Request.{Request}
 use Rattle.wire.specs.declared.reply.Reply.{Reply}
 use Rattle.wire.specs.declared.reply.Reply.TheVariants.{No}
+use Rattle.wire.specs.Joining.{joined_name}
 use Rattle.wire.specs.Texts.{request_read, reply_text}
-use Rattle.world.specs.Alone.{Message, Alone, joined_name, after_reply, alone_reply, alone_after}
+use Rattle.world.specs.Alone.{Message, Alone, after_reply, alone_reply, alone_after}
 
 -- the place of the first room of this name
 abbrev pub place_of : List (List ℕ) → List ℕ → Option ℕ

@@ -1,40 +1,13 @@
 -- What a reply shows of an object: the maximal compatible groups of its operations.
-use Rattle.std.specs.Prelude.{◌≡◌, ◌↔◌, ℕ, List, [], ◌∷◌, length, map, Contains, Some}
-use Rattle.std.specs.List.Sorted.{IsPermutation, IsStrictlySortedBy}
+use Rattle.std.specs.Prelude.{◌≡◌, ℕ, List, [], ◌∷◌, Some}
 use Rattle.op_names.specs.Names.{Name}
 use Rattle.op_names.specs.Texts.{Bytes}
-use Rattle.op_names.specs.VersionIds.{id_cmp}
-use Rattle.rules.specs.declared.history.Op.{Op}
 use Rattle.rules.specs.declared.version.Version.{Version}
-use Rattle.rules.specs.Bodies.{kind_in}
-use Rattle.rules.specs.Lists.{HasNoRepeats}
-use Rattle.rules.specs.Operations.{creation_of, sets_on}
-use Rattle.rules.specs.Groups.{IsGroup}
-use Rattle.rules.specs.Conflicts.{conflict}
-use Rattle.rules.specs.Versions.{version_of}
-use Rattle.rules.specs.Records.{operations}
 use Rattle.wire.specs.declared.reply.Reply.TheVariants.{Versions}
 use Rattle.wire.specs.Texts.{reply_read}
-use Rattle.room_core.specs.Room.{Room}
+use Rattle.room_core.specs.Shown.{HasObject}
 use Rattle.world.specs.Alone.{Message}
 use Rattle.world.specs.Rooms.{Rooms, owner_of, rooms_after}
-
--- The versions of an object after these operations: one for each maximal compatible group of the sets on it, each group
--- once, with the group's identifier and the attributes that its own operations decide, in order of identifier.
-pub record AreVersionsOf (h : List Op) (object : Name) (versions : List Version) : Type 0 where
-  pub groups : List (List Op)
-  pub maximal : (g : List Op) → Contains groups g ↔ IsGroup (conflict h) (sets_on h object) g
-  pub once : HasNoRepeats groups
-  pub shown : IsPermutation (map (version_of h object) groups) versions
-  pub rising : IsStrictlySortedBy id_cmp (map (λ version. version.id) versions)
-
--- the room has so many entries, and by them this object, of this kind and with these versions
-pub record HasObject (room : Room) (at : ℕ) (object : Name) (kind : Bytes) (versions : List Version) : Type 0 where
-  pub at_end : at ≡ length room.entries
-  pub creation : Op
-  pub created : creation_of (operations room.entries) object ≡ Some creation
-  pub of_kind : kind ≡ kind_in creation.body
-  pub versions_are : AreVersionsOf (operations room.entries) object versions
 
 -- the message is of a room, which after the message has the object so
 pub record OwnerHasObject (names : List (List ℕ)) (rooms : Rooms) (message : Message) (at : ℕ) (object : Name) (kind : Bytes) (versions : List Version) : Type 0 where

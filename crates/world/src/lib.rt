@@ -7,7 +7,8 @@ ghost use Rattle.op_names.specs.Repeats.{first_repeat};
 ghost use Rattle.rules.specs.declared.refusal.Refusal.{Refusal};
 ghost use Rattle.wire.specs.Texts.{request_read};
 ghost use Rattle.wire.specs.declared.reply.Reply.TheVariants.{No};
-ghost use Rattle.world.specs.Alone.{message_of, joined_name};
+ghost use Rattle.wire.specs.Joining.{joined_name};
+ghost use Rattle.world.specs.Alone.{message_of};
 ghost use Rattle.world.specs.Rooms.{place_of, lone_refusal};
 ghost use Rattle.world.specs.State.{State, names_in, names_of, room_at, new_world};
 ghost use Rattle.world.specs.Steps.{asker_of, IsTextOf};
@@ -60,21 +61,6 @@ fn request_read(alloc: Global, bytes: &[u8]) -> Result<Option<Request>, NoMemory
     }
 }
 
-/// The name of the room that a request asks to join.
-fn joined_name(request: &Request) -> Option<&RoomName>
-    ensures { option_map (λ name. name.now) result ≡ joined_name request.now }
-{
-    match request {
-        Request::Join { room } => Some(room),
-        Request::New { .. } => None,
-        Request::Set { .. } => None,
-        Request::Show { .. } => None,
-        Request::List { .. } => None,
-        Request::Pull { .. } => None,
-        Request::Leave => None,
-    }
-}
-
 /// The text of a refusal that looks into no room.
 fn refusal_text(alloc: Global, refusal: Refusal) -> Result<String, NoMemory>
     ensures { IfOk result (λ text. IsTextOf (string_bytes text) (No 0 refusal)) }
@@ -98,7 +84,7 @@ fn asker_of(
             site: Some(site),
         });
     }
-    let name = joined_name(request)?;
+    let name = request.joined_name()?;
     let place = place_of(rooms, name)?;
     Some(Asker {
         session,
@@ -111,7 +97,7 @@ fn asker_of(
 fn lone_refusal(request: &Request) -> Refusal
     ensures { result ≡ lone_refusal (joined_name request.now) }
 {
-    match joined_name(request) {
+    match request.joined_name() {
         Some(_name) => Refusal::NoSuchRoom,
         None => Refusal::NotJoined,
     }

@@ -62,5 +62,4 @@ loop-opened-preserved g c =
       (λ j. repeat_from bytes_eq (more j) (take (more j) names) (drop (more j) names)) ∙ new.1,
       omega (arith, more, i.5, c.in_ok-room.ensures.parts),
       omega (arith, more, i.6, c.in_ok-room.ensures.amount),
-      i.7,
     )

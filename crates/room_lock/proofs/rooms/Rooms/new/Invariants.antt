@@ -13,4 +13,3 @@ invariant-loop-opened g l =
     × (repeat_from bytes_eq (length l.yielded) (take (length l.yielded) l.names) (drop (length l.yielded) l.names) ≡ None)
     × (l.rest.parts + (SPARE_PARTS + 1) * length l.yielded ≡ (SPARE_PARTS + 1) * length l.names + 1)
     × (l.rest.amount + MAX_ENTRIES * length l.yielded ≡ 2 ^ 63)
-    × (l.book.total ≡ 2 ^ 63)

@@ -1,0 +1,14 @@
+//! Sessions of clients over WebSocket streams (RFC 6455), and the workers that serve them.
+#![tactic(auto)]
+
+mod cause;
+mod gate;
+mod pool;
+mod serve;
+mod session;
+
+pub use cause::Cause;
+pub use gate::{Gate, Open};
+pub use pool::{PoolEnd, PoolFault, run_pool};
+pub use serve::{Ended, serve_one};
+pub use session::Session;

@@ -1,0 +1,214 @@
+//! A session: the messages of one client, one after the other.
+
+ghost use Rattle.std.specs.Prelude.{◌≡◌, ◌⊎◌, IfErr, IfOk, OnErr, None, [], false, string_bytes, true};
+ghost use Rattle.rules.specs.declared.refusal.Refusal.{Refusal as AnyRefusal};
+ghost use Rattle.wire.specs.declared.reply.Reply.TheVariants.{No};
+ghost use Rattle.wire.specs.Joining.{joined_name};
+ghost use Rattle.sessions.specs.declared.cause.Cause.TheVariants as cause;
+ghost use Rattle.sessions.specs.Turns.{is_left, IsAnswer, IsCallOfLast, IsJoinBy, IsTextOfTurn, IsTurn, MayStand};
+
+use crate::cause::Cause;
+use crate::gate::Gate;
+use op_names::RoomName;
+use room_lock::{CallFault, Joined, Pass, RoomLedger, Rooms};
+use std::alloc::Global;
+use std::marker::Model;
+use std::sync::Wait;
+use wire::{ReadFault, Refusal, Reply, Request, read_request, write_reply};
+
+/// A session: whether it is in a room, and the passes that it got, of which the last is its part in
+/// that room.
+#[derive(Drop)]
+pub struct Session<P: RoomLedger> {
+    number: u32,
+    inside: bool,
+    passes: Vec<Pass<P>>,
+}
+
+impl<P: RoomLedger> Model for Session<P> {
+    ghost use Rattle.std.specs.Prelude.{◌≡◌, ◌<◌, length, true};
+    ghost use Rattle.sessions.specs.Sessions.{SessionView};
+
+    ghost Value = { SessionView };
+
+    ghost view = { λ s. record { inside = s.inside; passes = s.passes.items } };
+
+    ghost invariant = { λ s. s.inside ≡ true → 0 < length s.passes.items };
+}
+
+/// A refusal that the session makes itself.
+fn refused(refusal: Refusal) -> Reply
+    ensures { result ≡ No 0 refusal }
+{
+    Reply::No { at: 0, refusal }
+}
+
+/// Is it the reply that puts a session out of its room?
+fn is_left(reply: &Reply) -> bool
+    ensures { result ≡ is_left reply.now }
+{
+    matches!(reply, Reply::Left { .. })
+}
+
+impl<P: RoomLedger> Session<P> {
+    /// A session of this number, in no room.
+    pub fn new(alloc: Global, number: u32) -> Session<P>
+        ensures inside { result.inside ≡ false }
+        ensures passes { result.passes ≡ [] }
+    {
+        Session {
+            number,
+            inside: false,
+            passes: Vec::new(alloc),
+        }
+    }
+
+    /// Is it in a room?
+    pub fn inside(&self) -> bool
+        ensures { result ≡ self.now.inside }
+    {
+        self.inside
+    }
+
+    /// The passes that it got, in order.
+    pub fn passes(&self) -> &[Pass<P>]
+        ensures { result.now ≡ self.now.passes }
+    {
+        self.passes.as_slice()
+    }
+
+    /// Gives the session up for its passes.
+    pub fn into_passes(self) -> Vec<Pass<P>>
+        ensures { result.items ≡ self.passes }
+    {
+        self.passes
+    }
+
+    /// Answers one message by the text of its reply. The session itself refuses what is no request, a
+    /// join from within a room, and anything else from without. Otherwise a room answers, by the last
+    /// pass or by a join that gives a new one; that is the one call of the rooms. `NoMemory` where
+    /// memory was refused, and then the call may stand, if only the text could not be made; `Torn`
+    /// where the last pass is of other rooms. No pass is lost.
+    pub fn message<G: Gate>(
+        &mut self,
+        rt: &impl Wait,
+        alloc: Global,
+        rooms: &Rooms<P>,
+        bytes: &[u8],
+        gate: &G,
+    ) -> Result<String, Cause>
+        ensures ok { IfOk result (λ text.
+            IsTextOfTurn P.limits rooms.now self.old self.new bytes.now (string_bytes text)) }
+        ensures err { OnErr result (MayStand P.limits rooms.now self.old self.new bytes.now) }
+        ensures cause { IfErr result (λ why. (why ≡ cause.NoMemory)
+            ⊎ ((why ≡ cause.Torn) × (self.new ≡ self.old))) }
+    {
+        let reply = self.answer(rt, alloc, rooms, bytes, gate)?;
+        let text = write_reply(alloc, &reply)?;
+        Ok(text)
+    }
+
+    /// The reply to a message; on `Err` nothing is changed.
+    fn answer<G: Gate>(
+        &mut self,
+        rt: &impl Wait,
+        alloc: Global,
+        rooms: &Rooms<P>,
+        bytes: &[u8],
+        gate: &G,
+    ) -> Result<Reply, Cause>
+        ensures ok { IfOk result (IsTurn P.limits rooms.now self.old self.new bytes.now) }
+        ensures err { OnErr result (self.new ≡ self.old) }
+        ensures cause { IfErr result (λ why. (why ≡ cause.NoMemory) ⊎ (why ≡ cause.Torn)) }
+    {
+        match read_request(alloc, bytes) {
+            Ok(request) => self.ask(rt, alloc, rooms, request, gate),
+            Err(ReadFault::Bad) => Ok(refused(Refusal::BadMessage)),
+            Err(ReadFault::NoMemory) => Err(Cause::NoMemory),
+        }
+    }
+
+    /// The reply to a request; on `Err` nothing is changed.
+    fn ask<G: Gate>(
+        &mut self,
+        rt: &impl Wait,
+        alloc: Global,
+        rooms: &Rooms<P>,
+        request: Request,
+        gate: &G,
+    ) -> Result<Reply, Cause>
+        ensures ok { IfOk result (IsAnswer P.limits rooms.now self.old self.new request) }
+        ensures err { OnErr result (self.new ≡ self.old) }
+        ensures cause { IfErr result (λ why. (why ≡ cause.NoMemory) ⊎ (why ≡ cause.Torn)) }
+    {
+        if self.inside {
+            if request.joined_name().is_some() {
+                return Ok(refused(Refusal::AlreadyJoined));
+            }
+            return self.call(rt, alloc, rooms, request, gate);
+        }
+        match request.joined_name() {
+            Some(name) => self.join(rt, alloc, rooms, name, gate),
+            None => Ok(refused(Refusal::NotJoined)),
+        }
+    }
+
+    /// Joins the room of this name; on `Err` nothing is changed.
+    fn join<G: Gate>(
+        &mut self,
+        rt: &impl Wait,
+        alloc: Global,
+        rooms: &Rooms<P>,
+        name: &RoomName,
+        gate: &G,
+    ) -> Result<Reply, Cause>
+        requires { self.old.inside ≡ false }
+        ensures ok { IfOk result (IsJoinBy P.limits rooms.now name.now self.old self.new) }
+        ensures err { OnErr result (self.new ≡ self.old) }
+        ensures cause { IfErr result (λ why. why ≡ cause.NoMemory) }
+    {
+        if self.passes.reserve(1).is_err() {
+            return Err(Cause::NoMemory);
+        }
+        gate.before_call(self.number);
+        let joined = rooms.join(rt, alloc, name);
+        gate.after_call(self.number);
+        match joined? {
+            Joined::Entered(pass, reply) => {
+                self.passes.push_reserved(pass);
+                self.inside = true;
+                Ok(reply)
+            }
+            Joined::Refused(reply) => Ok(reply),
+        }
+    }
+
+    /// Asks the room by the last pass; on `Err` nothing is changed.
+    fn call<G: Gate>(
+        &mut self,
+        rt: &impl Wait,
+        alloc: Global,
+        rooms: &Rooms<P>,
+        request: Request,
+        gate: &G,
+    ) -> Result<Reply, Cause>
+        requires { self.old.inside ≡ true }
+        ensures ok { IfOk result (IsCallOfLast P.limits self.old self.new request) }
+        ensures err { OnErr result (self.new ≡ self.old) }
+        ensures cause { IfErr result (λ why. (why ≡ cause.NoMemory) ⊎ (why ≡ cause.Torn)) }
+    {
+        let last = self.passes.len() - 1;
+        let pass = &mut self.passes[last];
+        gate.before_call(self.number);
+        let reply = rooms.call(rt, alloc, pass, request);
+        gate.after_call(self.number);
+        match reply {
+            Ok(reply) => {
+                self.inside = !is_left(&reply);
+                Ok(reply)
+            }
+            Err(CallFault::Torn { place: _ }) => Err(Cause::Torn),
+            Err(CallFault::NoMemory) => Err(Cause::NoMemory),
+        }
+    }
+}

@@ -1,0 +1,96 @@
+"""Clients that draw together, as a person would: each looks at what the room shows, and then changes a version
+of an object, or makes an object, or asks for something else."""
+
+import json
+import random
+
+KEYS = ["x", "y", "fill"]
+VALUES = [1, 2, "red"]
+TRIES = 5
+
+
+class Drawer:
+    """One client. `ask` gives the text of the reply to a request."""
+
+    def __init__(self, ask, number):
+        self.ask = ask
+        self.source = random.Random(number)
+        self.site = None
+        self.held = 0
+        self.counts = {}
+        self.objects = []
+
+    def told(self, request):
+        """The reply as a value."""
+        return json.loads(self.ask(request))
+
+    def join(self, room):
+        """Joins a room."""
+        self.site = self.told(["join", room])[2]
+
+    def catch_up(self):
+        """Pulls what the record has more, and counts it."""
+        at = None
+        while self.held != at:
+            _, at, _, entries = self.told(["pull", self.held])
+            self.held += len(entries)
+            for entry in entries:
+                if entry[0] != "join":
+                    self.counts[entry[1][0]] = entry[1][1]
+                if entry[0] == "new":
+                    self.objects.append(entry[1])
+
+    def seq(self):
+        """The number of the next operation."""
+        return self.counts.get(self.site, 0) + 1
+
+    def versions(self, target):
+        """The identifiers of an object's versions among what was pulled."""
+        while True:
+            reply = self.told(["show", target])
+            if reply[1] == self.held:
+                return [name for name, _ in reply[4]]
+            self.catch_up()
+
+    def next_operation(self):
+        """An operation that counts all that was pulled."""
+        self.catch_up()
+        if not self.objects or self.source.random() < 0.07:
+            return ["new", self.seq(), sorted(map(list, self.counts.items())), "rect", [["x", 0]]]
+        target = self.source.choice(self.objects)
+        version = self.source.choice(self.versions(target))
+        seen = sorted(map(list, self.counts.items()))
+        change = [self.source.choice(KEYS), self.source.choice(VALUES)]
+        return ["set", self.seq(), seen, target, version, *change]
+
+    def does(self, operation):
+        """Whether the operation was accepted."""
+        return self.told(operation)[0] in ("made", "taken")
+
+    def asks_else(self):
+        """Asks for what is no operation, or is refused."""
+        requests = [["list", 0], ["list", 9999], ["show", [256, 1]], ["new", 9999, [], "rect", []], ["pull", self.held]]
+        self.ask(self.source.choice(requests))
+
+
+def draw_in_rounds(drawers, count):
+    """In each round all look, and then all change something: nobody knows the others' changes. Ends once so
+    many operations were accepted."""
+    accepted = 0
+    while accepted < count:
+        operations = [drawer.next_operation() for drawer in drawers]
+        for drawer, operation in zip(drawers, operations):
+            if accepted < count and drawer.does(operation):
+                accepted += 1
+        drawers[accepted % len(drawers)].asks_else()
+
+
+def draw_alone(drawer, count):
+    """One client draws while the others do, until so many of its operations were accepted."""
+    accepted = 0
+    for _ in range(TRIES * count):
+        if accepted < count and drawer.does(drawer.next_operation()):
+            accepted += 1
+        if drawer.source.random() < 0.1:
+            drawer.asks_else()
+    return accepted == count

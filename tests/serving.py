@@ -1,0 +1,309 @@
+"""The program under test as a process, and its clients, which keep what they asked and were told. At its end
+all that the program printed is compared with that."""
+
+import os
+import pathlib
+import queue
+import re
+import socket
+import subprocess
+import tempfile
+import threading
+
+from websocket_client import CLOSE, SECONDS, TEXT, Connection, Ended, Fault, closing, frame
+from records import Told, compact, compare_record, split_rooms, transcript_of
+
+ROOT = pathlib.Path(__file__).resolve().parent.parent
+
+# The line on standard error for a session that did not end well: its number, and why.
+WARNING = re.compile(r"\] session (\d+): (handshake failed|stream fault|out of memory|torn from its room)$")
+
+
+class Wrong(Exception):
+    """Something isn't as it must be."""
+
+
+class NotBuilt(Exception):
+    """The program doesn't have the command yet."""
+
+
+def same(what, seen, wanted):
+    """Both are equal, or the test fails."""
+    if seen != wanted:
+        raise Wrong(f"{what}: {seen!r:.300}, not {wanted!r:.300}")
+
+
+# ---- the program
+
+
+def built_program():
+    """The program's path. It is the one that the variable GRACE names, or the repository's own, which is
+    built first where that is to be done."""
+    if os.environ.get("GRACE"):
+        return pathlib.Path(os.environ["GRACE"]).resolve()
+    subprocess.run([ROOT / "grace", "--version"], stdin=subprocess.DEVNULL, stdout=subprocess.DEVNULL, check=True)
+    return ROOT / "crates/grace/out/grace"
+
+
+PROGRAM = None
+COMMANDS = set()
+
+
+def find_program():
+    """Finds the program and its commands, for all that follows."""
+    global PROGRAM
+    PROGRAM = built_program()
+    _, text, _ = run("--help")
+    COMMANDS.update(re.findall(r"^ +([a-z]+)\b", text.partition("Commands:")[2], re.MULTILINE))
+
+
+def run(*words, stdin=b"", stdout=subprocess.PIPE):
+    """Runs the program with these words to its end: status, output and errors."""
+    command = [PROGRAM, *map(str, words)]
+    done = subprocess.run(command, input=stdin, stdout=stdout, stderr=subprocess.PIPE, timeout=3 * SECONDS)
+    return done.returncode, (done.stdout or b"").decode(), done.stderr.decode()
+
+
+def needs(command):
+    """The program has this command, or the test is passed over."""
+    if command not in COMMANDS:
+        raise NotBuilt
+
+
+def verdict(record, transcript):
+    """What the program's own checker says of these lines: its status and its output."""
+    with tempfile.TemporaryDirectory() as name:
+        files = [pathlib.Path(name) / "record", pathlib.Path(name) / "transcript"]
+        for file, lines in zip(files, (record, transcript)):
+            file.write_text("".join(f"{line}\n" for line in lines))
+        status, output, errors = run("check", *files)
+    same("what the checker says on standard error", errors, "")
+    return status, output
+
+
+def free_address():
+    """An address that nothing listens on."""
+    with socket.socket() as probe:
+        probe.bind(("127.0.0.1", 0))
+        return probe.getsockname()
+
+
+# ---- clients
+
+
+class Client(Connection):
+    """A client that keeps each request with its reply. What it says on purpose against the protocol goes
+    through `send`, and is no request."""
+
+    def __init__(self, address, session, **options):
+        super().__init__(address, **options)
+        self.session = session
+        self.told = Told()
+        self.is_over = False
+
+    def say(self, request, opcode=TEXT):
+        """Sends a request, a text, bytes or a value, and awaits nothing."""
+        self.send(self.frame_of(request, opcode))
+
+    def frame_of(self, request, opcode=TEXT):
+        """The frame of a request, which counts as sent."""
+        if isinstance(request, list):
+            request = compact(request)
+        data = request.encode() if isinstance(request, str) else request
+        self.told.asked(data)
+        return frame(opcode, data)
+
+    def hear(self):
+        """The next reply."""
+        opcode, payload = self.read_frame()
+        if opcode != TEXT:
+            raise Fault(f"a frame with opcode {opcode} came for a reply: {payload!r:.200}")
+        reply = payload.decode()
+        self.told.answered(reply)
+        return reply
+
+    def ask(self, request, opcode=TEXT):
+        """The reply to a request."""
+        self.say(request, opcode)
+        return self.hear()
+
+    def asks(self, request, reply, opcode=TEXT):
+        """Asks, and must be told this."""
+        text = self.ask(request, opcode)
+        same(f"the reply to {request!r:.100}", text, reply)
+
+    def close(self, payload=closing(1000)):
+        """Closes the session: the server answers with the same, and ends the connection."""
+        self.send(frame(CLOSE, payload))
+        same("the answer to a close", self.read_frame(), (CLOSE, payload))
+        self.must_be_ended()
+
+    def must_be_ended(self):
+        """The server ends the connection, and sends nothing before but perhaps a close."""
+        self.is_over = True
+        try:
+            while True:
+                opcode, payload = self.read_frame()
+                if opcode != CLOSE:
+                    raise Wrong(f"before the connection ended there came {payload!r:.200}")
+        except Ended:
+            self.socket.close()
+        except TimeoutError:
+            raise Wrong(f"the connection still stands after {SECONDS} seconds") from None
+
+    def hang_up(self):
+        """Ends the connection without a word. Its requests with no reply may be carried out or not."""
+        super().hang_up()
+        self.is_over = True
+        self.told.hung_up = True
+
+
+class OtherClient:
+    """A session of another program, of which the test says what it is told."""
+
+    def __init__(self):
+        self.told = Told()
+        self.is_over = True
+
+    def hang_up(self):
+        """The other program does it."""
+
+    def joined(self, room, at, site):
+        """It joins a room, and is told this."""
+        self.told.asked(compact(["join", room]))
+        self.told.answered(compact(["joined", at, site]))
+
+
+# ---- the server
+
+
+def pump(stream, lines):
+    """Hands on the lines of a stream, and None at its end."""
+    for line in stream:
+        lines.put(line)
+    lines.put(None)
+
+
+class Server:
+    """`grace serve` on a free port, for so many sessions."""
+
+    def __init__(self, sessions=1, workers=4, rooms=("r",), idle=None):
+        self.sessions = sessions
+        self.rooms = list(rooms)
+        self.words = [str(sessions), str(workers), *rooms]
+        if idle is not None:
+            self.words += ["--idle", str(idle)]
+        self.clients = []
+
+    def __enter__(self):
+        try:
+            self.listen()
+        except BaseException:
+            self.__exit__()
+            raise
+        return self
+
+    def listen(self):
+        """Starts the program, and awaits that it listens. Another process can take the port before it does."""
+        for _ in range(3):
+            self.start()
+            first = self.next_line()
+            if first is not None:
+                return same("the first line", first, f"listening {self.name}\n")
+            self.process.wait(SECONDS)
+        self.errors.seek(0)
+        raise Wrong(f"the program does not listen: {self.errors.read():.300}")
+
+    def __exit__(self, *_):
+        for client in self.clients:
+            client.hang_up()
+        self.process.kill()
+        self.process.wait()
+        self.reader.join(SECONDS)
+        self.process.stdout.close()
+        self.errors.close()
+
+    def start(self):
+        """Starts the program."""
+        self.address = free_address()
+        self.name = "{}:{}".format(*self.address)
+        self.errors = tempfile.TemporaryFile("w+")
+        self.process = subprocess.Popen(
+            [PROGRAM, "serve", self.name, *self.words],
+            stdin=subprocess.DEVNULL, stdout=subprocess.PIPE, stderr=self.errors, text=True,
+        )
+        self.lines = queue.Queue()
+        self.reader = threading.Thread(target=pump, args=(self.process.stdout, self.lines), daemon=True)
+        self.reader.start()
+
+    def next_line(self):
+        """The next line of the output, or None at its end."""
+        try:
+            return self.lines.get(timeout=SECONDS)
+        except queue.Empty:
+            raise Wrong("the program printed nothing") from None
+
+    def connect(self, **options):
+        """A further client, with no WebSocket opened yet."""
+        client = Client(self.address, len(self.clients) + 1, **options)
+        self.clients.append(client)
+        return client
+
+    def another(self):
+        """A further client that is another program."""
+        self.clients.append(OtherClient())
+        return self.clients[-1]
+
+    def client(self, **options):
+        """A further client."""
+        client = self.connect(**options)
+        client.open()
+        return client
+
+    def memory(self):
+        """The KiB of memory that the program has, and the most that it had."""
+        status = pathlib.Path(f"/proc/{self.process.pid}/status").read_text()
+        return [int(re.search(rf"{name}:\s+(\d+) kB", status)[1]) for name in ("VmRSS", "VmHWM")]
+
+    def finish(self, warned=None):
+        """Closes the clients that are left, awaits the program's end and looks at all that it printed:
+        records as clients were told, and a warning for each session that didn't end well, with its cause.
+        Gives the record of each room."""
+        for client in self.clients:
+            if not client.is_over:
+                client.close()
+        same("the sessions opened", len(self.clients), self.sessions)
+        lines = self.output()
+        same("the status", self.process.returncode, 0)
+        same("the warnings", self.warnings(), warned or {})
+        records = split_rooms(lines, self.rooms)
+        told = [client.told for client in self.clients]
+        for room, record in records.items():
+            compare_record(room, record, told)
+            if "check" in COMMANDS:
+                same(f"the verdict of room {room}", verdict(record, transcript_of(room, told)), (0, "holds\n"))
+        return records
+
+    def output(self):
+        """The lines of the output after the first, once the program ended."""
+        try:
+            self.process.wait(SECONDS)
+        except subprocess.TimeoutExpired:
+            raise Wrong("the program goes on after its last session") from None
+        lines = list(iter(self.next_line, None))
+        if lines and not lines[-1].endswith("\n"):
+            raise Wrong("the last line isn't ended")
+        return [line.removesuffix("\n") for line in lines]
+
+    def warnings(self):
+        """The cause of each session that the program warned of."""
+        self.errors.seek(0)
+        causes = {}
+        for line in self.errors.read().splitlines():
+            found = WARNING.search(line)
+            if not found:
+                raise Wrong(f"on standard error stands {line!r:.200}")
+            if int(found[1]) in causes:
+                raise Wrong(f"session {found[1]} was warned of twice")
+            causes[int(found[1])] = found[2]
+        return causes

@@ -1,5 +1,6 @@
 """Frames: fragments, pings, closing, sizes, and what RFC 6455 forbids."""
 
+import time
 from functools import partial
 
 from serving import Server, Wrong, same
@@ -52,6 +53,7 @@ def single_bytes():
         client.told.asked(JOIN)
         for byte in frame(TEXT, JOIN):
             client.send(bytes([byte]))
+            time.sleep(0.005)
         same("the reply", client.hear(), '["joined",0,1]')
         server.finish()
 

@@ -7,9 +7,11 @@ use Rattle.room_core.specs.declared.fault.RoomsFault.TheVariants as rooms
 use Rattle.world.specs.declared.fault.ScriptFault.{ScriptFault}
 use Rattle.world.specs.declared.fault.ScriptFault.TheVariants as script
 use Rattle.server.specs.declared.fault.Fault.{Fault}
-use Rattle.server.specs.declared.fault.Fault.TheVariants.{BadRoomName, RoomNamedTwice, Input, Output, CannotListen, Accept, NoWorker, RoomsTorn, NoMemory}
+use Rattle.server.specs.declared.fault.Fault.TheVariants.{BadRoomName, RoomNamedTwice, Input, Output, CannotListen, Accept, NoWorker, RoomsTorn, CannotConnect, Session, NoMemory}
 use Rattle.server.specs.declared.serve.ServeFault.{ServeFault}
 use Rattle.server.specs.declared.serve.ServeFault.TheVariants as serving
+use Rattle.server.specs.declared.watch.WatchFault.{WatchFault}
+use Rattle.server.specs.declared.watch.WatchFault.TheVariants as watching
 
 abbrev pub status_of : Fault → ℕ
 status_of BadRoomName = 2
@@ -20,6 +22,8 @@ status_of CannotListen = 3
 status_of Accept = 3
 status_of NoWorker = 3
 status_of RoomsTorn = 3
+status_of CannotConnect = 3
+status_of Session = 3
 status_of NoMemory = 4
 
 abbrev pub of_name : NameFault → Fault
@@ -40,3 +44,8 @@ of_serving serving.NoWorker = NoWorker
 of_serving serving.Torn = RoomsTorn
 of_serving serving.Write = Output
 of_serving serving.NoMemory = NoMemory
+
+abbrev pub of_watching : WatchFault → Fault
+of_watching watching.Session = Session
+of_watching watching.Write = Output
+of_watching watching.NoMemory = NoMemory

@@ -3,12 +3,14 @@
 use crate::fault::Fault;
 use crate::script::script_over;
 use crate::serve::{Service, serve_over};
+use crate::watch::watch_at;
 use clap::error::ErrorKind;
 use clap::{Arg, ArgAction, ArgMatches, Command, Error, value_parser};
 use log::Log;
 use std::alloc::{AllocError, Global};
 use std::io::{Read, Write};
 use std::net::Net;
+use std::random::RandomSource;
 use std::sync::Wait;
 use std::thread::Threads;
 use std::time::Duration;
@@ -64,6 +66,22 @@ fn serve_command<'a>(alloc: Global) -> Result<Command<'a>, AllocError> {
         .arg(rooms(alloc))
 }
 
+/// `grace watch`.
+fn watch_command<'a>(alloc: Global) -> Result<Command<'a>, AllocError> {
+    let address = Arg::new(alloc, "ADDRESS")
+        .required(true)
+        .action(ArgAction::Set)
+        .help("Where the server listens: a host and a port, as 127.0.0.1:8080");
+    let room = Arg::new(alloc, "ROOM")
+        .required(true)
+        .action(ArgAction::Set)
+        .help("The name of the room: 1 to 64 of a-z, 0-9 and -");
+    Command::new(alloc, "watch")
+        .about("Shows the objects of a live room with their versions")
+        .arg(address)?
+        .arg(room)
+}
+
 /// The commands of the program.
 fn grace<'a>(alloc: Global) -> Result<Command<'a>, AllocError> {
     Command::new(alloc, "grace")
@@ -71,7 +89,8 @@ fn grace<'a>(alloc: Global) -> Result<Command<'a>, AllocError> {
         .version(VERSION)
         .subcommand_required(true)
         .subcommand(script_command(alloc)?)?
-        .subcommand(serve_command(alloc)?)
+        .subcommand(serve_command(alloc)?)?
+        .subcommand(watch_command(alloc)?)
 }
 
 /// Shows the text of a command line that was not read: help on `output` with status 0, a mistake on
@@ -129,7 +148,7 @@ fn run_read<H, R, W, E>(
     errors: &mut E,
 ) -> u8
 where
-    H: Threads + Wait + Log + Net + Sync,
+    H: Threads + Wait + Log + Net + RandomSource + Sync,
     H::Stream: Send,
     R: Read,
     W: Write,
@@ -147,6 +166,10 @@ where
                 None => 2,
             }
         }
+        Some(("watch", words)) => match (words.get_str("ADDRESS"), words.get_str("ROOM")) {
+            (Some(address), Some(room)) => watch_at(rt, alloc, address, room, output, errors),
+            _ => 2,
+        },
         // The command line has no other command, and each word is required or has a default.
         _ => 2,
     }
@@ -164,7 +187,7 @@ pub fn run<H, R, W, E>(
     errors: &mut E,
 ) -> u8
 where
-    H: Threads + Wait + Log + Net + Sync,
+    H: Threads + Wait + Log + Net + RandomSource + Sync,
     H::Stream: Send,
     R: Read,
     W: Write,

@@ -4,6 +4,7 @@ ghost use Rattle.std.specs.Prelude.{◌≡◌};
 ghost use Rattle.server.specs.declared.fault.Fault.TheVariants.{NoMemory};
 
 use crate::serve::ServeFault;
+use crate::watch::WatchFault;
 use op_names::{NameFault, NoMemory};
 use std::alloc::{AllocError, AllocFailed};
 use std::io::Write;
@@ -29,6 +30,10 @@ pub(crate) enum Fault {
     NoWorker,
     #[error("rooms torn")]
     RoomsTorn,
+    #[error("cannot connect")]
+    CannotConnect,
+    #[error("session failed")]
+    Session,
     #[error("no memory")]
     NoMemory,
 }
@@ -47,7 +52,9 @@ impl Fault {
             | Fault::CannotListen
             | Fault::Accept
             | Fault::NoWorker
-            | Fault::RoomsTorn => 3,
+            | Fault::RoomsTorn
+            | Fault::CannotConnect
+            | Fault::Session => 3,
             Fault::NoMemory => 4,
         }
     }
@@ -63,6 +70,8 @@ impl Fault {
             Fault::Accept => "grace: accept failed\n",
             Fault::NoWorker => "grace: no worker\n",
             Fault::RoomsTorn => "grace: rooms torn\n",
+            Fault::CannotConnect => "grace: cannot connect\n",
+            Fault::Session => "grace: session failed\n",
             Fault::NoMemory => "grace: no memory\n",
         };
         let _ = errors.write_all(line.as_bytes());
@@ -149,6 +158,21 @@ impl From<ServeFault> for Fault {
             ServeFault::Torn => Fault::RoomsTorn,
             ServeFault::Write => Fault::Output,
             ServeFault::NoMemory => Fault::NoMemory,
+        }
+    }
+}
+
+impl From<WatchFault> for Fault {
+    ghost use Rattle.std.specs.Prelude.{◌≡◌};
+    ghost use Rattle.server.specs.Faults.{of_watching};
+
+    ghost from_gives = { λ fault gives. gives ≡ of_watching fault };
+
+    fn from(fault: WatchFault) -> Fault {
+        match fault {
+            WatchFault::Session => Fault::Session,
+            WatchFault::Write => Fault::Output,
+            WatchFault::NoMemory => Fault::NoMemory,
         }
     }
 }

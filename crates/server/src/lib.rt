@@ -7,10 +7,12 @@ mod fault;
 mod record;
 mod script;
 mod serve;
+mod watch;
 
 pub use command::run;
 pub use script::script_over;
 pub use serve::{ServeFault, Service, serve_over, serve_streams};
+pub use watch::{WatchFault, watch_at, watch_over};
 
 #[cfg(test)]
 mod tests;

@@ -1,4 +1,5 @@
 mod serving;
+mod watching;
 
 use super::*;
 use crate::command::VERSION;
@@ -8,6 +9,7 @@ use std::io;
 use std::io::{ErrorKind, Read, Write};
 use log::Log;
 use std::net::Net;
+use std::random::RandomSource;
 use std::process::Abort;
 use std::sync::Wait;
 use std::thread::Threads;
@@ -65,7 +67,7 @@ impl Outcome {
 /// Runs the program with these words, which stand with commas between them.
 fn run_words<H>(rt: &H, words: &str, input: &str) -> Outcome
 where
-    H: Threads + Wait + Log + Net + Sync + Abort + AllocGlobal,
+    H: Threads + Wait + Log + Net + RandomSource + Sync + Abort + AllocGlobal,
     H::Stream: Send,
 {
     let mut line = Vec::new(rt.alloc());
@@ -111,7 +113,7 @@ fn begins_with_line(bytes: &[u8], line: &str) -> bool {
 
 fn is_mistake<H>(rt: &H, words: &str, line: &str) -> bool
 where
-    H: Threads + Wait + Log + Net + Sync + Abort + AllocGlobal,
+    H: Threads + Wait + Log + Net + RandomSource + Sync + Abort + AllocGlobal,
     H::Stream: Send,
 {
     let ran = run_words(rt, words, "0 [\"leave\"]\n");
@@ -129,7 +131,7 @@ fn faults_of_the_command_line(rt: HostRuntime) {
 /// Is this how the output begins, and is nothing else written?
 fn shows<H>(rt: &H, words: &str, start: &str) -> bool
 where
-    H: Threads + Wait + Log + Net + Sync + Abort + AllocGlobal,
+    H: Threads + Wait + Log + Net + RandomSource + Sync + Abort + AllocGlobal,
     H::Stream: Send,
 {
     let ran = run_words(rt, words, "");

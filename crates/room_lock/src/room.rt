@@ -5,7 +5,6 @@ ghost use Rattle.std.specs.Arc.{arc_value};
 ghost use Rattle.rules.specs.Records.{IsLegal, sites};
 ghost use Rattle.rules.specs.declared.limits.TheConstants.Limits.{MAX_ENTRIES, MAX_JOINS};
 ghost use Rattle.room_core.specs.declared.fault.CallFault.TheVariants as call_fault;
-ghost use Rattle.room_core.specs.Room.{empty_room};
 ghost use Rattle.room_core.specs.Answers.{join_answer, answer, room_after};
 ghost use Rattle.room_core.specs.Logs.{first_difference};
 ghost use Rattle.room_lock.specs.Closing.{IsClosed, passes_of};

@@ -25,7 +25,8 @@ use rules::{Limits, Refusal};
 use std::alloc::Global;
 use std::marker::Model;
 use std::sync::ledger::Blank;
-use std::sync::{Mutex, Wait};
+use std::sync::{Mutex, MutexGuard, Wait};
+use std::thread::yield_now;
 use wire::{Reply, Request};
 
 /// Rooms under their names, each behind a lock of its own. Contracts see their names, in order.
@@ -42,6 +43,21 @@ impl<P: RoomLedger> Model for Rooms<P> {
     ghost Value = { List Bytes };
 
     ghost view = { λ r. keys r.rooms };
+}
+
+/// How often a lock is tried before the thread sleeps for it.
+const TRIES: u32 = 100;
+
+/// Takes a room's lock. A hold is short, and a thread that sleeps is woken late, as are those behind
+/// it; so a thread lets others run for a while, and sleeps only then.
+fn held<'a, T>(rt: &impl Wait, room: &'a Mutex<T>) -> MutexGuard<'a, T> {
+    for _try in 0..TRIES {
+        if let Some(guard) = room.try_lock() {
+            return guard;
+        }
+        yield_now();
+    }
+    room.lock(rt)
 }
 
 impl<P: RoomLedger> Rooms<P> {
@@ -76,7 +92,7 @@ impl<P: RoomLedger> Rooms<P> {
                 refusal: Refusal::NoSuchRoom,
             }));
         };
-        room.lock(rt).enter(rt, alloc, name)
+        held(rt, room).enter(rt, alloc, name)
     }
 
     /// Answers a request of the pass's site. Then the pass has seen the room's whole record. Otherwise
@@ -95,7 +111,7 @@ impl<P: RoomLedger> Rooms<P> {
         let Some(room) = self.room(&pass.room) else {
             return Err(CallFault::Torn { place: 0 });
         };
-        let mut room = room.lock(rt);
+        let mut room = held(rt, room);
         if room.place() != pass.place {
             return Err(CallFault::Torn { place: 0 });
         }
@@ -113,7 +129,7 @@ impl<P: RoomLedger> Rooms<P> {
         requires { F.IsAlwaysCallable f }
         ensures { IsNone result ↔ ¬ (Contains self.now name.now) }
     {
-        let room = self.room(name)?.lock(rt);
+        let room = held(rt, self.room(name)?);
         Some(f(room.state()))
     }
 }

@@ -1,6 +1,6 @@
 //! `grace serve ADDRESS SESSIONS WORKERS ROOM..`: serves sessions over WebSocket.
 
-ghost use Rattle.std.specs.Prelude.{◌≡◌, ◌+◌, ◌*◌, ◌≤◌, IfOk, length};
+ghost use Rattle.std.specs.Prelude.{◌≡◌, ◌+◌, ◌*◌, length};
 ghost use Rattle.std.specs.Iterator.{IsFinite};
 ghost use Rattle.room_lock.specs.Kept.{SPARE_PARTS};
 

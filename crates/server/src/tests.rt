@@ -4,13 +4,13 @@ mod watching;
 use super::*;
 use crate::command::VERSION;
 use crate::fault::Fault;
+use log::Log;
 use std::alloc::Global;
 use std::io;
 use std::io::{ErrorKind, Read, Write};
-use log::Log;
 use std::net::Net;
-use std::random::RandomSource;
 use std::process::Abort;
+use std::random::RandomSource;
 use std::sync::Wait;
 use std::thread::Threads;
 
@@ -222,7 +222,14 @@ fn help_on_an_output_that_fails(rt: HostRuntime) {
     }
     let mut errors = Vec::new(rt.alloc());
     let mut input = LEAVE.as_bytes();
-    let status = run(&rt, rt.alloc(), &words, &mut input, &mut Closed, &mut errors);
+    let status = run(
+        &rt,
+        rt.alloc(),
+        &words,
+        &mut input,
+        &mut Closed,
+        &mut errors,
+    );
     assert_eq!(rt; status, 3);
     assert_eq!(rt; errors.as_slice(), b"grace: output failed\n".as_slice());
 }

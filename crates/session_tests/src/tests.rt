@@ -8,7 +8,8 @@ use op_names::RoomName;
 use std::process::Abort;
 
 /// The head of a request that asks for a WebSocket, with the key of RFC 6455, section 1.3.
-const HEAD: &[u8] = b"GET / HTTP/1.1\r\nHost: localhost\r\nUpgrade: websocket\r\nConnection: Upgrade\r\nSec-WebSocket-Key: dGhlIHNhbXBsZSBub25jZQ==\r\nSec-WebSocket-Version: 13\r\n\r\n";
+const HEAD: &[u8] =
+    b"GET / HTTP/1.1\r\nHost: localhost\r\nUpgrade: websocket\r\nConnection: Upgrade\r\nSec-WebSocket-Key: dGhlIHNhbXBsZSBub25jZQ==\r\nSec-WebSocket-Version: 13\r\n\r\n";
 
 /// A client's close of 1000, masked with zeros.
 const CLOSE: &[u8] = b"\x88\x82\x00\x00\x00\x00\x03\xe8";
@@ -23,7 +24,9 @@ fn masked(rt: &(impl Abort + AllocGlobal), opcode: u8, words: &str) -> Vec<u8> {
     let mut frame = Vec::new(rt.alloc());
     let head = [0x80 | opcode, 0x80 | len, 0, 0, 0, 0];
     frame.extend_from_slice(&head).expect(rt, "memory");
-    frame.extend_from_slice(words.as_bytes()).expect(rt, "memory");
+    frame
+        .extend_from_slice(words.as_bytes())
+        .expect(rt, "memory");
     frame
 }
 
@@ -32,7 +35,9 @@ fn text_frame(rt: &(impl Abort + AllocGlobal), words: &str) -> Vec<u8> {
     let len = u8::try_from(words.len()).expect(rt, "a short message");
     let mut frame = Vec::new(rt.alloc());
     frame.extend_from_slice(&[0x81, len]).expect(rt, "memory");
-    frame.extend_from_slice(words.as_bytes()).expect(rt, "memory");
+    frame
+        .extend_from_slice(words.as_bytes())
+        .expect(rt, "memory");
     frame
 }
 

@@ -1,7 +1,6 @@
 //! A session: the messages of one client, one after the other.
 
 ghost use Rattle.std.specs.Prelude.{◌≡◌, ◌⊎◌, IfErr, IfOk, OnErr, None, [], false, string_bytes, true};
-ghost use Rattle.rules.specs.declared.refusal.Refusal.{Refusal as AnyRefusal};
 ghost use Rattle.wire.specs.declared.reply.Reply.TheVariants.{No};
 ghost use Rattle.wire.specs.Joining.{joined_name};
 ghost use Rattle.sessions.specs.declared.cause.Cause.TheVariants as cause;

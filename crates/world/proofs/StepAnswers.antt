@@ -6,7 +6,7 @@ use Rattle.op_names.specs.Texts.{Bytes}
 use Rattle.rules.specs.declared.refusal.Refusal.{Refusal}
 use Rattle.rules.specs.declared.refusal.Refusal.TheVariants.{BadMessage}
 use Rattle.rules.specs.declared.version.Version.{Version}
-use Rattle.rules.specs.Records.{operations, IsLegal}
+use Rattle.rules.specs.Records.{IsLegal}
 use Rattle.wire.specs.declared.request.Request.{Request}
 use Rattle.wire.specs.declared.reply.Reply.TheVariants.{Versions, No}
 use Rattle.wire.specs.Texts.{request_read, reply_text, reply_read}

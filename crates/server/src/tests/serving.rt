@@ -18,19 +18,23 @@ use std::thread::Threads;
 use tungstenite::Duplex;
 
 /// The head of a request that asks for a WebSocket, with the key of RFC 6455, section 1.3.
-const HEAD: &[u8] = b"GET / HTTP/1.1\r\nHost: localhost\r\nUpgrade: websocket\r\nConnection: Upgrade\r\nSec-WebSocket-Key: dGhlIHNhbXBsZSBub25jZQ==\r\nSec-WebSocket-Version: 13\r\n\r\n";
+const HEAD: &[u8] =
+    b"GET / HTTP/1.1\r\nHost: localhost\r\nUpgrade: websocket\r\nConnection: Upgrade\r\nSec-WebSocket-Key: dGhlIHNhbXBsZSBub25jZQ==\r\nSec-WebSocket-Version: 13\r\n\r\n";
 
 /// A join, a creation and a close of 1000, in frames that are masked with zeros.
-const SENT: &[u8] = b"\x82\x8c\x00\x00\x00\x00[\"join\",\"r\"]\x81\x9d\x00\x00\x00\x00[\"new\",1,[],\"rect\",[[\"x\",0]]]\x88\x82\x00\x00\x00\x00\x03\xe8";
+const SENT: &[u8] =
+    b"\x82\x8c\x00\x00\x00\x00[\"join\",\"r\"]\x81\x9d\x00\x00\x00\x00[\"new\",1,[],\"rect\",[[\"x\",0]]]\x88\x82\x00\x00\x00\x00\x03\xe8";
 
 /// The lines of the room's record after that.
 const RECORD: &str = "room r 2\n[\"join\",1]\n[\"new\",[1,1],[],\"rect\",[[\"x\",0]]]\n";
 
 /// Serves that session, and one that asks for no WebSocket.
-fn served_in<
-    P: RoomLedger + Send + Sync,
-    R: Threads + Wait + Log + Sync + Abort + AllocGlobal,
->(rt: &R, blank: Blank, histories: Vec<Opened>, limits: Limits)
+fn served_in<P: RoomLedger + Send + Sync, R: Threads + Wait + Log + Sync + Abort + AllocGlobal>(
+    rt: &R,
+    blank: Blank,
+    histories: Vec<Opened>,
+    limits: Limits,
+)
     requires name { blank.name ≡ P.name }
     requires parts { (blank.parts ≡ P.parts) × (blank.parts ≡ 259) }
     requires limits { limits ≡ P.limits }

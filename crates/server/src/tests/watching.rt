@@ -7,9 +7,9 @@ use op_names::RoomName;
 use room_lock::{Joined, Opened, Pass, RoomLedger, Rooms, open_histories};
 use rules::Limits;
 use sessions::{Cause, Open, serve_one};
+use std::io::{Read, Write};
 use std::marker::Brand;
 use std::net::Net;
-use std::net::unix::UnixStream;
 use std::process::Abort;
 use std::random::RandomSource;
 use std::sync::Wait;
@@ -24,7 +24,8 @@ const ASKED: &str = r#"1 ["new",1,[],"rect",[["x",0]]]
 2 ["set",1,[[1,1]],[1,1],[],"x",9]"#;
 
 /// What is shown then, with the join of who watches.
-const SHOWN: &str = "[\"versions\",6,[1,1],\"rect\",[[[[1,2]],[[\"x\",5]]],[[[2,1]],[[\"x\",9]]]]]\n";
+const SHOWN: &str =
+    "[\"versions\",6,[1,1],\"rect\",[[[[1,2]],[[\"x\",5]]],[[[2,1]],[[\"x\",9]]]]]\n";
 
 fn entered<P: RoomLedger>(
     rt: &(impl Wait + Abort + AllocGlobal),
@@ -38,11 +39,7 @@ fn entered<P: RoomLedger>(
 }
 
 /// Carries out what the two sites ask.
-fn fill<P: RoomLedger>(
-    rt: &(impl Wait + Abort + AllocGlobal),
-    rooms: &Rooms<P>,
-    name: &RoomName,
-) {
+fn fill<P: RoomLedger>(rt: &(impl Wait + Abort + AllocGlobal), rooms: &Rooms<P>, name: &RoomName) {
     let mut first = entered(rt, rooms, name);
     let mut second = entered(rt, rooms, name);
     for line in ASKED.lines() {
@@ -58,9 +55,9 @@ fn fill<P: RoomLedger>(
 }
 
 /// What is written by who watches.
-fn watched(
+fn watched<S: Read + Write + Drop>(
     rt: &(impl RandomSource + Abort + AllocGlobal),
-    stream: UnixStream,
+    stream: S,
     name: &RoomName,
 ) -> Vec<u8> {
     let mut output = Vec::new(rt.alloc());

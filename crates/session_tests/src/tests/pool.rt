@@ -6,7 +6,7 @@ use super::{CLOSE, HEAD, joined_up, masked, room_name};
 use room_lock::{Opened, Pass, RoomLedger, Rooms, open_histories};
 use rules::Limits;
 use sessions::{Cause, Gate, Open, PoolEnd, PoolFault, run_pool};
-use std::io::{Read, Write};
+use std::io::Read;
 use std::marker::Brand;
 use std::process::Abort;
 use std::sync::Wait;
@@ -60,10 +60,7 @@ impl<R: Clock> Gate for Crossed<R> {
 }
 
 /// All passes of the sessions, each of which closed well.
-fn closed_well<P: RoomLedger>(
-    rt: &(impl Abort + AllocGlobal),
-    end: PoolEnd<P>,
-) -> Vec<Pass<P>> {
+fn closed_well<P: RoomLedger>(rt: &(impl Abort + AllocGlobal), end: PoolEnd<P>) -> Vec<Pass<P>> {
     let mut passes = Vec::new(rt.alloc());
     for list in end.ended {
         for ended in list {
@@ -118,10 +115,12 @@ fn gate_holds_both(rt: HostRuntime) {
     gate_holds_both_in::<Brand, _>(&rt, Blank::new(259), histories, Limits::full());
 }
 
-fn no_worker_in<
-    P: RoomLedger + Send + Sync,
-    R: Threads + Wait + Sync + Abort + AllocGlobal,
->(rt: &R, blank: Blank, histories: Vec<Opened>, limits: Limits)
+fn no_worker_in<P: RoomLedger + Send + Sync, R: Threads + Wait + Sync + Abort + AllocGlobal>(
+    rt: &R,
+    blank: Blank,
+    histories: Vec<Opened>,
+    limits: Limits,
+)
     requires name { blank.name ≡ P.name }
     requires parts { (blank.parts ≡ P.parts) × (blank.parts ≡ 259) }
     requires limits { limits ≡ P.limits }

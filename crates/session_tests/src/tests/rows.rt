@@ -70,7 +70,9 @@ fn padded<P: RoomLedger>(
     spaces: usize,
 ) -> String {
     let mut bytes = Vec::new(rt.alloc());
-    bytes.extend_from_slice(message.as_bytes()).expect(rt, "memory");
+    bytes
+        .extend_from_slice(message.as_bytes())
+        .expect(rt, "memory");
     for _space in 0..spaces {
         bytes.push(b' ').expect(rt, "memory");
     }

@@ -36,7 +36,7 @@ impl<P: RoomLedger> Model for Session<P> {
 }
 
 /// A refusal that the session makes itself.
-fn refused(refusal: Refusal) -> Reply
+fn own_refusal(refusal: Refusal) -> Reply
     ensures { result ≡ No 0 refusal }
 {
     Reply::No { at: 0, refusal }
@@ -122,7 +122,7 @@ impl<P: RoomLedger> Session<P> {
     {
         match read_request(alloc, bytes) {
             Ok(request) => self.ask(rt, alloc, rooms, request, gate),
-            Err(ReadFault::Bad) => Ok(refused(Refusal::BadMessage)),
+            Err(ReadFault::Bad) => Ok(own_refusal(Refusal::BadMessage)),
             Err(ReadFault::NoMemory) => Err(Cause::NoMemory),
         }
     }
@@ -142,13 +142,13 @@ impl<P: RoomLedger> Session<P> {
     {
         if self.inside {
             if request.joined_name().is_some() {
-                return Ok(refused(Refusal::AlreadyJoined));
+                return Ok(own_refusal(Refusal::AlreadyJoined));
             }
             return self.call(rt, alloc, rooms, request, gate);
         }
         match request.joined_name() {
             Some(name) => self.join(rt, alloc, rooms, name, gate),
-            None => Ok(refused(Refusal::NotJoined)),
+            None => Ok(own_refusal(Refusal::NotJoined)),
         }
     }
 

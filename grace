@@ -9,7 +9,8 @@ program=$root/crates/grace/out/grace
 crates() {
     tac "$root/crates.txt" | awk -F: '
         BEGIN { needed["grace"] = 1 }
-        $1 in needed { print; count = split($2, below, " "); for (i = 1; i <= count; i++) needed[below[i]] = 1 }
+        { split($1, head, " ") }
+        head[1] in needed { print; count = split($2, below, " "); for (i = 1; i <= count; i++) needed[below[i]] = 1 }
     ' | tac
 }
 
@@ -18,7 +19,7 @@ sum_of_sources() {
     {
         crates
         (cd "$root/crates" &&
-            find $(crates | cut -d: -f1) \( -name out -o -name tests -o -name tests.rt \) -prune \
+            find $(crates | sed 's/[ :].*//') \( -name out -o -name tests -o -name tests.rt \) -prune \
                 -o -type f \( -name '*.rt' -o -name '*.antt' \) -print0 |
             LC_ALL=C sort -z | xargs -0 sha256sum)
     } | sha256sum
@@ -35,10 +36,10 @@ prove() {
 
 build() {
     local names crate place=0
-    mapfile -t names < <(crates | cut -d: -f1)
+    mapfile -t names < <(crates | sed 's/[ :].*//')
     log=$(mktemp) || exit 1
     trap 'rm -f "$log"' EXIT
-    echo "grace: ${#names[@]} crates are proved and built first; from nothing that takes about 24 minutes on 4 cores" >&2
+    echo "grace: ${#names[@]} crates are proved and built first; from nothing that takes about half an hour on 4 cores" >&2
     for crate in "${names[@]}"; do
         place=$((place + 1))
         if ! prove "$crate"; then

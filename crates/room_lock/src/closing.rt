@@ -9,6 +9,7 @@ use crate::fault::{CloseFault, RoomRecord};
 use crate::ledger::RoomLedger;
 use crate::pass::Pass;
 use crate::room::Room;
+use crossbeam_utils::CachePadded;
 use indexmap::IndexMap;
 use op_names::{NoMemory, RoomName};
 use room_core::RoomState;
@@ -44,7 +45,7 @@ pub(crate) fn added_together<P: RoomLedger>(
 /// The records of the rooms, in order.
 pub(crate) fn close_all<P: RoomLedger>(
     alloc: Global,
-    rooms: IndexMap<RoomName, Mutex<Room<P>>>,
+    rooms: IndexMap<RoomName, CachePadded<Mutex<Room<P>>>>,
     passes: &[Pass<P>],
 ) -> Result<Vec<RoomRecord>, CloseFault>
     ensures names { IfOk result (λ records. map (λ one. one.room) records.items ≡ keys rooms) }
@@ -53,7 +54,7 @@ pub(crate) fn close_all<P: RoomLedger>(
 {
     let mut records = Vec::new(alloc);
     for (name, room) in rooms {
-        let record = room.into_inner().close(name, passes)?;
+        let record = room.into_inner().into_inner().close(name, passes)?;
         push_record(&mut records, record)?;
     }
     Ok(records)

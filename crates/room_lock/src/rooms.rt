@@ -18,6 +18,7 @@ use crate::joined::Joined;
 use crate::ledger::RoomLedger;
 use crate::pass::Pass;
 use crate::room::Room;
+use crossbeam_utils::CachePadded;
 use indexmap::IndexMap;
 use op_names::{NoMemory, RoomName, repeated_name};
 use room_core::{CallFault, RoomState, RoomsFault};
@@ -29,10 +30,12 @@ use std::sync::{Mutex, MutexGuard, Wait};
 use std::thread::yield_now;
 use wire::{Reply, Request};
 
-/// Rooms under their names, each behind a lock of its own. Contracts see their names, in order.
+/// Rooms under their names, each behind a lock of its own. No two share a line of the processor's
+/// cache, so that threads in different rooms don't wait for each other's writes. Contracts see their
+/// names, in order.
 #[derive(Drop)]
 pub struct Rooms<P: RoomLedger> {
-    rooms: IndexMap<RoomName, Mutex<Room<P>>>,
+    rooms: IndexMap<RoomName, CachePadded<Mutex<Room<P>>>>,
 }
 
 impl<P: RoomLedger> Model for Rooms<P> {
@@ -68,7 +71,10 @@ impl<P: RoomLedger> Rooms<P> {
     fn room(&self, name: &RoomName) -> Option<&Mutex<Room<P>>>
         ensures { IsNone result ↔ ¬ (Contains self.now name.now) }
     {
-        self.rooms.get(name)
+        match self.rooms.get(name) {
+            Some(room) => Some(room),
+            None => None,
+        }
     }
 
     /// Lets the next site of the room of this name in, where the room's limits allow it: its pass with
@@ -193,7 +199,7 @@ impl<P: RoomLedger> Rooms<P> {
             let place = rooms.len();
             let name = names[place].copy(alloc)?;
             let room = Room::new(alloc, limits, opened, place, &mut rest)?;
-            insert_new(&mut rooms, name, Mutex::new(room))?;
+            insert_new(&mut rooms, name, CachePadded::new(Mutex::new(room)))?;
         }
         Ok(Rooms { rooms })
     }

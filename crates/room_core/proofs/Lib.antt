@@ -5,3 +5,4 @@ pub mod AtObject
 pub mod Fronts
 pub mod Seen
 pub mod Shows
+pub mod Accepted

@@ -11,7 +11,7 @@ use Rattle.rules.specs.declared.refusal.Refusal.{Refusal}
 use Rattle.rules.specs.declared.refusal.Refusal.TheVariants.{NotJoined, AlreadyJoined, TooFar}
 use Rattle.rules.specs.Bodies.{is_set_body}
 use Rattle.rules.specs.Operations.{creation_of, object_of}
-use Rattle.rules.specs.Records.{operations, objects, sites, refusal}
+use Rattle.rules.specs.Records.{operations, objects, sites, refusal, admits}
 use Rattle.rules.specs.Versions.{versions}
 use Rattle.objects.specs.Shown.{shown_by}
 use Rattle.wire.specs.declared.request.Request.{Request}
@@ -104,3 +104,12 @@ has_site room site = nat_le 1 site && nat_le site (sites room.entries)
 -- ask it, and by what name, is said where sessions are.
 unfoldable pub answer : Room → ℕ → Request → Outcome
 answer room site request = if has_site room site then site_answer room site request else reply_alone (No 0 NotJoined)
+
+-- the answer to whoever asks for an entry that is placed: the next site's join, or the operation of a site
+abbrev pub answer_to : Room → Entry → Outcome
+answer_to room (Join site) = join_answer room
+answer_to room (Operation op) = operation_answer room op
+
+-- the entry itself, where it may come next
+abbrev pub admitted : Room → Entry → Option Entry
+admitted room entry = if admits room.limits room.entries entry then Some entry else None

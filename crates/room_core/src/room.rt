@@ -10,6 +10,7 @@ ghost use Rattle.room_core.specs.Room.{with_entry, empty_room};
 ghost use Rattle.room_core.specs.Answers.{join_answer, answer, site_answer, has_site, room_after};
 ghost use Rattle.room_core.specs.Plans.{entry_added, spare_of, IsReady, Plans, CanJoin, CanCreate, CanSet};
 
+mod accepted;
 mod calls;
 mod plans;
 

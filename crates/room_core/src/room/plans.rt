@@ -97,7 +97,14 @@ impl RoomState {
         };
         // That a vector is in range is part of what stays true of it.
         let _pairs = seen.pairs();
-        let op = Op { name, seen, body };
+        self.plan_placed(alloc, Op { name, seen, body })
+    }
+
+    /// Plans the answer to an operation that is placed. The room stays as it is.
+    pub(super) fn plan_placed(&mut self, alloc: Global, op: Op) -> Result<Planned, NoMemory>
+        requires { is_placed self.old.room.entries (Operation op) ≡ true }
+        ensures { Plans self.old self.new (operation_answer self.old.room op) result }
+    {
         match &op.body {
             Body::New { .. } => self.plan_creation(alloc, op),
             Body::Set { .. } => self.plan_set(alloc, op),

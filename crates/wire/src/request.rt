@@ -1,10 +1,11 @@
 //! What a session may ask for.
 
-ghost use Rattle.std.specs.Prelude.{◌≡◌, option_map};
+ghost use Rattle.std.specs.Prelude.{◌≡◌, option_map, IfOk};
 
-use op_names::{Key, Kind, OpName, RoomName, Value, VersionId};
+use op_names::{Key, Kind, NoMemory, OpName, RoomName, Value, VersionId};
 use rules::Attrs;
 use state_vector::StateVector;
+use std::alloc::Global;
 
 /// How many bytes the text of a request may have.
 pub const MAX_REQUEST_LEN: usize = 16_384;
@@ -66,6 +67,46 @@ impl Request {
             Request::List { .. } => None,
             Request::Pull { .. } => None,
             Request::Leave => None,
+        }
+    }
+    /// Another one that is equal.
+    pub fn copy(&self, alloc: Global) -> Result<Request, NoMemory>
+        ensures { IfOk result (λ request. request ≡ self.now) }
+    {
+        match self {
+            Request::Join { room } => Ok(Request::Join {
+                room: room.copy(alloc)?,
+            }),
+            Request::New {
+                seq,
+                seen,
+                kind,
+                attrs,
+            } => Ok(Request::New {
+                seq: *seq,
+                seen: seen.copy(alloc)?,
+                kind: kind.copy(alloc)?,
+                attrs: attrs.copy(alloc)?,
+            }),
+            Request::Set {
+                seq,
+                seen,
+                object,
+                version,
+                key,
+                value,
+            } => Ok(Request::Set {
+                seq: *seq,
+                seen: seen.copy(alloc)?,
+                object: *object,
+                version: version.copy(alloc)?,
+                key: key.copy(alloc)?,
+                value: value.copy(alloc)?,
+            }),
+            Request::Show { object } => Ok(Request::Show { object: *object }),
+            Request::List { from } => Ok(Request::List { from: *from }),
+            Request::Pull { from } => Ok(Request::Pull { from: *from }),
+            Request::Leave => Ok(Request::Leave),
         }
     }
 }

@@ -1,3 +1,4 @@
+pub mod Lines
 pub mod Form
 pub mod Rising
 pub mod Reading

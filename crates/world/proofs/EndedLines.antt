@@ -3,8 +3,9 @@ use Rattle.std.proofs.Common.{◌≡◌, ◌≢◌, ℕ, ◌+◌, List, [], ◌�
 use Rattle.std.proofs.lemmas.Bool.{ne_eqb}
 use Rattle.std.proofs.lemmas.List.{length-map, length-append}
 use Rattle.std.specs.Io.KnownBytes.{Appends}
+use Rattle.wire.specs.Lines.{lines_of, onto_first}
 use Rattle.world.specs.State.{State, names_of, rooms_of}
-use Rattle.world.specs.Script.{lines_of, onto_first, lines_out, lines_end, breaks_in, ended_lines, HasNoBreak, AnswersRead}
+use Rattle.world.specs.Script.{lines_out, lines_end, breaks_in, ended_lines, HasNoBreak, AnswersRead}
 use Rattle.world.specs.Answered.{kept_part, Answered}
 use Rattle.world.proofs.Parts.{first_output, first_end}
 use Rattle.world.proofs.Transcript.{ReadSoFar}

@@ -7,9 +7,10 @@ use Rattle.std.proofs.KnownBytes.{Appends-trans, Appends-nil}
 use Rattle.std.specs.Io.KnownBytes.{Appends}
 use Rattle.std.proofs.lemmas.Bool.{ne_eqb, eqb-true, eq-eqb}
 use Rattle.memchr.specs.Find.{Nowhere, NoneBefore, Passes, is_byte}
+use Rattle.wire.specs.Lines.{lines_of, onto_first}
 use Rattle.world.specs.Alone.{message_of}
 use Rattle.world.specs.State.{State, names_of, rooms_of}
-use Rattle.world.specs.Script.{number_then, lines_of, onto_first, HasNoBreak, AppendsFront, message_in, text_for, rooms_for, lines_out, lines_end, output_of, end_of}
+use Rattle.world.specs.Script.{number_then, HasNoBreak, AppendsFront, message_in, text_for, rooms_for, lines_out, lines_end, output_of, end_of}
 
 pub number_then_more : (value : ℕ) (bytes : List ℕ) (i : ℕ) → i < length bytes
     → number_then value (drop i bytes) ≡ cond (eqb (get_or bytes i 0) 32) (Some (message_of value (drop (i + 1) bytes)))

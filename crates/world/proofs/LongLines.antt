@@ -6,13 +6,14 @@ use Rattle.std.proofs.lemmas.Bool.{ne_eqb, lt-leb, eqb-true, ltb-true, ltb-false
 use Rattle.std.proofs.lemmas.List.{length-append, length-drop, length-take, take_all, take_at, drop_at, take-append-le, drop-append-le, take-append-drop}
 use Rattle.std.proofs.lemmas.Fmt.{length-decimal-le}
 use Rattle.rules.specs.declared.refusal.Refusal.TheVariants.{BadMessage}
+use Rattle.wire.specs.Lines.{lines_of, onto_first}
 use Rattle.wire.specs.declared.reply.Reply.TheVariants.{No}
 use Rattle.wire.specs.Texts.{request_read, reply_text, reply_read}
 use Rattle.room_core.specs.Shown.{HasObject}
 use Rattle.world.specs.Alone.{Message, message_of, Alone, answer_to, after_reply, alone_reply, alone_after}
 use Rattle.world.specs.Rooms.{Rooms, named_place, lone_answer, owner_from, owner_of, reply_at, after_at, reply_to, rooms_after}
 use Rattle.world.specs.State.{State, names_of, rooms_of}
-use Rattle.world.specs.Script.{lines_of, onto_first, message_in, text_for, rooms_for, lines_out, lines_end, output_of, HasNoBreak}
+use Rattle.world.specs.Script.{message_in, text_for, rooms_for, lines_out, lines_end, output_of, HasNoBreak}
 use Rattle.world.specs.declared.script.TheConstants.{LINE_LIMIT}
 use Rattle.world.specs.Answered.{kept_part, LineShows, LinesShow}
 use Rattle.world.proofs.Changed.{rooms_same, alone_same}

@@ -1,13 +1,14 @@
 -- Helpers of proofs: what was answered so far of a script that is read in parts.
 use Rattle.std.specs.Prelude.{ℕ, ◌≡◌, ◌≤◌, List, [], ◌∷◌, ◌++◌, length, map, take, Option, Some, None}
 use Rattle.std.specs.Io.KnownBytes.{Appends}
+use Rattle.wire.specs.Lines.{lines_of}
 use Rattle.wire.specs.Texts.{reply_text}
 use Rattle.world.specs.declared.script.TheConstants.{LINE_LIMIT}
 use Rattle.world.specs.Alone.{Message}
 use Rattle.world.specs.Rooms.{Rooms, reply_to}
 use Rattle.world.specs.State.{State, names_of, rooms_of}
 use Rattle.world.specs.Shown.{ShowsGroups}
-use Rattle.world.specs.Script.{message_in, text_for, rooms_for, lines_of, lines_out, lines_end, end_of, HasNoBreak}
+use Rattle.world.specs.Script.{message_in, text_for, rooms_for, lines_out, lines_end, end_of, HasNoBreak}
 
 -- as much of a line as is kept
 abbrev pub kept_part : List ℕ → List ℕ

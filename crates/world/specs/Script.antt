@@ -3,21 +3,12 @@ use Rattle.std.specs.Prelude.{ℕ, ◌+◌, ◌-◌, ◌*◌, ◌^◌, ◌==◌,
 use Rattle.std.specs.Char.{is_ascii_digit}
 use Rattle.std.specs.Fmt.{decimal}
 use Rattle.std.specs.Io.KnownBytes.{Appends, Consumes}
+use Rattle.wire.specs.Lines.{ends_line, lines_of}
 use Rattle.wire.specs.Texts.{reply_text}
 use Rattle.world.specs.Alone.{Message, message_of}
 use Rattle.world.specs.Rooms.{Rooms, reply_to, rooms_after}
 use Rattle.world.specs.State.{State, names_of, rooms_of}
 use Rattle.world.specs.Run.{IsRun}
-
--- a byte joins the first line
-abbrev pub onto_first : ℕ → List (List ℕ) → List (List ℕ)
-onto_first byte [] = (byte ∷ []) ∷ []
-onto_first byte (line ∷ lines) = (byte ∷ line) ∷ lines
-
--- the lines that bytes are: each is ended by LF, and the last may lack it
-abbrev pub lines_of : List ℕ → List (List ℕ)
-lines_of [] = []
-lines_of (byte ∷ bytes) = if byte == 10 then [] ∷ lines_of bytes else onto_first byte (lines_of bytes)
 
 -- after some digits, which say this number: further digits, a space, and the message
 abbrev pub number_then : ℕ → List ℕ → Option Message
@@ -124,7 +115,7 @@ pub record Stops (old new : Option (List ℕ)) (from to : State) (bytes : List �
 -- how many lines end in these bytes
 abbrev pub breaks_in : List ℕ → ℕ
 breaks_in [] = 0
-breaks_in (byte ∷ bytes) = if byte == 10 then breaks_in bytes + 1 else breaks_in bytes
+breaks_in (byte ∷ bytes) = if ends_line byte then breaks_in bytes + 1 else breaks_in bytes
 
 -- the lines that end in these bytes
 abbrev pub ended_lines : List ℕ → List (List ℕ)

@@ -6,6 +6,7 @@ pub mod Requests
 pub mod Joining
 pub mod Entries
 pub mod Replies
+pub mod Equality
 pub mod Faults
 pub mod Texts
 pub mod Sending

@@ -38,6 +38,25 @@ impl IdList {
     }
 }
 
+impl PartialEq for IdList {
+    ghost use Rattle.std.specs.Cmp.{partial_equiv_from_equiv};
+    ghost use Rattle.wire.specs.Equality.{same_ids, same_ids-equivalence};
+
+    ghost eq = { same_ids };
+
+    ghost laws = { partial_equiv_from_equiv same_ids-equivalence };
+
+    fn eq(&self, other: &IdList) -> bool {
+        self.ids.as_slice() == other.ids.as_slice()
+    }
+}
+
+impl Eq for IdList {
+    ghost use Rattle.wire.specs.Equality.{same_ids-equivalence};
+
+    ghost laws = { same_ids-equivalence };
+}
+
 /// The versions of an object.
 #[derive(Drop)]
 pub struct VersionList {
@@ -69,6 +88,25 @@ impl VersionList {
     }
 }
 
+impl PartialEq for VersionList {
+    ghost use Rattle.std.specs.Cmp.{partial_equiv_from_equiv};
+    ghost use Rattle.wire.specs.Equality.{same_versions, same_versions-equivalence};
+
+    ghost eq = { same_versions };
+
+    ghost laws = { partial_equiv_from_equiv same_versions-equivalence };
+
+    fn eq(&self, other: &VersionList) -> bool {
+        self.versions.as_slice() == other.versions.as_slice()
+    }
+}
+
+impl Eq for VersionList {
+    ghost use Rattle.wire.specs.Equality.{same_versions-equivalence};
+
+    ghost laws = { same_versions-equivalence };
+}
+
 /// Objects with their kinds.
 #[derive(Drop)]
 pub struct ObjectList {
@@ -95,6 +133,25 @@ impl ObjectList {
     {
         &self.objects
     }
+}
+
+impl PartialEq for ObjectList {
+    ghost use Rattle.std.specs.Cmp.{partial_equiv_from_equiv};
+    ghost use Rattle.wire.specs.Equality.{same_objects, same_objects-equivalence};
+
+    ghost eq = { same_objects };
+
+    ghost laws = { partial_equiv_from_equiv same_objects-equivalence };
+
+    fn eq(&self, other: &ObjectList) -> bool {
+        self.objects.as_slice() == other.objects.as_slice()
+    }
+}
+
+impl Eq for ObjectList {
+    ghost use Rattle.wire.specs.Equality.{same_objects-equivalence};
+
+    ghost laws = { same_objects-equivalence };
 }
 
 /// Entries of a record, each shared with the record that holds it.
@@ -127,4 +184,23 @@ impl EntryList {
     {
         &self.entries
     }
+}
+
+impl PartialEq for EntryList {
+    ghost use Rattle.std.specs.Cmp.{partial_equiv_from_equiv};
+    ghost use Rattle.wire.specs.Equality.{same_entries, same_entries-equivalence};
+
+    ghost eq = { same_entries };
+
+    ghost laws = { partial_equiv_from_equiv same_entries-equivalence };
+
+    fn eq(&self, other: &EntryList) -> bool {
+        self.entries.as_slice() == other.entries.as_slice()
+    }
+}
+
+impl Eq for EntryList {
+    ghost use Rattle.wire.specs.Equality.{same_entries-equivalence};
+
+    ghost laws = { same_entries-equivalence };
 }

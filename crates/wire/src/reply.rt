@@ -53,3 +53,99 @@ pub enum Reply {
         refusal: Refusal,
     },
 }
+
+impl PartialEq for Reply {
+    ghost use Rattle.std.specs.Cmp.{partial_equiv_from_equiv};
+    ghost use Rattle.wire.specs.Equality.{same_reply, same_reply-equivalence};
+
+    ghost eq = { same_reply };
+
+    ghost laws = { partial_equiv_from_equiv same_reply-equivalence };
+
+    fn eq(&self, other: &Reply) -> bool {
+        match (self, other) {
+            (
+                Reply::Joined { at, site },
+                Reply::Joined {
+                    at: other_at,
+                    site: other_site,
+                },
+            ) => *at == *other_at && *site == *other_site,
+            (
+                Reply::Made { at, name },
+                Reply::Made {
+                    at: other_at,
+                    name: other_name,
+                },
+            ) => *at == *other_at && *name == *other_name,
+            (
+                Reply::Taken { at, ids },
+                Reply::Taken {
+                    at: other_at,
+                    ids: other_ids,
+                },
+            ) => *at == *other_at && *ids == *other_ids,
+            (
+                Reply::Versions {
+                    at,
+                    object,
+                    kind,
+                    versions,
+                },
+                Reply::Versions {
+                    at: other_at,
+                    object: other_object,
+                    kind: other_kind,
+                    versions: other_versions,
+                },
+            ) => {
+                *at == *other_at
+                    && *object == *other_object
+                    && *kind == *other_kind
+                    && *versions == *other_versions
+            }
+            (
+                Reply::Objects {
+                    at,
+                    from,
+                    total,
+                    objects,
+                },
+                Reply::Objects {
+                    at: other_at,
+                    from: other_from,
+                    total: other_total,
+                    objects: other_objects,
+                },
+            ) => {
+                *at == *other_at
+                    && *from == *other_from
+                    && *total == *other_total
+                    && *objects == *other_objects
+            }
+            (
+                Reply::Entries { at, from, entries },
+                Reply::Entries {
+                    at: other_at,
+                    from: other_from,
+                    entries: other_entries,
+                },
+            ) => *at == *other_at && *from == *other_from && *entries == *other_entries,
+            (Reply::Left { at }, Reply::Left { at: other_at }) => *at == *other_at,
+            (
+                Reply::No { at, refusal },
+                Reply::No {
+                    at: other_at,
+                    refusal: other_refusal,
+                },
+            ) => *at == *other_at && *refusal == *other_refusal,
+            _ => false,
+        }
+    }
+}
+
+impl Eq for Reply {
+    ghost use Rattle.wire.specs.Equality.{same_reply-equivalence};
+
+    ghost laws = { same_reply-equivalence };
+}

@@ -98,16 +98,27 @@ same_refusal-Decides a b =
     Decides-like _ (λ e. sym (with_its_code a) ∙ ap refusal_with e ∙ with_its_code b) (λ e. ap code_of e)
     (unsigned_Decides (code_of a) (code_of b))
 
+-- both show the same versions of an object
+abbrev pub same_shown : Reply → Reply → Bool
+same_shown (Versions at object kind versions) (Versions other_at other_object other_kind other_versions) =
+    at == other_at && same_name object other_object && bytes_eq kind other_kind && same_versions versions other_versions
+same_shown _ _ = false
+
+-- both are the same page, of the objects or of the record
+abbrev pub same_page : Reply → Reply → Bool
+same_page (Objects at from total objects) (Objects other_at other_from other_total other_objects) =
+    at == other_at && from == other_from && total == other_total && same_objects objects other_objects
+same_page (Entries at from entries) (Entries other_at other_from other_entries) =
+    at == other_at && from == other_from && same_entries entries other_entries
+same_page _ _ = false
+
 abbrev pub same_reply : Reply → Reply → Bool
 same_reply (Joined at site) (Joined other_at other_site) = at == other_at && site == other_site
 same_reply (Made at name) (Made other_at other_name) = at == other_at && same_name name other_name
 same_reply (Taken at ids) (Taken other_at other_ids) = at == other_at && same_ids ids other_ids
-same_reply (Versions at object kind versions) (Versions other_at other_object other_kind other_versions) =
-    at == other_at && same_name object other_object && bytes_eq kind other_kind && same_versions versions other_versions
-same_reply (Objects at from total objects) (Objects other_at other_from other_total other_objects) =
-    at == other_at && from == other_from && total == other_total && same_objects objects other_objects
-same_reply (Entries at from entries) (Entries other_at other_from other_entries) =
-    at == other_at && from == other_from && same_entries entries other_entries
+same_reply (Versions at object kind versions) other = same_shown (Versions at object kind versions) other
+same_reply (Objects at from total objects) other = same_page (Objects at from total objects) other
+same_reply (Entries at from entries) other = same_page (Entries at from entries) other
 same_reply (Left at) (Left other_at) = at == other_at
 same_reply (No at refusal) (No other_at other_refusal) = at == other_at && same_refusal refusal other_refusal
 same_reply _ _ = false

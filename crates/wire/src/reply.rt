@@ -1,5 +1,8 @@
 //! What a session is answered.
 
+ghost use Rattle.std.specs.Prelude.{◌≡◌};
+ghost use Rattle.wire.specs.Equality.{same_shown, same_page};
+
 use crate::lists::{EntryList, IdList, ObjectList, VersionList};
 use op_names::{Kind, OpName};
 use rules::Refusal;
@@ -85,52 +88,8 @@ impl PartialEq for Reply {
                     ids: other_ids,
                 },
             ) => *at == *other_at && *ids == *other_ids,
-            (
-                Reply::Versions {
-                    at,
-                    object,
-                    kind,
-                    versions,
-                },
-                Reply::Versions {
-                    at: other_at,
-                    object: other_object,
-                    kind: other_kind,
-                    versions: other_versions,
-                },
-            ) => {
-                *at == *other_at
-                    && *object == *other_object
-                    && *kind == *other_kind
-                    && *versions == *other_versions
-            }
-            (
-                Reply::Objects {
-                    at,
-                    from,
-                    total,
-                    objects,
-                },
-                Reply::Objects {
-                    at: other_at,
-                    from: other_from,
-                    total: other_total,
-                    objects: other_objects,
-                },
-            ) => {
-                *at == *other_at
-                    && *from == *other_from
-                    && *total == *other_total
-                    && *objects == *other_objects
-            }
-            (
-                Reply::Entries { at, from, entries },
-                Reply::Entries {
-                    at: other_at,
-                    from: other_from,
-                    entries: other_entries,
-                },
-            ) => *at == *other_at && *from == *other_from && *entries == *other_entries,
+            (Reply::Versions { .. }, _) => same_shown(self, other),
+            (Reply::Objects { .. } | Reply::Entries { .. }, _) => same_page(self, other),
             (Reply::Left { at }, Reply::Left { at: other_at }) => *at == *other_at,
             (
                 Reply::No { at, refusal },
@@ -148,4 +107,68 @@ impl Eq for Reply {
     ghost use Rattle.wire.specs.Equality.{same_reply-equivalence};
 
     ghost laws = { same_reply-equivalence };
+}
+
+// Both show the same versions of an object.
+fn same_shown(reply: &Reply, other: &Reply) -> bool
+    ensures { result ≡ same_shown reply.now other.now }
+{
+    match (reply, other) {
+        (
+            Reply::Versions {
+                at,
+                object,
+                kind,
+                versions,
+            },
+            Reply::Versions {
+                at: other_at,
+                object: other_object,
+                kind: other_kind,
+                versions: other_versions,
+            },
+        ) => {
+            *at == *other_at
+                && *object == *other_object
+                && *kind == *other_kind
+                && *versions == *other_versions
+        }
+        _ => false,
+    }
+}
+
+// Both are the same page, of the objects or of the record.
+fn same_page(reply: &Reply, other: &Reply) -> bool
+    ensures { result ≡ same_page reply.now other.now }
+{
+    match (reply, other) {
+        (
+            Reply::Objects {
+                at,
+                from,
+                total,
+                objects,
+            },
+            Reply::Objects {
+                at: other_at,
+                from: other_from,
+                total: other_total,
+                objects: other_objects,
+            },
+        ) => {
+            *at == *other_at
+                && *from == *other_from
+                && *total == *other_total
+                && *objects == *other_objects
+        }
+        (
+            Reply::Entries { at, from, entries },
+            Reply::Entries {
+                at: other_at,
+                from: other_from,
+                entries: other_entries,
+            },
+        ) => *at == *other_at && *from == *other_from && *entries == *other_entries,
+        _ => false,
+    }
 }

@@ -1,0 +1,4 @@
+pub mod Breaks
+pub mod LineTexts
+pub mod Tables
+pub mod SoFar

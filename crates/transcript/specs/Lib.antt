@@ -1,0 +1,4 @@
+pub mod Lines
+pub mod Order
+pub mod Fronts
+pub mod Tables

@@ -1,0 +1,93 @@
+-- What a line of a transcript says, and its JSON form.
+use Rattle.std.specs.Prelude.{◌≡◌, ℕ, ◌+◌, Bool, true, false, List, [], ◌∷◌, Option, Some, None, nat_lt, if◌then◌else◌}
+use Rattle.serde_json.specs.Data.{Data}
+use Rattle.op_names.specs.Names.{is_site}
+use Rattle.op_names.specs.declared.op_name.TheConstants.{MAX_SITE}
+use Rattle.rules.specs.Refusals.{code_of}
+use Rattle.wire.specs.declared.request.Request.{Request}
+use Rattle.wire.specs.declared.request.Request.TheVariants.{Join}
+use Rattle.wire.specs.declared.reply.Reply.{Reply}
+use Rattle.wire.specs.declared.reply.Reply.TheVariants.{Joined, Made, Taken, Versions, Objects, Entries, Left, No}
+use Rattle.wire.specs.Form.{list_form, whole_form, request_form, reply_form, IsRequest, IsReply, IsTextOf}
+use Rattle.wire.specs.Reading.{◌>>=◌, items_in, whole_in, field_at, end_at}
+use Rattle.wire.specs.Requests.{request_of}
+use Rattle.wire.specs.Replies.{reply_of}
+use Rattle.wire.specs.Texts.{text_in}
+use Rattle.transcript.specs.declared.line.TranscriptLine.{TranscriptLine}
+
+-- is the request a join
+abbrev pub is_join : Request → Bool
+is_join (Join room) = true
+is_join _ = false
+
+-- is a join let in by it
+abbrev pub is_joined : Reply → Bool
+is_joined (Joined at site) = true
+is_joined _ = false
+
+-- is it what a room answers to a site that has joined: no refusal of the codes 1 to 4
+abbrev pub is_answer : Reply → Bool
+is_answer (No at refusal) = nat_lt 4 (code_of refusal)
+is_answer _ = true
+
+-- may this request and this reply stand in one line
+abbrev pub go_together : Request → Reply → Bool
+go_together request reply = if is_join request then is_joined reply else is_answer reply
+
+-- how many entries there were before the call
+abbrev pub at_of : Reply → ℕ
+at_of (Joined at site) = at
+at_of (Made at name) = at
+at_of (Taken at ids) = at
+at_of (Versions at name kind versions) = at
+at_of (Objects at from total objects) = at
+at_of (Entries at from entries) = at
+at_of (Left at) = at
+at_of (No at refusal) = at
+
+-- was an entry added
+abbrev pub adds : Reply → Bool
+adds (Joined at site) = true
+adds (Made at name) = true
+adds (Taken at ids) = true
+adds _ = false
+
+-- how many entries there were after the call
+abbrev pub entries_after : Reply → ℕ
+entries_after reply = if adds reply then at_of reply + 1 else at_of reply
+
+-- ---- its form
+
+-- [SITE,REQUEST,REPLY]
+abbrev pub line_form : TranscriptLine → Data
+line_form line = list_form (whole_form line.site ∷ request_form line.request ∷ reply_form line.reply ∷ [])
+
+-- a line in range, whose request and reply may stand together
+pub record IsLine (line : TranscriptLine) : Type 0 where
+  pub site : is_site line.site ≡ true
+  pub request : IsRequest line.request
+  pub reply : IsReply line.reply
+  pub together : go_together line.request line.reply ≡ true
+
+-- the bytes are a text of the line
+abbrev pub IsLineText : List ℕ → TranscriptLine → Type 0
+IsLineText = IsTextOf line_form IsLine
+
+-- ---- how it is read
+
+-- these three, where request and reply may stand together
+abbrev pub line_with : ℕ → Request → Reply → Option TranscriptLine
+line_with site request reply =
+    if go_together request reply then Some (record { site = site; request = request; reply = reply }) else None
+
+-- the line whose form these values are
+unfoldable pub line_at : List Data → Option TranscriptLine
+line_at ds = field_at (whole_in 1 MAX_SITE) (field_at request_of (field_at reply_of end_at)) ds >>= λ p. line_with p.0 p.1.0 p.1.1.0
+
+-- the line whose form a JSON value is
+unfoldable pub line_of : Data → Option TranscriptLine
+line_of d = items_in d >>= line_at
+
+-- the line that bytes are a text of, if there is one
+unfoldable pub line_read : List ℕ → Option TranscriptLine
+line_read = text_in line_of

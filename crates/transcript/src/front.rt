@@ -1,0 +1,80 @@
+//! As many lines of a transcript as are in form and in order.
+
+ghost use Rattle.std.specs.Prelude.{◌≡◌, IfOk};
+ghost use Rattle.wire.specs.Lines.{lines_of};
+ghost use Rattle.transcript.specs.Fronts.{IsFront};
+ghost use Rattle.transcript.specs.Tables.{IsNextIn};
+
+use crate::line::{TranscriptLine, read_line};
+use crate::lines::first_line;
+use crate::order::Order;
+use op_names::NoMemory;
+use std::alloc::Global;
+use std::marker::Model;
+use wire::ReadFault;
+
+/// The first lines of a transcript, and whether reading stopped before its end.
+#[derive(Drop)]
+pub struct Front {
+    lines: Vec<TranscriptLine>,
+    stopped: bool,
+}
+
+impl Model for Front {
+    ghost use Rattle.transcript.specs.Fronts.{FrontLines};
+
+    ghost Value = { FrontLines };
+
+    ghost view = { λ front. record { lines = front.lines.items; stopped = front.stopped } };
+}
+
+/// The line that the bytes are a text of, where it may come next.
+fn next_line(alloc: Global, order: &Order, bytes: &[u8]) -> Result<Option<TranscriptLine>, NoMemory>
+    ensures { IfOk result (IsNextIn order.now bytes.now) }
+{
+    match read_line(alloc, bytes) {
+        Ok(line) => Ok(if order.takes(&line) { Some(line) } else { None }),
+        Err(ReadFault::Bad) => Ok(None),
+        Err(ReadFault::NoMemory) => Err(NoMemory),
+    }
+}
+
+impl Front {
+    /// The lines of a transcript of a record with so many entries, up to the first that is not in form
+    /// or may not come next. Linear in the bytes and the entries, in time and in memory.
+    pub fn read(alloc: Global, count: usize, transcript: &[u8]) -> Result<Front, NoMemory>
+        ensures { IfOk result (IsFront count (lines_of transcript.now)) }
+    {
+        let mut order = Order::new(alloc, count)?;
+        let mut rest = transcript;
+        while !rest.is_empty() {
+            let (bytes, after) = first_line(rest);
+            let Some(line) = next_line(alloc, &order, bytes)? else {
+                return Ok(Front {
+                    lines: order.into_lines(),
+                    stopped: true,
+                });
+            };
+            order.take(line)?;
+            rest = after;
+        }
+        Ok(Front {
+            lines: order.into_lines(),
+            stopped: false,
+        })
+    }
+
+    /// The lines, in their order.
+    pub fn lines(&self) -> &[TranscriptLine]
+        ensures { result.now ≡ self.now.lines }
+    {
+        self.lines.as_slice()
+    }
+
+    /// Is there a line after them that is not in form or may not come next?
+    pub fn is_stopped(&self) -> bool
+        ensures { result ≡ self.now.stopped }
+    {
+        self.stopped
+    }
+}

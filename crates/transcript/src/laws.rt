@@ -1,0 +1,19 @@
+//! Laws of the form of a line.
+
+ghost use Rattle.std.specs.Prelude.{◌≡◌, ◌↔◌, List, ℕ, Some};
+ghost use Rattle.transcript.specs.declared.line.TranscriptLine.{TranscriptLine};
+ghost use Rattle.transcript.specs.Lines.{IsLineText, line_read};
+
+/// Bytes are a text of at most one line.
+#[tactic(auto, using(crate::proofs::LineTexts::one_line))]
+pub fn one_line()
+    ensures { (bytes : List ℕ) (p q : TranscriptLine)
+        → IsLineText bytes p → IsLineText bytes q → p ≡ q }
+{}
+
+/// The line that bytes are read as is the one that they are a text of.
+#[tactic(auto, using(crate::proofs::LineTexts::lines_by_form))]
+pub fn lines_by_form()
+    ensures { (bytes : List ℕ) (line : TranscriptLine) →
+        (line_read bytes ≡ Some line) ↔ IsLineText bytes line }
+{}

@@ -1,0 +1,165 @@
+//! A line of a transcript.
+
+ghost use Rattle.std.specs.Prelude.{◌≡◌, ◌≤◌, map};
+ghost use Rattle.serde_json.specs.View.{view};
+ghost use Rattle.wire.specs.Reading.{Gives, items_in, whole_in};
+ghost use Rattle.wire.specs.Texts.{json_of};
+ghost use Rattle.rules.specs.declared.limits.TheConstants.Limits.{MAX_ENTRIES};
+ghost use Rattle.op_names.specs.declared.op_name.TheConstants.{MAX_SITE};
+ghost use Rattle.transcript.specs.Lines.{adds, at_of, entries_after, is_join, is_joined, is_answer, go_together, line_with, line_of, line_read};
+
+use op_names::MAX_SITE;
+use serde_json::Value;
+use std::alloc::Global;
+use wire::{ReadFault, Reply, Request, reply_of, request_of};
+
+/// What a site asked, and what it was answered.
+#[derive(Drop)]
+pub struct TranscriptLine {
+    /// The site, from 1 to 256; of a join the one that it was given.
+    pub site: u32,
+    pub request: Request,
+    pub reply: Reply,
+}
+
+/// Is the request a join?
+pub fn is_join(request: &Request) -> bool
+    ensures { result ≡ is_join request.now }
+{
+    matches!(request, Request::Join { .. })
+}
+
+/// Is it a join that was let in?
+fn is_joined(reply: &Reply) -> bool
+    ensures { result ≡ is_joined reply.now }
+{
+    matches!(reply, Reply::Joined { .. })
+}
+
+/// Is it what a room answers to a site that has joined: no refusal of the codes 1 to 4?
+fn is_answer(reply: &Reply) -> bool
+    ensures { result ≡ is_answer reply.now }
+{
+    match reply {
+        Reply::No { refusal, .. } => refusal.code() > 4,
+        _ => true,
+    }
+}
+
+/// May this request and this reply stand in one line?
+fn go_together(request: &Request, reply: &Reply) -> bool
+    ensures { result ≡ go_together request.now reply.now }
+{
+    if is_join(request) {
+        is_joined(reply)
+    } else {
+        is_answer(reply)
+    }
+}
+
+/// Does the reply say that an entry was added?
+pub fn adds(reply: &Reply) -> bool
+    ensures { result ≡ adds reply.now }
+{
+    matches!(
+        reply,
+        Reply::Joined { .. } | Reply::Made { .. } | Reply::Taken { .. }
+    )
+}
+
+/// How many entries there were before the call, as the reply says.
+pub fn at_of(reply: &Reply) -> u32
+    ensures { result ≡ at_of reply.now }
+{
+    match reply {
+        Reply::Joined { at, .. }
+        | Reply::Made { at, .. }
+        | Reply::Taken { at, .. }
+        | Reply::Versions { at, .. }
+        | Reply::Objects { at, .. }
+        | Reply::Entries { at, .. }
+        | Reply::Left { at }
+        | Reply::No { at, .. } => *at,
+    }
+}
+
+/// How many entries there were after the call, as the reply says.
+pub(crate) fn entries_after(reply: &Reply) -> u32
+    requires { at_of reply.now ≤ MAX_ENTRIES }
+    ensures { result ≡ entries_after reply.now }
+{
+    if adds(reply) {
+        at_of(reply) + 1
+    } else {
+        at_of(reply)
+    }
+}
+
+/// A site, from 1 to 256.
+#[tactic(auto, unfolding(wire::specs::Reading::whole_in, wire::specs::Reading::natural_in))]
+fn site_of(value: &Value) -> Result<u32, ReadFault>
+    ensures { Gives (λ site. site) result (whole_in 1 MAX_SITE (view value.now)) }
+{
+    let number = value.as_u64().ok_or(ReadFault::Bad)?;
+    if 1 <= number && number <= MAX_SITE as u64 {
+        Ok(number as u32)
+    } else {
+        Err(ReadFault::Bad)
+    }
+}
+
+/// The line of these three, where request and reply may stand together.
+fn line_with(site: u32, request: Request, reply: Reply) -> Result<TranscriptLine, ReadFault>
+    ensures { Gives (λ line. line) result (line_with site request reply) }
+{
+    if go_together(&request, &reply) {
+        Ok(TranscriptLine {
+            site,
+            request,
+            reply,
+        })
+    } else {
+        Err(ReadFault::Bad)
+    }
+}
+
+/// The items of a list.
+#[tactic(auto, using(wire::proofs::Parts::listed_items_view), unfolding(wire::specs::Reading::items_in))]
+fn items_of(value: &Value) -> Result<&[Value], ReadFault>
+    ensures { Gives (λ items. map view items.now) result (items_in (view value.now)) }
+{
+    let items = value.as_array().ok_or(ReadFault::Bad)?;
+    Ok(items.as_slice())
+}
+
+/// The JSON value that the bytes are a text of.
+#[tactic(auto, unfolding(wire::specs::Texts::json_of))]
+fn json_of(alloc: Global, bytes: &[u8]) -> Result<Value, ReadFault>
+    ensures { Gives view result (json_of bytes.now) }
+{
+    Ok(Value::from_slice(alloc, bytes)?)
+}
+
+/// The line whose form a JSON value is. Otherwise `Bad`, or `NoMemory`.
+#[tactic(auto, unfolding(crate::specs::Lines::line_of, crate::specs::Lines::line_at))]
+fn line_of(alloc: Global, value: &Value) -> Result<TranscriptLine, ReadFault>
+    ensures { Gives (λ line. line) result (line_of (view value.now)) }
+{
+    let [site, request, reply] = items_of(value)? else {
+        return Err(ReadFault::Bad);
+    };
+    let site = site_of(site)?;
+    let request = request_of(alloc, request)?;
+    let reply = reply_of(alloc, reply)?;
+    line_with(site, request, reply)
+}
+
+/// The line that the bytes are a text of: UTF-8 that holds one JSON value, the line's form. Otherwise
+/// `Bad`, or `NoMemory`. Linear in the bytes.
+#[tactic(auto, unfolding(crate::specs::Lines::line_read))]
+pub(crate) fn read_line(alloc: Global, bytes: &[u8]) -> Result<TranscriptLine, ReadFault>
+    ensures { Gives (λ line. line) result (line_read bytes.now) }
+{
+    let value = json_of(alloc, bytes)?;
+    line_of(alloc, &value)
+}

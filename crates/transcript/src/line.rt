@@ -154,8 +154,8 @@ fn line_of(alloc: Global, value: &Value) -> Result<TranscriptLine, ReadFault>
     line_with(site, request, reply)
 }
 
-/// The line that the bytes are a text of: UTF-8 that holds one JSON value, the line's form. Otherwise
-/// `Bad`, or `NoMemory`. Linear in the bytes.
+/// The line that the bytes are a text of: UTF-8 that holds one JSON value, the line's form.
+/// Otherwise `Bad`, or `NoMemory`. Linear in the bytes.
 #[tactic(auto, unfolding(crate::specs::Lines::line_read))]
 pub(crate) fn read_line(alloc: Global, bytes: &[u8]) -> Result<TranscriptLine, ReadFault>
     ensures { Gives (λ line. line) result (line_read bytes.now) }

@@ -27,7 +27,8 @@ impl Model for Order {
 
     ghost view = { λ order. record { count = order.count; lines = order.lines.items } };
 
-    ghost invariant = { λ order. AreTables (record { count = order.count; lines = order.lines.items })
+    ghost invariant = { λ order.
+        AreTables (record { count = order.count; lines = order.lines.items })
         order.reached.items order.claimed.items };
 }
 

@@ -1,0 +1,9 @@
+mod FirstFault
+mod Judged
+mod Played
+mod Timed
+mod Told
+pub mod Fronted
+pub mod OnlyOne
+pub mod Parts
+pub mod ReadSoFar

@@ -1,0 +1,6 @@
+pub mod Findings
+pub mod Readings
+pub mod Records
+pub mod Replays
+pub mod Transcripts
+pub mod Verdicts

@@ -1,0 +1,51 @@
+-- True transcripts of a record.
+use Rattle.std.specs.Prelude.{◌≡◌, ◌≤◌, ◌+◌, Bool, true, ◌==◌, List, All, take, length, slice_get, if◌then◌else◌}
+use Rattle.std.specs.List.{AllPairs}
+use Rattle.rules.specs.declared.history.Entry.{Entry}
+use Rattle.rules.specs.Records.{sites}
+use Rattle.room_core.specs.Room.{Room, full_room}
+use Rattle.room_core.specs.Answers.{Outcome, answer, join_answer, has_site}
+use Rattle.transcript.specs.declared.line.TranscriptLine.{TranscriptLine}
+use Rattle.transcript.specs.Lines.{is_join, at_of, adds}
+use Rattle.transcript.specs.Order.{IsInOrder, IsNext}
+
+-- the room as it was at a line: the first entries of the record
+abbrev pub room_at : List Entry → TranscriptLine → Room
+room_at r line = full_room (take (at_of line.reply) r)
+
+-- what the rules answer to a line's request, and the entry that is added if there is one
+abbrev pub due : Room → TranscriptLine → Outcome
+due room line = if is_join line.request then join_answer room else answer room line.site line.request
+
+-- who asks: of a join the next site, of another request one that has joined
+abbrev pub has_asker : Room → TranscriptLine → Bool
+has_asker room line = if is_join line.request then line.site == sites room.entries + 1 else has_site room line.site
+
+-- whoever asks for something else than to join has joined
+abbrev pub may_ask : Room → TranscriptLine → Bool
+may_ask room line = if is_join line.request then true else has_site room line.site
+
+-- a line's reply is the one of this outcome, and the entry that it says was added stands in the record at its AT
+pub record IsGiven (r : List Entry) (outcome : Outcome) (line : TranscriptLine) : Type 0 where
+  pub reply : outcome.0 ≡ line.reply
+  pub entry : adds line.reply ≡ true → slice_get r (at_of line.reply) ≡ outcome.1
+
+-- the right site asks, and was answered as the rules say
+pub record IsAnswered (r : List Entry) (line : TranscriptLine) : Type 0 where
+  pub asker : has_asker (room_at r line) line ≡ true
+  pub given : IsGiven r (due (room_at r line) line) line
+
+-- a line's AT is within the record, and it was answered so
+pub record IsTrueLine (r : List Entry) (line : TranscriptLine) : Type 0 where
+  pub within : at_of line.reply ≤ length r
+  pub answered : IsAnswered r line
+
+-- a true transcript of a record
+pub record IsTrueTranscript (r : List Entry) (lines : List TranscriptLine) : Type 0 where
+  pub each : All (IsTrueLine r) lines
+  pub order : AllPairs IsInOrder lines
+
+-- a line may follow these, whatever its reply says besides its AT
+pub record MayFollow (r : List Entry) (before : List TranscriptLine) (line : TranscriptLine) : Type 0 where
+  pub next : IsNext (length r) before line
+  pub joined : may_ask (room_at r line) line ≡ true

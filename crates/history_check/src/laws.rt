@@ -1,0 +1,11 @@
+//! Laws over the definitions. These functions run nothing.
+
+ghost use Rattle.std.specs.Prelude.{◌≡◌, ℕ, List};
+ghost use Rattle.history_check.specs.declared.verdict.Verdict.{Verdict};
+ghost use Rattle.history_check.specs.Verdicts.{IsVerdict};
+
+/// Of the bytes of a record and of a transcript there is no more than one verdict.
+pub fn one_verdict()
+    ensures { (entries transcript : List ℕ) (one other : Verdict)
+        → IsVerdict entries transcript one → IsVerdict entries transcript other → one ≡ other }
+{}

@@ -1,0 +1,97 @@
+//! What is wrong with one line, in the room as it was at that line.
+
+ghost use Rattle.std.specs.Prelude.{◌≡◌, ◌↔◌, true, IfOk, IsTrue, map, option_map, slice_get};
+ghost use Rattle.std.specs.Arc.{arc_value};
+ghost use Rattle.room_core.specs.Plans.{Plans, outcome};
+ghost use Rattle.transcript.specs.Lines.{adds, at_of};
+ghost use Rattle.history_check.specs.Findings.{IsFinding};
+ghost use Rattle.history_check.specs.Transcripts.{IsGiven, due, has_asker, may_ask, room_at};
+
+use crate::findings::Fault;
+use op_names::NoMemory;
+use room_core::{Planned, RoomState};
+use rules::Entry;
+use std::alloc::Global;
+use std::sync::Arc;
+use transcript::{TranscriptLine, adds, at_of, is_join};
+
+/// Has whoever asks for something else than to join joined?
+fn may_ask(room: &RoomState, line: &TranscriptLine) -> bool
+    ensures { result ≡ may_ask room.now.room line.now }
+{
+    is_join(&line.request) || (line.site >= 1 && line.site <= room.sites())
+}
+
+/// Does a join ask for the next site, and anything else a site that has joined?
+fn has_asker(room: &RoomState, line: &TranscriptLine) -> bool
+    ensures { result ≡ has_asker room.now.room line.now }
+{
+    if is_join(&line.request) {
+        line.site == room.sites() + 1
+    } else {
+        line.site >= 1 && line.site <= room.sites()
+    }
+}
+
+/// Plans what the rules answer to the line's request. The room stays as it is.
+fn plan_line(
+    alloc: Global,
+    room: &mut RoomState,
+    line: &TranscriptLine,
+) -> Result<Planned, NoMemory>
+    ensures { Plans room.old room.new (due room.old.room line.now) result }
+{
+    if is_join(&line.request) {
+        return room.plan_join(alloc);
+    }
+    let request = line.request.copy(alloc)?;
+    room.plan(alloc, line.site, request)
+}
+
+/// Does the record have this entry in this place, or none where there is none?
+fn has_at(entries: &[Arc<Entry>], place: usize, wanted: Option<&Arc<Entry>>) -> bool
+    ensures { IsTrue result ↔ (slice_get (map arc_value entries.now) place
+        ≡ option_map (λ e. arc_value e.now) wanted.entry) }
+{
+    match wanted {
+        Some(entry) => place < entries.len() && *entries[place] == **entry,
+        None => place >= entries.len(),
+    }
+}
+
+/// Is what is planned the line's reply, with the entry that the record has in its place?
+fn is_given(planned: &Planned, entries: &[Arc<Entry>], line: &TranscriptLine) -> bool
+    ensures { IsTrue result ↔ IsGiven (map arc_value entries.now) (outcome planned.now) line.now }
+{
+    if *planned.reply() != line.reply {
+        return false;
+    }
+    let place = at_of(&line.reply) as usize;
+    !adds(&line.reply) || has_at(entries, place, planned.entry())
+}
+
+/// What is wrong with a line, if something is, in the room as it was at that line. The room stays as
+/// it is.
+pub(crate) fn fault_of(
+    alloc: Global,
+    room: &mut RoomState,
+    entries: &[Arc<Entry>],
+    line: &TranscriptLine,
+) -> Result<Option<Fault>, NoMemory>
+    requires { room.old.room ≡ room_at (map arc_value entries.now) line.now }
+    ensures finding { IfOk result (IsFinding (map arc_value entries.now) line.now) }
+    ensures room { room.new.room ≡ room.old.room }
+{
+    if !may_ask(room, line) {
+        return Ok(Some(Fault::NotJoined));
+    }
+    if !has_asker(room, line) {
+        return Ok(Some(Fault::WrongReply));
+    }
+    let planned = plan_line(alloc, room, line)?;
+    if is_given(&planned, entries, line) {
+        Ok(None)
+    } else {
+        Ok(Some(Fault::WrongReply))
+    }
+}

@@ -19,9 +19,9 @@ pub(crate) enum Reading {
     Bad(usize),
 }
 
-/// Adds the entry of a line where it may come next, and says whether it did. Otherwise the line is no
-/// entry, or none that may come next, and the room stays as it is. Takes as long as the answer to a
-/// request that asks for the entry.
+/// Adds the entry of a line where it may come next, and says whether it did. Otherwise the line is
+/// no entry, or none that may come next. Takes as long as the answer to a request that asks for the
+/// entry.
 fn take_entry(alloc: Global, room: &mut RoomState, line: &[u8]) -> Result<bool, NoMemory>
     ensures { IfOk result (λ taken. Takes room.old.room room.new.room line.now taken) }
 {
@@ -32,8 +32,8 @@ fn take_entry(alloc: Global, room: &mut RoomState, line: &[u8]) -> Result<bool, 
     }
 }
 
-/// The room whose record the lines of these bytes are, or the first line that doesn't go on with it.
-/// Takes as long as the lines' entries take to be added, one after the other.
+/// The room whose record the lines of these bytes are, or the first line that isn't its next entry,
+/// or `NoMemory`. Takes as long as adding the entries one after the other.
 pub(crate) fn read_record(alloc: Global, bytes: &[u8]) -> Result<Reading, NoMemory>
     ensures { IfOk result (IsReading (lines_of bytes.now)) }
 {

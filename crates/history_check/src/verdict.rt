@@ -21,8 +21,8 @@ use transcript::Front;
 pub enum Verdict {
     /// The record is legal, and the transcript is true of it.
     Holds,
-    /// The first line of the record that is no entry, or none that a room with the entries before it
-    /// would add next.
+    /// The first line of the record that is no entry, or none that a room with the entries before
+    /// it would add next.
     BadRecord(usize),
     /// The first line of the transcript that isn't in form or may not follow those before it.
     BadTranscript(usize),
@@ -31,10 +31,13 @@ pub enum Verdict {
     WrongReply(usize),
 }
 
-/// Is the record legal, and is the transcript true of it? Otherwise the first fault.
+/// Is the record legal, and is the transcript true of it? Otherwise the first fault, or `NoMemory`.
+/// A fault of the record comes before any of the transcript. Takes as long as adding the entries twice
+/// and answering the transcript's requests once, and n log n steps for n lines.
 pub fn check(alloc: Global, entries: &[u8], transcript: &[u8]) -> Result<Verdict, NoMemory>
     ensures verdict { IfOk result (IsVerdict entries.now transcript.now) }
-    ensures holds { IfOk result (λ verdict. (verdict ≡ Holds) ↔ AreTrue entries.now transcript.now) }
+    ensures holds { IfOk result
+        (λ verdict. (verdict ≡ Holds) ↔ AreTrue entries.now transcript.now) }
 {
     match read_record(alloc, entries)? {
         Reading::Bad(number) => Ok(Verdict::BadRecord(number)),

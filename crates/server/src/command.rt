@@ -1,5 +1,6 @@
 //! The command line.
 
+use crate::checking::check_at;
 use crate::fault::Fault;
 use crate::script::script_over;
 use crate::serve::{Service, serve_over};
@@ -11,6 +12,7 @@ use std::alloc::{AllocError, Global};
 use std::io::{Read, Write};
 use std::net::Net;
 use std::random::RandomSource;
+use std::rt::Files;
 use std::sync::Wait;
 use std::thread::Threads;
 use std::time::Duration;
@@ -82,6 +84,22 @@ fn watch_command<'a>(alloc: Global) -> Result<Command<'a>, AllocError> {
         .arg(room)
 }
 
+/// `grace check`.
+fn check_command<'a>(alloc: Global) -> Result<Command<'a>, AllocError> {
+    let record = Arg::new(alloc, "RECORD")
+        .required(true)
+        .action(ArgAction::Set)
+        .help("A file of the record's entries, one a line");
+    let transcript = Arg::new(alloc, "TRANSCRIPT")
+        .required(true)
+        .action(ArgAction::Set)
+        .help("A file of requests and replies, one a line");
+    Command::new(alloc, "check")
+        .about("Checks a room's record and a transcript of it")
+        .arg(record)?
+        .arg(transcript)
+}
+
 /// The commands of the program.
 fn grace<'a>(alloc: Global) -> Result<Command<'a>, AllocError> {
     Command::new(alloc, "grace")
@@ -90,7 +108,8 @@ fn grace<'a>(alloc: Global) -> Result<Command<'a>, AllocError> {
         .subcommand_required(true)
         .subcommand(script_command(alloc)?)?
         .subcommand(serve_command(alloc)?)?
-        .subcommand(watch_command(alloc)?)
+        .subcommand(watch_command(alloc)?)?
+        .subcommand(check_command(alloc)?)
 }
 
 /// Shows the text of a command line that was not read: help on `output` with status 0, a mistake on
@@ -148,7 +167,7 @@ fn run_read<H, R, W, E>(
     errors: &mut E,
 ) -> u8
 where
-    H: Threads + Wait + Log + Net + RandomSource + Sync,
+    H: Files + Threads + Wait + Log + Net + RandomSource + Sync,
     H::Stream: Send,
     R: Read,
     W: Write,
@@ -170,14 +189,20 @@ where
             (Some(address), Some(room)) => watch_at(rt, alloc, address, room, output, errors),
             _ => 2,
         },
+        Some(("check", words)) => match (words.get_str("RECORD"), words.get_str("TRANSCRIPT")) {
+            (Some(record), Some(transcript)) => {
+                check_at(rt, alloc, record, transcript, output, errors)
+            }
+            _ => 2,
+        },
         // The command line has no other command, and each word is required or has a default.
         _ => 2,
     }
 }
 
 /// Runs the program: `words` are the program's name and its arguments. Gives the status: 0 done,
-/// 2 a mistake in the command line, 3 input, output, a connection or the rooms failed, 4 want of
-/// memory.
+/// 1 a record or a transcript that doesn't hold, 2 a mistake in the command line, 3 input, output, a
+/// connection or the rooms failed, 4 want of memory.
 pub fn run<H, R, W, E>(
     rt: &H,
     alloc: Global,
@@ -187,7 +212,7 @@ pub fn run<H, R, W, E>(
     errors: &mut E,
 ) -> u8
 where
-    H: Threads + Wait + Log + Net + RandomSource + Sync,
+    H: Files + Threads + Wait + Log + Net + RandomSource + Sync,
     H::Stream: Send,
     R: Read,
     W: Write,

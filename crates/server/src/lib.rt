@@ -2,6 +2,7 @@
 #![tactic(auto)]
 
 mod accept;
+mod checking;
 mod command;
 mod fault;
 mod record;
@@ -9,6 +10,7 @@ mod script;
 mod serve;
 mod watch;
 
+pub use checking::{check_at, check_over};
 pub use command::run;
 pub use script::script_over;
 pub use serve::{ServeFault, Service, serve_over, serve_streams};

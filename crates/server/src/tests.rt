@@ -1,3 +1,4 @@
+mod checking;
 mod serving;
 mod watching;
 
@@ -11,6 +12,7 @@ use std::io::{ErrorKind, Read, Write};
 use std::net::Net;
 use std::process::Abort;
 use std::random::RandomSource;
+use std::rt::Files;
 use std::sync::Wait;
 use std::thread::Threads;
 
@@ -67,7 +69,7 @@ impl Outcome {
 /// Runs the program with these words, which stand with commas between them.
 fn run_words<H>(rt: &H, words: &str, input: &str) -> Outcome
 where
-    H: Threads + Wait + Log + Net + RandomSource + Sync + Abort + AllocGlobal,
+    H: Files + Threads + Wait + Log + Net + RandomSource + Sync + Abort + AllocGlobal,
     H::Stream: Send,
 {
     let mut line = Vec::new(rt.alloc());
@@ -113,7 +115,7 @@ fn begins_with_line(bytes: &[u8], line: &str) -> bool {
 
 fn is_mistake<H>(rt: &H, words: &str, line: &str) -> bool
 where
-    H: Threads + Wait + Log + Net + RandomSource + Sync + Abort + AllocGlobal,
+    H: Files + Threads + Wait + Log + Net + RandomSource + Sync + Abort + AllocGlobal,
     H::Stream: Send,
 {
     let ran = run_words(rt, words, "0 [\"leave\"]\n");
@@ -131,7 +133,7 @@ fn faults_of_the_command_line(rt: HostRuntime) {
 /// Is this how the output begins, and is nothing else written?
 fn shows<H>(rt: &H, words: &str, start: &str) -> bool
 where
-    H: Threads + Wait + Log + Net + RandomSource + Sync + Abort + AllocGlobal,
+    H: Files + Threads + Wait + Log + Net + RandomSource + Sync + Abort + AllocGlobal,
     H::Stream: Send,
 {
     let ran = run_words(rt, words, "");

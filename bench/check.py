@@ -6,7 +6,6 @@ anywhere; the program is built first where it isn't."""
 
 import argparse
 import json
-import os
 import pathlib
 import random
 import statistics
@@ -16,6 +15,17 @@ import tempfile
 
 ROOT = pathlib.Path(__file__).resolve().parent.parent
 PROGRAM = ROOT / "crates/grace/out/grace"
+
+# Runs a command, and tells its status, processor seconds and peak memory. It is a process of its own since a
+# child's peak memory is told as no less than its parent's at the fork.
+STARTER = """
+import os, sys
+child = os.fork()
+if child == 0:
+    os.execv(sys.argv[1], sys.argv[1:])
+usage = os.wait4(child, 0)
+print(usage[1], usage[2].ru_utime + usage[2].ru_stime, usage[2].ru_maxrss)
+"""
 
 SITES = 8
 PAGE = 64
@@ -108,13 +118,12 @@ def check(program, record, transcript, runs):
         size = sum(path.stat().st_size for path in paths)
         times, peak = [], 0
         for _ in range(runs):
-            process = subprocess.Popen([program, "check", *paths], stdout=subprocess.PIPE, text=True)
-            output = process.stdout.read()
-            _, status, usage = os.wait4(process.pid, 0)
-            if status != 0 or output != "holds\n":
-                sys.exit(f"bench: the check ended with {status} and {output!r}")
-            times.append(usage.ru_utime + usage.ru_stime)
-            peak = max(peak, usage.ru_maxrss / 1024)
+            command = [sys.executable, "-c", STARTER, program, "check", *paths]
+            ended = subprocess.run(command, stdout=subprocess.PIPE, text=True, check=True).stdout.split()
+            if ended[:2] != ["holds", "0"]:
+                sys.exit(f"bench: the check ended with {ended}")
+            times.append(float(ended[2]))
+            peak = max(peak, int(ended[3]) / 1024)
     return statistics.median(times), peak, size / 2**20
 
 

@@ -1,0 +1,169 @@
+/** The parts of GRACE's messages: names, values, operations, the words of refusals, and the limits. */
+
+import { exact, writeText } from "./json_text.js"
+
+/**
+ * @typedef {[number, number]} Name of an operation, or of the object that it made: site and number
+ * @typedef {Name[]} VersionId rising
+ * @typedef {number | bigint | string} Value a whole number of 64 bits, a `Number` where that is exact; or a text
+ * @typedef {{ word: "new" | "set", name: Name, seen: [number, number][], kind?: string, attributes?: [string, Value][],
+ *   object: Name, version?: VersionId, key?: string, value?: Value }} Operation
+ */
+
+/** What a room or an object takes at most. */
+export const LIMITS = Object.freeze({
+  entries: 16384, objects: 512, sets: 1024, keys: 64, versions: 32, attributes: 16, messageBytes: 16384,
+})
+
+const LEAST = -(2n ** 63n)
+const MOST = 2n ** 63n - 1n
+const TEXT_BYTES = 256
+const ENCODER = new TextEncoder()
+
+/** What each refusal tells a person. */
+const WORDS = {
+  "bad-message": "The server did not understand a message.",
+  "not-joined": "You are in no room yet.",
+  "already-joined": "You are in a room already.",
+  "no-such-room": "The server has no room of this name.",
+  "room-full": "The room has let in as many as it ever will. Nobody can join it any more.",
+  "record-full": "The room's record is full. It can be looked at, and changes no more.",
+  "wrong-seq": "The server counts the changes otherwise than this client does.",
+  "own-count": "The server counts the changes otherwise than this client does.",
+  "ahead": "The server doesn't have what this client has seen.",
+  "not-closed": "The server has seen more of the changes than this client has.",
+  "no-such-object": "There is no such object.",
+  "no-such-version": "The object has no such version any more. Choose one again.",
+  "object-full": "This object has been changed as often as an object may be.",
+  "too-many-keys": "This object has as many kinds of attribute as it may have.",
+  "too-many-versions": "With this change the object would have more versions than it may have.",
+  "too-many-objects": "The room has as many objects as it may have.",
+  "too-far": "The room has less in it than this client has seen. It is a new one.",
+  "closed": "The room was closed before the server had the change.",
+  "withdrawn": "The change was built on one that the server refused.",
+  "another-room": "The server was started anew, and the room is empty or another one. The change is lost.",
+  "too-long": "The change is too long for one message.",
+}
+const CODES = Object.keys(WORDS).slice(0, 17)
+
+/** A change or a join that the server or this library refused. It changed nothing. */
+export class Refused extends Error {
+  /** @param {string} word the server's word for it, or `closed`, `withdrawn`, `another-room`, `too-long` */
+  constructor(word) {
+    super(WORDS[word] ?? `The server refused it: ${word}.`)
+    this.name = "Refused"
+    /** The server's word, or one of the library's own. */
+    this.word = word
+    /** The server's number of it, 0 for the library's own words. */
+    this.code = CODES.indexOf(word) + 1
+  }
+}
+
+/** What came isn't what a GRACE server sends, or no room can have had it. */
+export class ProtocolFault extends Error {
+  name = "ProtocolFault"
+}
+
+/** A name as one number, in the order of names. @param {Name} name */
+export const codeOf = ([site, number]) => site * 65536 + number
+
+/** @param {number} code @returns {Name} */
+export const nameOf = (code) => [Math.floor(code / 65536), code % 65536]
+
+/** The order of identifiers: as lists of names, a prefix first. @param {VersionId} one @param {VersionId} other */
+export function compareIds(one, other) {
+  for (let place = 0; place < one.length && place < other.length; place++) {
+    const difference = codeOf(one[place]) - codeOf(other[place])
+    if (difference !== 0) return difference
+  }
+  return one.length - other.length
+}
+
+/** @param {VersionId} one @param {VersionId} other */
+export const isSameId = (one, other) => compareIds(one, other) === 0
+
+/** Names in rising order. @param {Iterable<number>} codes @returns {VersionId} */
+export const idOf = (codes) => [...codes].sort((one, other) => one - other).map(nameOf)
+
+/**
+ * A value as the library keeps it.
+ * @param {unknown} value
+ * @returns {Value}
+ * @throws {TypeError} it is no number and no text, or a text with half a letter in it
+ * @throws {RangeError} the number isn't whole, isn't exact, or has more than 64 bits; or the text has more than
+ *   256 bytes of UTF-8
+ */
+export function asValue(value) {
+  if (typeof value === "string") return asText(value)
+  if (typeof value !== "number" && typeof value !== "bigint") throw new TypeError("a value is a whole number or a text")
+  if (typeof value === "number" && !Number.isSafeInteger(value)) {
+    throw new RangeError(`${value} isn't a whole number that is exact: beyond 2^53 use a BigInt`)
+  }
+  if (value < LEAST || value > MOST) throw new RangeError(`${value} has more than 64 bits`)
+  return exact(value)
+}
+
+function asText(value) {
+  if (/\p{Surrogate}/u.test(value)) throw new TypeError("a text with half a letter in it")
+  if (ENCODER.encode(value).length > TEXT_BYTES) throw new RangeError(`a text of more than ${TEXT_BYTES} bytes`)
+  return value
+}
+
+/**
+ * A key or a kind: 1 to 32 of a-z, 0-9 and `-`.
+ * @param {unknown} word @returns {string}
+ * @throws {TypeError} it is something else
+ */
+export function asWord(word) {
+  if (typeof word !== "string" || !/^[a-z0-9-]{1,32}$/.test(word)) {
+    throw new TypeError(`${String(word)} isn't 1 to 32 of a-z, 0-9 and -`)
+  }
+  return word
+}
+
+/**
+ * The attributes of a new object.
+ * @param {object | Iterable<[string, unknown]>} attributes @returns {[string, Value][]}
+ * @throws {TypeError | RangeError} a key or a value is none, a key stands twice, or there are more than 16
+ */
+export function asAttributes(attributes) {
+  const pairs = Symbol.iterator in attributes ? [...attributes] : Object.entries(attributes)
+  const read = pairs.map(([key, value]) => [asWord(key), asValue(value)])
+  if (new Set(read.map(([key]) => key)).size !== read.length) throw new TypeError("a key stands twice")
+  if (read.length > LIMITS.attributes) throw new RangeError(`more than ${LIMITS.attributes} attributes`)
+  return read
+}
+
+/**
+ * The operation of an entry of a record, or null where the entry is a join.
+ * @param {any[]} entry @returns {Operation | null}
+ * @throws {ProtocolFault} it is no entry
+ */
+export function operationOf(entry) {
+  const [word, name, seen] = entry
+  if (word === "join" && entry.length === 2) return null
+  if (word === "new" && entry.length === 5) {
+    return { word, name, seen, kind: entry[3], attributes: entry[4], object: name }
+  }
+  if (word === "set" && entry.length === 7) {
+    return { word, name, seen, object: entry[3], version: entry[4], key: entry[5], value: entry[6] }
+  }
+  throw new ProtocolFault(`no entry: ${writeText(entry).slice(0, 200)}`)
+}
+
+/** The entry that an operation adds to a record. @param {Operation} operation */
+export function entryOf({ word, name, seen, kind, attributes, object, version, key, value }) {
+  return word === "new" ? [word, name, seen, kind, attributes] : [word, name, seen, object, version, key, value]
+}
+
+/**
+ * The text that asks for an operation.
+ * @param {Operation} operation @returns {string}
+ * @throws {Refused} `too-long`: no server takes it
+ */
+export function requestOf(operation) {
+  const [word, [, number], ...rest] = entryOf(operation)
+  const text = writeText([word, number, ...rest])
+  if (ENCODER.encode(text).length > LIMITS.messageBytes) throw new Refused("too-long")
+  return text
+}

@@ -1,0 +1,585 @@
+/**
+ * A client of GRACE rooms, for browsers and node. `Room` joins a room, keeps its record and what it shows, changes
+ * objects, and comes back after a lost connection. `Drawing` works out the versions of objects from operations alone.
+ *
+ *     import { Room } from "./grace.js"
+ *     const room = new Room("ws://localhost:7000/", "r")
+ *     room.on("change", ({ objects }) => objects.filter((name) => room.has(name)).forEach((name) =>
+ *       console.log(name, room.kind(name), room.versions(name))))
+ *     room.on("state", ({ state, words }) => {
+ *       if (state !== "open") return console.log(words)
+ *       const { object, version } = room.create("rect", { x: 0 })
+ *       room.set(object, version, "x", 5)
+ *     })
+ *
+ * Values are texts, and whole numbers of 64 bits: a `Number` where that is exact (up to 2^53 - 1 either way), else a
+ * `BigInt`. An object takes 1,024 sets with 64 keys, and has at most 32 versions; `LIMITS` has these and the others.
+ * Each connection uses up one of the 256 sites of a room for good, also when the library comes back after a lost one.
+ */
+
+import { Connection, Lost } from "./connection.js"
+import { Drawing, Version } from "./drawing.js"
+import {
+  LIMITS, ProtocolFault, Refused, asAttributes, asValue, asWord, codeOf, entryOf, idOf, isSameId, nameOf, operationOf,
+  requestOf,
+} from "./forms.js"
+import { readText, writeText } from "./json_text.js"
+
+export { Drawing, LIMITS, Lost, ProtocolFault, Refused, Version, entryOf, isSameId, operationOf, readText, writeText }
+
+/** @typedef {import("./forms.js").Name} Name */
+/** @typedef {import("./forms.js").VersionId} VersionId */
+/** @typedef {import("./forms.js").Value} Value */
+/** @typedef {import("./forms.js").Operation} Operation */
+
+/**
+ * @typedef {"connecting" | "open" | "waiting" | "closed"} State `waiting` is between a lost connection and the next try
+ * @typedef {object} Options
+ * @property {(address: string) => import("./connection.js").Socket} [connect] opens a socket that does as a `WebSocket`
+ *   does. Where it isn't given, the global `WebSocket` is taken
+ * @property {number} [pollMilliseconds] how long to wait before asking for news again: 300
+ * @property {number} [replyMilliseconds] after how long without a reply a connection counts as lost: 15,000
+ * @property {number} [settleMilliseconds] how long a change on the way may take to reach the server, after the
+ *   connection that it was sent on was lost: 250
+ * @property {number[]} [retryMilliseconds] the waits before the first, second, .. try to connect again; the last
+ *   stands for all others
+ */
+
+const DEFAULTS = {
+  connect: (address) => new WebSocket(address),
+  pollMilliseconds: 300,
+  replyMilliseconds: 15000,
+  settleMilliseconds: 250,
+  retryMilliseconds: [100, 500, 1000, 2000, 5000],
+}
+
+// A connection that stood for so long begins the waits for the next one from the first. Each connection that joins
+// uses up a site of the room, so one that breaks again and again must not be tried too often.
+const STEADY_MILLISECONDS = 5000
+
+/** A change of this client: a new object, or a set. */
+export class Change {
+  #operation
+  #version = null
+
+  constructor(operation) {
+    this.#operation = operation
+    /** Whether it was sent. What was sent and not answered is looked up in the record before it is sent again. */
+    this.isSent = false
+    /**
+     * Fulfilled once the server took it. Rejected with `Refused` where it was refused, or withdrawn with one that it
+     * was built on, or the room was closed or begun anew before. Nobody needs to look at it: `refusal` tells it too.
+     * @type {Promise<void>}
+     */
+    this.done = new Promise((resolve, reject) => Object.assign(this, { resolve, reject }))
+    this.done.catch(() => {})
+  }
+
+  /** The operation as it is to be sent, or was. After a lost connection it may get another name. @type {Operation} */
+  get operation() {
+    return this.#operation
+  }
+
+  /** Its name; that of an object that it makes, too. @type {Name} */
+  get name() {
+    return this.#operation.name
+  }
+
+  /** The object that it makes or changes. @type {Name} */
+  get object() {
+    return this.#operation.object
+  }
+
+  /** Of a set: the version that has it, as it was at once after it. Of a new object: its only version. */
+  get version() {
+    return this.#version
+  }
+
+  /** For the room alone. */
+  become(operation, version) {
+    this.#operation = operation
+    this.#version = version
+  }
+}
+
+/**
+ * A room that a client is in. What it shows are the first entries of the record, and its own changes at once.
+ *
+ * Listeners, by `on`:
+ * - `change`, with `{ objects, renamed }`: these objects are other than they were, or new, or gone; and objects and
+ *   operations of this client that got another name, a list of `[old, new]`.
+ * - `state`, with `{ state, words }`: the connection.
+ * - `refusal`, with `{ refusal, change }`: a change was refused, and what it did is taken back.
+ */
+export class Room {
+  #address
+  #name
+  #options
+  #listeners = { change: new Set(), state: new Set(), refusal: new Set() }
+  #state = "connecting"
+  #words = "Connecting."
+  #site = null
+  #record = []
+  #drawing = new Drawing()
+  // How many entries of the record are shown, and how many the server has at least.
+  #shown = 0
+  #length = 0
+  #order = new Map()
+  #pending = []
+  // The names under which operations of own earlier sites were sent in the end, by the codes of their first names.
+  #sentAs = new Map()
+  #holds = 0
+  #isClosing = false
+  #connection = null
+  #wake = () => {}
+  #settled = []
+
+  /**
+   * Begins to connect to a room.
+   * @param {string} address of the server, as `ws://localhost:7000/`
+   * @param {string} name of the room: 1 to 64 of a-z, 0-9 and `-`
+   * @param {Options} [options]
+   * @throws {TypeError} the name is none
+   */
+  constructor(address, name, options = {}) {
+    if (!/^[a-z0-9-]{1,64}$/.test(name)) throw new TypeError(`${name} isn't the name of a room`)
+    this.#address = address
+    this.#name = name
+    this.#options = { ...DEFAULTS, ...options }
+    // After this turn, so that listeners can be set before.
+    Promise.resolve().then(() => this.#run())
+  }
+
+  // ---- looking
+
+  /** @type {State} */
+  get state() {
+    return this.#state
+  }
+
+  /** The state in words. @type {string} */
+  get words() {
+    return this.#words
+  }
+
+  /** The site that this client is in the room, null before it is in; another one after each lost connection. */
+  get site() {
+    return this.#site
+  }
+
+  /** The entries of the record that were pulled, those that aren't shown yet among them. @type {readonly any[][]} */
+  get record() {
+    return this.#record
+  }
+
+  /** What this client has seen: the state vector that a next change would carry. @type {[number, number][]} */
+  get seen() {
+    return this.#drawing.seen()
+  }
+
+  /** The changes that the server hasn't answered yet. @type {readonly Change[]} */
+  get pending() {
+    return this.#pending
+  }
+
+  /** Whether there is news that a hold keeps back. @type {boolean} */
+  get hasNews() {
+    return this.#shown < this.#record.length
+  }
+
+  /** The objects, in the order of the record, those of this client that aren't in it yet last. @returns {Name[]} */
+  objects() {
+    const place = (name) => this.#order.get(codeOf(name)) ?? Infinity
+    const places = this.#drawing.names().map((name) => [place(name), name])
+    return places.sort(([one], [other]) => (one === other ? 0 : one - other)).map(([, name]) => name)
+  }
+
+  /** @param {Name} object @returns {boolean} whether it is shown */
+  has(object) {
+    return this.#drawing.has(object)
+  }
+
+  /** @param {Name} object @returns {string} its kind @throws {Refused} `no-such-object` */
+  kind(object) {
+    return this.#drawing.kind(object)
+  }
+
+  /** @param {Name} object @returns {Version[]} in order of identifier @throws {Refused} `no-such-object` */
+  versions(object) {
+    return this.#drawing.versions(object)
+  }
+
+  /**
+   * What became of a version: the versions that now have all sets that it had. There are several where later changes
+   * conflict with each other and not with it. None is left where the room was begun anew.
+   * @param {Name} object @param {Version} version @returns {Version[]}
+   */
+  successors(object, version) {
+    if (!this.#drawing.has(object)) return []
+    const members = version.members.map((name) => this.#nowOf(name))
+    return this.versions(object).filter((later) => members.every((name) => later.has(name)))
+  }
+
+  /**
+   * Calls a listener from now on.
+   * @param {"change" | "state" | "refusal"} event @param {(news: any) => void} listener
+   * @returns {() => void} ends it
+   */
+  on(event, listener) {
+    this.#listeners[event].add(listener)
+    return () => this.#listeners[event].delete(listener)
+  }
+
+  // ---- changing
+
+  /**
+   * Makes an object. It is shown at once, and sent as soon as it can be.
+   * @param {string} kind @param {Record<string, Value> | Iterable<[string, Value]>} [attributes] at most 16
+   * @returns {Change}
+   * @throws {Refused} `not-joined`, `closed`, `record-full`, `too-many-objects`, `too-long`. Nothing was changed.
+   * @throws {TypeError | RangeError} the kind or the attributes are none
+   */
+  create(kind, attributes = {}) {
+    const rest = { kind: asWord(kind), attributes: asAttributes(attributes) }
+    if (this.#drawing.names().length >= LIMITS.objects) throw new Refused("too-many-objects")
+    return this.#change("new", rest)
+  }
+
+  /**
+   * Sets a key of one version of an object. It is shown at once, and sent as soon as it can be.
+   * @param {Name} object @param {VersionId | Version} version the one to build on, as it is shown now
+   * @param {string} key @param {Value} value
+   * @returns {Change}
+   * @throws {Refused} `not-joined`, `closed`, `record-full`, `no-such-object`, `no-such-version`, `object-full`,
+   *   `too-many-keys`, `too-long`. Nothing was changed.
+   * @throws {TypeError | RangeError} the key or the value is none
+   */
+  set(object, version, key, value) {
+    const id = idOf((version.id ?? version).map(codeOf))
+    const rest = { object: [...object], version: id, key: asWord(key), value: asValue(value) }
+    const { sets, keys } = this.#drawing.used(object)
+    if (sets >= LIMITS.sets) throw new Refused("object-full")
+    if (!keys.has(key) && keys.size >= LIMITS.keys) throw new Refused("too-many-keys")
+    return this.#change("set", rest)
+  }
+
+  /**
+   * Keeps what others do from being shown until the hold is given back: while a person drags or chooses, so that a
+   * change says that she had seen what she had. What comes in the meantime is pulled, and shown at the end of all
+   * holds.
+   * @returns {() => void} gives the hold back; a second call does nothing
+   */
+  hold() {
+    let isHeld = true
+    this.#holds += 1
+    return () => {
+      if (!isHeld) return
+      isHeld = false
+      this.#holds -= 1
+      this.#show()
+    }
+  }
+
+  /** Awaits that the server has answered all changes, or the room is closed. @returns {Promise<void>} */
+  settled() {
+    if (this.#pending.length === 0 || this.#state === "closed") return Promise.resolve()
+    return new Promise((resolve) => this.#settled.push(resolve))
+  }
+
+  /** Closes the connection for good. Changes that the server hasn't answered are given up: await `settled` before. */
+  close() {
+    this.#end("The room was closed.")
+  }
+
+  #nowOf(name) {
+    const later = this.#sentAs.get(codeOf(name))
+    return later === undefined ? name : this.#nowOf(later)
+  }
+
+  #change(word, rest) {
+    if (this.#state === "closed") throw new Refused("closed")
+    if (this.#site === null) throw new Refused("not-joined")
+    if (this.#record.length + this.#pending.length >= LIMITS.entries) throw new Refused("record-full")
+    const name = [this.#site, this.#drawing.count(this.#site) + 1]
+    const operation = { word, name, seen: this.#drawing.seen(), object: name, ...rest }
+    requestOf(operation)
+    const change = new Change(operation)
+    this.#draw(change, operation)
+    this.#pending.push(change)
+    if (this.#state === "open") this.#wake()
+    this.#tellChange([codeOf(operation.object)])
+    return change
+  }
+
+  /** Shows an own change under this operation. */
+  #draw(change, operation) {
+    this.#drawing.add(operation)
+    const versions = this.#drawing.versions(operation.object)
+    const isAfter = (version) => operation.word === "new" || version.has(operation.name)
+    change.become(operation, versions.find(isAfter))
+  }
+
+  // ---- telling
+
+  #tell(event, news) {
+    for (const listener of [...this.#listeners[event]]) {
+      try {
+        listener(news)
+      } catch (fault) {
+        // A fault of the page is told as one, and doesn't end the connection.
+        queueMicrotask(() => { throw fault })
+      }
+    }
+  }
+
+  #tellChange(codes, renamed = []) {
+    this.#tell("change", { objects: [...new Set(codes)].map(nameOf), renamed })
+  }
+
+  #become(state, words) {
+    this.#state = state
+    this.#words = words
+    this.#tell("state", { state, words })
+  }
+
+  #tellSettled() {
+    if (this.#pending.length > 0 && this.#state !== "closed") return
+    for (const resolve of this.#settled.splice(0)) resolve()
+  }
+
+  #giveUp(changes, refusal) {
+    for (const change of changes) {
+      change.reject(refusal)
+      this.#tell("refusal", { refusal, change })
+    }
+  }
+
+  // ---- the connection
+
+  async #run() {
+    let tries = 0
+    while (!this.#isClosing) {
+      try {
+        await this.#connect()
+        const start = Date.now()
+        await this.#serve().finally(() => (tries = Date.now() - start < STEADY_MILLISECONDS ? tries : 0))
+      } catch (fault) {
+        this.#connection?.close()
+        if (!(fault instanceof Lost)) return this.#end(fault.message)
+        if (this.#isClosing) return
+        this.#become("waiting", `${fault.message} Trying again.`)
+        const { retryMilliseconds } = this.#options
+        await this.#rest(retryMilliseconds[Math.min(tries++, retryMilliseconds.length - 1)], null)
+      }
+    }
+  }
+
+  /** Connects, joins, and learns what the record has more, and of the changes that were on the way. */
+  async #connect() {
+    this.#become("connecting", "Connecting.")
+    this.#connection = new Connection(this.#options.connect(this.#address), this.#options.replyMilliseconds)
+    await this.#connection.opened()
+    const [, at, site] = await this.#ask(["join", this.#name], "joined")
+    this.#length = at + 1
+    if (this.#pending[0]?.isSent) await this.#rest(this.#options.settleMilliseconds, this.#connection)
+    await this.#compare()
+    while (this.#record.length < this.#length) await this.#pull()
+    this.#enter(site)
+    this.#become("open", `In the room as site ${site}.`)
+  }
+
+  /** Answers what there is to do until the connection is lost. */
+  async #serve() {
+    let lastPull = Date.now()
+    while (!this.#isClosing) {
+      if (this.#pending.length > 0) await this.#send(this.#pending[0])
+      const wait = lastPull + this.#options.pollMilliseconds - Date.now()
+      if (this.#record.length < this.#length || wait <= 0) {
+        await this.#pull()
+        lastPull = Date.now()
+      } else if (this.#pending.length === 0) await this.#rest(wait, this.#connection)
+    }
+  }
+
+  /** Waits so long, or until there is a change to send or the connection is gone or closed. */
+  async #rest(milliseconds, connection) {
+    let timer
+    const waited = new Promise((resolve) => {
+      timer = setTimeout(resolve, milliseconds)
+      this.#wake = resolve
+    })
+    await Promise.race(connection === null ? [waited] : [waited, connection.ended])
+    clearTimeout(timer)
+    this.#wake = () => {}
+  }
+
+  /** The reply to a request, which must be of this kind. */
+  async #ask(request, kind) {
+    const reply = await this.#connection.ask(typeof request === "string" ? request : writeText(request))
+    const [word, at, , refusal] = reply
+    if (word === "no" && typeof refusal === "string") throw new Refused(refusal)
+    if (word !== kind || typeof at !== "number") throw new ProtocolFault(`The server answered ${word}, not ${kind}.`)
+    this.#length = Math.max(this.#length, at)
+    return reply
+  }
+
+  /** Sends a change, and takes the answer to it. */
+  async #send(change) {
+    change.isSent = true
+    const { operation } = change
+    try {
+      const [, at] = await this.#ask(requestOf(operation), operation.word === "new" ? "made" : "taken")
+      this.#length = Math.max(this.#length, at + 1)
+      if (at === this.#record.length) this.#take([entryOf(operation)])
+      else this.#accept(operation.name)
+    } catch (fault) {
+      if (!(fault instanceof Refused) || this.#isClosing) throw fault
+      this.#takeBack(change, fault)
+    }
+  }
+
+  /** Pulls the next page, and shows it. */
+  async #pull() {
+    const from = this.#record.length
+    this.#take(await this.#page(from))
+    if (this.#record.length === from && from < this.#length) throw new ProtocolFault("The server's page is empty.")
+  }
+
+  async #page(from) {
+    const [, , place, entries] = await this.#ask(["pull", from], "entries")
+    if (place !== from || !Array.isArray(entries)) throw new ProtocolFault("The server sent another page.")
+    return entries
+  }
+
+  /**
+   * Looks whether the server still has the record that was pulled: a server that was started anew has another one.
+   * The last operation tells, since it says who had seen what.
+   */
+  async #compare() {
+    if (this.#record.length === 0) return
+    if (this.#length <= this.#record.length) return this.#forget()
+    const last = Math.max(0, this.#record.findLastIndex(([word]) => word !== "join"))
+    const held = this.#record.slice(last)
+    const page = await this.#page(last)
+    const isSame = (entry, place) => place >= held.length || writeText(entry) === writeText(held[place])
+    if (!page.every(isSame)) this.#forget()
+  }
+
+  /** Drops all that is held of a room that is no more. */
+  #forget() {
+    const gone = this.#drawing.names().map(codeOf)
+    const pending = this.#pending.splice(0)
+    this.#record = []
+    this.#shown = 0
+    this.#order.clear()
+    this.#sentAs.clear()
+    this.#drawing = new Drawing()
+    this.#tellChange(gone)
+    this.#giveUp(pending, new Refused("another-room"))
+    this.#tellSettled()
+  }
+
+  /** Takes the next entries of the record, and shows them where nothing holds them back. */
+  #take(entries) {
+    for (const entry of entries) {
+      const operation = operationOf(entry)
+      this.#record.push(entry)
+      if (operation !== null) this.#accept(operation.name)
+    }
+    this.#show()
+  }
+
+  /** A change that the server has: nothing more is to be done for it. */
+  #accept(name) {
+    const [first] = this.#pending
+    if (first === undefined || !first.isSent || codeOf(first.name) !== codeOf(name)) return
+    this.#pending.shift()
+    first.resolve()
+    this.#tellSettled()
+  }
+
+  /** Shows the record as far as it was pulled, unless there is a hold. */
+  #show() {
+    if (this.#holds > 0 || !this.hasNews) return
+    const changed = []
+    for (; this.#shown < this.#record.length; this.#shown++) {
+      const operation = operationOf(this.#record[this.#shown])
+      if (operation === null) continue
+      if (operation.word === "new") this.#order.set(codeOf(operation.name), this.#shown)
+      const [site, number] = operation.name
+      const isDrawn = number <= this.#drawing.count(site)
+      if (!isDrawn) this.#drawing.add(operation)
+      if (!isDrawn || operation.word === "new") changed.push(codeOf(operation.object))
+    }
+    if (changed.length > 0) this.#tellChange(changed)
+  }
+
+  /** Goes on as a new site: what the record doesn't have is the new site's. */
+  #enter(site) {
+    const [first] = this.#pending
+    const old = this.#site
+    this.#site = site
+    if (first !== undefined) this.#rename(old, first.name[1], this.#pending)
+    this.#show()
+  }
+
+  /** Takes back a refused change, and those behind it that were built on it. */
+  #takeBack(refused, refusal) {
+    const code = codeOf(refused.object)
+    const behind = this.#pending.filter((change) => change !== refused)
+    const withdrawn = behind.filter((change) => codeOf(change.object) === code)
+    this.#pending = behind.filter((change) => codeOf(change.object) !== code)
+    this.#rename(this.#site, refused.name[1], this.#pending, [code])
+    this.#giveUp([refused], refusal)
+    this.#giveUp(withdrawn, new Refused("withdrawn"))
+    this.#tellSettled()
+  }
+
+  /**
+   * Takes all own operations from this number of a site on out of the drawing, and draws these changes in their place,
+   * named anew by the site that this client is now. Nobody else has seen any of them.
+   */
+  #rename(site, first, changes, alsoChanged = []) {
+    const names = new Map()
+    const changed = changes.map(({ object }) => codeOf(object)).concat(alsoChanged)
+    this.#drawing.remove(site, first)
+    for (const change of changes) {
+      const old = change.operation
+      const name = [this.#site, this.#drawing.count(this.#site) + 1]
+      names.set(codeOf(old.name), name)
+      if (site !== this.#site) this.#sentAs.set(codeOf(old.name), name)
+      change.isSent = false
+      this.#draw(change, renamed(old, names, site, first - 1))
+      changed.push(codeOf(change.object))
+    }
+    this.#tellChange(changed, [...names].map(([code, name]) => [nameOf(code), name]))
+  }
+
+  #end(words) {
+    if (this.#state === "closed") return
+    this.#isClosing = true
+    this.#connection?.close()
+    this.#wake()
+    const pending = this.#pending.splice(0)
+    this.#become("closed", words)
+    this.#giveUp(pending, new Refused("closed"))
+    this.#tellSettled()
+  }
+}
+
+/**
+ * An own operation that nobody has seen, under its new name. Of its old site it has seen no more than was taken, and
+ * of its new one all that is before it.
+ * @param {Operation} operation @param {Map<number, Name>} names the new names of own operations, by the old ones' code
+ * @param {number} site the old site @param {number} taken how many operations of it the record has
+ * @returns {Operation}
+ */
+function renamed(operation, names, site, taken) {
+  const anew = (name) => names.get(codeOf(name)) ?? name
+  const name = anew(operation.name)
+  const counts = new Map(operation.seen).set(site, taken)
+  counts.set(name[0], name[1] - 1)
+  const seen = [...counts].filter(([, count]) => count > 0).sort(([one], [other]) => one - other)
+  const version = operation.version && idOf(operation.version.map((old) => codeOf(anew(old))))
+  return { ...operation, name, seen, object: anew(operation.object), version }
+}

@@ -1,0 +1,42 @@
+/** Runs the tests; with words those that have one of them in their names. */
+
+import { build } from "./program.js"
+import { TESTS as numbers } from "./numbers.js"
+import { TESTS as rows } from "./rows.js"
+import { TESTS as histories } from "./random_histories.js"
+import { TESTS as rooms } from "./rooms.js"
+import { TESTS as reconnecting } from "./reconnecting.js"
+
+// No test may take longer, whatever it waits for. The histories may: a slow program has much to do there.
+const SECONDS = 180
+const PATIENT = "random histories"
+
+/** What the test tells, or a fault where it doesn't come to its end in time. */
+function inTime(name, test) {
+  if (name === PATIENT) return test()
+  let timer
+  const late = new Promise((_, fail) => {
+    timer = setTimeout(() => fail(new Error(`not done after ${SECONDS} s`)), SECONDS * 1000)
+  })
+  return Promise.race([test(), late]).finally(() => clearTimeout(timer))
+}
+
+build()
+const words = process.argv.slice(2)
+let passed = 0
+let failed = 0
+for (const [name, test] of [...rows, ...numbers, ...histories, ...rooms, ...reconnecting]) {
+  if (words.length > 0 && !words.some((word) => name.includes(word))) continue
+  const start = performance.now()
+  const seconds = () => `${((performance.now() - start) / 1000).toFixed(1)} s`
+  try {
+    const told = await inTime(name, test)
+    console.log(`passed: ${name}${told ? `: ${told}` : ""} (${seconds()})`)
+    passed += 1
+  } catch (fault) {
+    console.log(`failed: ${name}: ${fault.stack} (${seconds()})`)
+    failed += 1
+  }
+}
+console.log(`${passed} passed, ${failed} failed`)
+process.exit(passed > 0 && failed === 0 ? 0 : 1)

@@ -1,0 +1,169 @@
+/**
+ * Random histories of up to five sites: after each step the library's versions of each object are the program's.
+ * Each site knows a part of the history, and names a version that the library works out from that part alone; a
+ * version that the program doesn't find would be refused, and so be seen.
+ */
+
+import { Drawing, LIMITS, entryOf, operationOf, writeText } from "../grace.js"
+import { holds, numbersFrom, same } from "./checks.js"
+import { script } from "./program.js"
+
+const HISTORIES = Number(process.env.HISTORIES ?? 2000)
+// So many rooms in one process of the program.
+const ROOMS = 50
+const KEYS = ["x", "y", "fill"]
+const VALUES = [1, 2, "1"]
+
+/** One room, with what each of its sites knows. */
+class History {
+  constructor(room, draw) {
+    this.room = room
+    this.draw = draw
+    this.whole = new Drawing()
+    this.operations = []
+    this.lines = []
+    // The reply to each line, where the rules say it.
+    this.replies = []
+    this.sites = Array.from({ length: 1 + draw(5) }, () => new Drawing())
+    this.knowsPrefixes = draw(2) === 0
+    this.keys = KEYS.slice(0, 1 + draw(3))
+    this.sites.forEach((_, site) => this.say(site, ["join", `r${room}`], ["joined", site, site + 1]))
+    this.at = this.sites.length
+  }
+
+  say(site, request, reply) {
+    this.lines.push(`${this.room * 5 + site} ${writeText(request)}`)
+    this.replies.push(`${this.room * 5 + site} ${writeText(reply)}`)
+  }
+
+  /** A site takes up some of what it doesn't know, in the record's order or in any other causal one. */
+  learn(site) {
+    const known = this.sites[site]
+    for (const operation of this.operations) {
+      const [author, number] = operation.name
+      if (number <= known.count(author)) continue
+      if (this.draw(4) > 0 && isReady(known, operation)) known.add(operation)
+      else if (this.knowsPrefixes) return
+    }
+  }
+
+  /** The next operation of a site, by what it knows. */
+  next(site) {
+    const known = this.sites[site]
+    const name = [site + 1, known.count(site + 1) + 1]
+    const objects = known.names()
+    if (objects.length === 0 || (objects.length < 3 && this.draw(12) === 0)) {
+      return operationOf(["new", name, known.seen(), "rect", this.draw(2) === 0 ? [] : [["x", this.pick(VALUES)]]])
+    }
+    const object = this.pick(objects)
+    const { id } = this.pick(known.versions(object))
+    return operationOf(["set", name, known.seen(), object, id, this.pick(this.keys), this.pick(VALUES)])
+  }
+
+  pick(list) {
+    return list[this.draw(list.length)]
+  }
+
+  /** One operation, and a look at all objects after it. */
+  step() {
+    const site = this.draw(this.sites.length)
+    this.learn(site)
+    const operation = this.next(site)
+    this.sites[site].add(operation)
+    this.whole.add(operation)
+    this.operations.push(operation)
+    const [word, [, number], ...rest] = entryOf(operation)
+    const ids = word === "set" && this.whole.versions(operation.object).map(({ id }) => id)
+    const reply = word === "new" ? ["made", this.at, operation.name] : ["taken", this.at, ids]
+    this.say(site, [word, number, ...rest], reply)
+    this.at += 1
+    for (const object of this.whole.names()) {
+      const versions = this.whole.versions(object).map(({ id, attributes }) => [id, [...attributes]])
+      this.say(this.draw(this.sites.length), ["show", object], ["versions", this.at, object, "rect", versions])
+    }
+  }
+
+  /** Whether another step might meet the limit of versions, which a client can't foresee. */
+  isNearLimit() {
+    return this.whole.names().some((object) => this.whole.versions(object).length > LIMITS.versions / 2)
+  }
+
+  /** The operations in another causal order make the same versions. */
+  checkOtherOrder() {
+    const other = new Drawing()
+    const rest = [...this.operations]
+    while (rest.length > 0) {
+      const operation = this.pick(rest.filter((one) => isReady(other, one)))
+      other.add(operation)
+      rest.splice(rest.indexOf(operation), 1)
+    }
+    for (const object of this.whole.names()) {
+      same(`room ${this.room}, in another order`, shown(other, object), shown(this.whole, object))
+    }
+  }
+}
+
+/** Whether the operation is the next of its site, and the drawing has all that it counts. */
+const isReady = (drawing, { name: [author, number], seen }) =>
+  number === drawing.count(author) + 1 && seen.every(([site, count]) => count <= drawing.count(site))
+
+const shown = (drawing, object) => drawing.versions(object).map(({ id, attributes, members }) =>
+  [id, [...attributes], members.map(writeText).sort()])
+
+function historyOf(room, draw) {
+  const history = new History(room, draw)
+  const steps = 4 + draw(24)
+  for (let step = 0; step < steps && !history.isNearLimit(); step++) history.step()
+  history.checkOtherOrder()
+  return history
+}
+
+/** Runs histories by one process of the program, and compares all that it answers. */
+async function compare(histories) {
+  const lines = histories.flatMap((history) => history.lines)
+  const wanted = histories.flatMap((history) => history.replies)
+  const replies = await script(histories.map(({ room }) => `r${room}`), lines)
+  wanted.forEach((reply, place) => same(`the reply to ${lines[place]}`, replies[place], reply))
+  same("the replies", replies.length, wanted.length)
+}
+
+async function histories() {
+  const seed = Number(process.env.SEED ?? Date.now() % 1000000)
+  console.log(`random histories: seed ${seed} (SEED=${seed} runs the same again)`)
+  const draw = numbersFrom(seed)
+  const all = Array.from({ length: HISTORIES }, (_, room) => historyOf(room, draw))
+  for (let room = 0; room < HISTORIES; room += ROOMS) await compare(all.slice(room, room + ROOMS))
+  const counts = all.map(({ whole }) => Math.max(0, ...whole.names().map((object) => whole.versions(object).length)))
+  const several = counts.filter((count) => count > 1).length
+  holds("too few histories have several versions", several > HISTORIES / 4)
+  const total = (numberOf) => all.reduce((sum, history) => sum + numberOf(history).length, 0)
+  const sums = `${total(({ operations }) => operations)} operations, ${total(({ lines }) => lines)} replies`
+  return `${HISTORIES} histories, ${sums}, ${several} with several versions, up to ${Math.max(...counts)}`
+}
+
+/** An object with as many sets as it may have, and what one more costs, in time of the processor. */
+function largeObjects() {
+  const told = []
+  for (const sites of [1, 4]) {
+    const drawing = new Drawing()
+    drawing.add(operationOf(["new", [1, 1], [], "rect", []]))
+    const start = process.cpuUsage()
+    for (let set = 0; set < LIMITS.sets; set++) {
+      const site = 1 + (set % sites)
+      const number = drawing.count(site) + 1
+      const seen = site === 1 ? [[1, number - 1]] : [[1, 1], ...(number > 1 ? [[site, number - 1]] : [])]
+      drawing.add(operationOf(["set", [site, number], seen, [1, 1], [], "x", set]))
+      same("the versions", drawing.versions([1, 1]).length, Math.min(set + 1, sites))
+    }
+    const { user, system } = process.cpuUsage(start)
+    const mean = (user + system) / 1000 / LIMITS.sets
+    holds(`${mean} ms a set with ${sites} versions`, mean < 5)
+    told.push(`${mean.toFixed(2)} ms a set with ${sites} version${sites > 1 ? "s" : ""}`)
+  }
+  return `${LIMITS.sets} sets: ${told.join(", ")}`
+}
+
+export const TESTS = [
+  ["random histories", histories],
+  ["objects of many sets", largeObjects],
+]

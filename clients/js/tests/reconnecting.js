@@ -1,0 +1,155 @@
+/** Lost connections: no change is lost, and none is made twice. */
+
+import { comes, holds, numbersFrom, same } from "./checks.js"
+import { Server } from "./program.js"
+import { CUT_AFTER, CUT_BEFORE, CUT_LATE, PASS, Proxy } from "./proxy.js"
+import { agree, enter, shown } from "./rooms.js"
+
+/** Runs a test with a server, a proxy before it, a client through the proxy and one past it. */
+function cut(test) {
+  return async () => {
+    const server = await Server.start()
+    const proxy = await Proxy.start(server.port)
+    const rooms = []
+    try {
+      for (const address of [proxy.address, server.address]) {
+        rooms.push(await enter(address, { settleMilliseconds: 500 }))
+      }
+      return await test(proxy, ...rooms, server)
+    } finally {
+      rooms.forEach((room) => room.close())
+      proxy.end()
+      await server.end()
+    }
+  }
+}
+
+const operations = ({ record }) => record.filter(([word]) => word !== "join")
+
+/** Each request in turn is cut off, before or after it reached the server. */
+const cutOnce = (what) => async (proxy, room, other) => {
+  proxy.cutOnce('["new"', what)
+  const made = room.create("rect", { x: 0 })
+  await made.done
+  await comes("it is back", () => room.state === "open")
+  same("the site", room.site, 3)
+  same("the object's name", made.name, [what === CUT_AFTER ? 1 : 3, 1])
+  proxy.cutOnce('["set"', what)
+  const set = room.set(made.name, [], "x", 5)
+  const behind = room.set(made.name, set.version, "fill", "red")
+  await Promise.all([set.done, behind.done])
+  proxy.cutOnce('["pull"', what)
+  await comes("a pull was cut", () => proxy.cuts === 3)
+  proxy.cutOnce('["join"', what)
+  proxy.cut()
+  await comes("a join was cut", () => proxy.cuts === 4)
+  await comes("it is back", () => room.state === "open")
+  room.set(made.name, [], "x", 6)
+  await agree(room, other)
+  same("the changes", operations(other).map(([word, , , ...rest]) => [word, ...rest.slice(-2)]), [
+    ["new", "rect", [["x", 0]]], ["set", "x", 5], ["set", "fill", "red"], ["set", "x", 6],
+  ])
+  const one = [[[], [["fill", "red"], ["x", 6]]]]
+  same("what both show", [shown(room, made.name), shown(other, made.name)], [one, one])
+  same("the refusals", room.refused, [])
+  return `the record: ${other.record.length} entries, 4 cuts`
+}
+
+/** A change that was still on its way when its connection was lost is waited for. */
+async function onItsWay(proxy, room, other) {
+  proxy.cutOnce('["new"', CUT_LATE)
+  const made = room.create("rect")
+  await made.done
+  await agree(room, other)
+  same("the object", [made.name, operations(other).length], [[1, 1], 1])
+  same("the site", room.site, 3)
+}
+
+/** What is drawn while there is no connection is sent when there is one again; what others did then conflicts. */
+async function drawnApart(proxy, room, other) {
+  const made = room.create("rect", { x: 0 })
+  await agree(room, other)
+  proxy.whatToDo = () => CUT_BEFORE
+  proxy.cut()
+  await comes("it is lost", () => room.state !== "open")
+  const set = room.set(made.name, [], "x", 5)
+  const second = room.create("line")
+  room.set(second.name, [], "y", 1)
+  await other.set(made.name, [], "x", 9).done
+  same("what is shown meanwhile", shown(room, made.name), [[[], [["x", 5]]]])
+  const [looked] = room.versions(made.name)
+  const renamed = new Map()
+  room.on("change", (news) => news.renamed.forEach(([old, name]) => renamed.set(`${old}`, `${name}`)))
+  proxy.whatToDo = () => PASS
+  await agree(room, other)
+  const site = room.site
+  same("the new names", [...renamed], [["1,2", `${site},1`], ["1,3", `${site},2`], ["1,4", `${site},3`]])
+  const two = [[[[2, 1]], [["x", 9]]], [[set.name], [["x", 5]]]]
+  same("what both show", [shown(room, made.name), shown(other, made.name)], [two, two])
+  same("what became of the version", room.successors(made.name, looked).map(({ id }) => id), [[set.name]])
+  same("the objects", [room.objects(), other.objects()], Array(2).fill([[1, 1], [site, 2]]))
+  same("the second", shown(other, second.name), [[[], [["y", 1]]]])
+}
+
+/** Two clients draw while the connections of one are cut again and again, at messages by chance. */
+async function byChance(proxy, room, other, server) {
+  const seed = Number(process.env.SEED ?? Date.now() % 1000000)
+  const draw = numbersFrom(seed)
+  console.log(`cuts by chance: seed ${seed}`)
+  const made = other.create("rect")
+  await agree(room, other)
+  proxy.whatToDo = () => (proxy.cuts < 60 ? [CUT_BEFORE, CUT_AFTER, PASS, PASS, PASS, PASS][draw(6)] : PASS)
+  const wanted = []
+  const releases = []
+  for (let value = 0; value < 120; value++) {
+    const author = draw(3) > 0 ? room : other
+    if (draw(3) === 0) releases.splice(0).forEach((release) => release())
+    if (draw(5) === 0) releases.push(author.hold())
+    const objects = author.objects()
+    const object = objects[draw(objects.length)]
+    const versions = author.versions(object)
+    if (draw(6) === 0) author.create("rect", { value })
+    else author.set(object, versions[draw(versions.length)], ["x", "y"][draw(2)], value)
+    wanted.push(value)
+    if (draw(3) === 0) await new Promise((resolve) => setTimeout(resolve, draw(30)))
+  }
+  releases.forEach((release) => release())
+  await agree(room, other)
+  const values = operations(other).slice(1).map((entry) => (entry[0] === "new" ? entry[4][0][1] : entry[6]))
+  same("the values, each once", [...values].sort((one, next) => one - next), wanted)
+  const late = await enter(server.address)
+  for (const object of other.objects()) {
+    same(`object ${object}`, [shown(room, object), shown(late, object)], Array(2).fill(shown(other, object)))
+  }
+  late.close()
+  same("the refusals", [room.refused, other.refused], [[], []])
+  holds("the connection was cut", proxy.cuts > 5)
+  return `${wanted.length} changes, ${proxy.cuts} cuts, ${other.record.length} entries`
+}
+
+/** A server that was started anew has another room: what is held of the old one is dropped, and that is told. */
+async function anotherRoom(proxy, room, other, server) {
+  const made = room.create("rect")
+  await agree(room, other)
+  other.close()
+  await server.end()
+  await comes("it is lost", () => room.state !== "open")
+  const lost = room.set(made.name, [], "x", 1)
+  await server.listen(10)
+  await comes("the refusal", () => room.refused.length > 0)
+  await comes("it is back", () => room.state === "open")
+  same("the refusal", [room.refused, await lost.done.catch(({ word }) => word)], [["another-room"], "another-room"])
+  same("what is left", [room.objects(), room.record, room.has(made.name)], [[], [["join", 1]], false])
+  const anew = room.create("line")
+  await anew.done
+  same("a new object", [room.objects(), room.record.length], [[[1, 1]], 2])
+}
+
+export const TESTS = [
+  ["cut before the server had it", cut(cutOnce(CUT_BEFORE))],
+  ["cut after the server had it", cut(cutOnce(CUT_AFTER))],
+  ["on its way when it was cut", cut(onItsWay)],
+  ["drawn without a connection", cut(drawnApart)],
+  ["cuts by chance", cut(byChance)],
+  ["a server that was started anew", cut(anotherRoom)],
+]

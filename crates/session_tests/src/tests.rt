@@ -1,11 +1,20 @@
 //! Sessions.
 
+mod crossed;
+mod faults;
+mod messages;
 mod pool;
 mod rows;
+mod scripts;
+mod served;
 mod stream;
+mod watched;
 
 use op_names::RoomName;
+use room_lock::{Pass, RoomLedger};
+use sessions::{Cause, Gate, PoolEnd};
 use std::process::Abort;
+use std::sync::atomic::{AtomicU64, Ordering};
 
 /// The head of a request that asks for a WebSocket, with the key of RFC 6455, section 1.3.
 const HEAD: &[u8] =
@@ -14,27 +23,80 @@ const HEAD: &[u8] =
 /// A client's close of 1000, masked with zeros.
 const CLOSE: &[u8] = b"\x88\x82\x00\x00\x00\x00\x03\xe8";
 
+/// The server's close of 1000.
+const CLOSED: &[u8] = b"\x88\x02\x03\xe8";
+
+/// What a session asks.
+const ASKED: &str = r#"["join","r"]
+["new",1,[],"rect",[["x",0]]]
+["set",2,[[1,1]],[1,1],[],"x",5]
+["leave"]"#;
+
+/// What it is answered, where nobody else is in the room.
+const ANSWERED: &str = r#"["joined",0,1]
+["made",1,[1,1]]
+["taken",2,[[]]]
+["left",3]"#;
+
+/// The lines of the room's record then.
+const RECORD: &str = r#"["join",1]
+["new",[1,1],[],"rect",[["x",0]]]
+["set",[1,2],[[1,1]],[1,1],[],"x",5]
+"#;
+
+/// How many of the replies come with an entry of the record.
+const ENTRIES: usize = 3;
+
 fn room_name(rt: &(impl Abort + AllocGlobal), text: &str) -> RoomName {
     RoomName::parse(rt.alloc(), text.as_bytes()).expect(rt, "a name")
 }
 
-/// A client's message of less than 126 bytes as a frame, masked with zeros (RFC 6455, section 5.2).
-fn masked(rt: &(impl Abort + AllocGlobal), opcode: u8, words: &str) -> Vec<u8> {
-    let len = u8::try_from(words.len()).expect(rt, "a short message");
-    let mut frame = Vec::new(rt.alloc());
-    let head = [0x80 | opcode, 0x80 | len, 0, 0, 0, 0];
-    frame.extend_from_slice(&head).expect(rt, "memory");
-    frame
-        .extend_from_slice(words.as_bytes())
-        .expect(rt, "memory");
+fn copied(rt: &(impl Abort + AllocGlobal), bytes: &[u8]) -> Vec<u8> {
+    bytes.to_vec(rt.alloc()).expect(rt, "memory")
+}
+
+/// A frame's first byte, the bit that tells whether it is masked, and the length of its payload in as
+/// few bytes as hold it (RFC 6455, section 5.2).
+fn frame_head(rt: &(impl Abort + AllocGlobal), first: u8, mask: u8, len: usize) -> Vec<u8> {
+    let mut head = Vec::new(rt.alloc());
+    head.push(first).expect(rt, "memory");
+    if len < 126 {
+        let len = u8::try_from(len).expect(rt, "a short length");
+        head.push(mask | len).expect(rt, "memory");
+        return head;
+    }
+    match u16::try_from(len) {
+        Ok(len) => {
+            head.push(mask | 126).expect(rt, "memory");
+            head.extend_from_slice(&len.to_be_bytes())
+                .expect(rt, "memory");
+        }
+        Err(_) => {
+            head.push(mask | 127).expect(rt, "memory");
+            let len = u64::try_from(len).expect(rt, "a length");
+            head.extend_from_slice(&len.to_be_bytes())
+                .expect(rt, "memory");
+        }
+    }
+    head
+}
+
+/// A client's message as a frame, masked with zeros.
+fn masked_bytes(rt: &(impl Abort + AllocGlobal), opcode: u8, bytes: &[u8]) -> Vec<u8> {
+    let mut frame = frame_head(rt, 0x80 | opcode, 0x80, bytes.len());
+    frame.extend_from_slice(b"\0\0\0\0").expect(rt, "memory");
+    frame.extend_from_slice(bytes).expect(rt, "memory");
     frame
 }
 
-/// The server's text message of less than 126 bytes as a frame.
+/// A client's message of these words as a frame, masked with zeros.
+fn masked(rt: &(impl Abort + AllocGlobal), opcode: u8, words: &str) -> Vec<u8> {
+    masked_bytes(rt, opcode, words.as_bytes())
+}
+
+/// The server's text message as a frame.
 fn text_frame(rt: &(impl Abort + AllocGlobal), words: &str) -> Vec<u8> {
-    let len = u8::try_from(words.len()).expect(rt, "a short message");
-    let mut frame = Vec::new(rt.alloc());
-    frame.extend_from_slice(&[0x81, len]).expect(rt, "memory");
+    let mut frame = frame_head(rt, 0x81, 0, words.len());
     frame
         .extend_from_slice(words.as_bytes())
         .expect(rt, "memory");
@@ -50,7 +112,7 @@ fn joined_up(rt: &(impl Abort + AllocGlobal), frames: &[&[u8]]) -> Vec<u8> {
     bytes
 }
 
-/// What follows the head of the server's response.
+/// What follows the head of a request or a response.
 fn frames_of(output: &[u8]) -> &[u8] {
     for place in 0..output.len() {
         if output[place..].starts_with(b"\r\n\r\n") {
@@ -58,4 +120,89 @@ fn frames_of(output: &[u8]) -> &[u8] {
         }
     }
     output
+}
+
+/// What the session sends: the head of its request, then a frame for each message, then a close.
+fn asked_parts(rt: &(impl Abort + AllocGlobal)) -> Vec<Vec<u8>> {
+    let mut parts = Vec::new(rt.alloc());
+    parts.push(copied(rt, HEAD)).expect(rt, "memory");
+    for words in ASKED.lines() {
+        parts.push(masked(rt, 2, words)).expect(rt, "memory");
+    }
+    parts.push(copied(rt, CLOSE)).expect(rt, "memory");
+    parts
+}
+
+/// The frames that answer the session.
+fn answer_frames(rt: &(impl Abort + AllocGlobal)) -> Vec<u8> {
+    let mut frames = Vec::new(rt.alloc());
+    for words in ANSWERED.lines() {
+        frames
+            .extend_from_slice(&text_frame(rt, words))
+            .expect(rt, "memory");
+    }
+    frames.extend_from_slice(CLOSED).expect(rt, "memory");
+    frames
+}
+
+/// The same bytes: so many parts as they are, and the others in single bytes.
+fn bytewise(rt: &(impl Abort + AllocGlobal), parts: &[Vec<u8>], whole: usize) -> Vec<Vec<u8>> {
+    let mut pieces = Vec::new(rt.alloc());
+    for (place, part) in parts.iter().enumerate() {
+        let size = if place < whole { part.len() } else { 1 };
+        for piece in part.chunks(size.max(1)) {
+            pieces.push(copied(rt, piece)).expect(rt, "memory");
+        }
+    }
+    pieces
+}
+
+/// The bytes of all parts.
+fn whole_of(rt: &(impl Abort + AllocGlobal), parts: &[Vec<u8>]) -> Vec<u8> {
+    let mut bytes = Vec::new(rt.alloc());
+    for part in parts {
+        bytes.extend_from_slice(part).expect(rt, "memory");
+    }
+    bytes
+}
+
+/// A gate that counts the calls that rooms have answered.
+#[derive(Drop)]
+struct Counting {
+    answered: AtomicU64,
+}
+
+impl Counting {
+    fn new() -> Counting {
+        Counting {
+            answered: AtomicU64::new(0),
+        }
+    }
+
+    fn count(&self) -> usize {
+        usize::try_from(self.answered.load(Ordering::SeqCst)).unwrap_or(usize::MAX)
+    }
+}
+
+impl Gate for Counting {
+    fn before_call(&self, _session: u32) {}
+
+    fn after_call(&self, _session: u32) {
+        self.answered.fetch_add(1, Ordering::SeqCst);
+    }
+
+    fn after_session(&self, _session: u32, _cause: Cause) {}
+}
+
+/// All passes of the sessions that a pool served.
+fn passes_of<P: RoomLedger>(rt: &(impl Abort + AllocGlobal), end: PoolEnd<P>) -> Vec<Pass<P>> {
+    let mut passes = Vec::new(rt.alloc());
+    for list in end.ended {
+        for ended in list {
+            for pass in ended.passes {
+                passes.push(pass).expect(rt, "memory");
+            }
+        }
+    }
+    passes
 }

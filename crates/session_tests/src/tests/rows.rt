@@ -2,6 +2,7 @@
 
 ghost use Rattle.std.specs.Prelude.{◌≡◌, length};
 
+use super::messages::{BAD_MESSAGE, bad_messages};
 use super::room_name;
 use room_lock::{Opened, RoomLedger, Rooms, open_histories};
 use rules::Limits;
@@ -81,6 +82,40 @@ fn padded<P: RoomLedger>(
         .expect(rt, "an answer")
 }
 
+/// Are all messages that are no requests refused as that?
+fn are_refused<P: RoomLedger>(
+    rt: &(impl Wait + Abort + AllocGlobal),
+    rooms: &Rooms<P>,
+    session: &mut Session<P>,
+) -> bool {
+    for message in bad_messages(rt) {
+        let text = session
+            .message(rt, rt.alloc(), rooms, &message, &Open)
+            .expect(rt, "an answer");
+        if text.as_str() != BAD_MESSAGE {
+            return false;
+        }
+    }
+    true
+}
+
+/// What the sessions ask, and what they are answered.
+fn asks<P: RoomLedger>(
+    rt: &(impl Wait + Abort + AllocGlobal),
+    rooms: &Rooms<P>,
+    sessions: &mut [Session<P>; 3],
+) {
+    assert!(rt; are_answered(rt, rooms, sessions, ROWS));
+    assert!(rt; are_refused(rt, rooms, &mut sessions[0]));
+    assert!(rt; are_refused(rt, rooms, &mut sessions[2]));
+    let long = padded(rt, rooms, &mut sessions[0], r#"["leave"]"#, 16_376);
+    assert_eq!(rt; long.as_str(), BAD_MESSAGE);
+    let whole = padded(rt, rooms, &mut sessions[0], r#"["leave"]"#, 16_375);
+    assert_eq!(rt; whole.as_str(), r#"["left",6]"#);
+    assert!(rt; !sessions[0].inside() && sessions[1].inside());
+    assert_eq!(rt; sessions[0].passes().len(), 2);
+}
+
 fn messages_in<P: RoomLedger>(
     rt: &(impl Wait + Abort + AllocGlobal),
     blank: Blank,
@@ -99,13 +134,7 @@ fn messages_in<P: RoomLedger>(
         Session::new(rt.alloc(), 2),
         Session::new(rt.alloc(), 3),
     ];
-    assert!(rt; are_answered(rt, &rooms, &mut sessions, ROWS));
-    let long = padded(rt, &rooms, &mut sessions[0], r#"["leave"]"#, 16_376);
-    assert_eq!(rt; long.as_str(), r#"["no",0,1,"bad-message"]"#);
-    let whole = padded(rt, &rooms, &mut sessions[0], r#"["leave"]"#, 16_375);
-    assert_eq!(rt; whole.as_str(), r#"["left",6]"#);
-    assert!(rt; !sessions[0].inside() && sessions[1].inside());
-    assert_eq!(rt; sessions[0].passes().len(), 2);
+    asks(rt, &rooms, &mut sessions);
     let [first, second, third] = sessions;
     let mut passes = first.into_passes();
     for pass in second.into_passes() {

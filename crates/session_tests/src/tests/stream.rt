@@ -1,56 +1,30 @@
 //! `serve_one` over memory.
 
-ghost use Rattle.std.specs.Prelude.{◌≡◌, length};
-
-use super::{CLOSE, HEAD, frames_of, joined_up, masked, room_name, text_frame};
-use room_lock::{Opened, RoomLedger, Rooms, open_histories};
-use rules::Limits;
-use sessions::{Cause, Open, serve_one};
-use std::io::Read;
-use std::marker::Brand;
+use super::faults::Calls;
+use super::served::run_session;
+use super::{CLOSE, CLOSED, HEAD, copied, frames_of, joined_up, masked, text_frame};
+use sessions::Cause;
 use std::process::Abort;
 use std::sync::Wait;
-use std::sync::ledger::Blank;
-use tungstenite::Duplex;
 
 /// A session over memory: what the client sends after the handshake, and what is awaited.
 #[derive(Drop)]
-struct Session {
-    sent: Vec<u8>,
-    answer: Vec<u8>,
-    cause: Cause,
-    passes: usize,
+pub(super) struct Session {
+    pub(super) sent: Vec<u8>,
+    pub(super) answer: Vec<u8>,
+    pub(super) cause: Cause,
+    pub(super) passes: usize,
 }
 
-fn served_in<P: RoomLedger>(
-    rt: &(impl Wait + Abort + AllocGlobal),
-    blank: Blank,
-    histories: Vec<Opened>,
-    limits: Limits,
-    session: Session,
-)
-    requires name { blank.name ≡ P.name }
-    requires parts { (blank.parts ≡ P.parts) × (blank.parts ≡ 259) }
-    requires limits { limits ≡ P.limits }
-    requires histories { (histories.items ≡ P.books) × (length histories.items ≡ 1) }
-{
-    let names = [room_name(rt, "r")];
-    let rooms = Rooms::<P>::new(rt.alloc(), blank, histories, &names, limits).expect(rt, "rooms");
-    let mut output = Vec::new(rt.alloc());
-    let stream = Duplex {
-        reader: HEAD.chain(session.sent.as_slice()),
-        writer: &mut output,
-    };
-    let ended = serve_one(rt, rt.alloc(), &rooms, 7, stream, &Open);
-    assert_eq!(rt; ended.session, 7);
-    assert_eq!(rt; ended.cause, session.cause);
-    assert_eq!(rt; ended.passes.len(), session.passes);
-    assert_eq!(rt; frames_of(output.as_slice()), session.answer.as_slice());
-}
-
-fn served(rt: &(impl Wait + Abort + AllocGlobal), session: Session) {
-    let histories = open_histories(rt.alloc(), 1).expect(rt, "memory");
-    served_in::<Brand>(rt, Blank::new(259), histories, Limits::full(), session);
+/// Serves the session in a room `r`, which is closed then with the passes that came back.
+pub(super) fn served(rt: &(impl Wait + Abort + AllocGlobal), session: Session) {
+    let mut parts = Vec::new(rt.alloc());
+    parts.push(copied(rt, HEAD)).expect(rt, "memory");
+    parts.push(session.sent).expect(rt, "memory");
+    let run = run_session(rt, &parts, usize::MAX, &Calls::failing(0));
+    assert_eq!(rt; run.cause, session.cause);
+    assert_eq!(rt; run.passes, session.passes);
+    assert_eq!(rt; frames_of(&run.output), session.answer.as_slice());
 }
 
 #[test]
@@ -78,7 +52,7 @@ fn joins_creates_and_closes(rt: HostRuntime) {
         &rt,
         Session {
             sent: joined_up(&rt, &[&join, &create, CLOSE]),
-            answer: joined_up(&rt, &[&joined, &made, b"\x88\x02\x03\xe8"]),
+            answer: joined_up(&rt, &[&joined, &made, CLOSED]),
             cause: Cause::Closed,
             passes: 1,
         },
@@ -102,31 +76,11 @@ fn a_frame_that_is_too_long(rt: HostRuntime) {
     );
 }
 
-fn no_handshake_in<P: RoomLedger>(
-    rt: &(impl Wait + Abort + AllocGlobal),
-    blank: Blank,
-    histories: Vec<Opened>,
-    limits: Limits,
-)
-    requires name { blank.name ≡ P.name }
-    requires parts { (blank.parts ≡ P.parts) × (blank.parts ≡ 259) }
-    requires limits { limits ≡ P.limits }
-    requires histories { (histories.items ≡ P.books) × (length histories.items ≡ 1) }
-{
-    let names = [room_name(rt, "r")];
-    let rooms = Rooms::<P>::new(rt.alloc(), blank, histories, &names, limits).expect(rt, "rooms");
-    let mut output = Vec::new(rt.alloc());
-    let asked: &[u8] = b"GET / HTTP/1.1\r\nHost: localhost\r\n\r\n";
-    let stream = Duplex {
-        reader: asked,
-        writer: &mut output,
-    };
-    let ended = serve_one(rt, rt.alloc(), &rooms, 1, stream, &Open);
-    assert_eq!(rt; ended.cause, Cause::HandshakeFailed);
-}
-
 #[test]
 fn no_handshake(rt: HostRuntime) {
-    let histories = open_histories(rt.alloc(), 1).expect(&rt, "memory");
-    no_handshake_in::<Brand>(&rt, Blank::new(259), histories, Limits::full());
+    let mut parts = Vec::new(rt.alloc());
+    let head = copied(&rt, b"GET / HTTP/1.1\r\nHost: localhost\r\n\r\n");
+    parts.push(head).expect(&rt, "memory");
+    let run = run_session(&rt, &parts, usize::MAX, &Calls::failing(0));
+    assert_eq!(rt; run.cause, Cause::HandshakeFailed);
 }

@@ -1,0 +1,343 @@
+//! Sessions whose stream fails once, or gives and takes single bytes: `serve_one` and `serve_streams`.
+
+ghost use Rattle.std.specs.Prelude.{◌≡◌, length};
+
+use super::faults::{Calls, Parts, Sparing};
+use super::{
+    ANSWERED, Counting, ENTRIES, RECORD, answer_frames, asked_parts, bytewise, frames_of,
+    room_name, text_frame,
+};
+use log::sink::Locked;
+use log::{LevelFilter, Log, Logged};
+use room_lock::{Opened, RoomLedger, Rooms, open_histories};
+use rules::Limits;
+use server::{ServeFault, serve_streams};
+use sessions::{Cause, serve_one};
+use std::marker::Brand;
+use std::process::Abort;
+use std::sync::Wait;
+use std::sync::ledger::Blank;
+use std::thread::Threads;
+use tungstenite::Duplex;
+
+/// What came of a session, and of its room.
+#[derive(Drop)]
+pub(super) struct Outcome {
+    pub(super) cause: Cause,
+    pub(super) passes: usize,
+    /// How many calls the room has answered.
+    answered: usize,
+    entries: usize,
+    pub(super) output: Vec<u8>,
+}
+
+fn run_session_in<P: RoomLedger>(
+    rt: &(impl Wait + Abort + AllocGlobal),
+    blank: Blank,
+    histories: Vec<Opened>,
+    limits: Limits,
+    parts: &[Vec<u8>],
+    most: usize,
+    calls: &Calls,
+) -> Outcome
+    requires name { blank.name ≡ P.name }
+    requires parts { (blank.parts ≡ P.parts) × (blank.parts ≡ 259) }
+    requires limits { limits ≡ P.limits }
+    requires histories { (histories.items ≡ P.books) × (length histories.items ≡ 1) }
+{
+    let names = [room_name(rt, "r")];
+    let rooms = Rooms::<P>::new(rt.alloc(), blank, histories, &names, limits).expect(rt, "rooms");
+    let gate = Counting::new();
+    let mut output = Vec::new(rt.alloc());
+    let stream = Duplex {
+        reader: Parts::new(parts, calls),
+        writer: Sparing {
+            inner: &mut output,
+            most,
+            calls,
+        },
+    };
+    let ended = serve_one(rt, rt.alloc(), &rooms, 1, stream, &gate);
+    let passes = ended.passes.len();
+    let records = rooms
+        .close(rt.alloc(), ended.passes)
+        .expect(rt, "all passes");
+    assert_eq!(rt; records.len(), 1);
+    Outcome {
+        cause: ended.cause,
+        passes,
+        answered: gate.count(),
+        entries: records[0].entries.len(),
+        output,
+    }
+}
+
+/// What comes of a session by a stream that takes so many bytes at a write. The room is `r`, and it is
+/// closed with the passes that came back.
+pub(super) fn run_session(
+    rt: &(impl Wait + Abort + AllocGlobal),
+    parts: &[Vec<u8>],
+    most: usize,
+    calls: &Calls,
+) -> Outcome {
+    let histories = open_histories(rt.alloc(), 1).expect(rt, "memory");
+    run_session_in::<Brand>(
+        rt,
+        Blank::new(259),
+        histories,
+        Limits::full(),
+        parts,
+        most,
+        calls,
+    )
+}
+
+/// Did the session end well, with all that it was to be answered?
+fn is_whole(rt: &(impl Abort + AllocGlobal), outcome: &Outcome) -> bool {
+    outcome.cause == Cause::Closed
+        && outcome.passes == 1
+        && outcome.entries == ENTRIES
+        && frames_of(&outcome.output) == answer_frames(rt).as_slice()
+}
+
+/// How many replies that come with an entry were sent whole.
+fn entries_told(rt: &(impl Abort + AllocGlobal), output: &[u8]) -> usize {
+    let mut rest = frames_of(output);
+    let mut told: usize = 0;
+    for words in ANSWERED.lines().take(ENTRIES) {
+        match rest.strip_prefix(text_frame(rt, words).as_slice()) {
+            Some(others) => rest = others,
+            None => return told,
+        }
+        told = told.saturating_add(1);
+    }
+    told
+}
+
+/// Looks at a session whose stream has failed: why it ended, that its pass came back, and that its room
+/// has an entry for each call that added one, whether it was told or not.
+fn look_at(rt: &(impl Abort + AllocGlobal), run: &Outcome, calls: &Calls, fails: u64) {
+    // The head of the request is one part, each message another, the close the last.
+    let asked = calls.given().saturating_sub(1);
+    if calls.reads() < 2 {
+        assert_eq!(rt; run.cause, Cause::HandshakeFailed, "call {fails}");
+    } else if asked <= ANSWERED.lines().count() {
+        assert_eq!(rt; run.cause, Cause::StreamFault, "call {fails}");
+    } else {
+        let ended = matches!(run.cause, Cause::StreamFault | Cause::Closed);
+        assert!(rt; ended, "call {fails}");
+    }
+    assert!(rt; run.answered <= asked, "call {fails}");
+    assert_eq!(rt; run.passes, run.answered.min(1), "call {fails}");
+    assert_eq!(rt; run.entries, run.answered.min(ENTRIES), "call {fails}");
+    assert!(rt;
+        run.entries >= entries_told(rt, &run.output),
+        "call {fails}"
+    );
+}
+
+/// Looks at a session whose stream fails at this call; false where there is no such call.
+fn fails_at(
+    rt: &(impl Wait + Abort + AllocGlobal),
+    parts: &[Vec<u8>],
+    whole: &[u8],
+    fails: u64,
+) -> bool {
+    let calls = Calls::failing(fails);
+    let run = run_session(rt, parts, usize::MAX, &calls);
+    if !calls.have_failed() {
+        return false;
+    }
+    look_at(rt, &run, &calls, fails);
+    assert!(rt; whole.starts_with(&run.output), "call {fails}");
+    true
+}
+
+#[test]
+fn a_session_fails_at_each_call(rt: HostRuntime) {
+    let parts = asked_parts(&rt);
+    let whole = run_session(&rt, &parts, usize::MAX, &Calls::failing(0));
+    assert!(rt; is_whole(&rt, &whole));
+    let mut failed = 0;
+    for fails in 1..1_000 {
+        if !fails_at(&rt, &parts, &whole.output, fails) {
+            break;
+        }
+        failed = fails;
+    }
+    // The head, four messages and a close are read, and each is answered by a write and a flush.
+    assert!(rt; failed >= 18);
+}
+
+/// A head that comes in single bytes is not answered; behind one that comes whole, single bytes are.
+#[test]
+fn a_session_in_single_bytes(rt: HostRuntime) {
+    let parts = bytewise(&rt, &asked_parts(&rt), 0);
+    let run = run_session(&rt, &parts, 1, &Calls::failing(0));
+    assert_eq!(rt; run.cause, Cause::HandshakeFailed);
+    assert!(rt; run.passes == 0 && run.output.is_empty());
+    let parts = bytewise(&rt, &asked_parts(&rt), 1);
+    let run = run_session(&rt, &parts, 1, &Calls::failing(0));
+    assert!(rt; is_whole(&rt, &run));
+}
+
+/// What came of serving one stream to the end and writing the record.
+#[derive(Drop)]
+struct Served {
+    end: Result<(), ServeFault>,
+    /// How many calls the room has answered.
+    answered: usize,
+    output: Vec<u8>,
+}
+
+fn run_streams_in<
+    P: RoomLedger + Send + Sync,
+    R: Threads + Wait + Log + Sync + Abort + AllocGlobal,
+>(
+    rt: &R,
+    blank: Blank,
+    histories: Vec<Opened>,
+    limits: Limits,
+    parts: &[Vec<u8>],
+    most: usize,
+    stream_calls: &Calls,
+    output_calls: &Calls,
+) -> Served
+    requires name { blank.name ≡ P.name }
+    requires parts { (blank.parts ≡ P.parts) × (blank.parts ≡ 259) }
+    requires limits { limits ≡ P.limits }
+    requires histories { (histories.items ≡ P.books) × (length histories.items ≡ 1) }
+{
+    let names = [room_name(rt, "r")];
+    let rooms = Rooms::<P>::new(rt.alloc(), blank, histories, &names, limits).expect(rt, "rooms");
+    let gate = Counting::new();
+    let stream = Duplex {
+        reader: Parts::new(parts, stream_calls),
+        writer: Sparing {
+            inner: Vec::new(rt.alloc()),
+            most,
+            calls: stream_calls,
+        },
+    };
+    let mut streams = Vec::new(rt.alloc());
+    streams.push(stream).expect(rt, "memory");
+    let mut output = Vec::new(rt.alloc());
+    let mut writer = Sparing {
+        inner: &mut output,
+        most,
+        calls: output_calls,
+    };
+    let streams = streams.into_iter();
+    let end = serve_streams(rt, rt.alloc(), rooms, streams, 1, &gate, &mut writer);
+    Served {
+        end,
+        answered: gate.count(),
+        output,
+    }
+}
+
+fn run_streams<R: Threads + Wait + Log + Sync + Abort + AllocGlobal>(
+    rt: &R,
+    parts: &[Vec<u8>],
+    most: usize,
+    stream_calls: &Calls,
+    output_calls: &Calls,
+) -> Served {
+    let histories = open_histories(rt.alloc(), 1).expect(rt, "memory");
+    run_streams_in::<Brand, R>(
+        rt,
+        Blank::new(259),
+        histories,
+        Limits::full(),
+        parts,
+        most,
+        stream_calls,
+        output_calls,
+    )
+}
+
+/// The lines that tell a record of so many of the entries.
+fn record_of(rt: &(impl Abort + AllocGlobal), entries: usize) -> String {
+    let mut lines = format!(in rt.alloc(); "room r {entries}\n").expect(rt, "memory");
+    for line in RECORD.lines().take(entries) {
+        writeln!(lines, "{line}").expect(rt, "memory");
+    }
+    lines
+}
+
+/// Looks at the record after a session whose stream fails at this call; false where there is no such
+/// call.
+fn tells_after<R: Threads + Wait + Log + Sync + Abort + AllocGlobal>(
+    rt: &R,
+    parts: &[Vec<u8>],
+    fails: u64,
+) -> bool {
+    let calls = Calls::failing(fails);
+    let run = run_streams(rt, parts, usize::MAX, &calls, &Calls::failing(0));
+    let record = record_of(rt, run.answered.min(ENTRIES));
+    assert!(rt; run.end.is_ok(), "call {fails}");
+    assert_eq!(rt; run.output.as_slice(), record.as_bytes(), "call {fails}");
+    assert!(rt; run.answered < calls.given().max(1), "call {fails}");
+    calls.have_failed()
+}
+
+#[test]
+fn records_after_a_stream_that_fails_at_each_call(rt: HostRuntime) {
+    let sink = Locked::new(rt, Vec::new(rt.alloc()));
+    let logged = Logged::new(rt, LevelFilter::Warn, &sink);
+    let parts = asked_parts(&rt);
+    let mut failed = 0;
+    for fails in 1..1_000 {
+        if !tells_after(&logged, &parts, fails) {
+            break;
+        }
+        failed = fails;
+    }
+    assert!(rt; failed >= 18);
+    // Each of these sessions was warned of in a line, and the last one was not.
+    let warnings = sink.into_inner();
+    let lines = warnings.iter().filter(|byte| **byte == b'\n').count();
+    assert_eq!(rt; lines as u64, failed);
+}
+
+/// Looks at what is written to an output that fails at this call; false where there is no such call.
+fn tells_front<R: Threads + Wait + Log + Sync + Abort + AllocGlobal>(
+    rt: &R,
+    parts: &[Vec<u8>],
+    whole: &[u8],
+    fails: u64,
+) -> bool {
+    let calls = Calls::failing(fails);
+    let run = run_streams(rt, parts, usize::MAX, &Calls::failing(0), &calls);
+    if !calls.have_failed() {
+        assert!(rt; run.end.is_ok());
+        assert_eq!(rt; run.output.as_slice(), whole);
+        return false;
+    }
+    assert_eq!(rt; run.end.err(), Some(ServeFault::Write), "call {fails}");
+    assert!(rt; whole.starts_with(&run.output), "call {fails}");
+    true
+}
+
+#[test]
+fn records_on_an_output_that_fails_at_each_call(rt: HostRuntime) {
+    let parts = asked_parts(&rt);
+    let whole = record_of(&rt, ENTRIES);
+    let mut failed = 0;
+    for fails in 1..1_000 {
+        if !tells_front(&rt, &parts, whole.as_bytes(), fails) {
+            break;
+        }
+        failed = fails;
+    }
+    // Something is written, and it is flushed.
+    assert!(rt; failed >= 2);
+}
+
+#[test]
+fn records_in_single_bytes(rt: HostRuntime) {
+    let parts = bytewise(&rt, &asked_parts(&rt), 1);
+    let run = run_streams(&rt, &parts, 1, &Calls::failing(0), &Calls::failing(0));
+    assert!(rt; run.end.is_ok());
+    assert_eq!(rt; run.output.as_slice(), record_of(&rt, ENTRIES).as_bytes());
+}

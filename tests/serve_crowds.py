@@ -85,9 +85,9 @@ class Crowd:
         self.threads.append(threading.Thread(target=guarded, daemon=True))
         self.threads[-1].start()
 
-    def end(self):
-        """All threads ended, and without a fault."""
-        bound = time.monotonic() + 3 * SECONDS
+    def end(self, seconds=3 * SECONDS):
+        """All threads ended, in so many seconds at most, and without a fault."""
+        bound = time.monotonic() + seconds
         for thread in self.threads:
             thread.join(max(0, bound - time.monotonic()))
         if self.faults:

@@ -57,10 +57,11 @@ def find_program():
     COMMANDS.update(re.findall(r"^ +([a-z]+)\b", text.partition("Commands:")[2], re.MULTILINE))
 
 
-def run(*words, stdin=b"", stdout=subprocess.PIPE):
-    """Runs the program with these words to its end: status, output and errors."""
+def run(*words, stdin=b"", stdout=subprocess.PIPE, seconds=3 * SECONDS):
+    """Runs the program with these words to its end, which it comes to in so many seconds: status, output and
+    errors."""
     command = [PROGRAM, *map(str, words)]
-    done = subprocess.run(command, input=stdin, stdout=stdout, stderr=subprocess.PIPE, timeout=3 * SECONDS)
+    done = subprocess.run(command, input=stdin, stdout=stdout, stderr=subprocess.PIPE, timeout=seconds)
     return done.returncode, (done.stdout or b"").decode(), done.stderr.decode()
 
 
@@ -70,13 +71,13 @@ def needs(command):
         raise NotBuilt
 
 
-def verdict(record, transcript):
-    """What the program's own checker says of these lines: its status and its output."""
+def verdict(record, transcript, seconds=3 * SECONDS):
+    """What the program's own checker says of these lines, in so many seconds: its status and its output."""
     with tempfile.TemporaryDirectory() as name:
         files = [pathlib.Path(name) / "record", pathlib.Path(name) / "transcript"]
         for file, lines in zip(files, (record, transcript)):
             file.write_text("".join(f"{line}\n" for line in lines))
-        status, output, errors = run("check", *files)
+        status, output, errors = run("check", *files, seconds=seconds)
     same("what the checker says on standard error", errors, "")
     return status, output
 
@@ -185,10 +186,12 @@ def pump(stream, lines):
 
 
 class Server:
-    """`grace serve` on a free port, for so many sessions."""
+    """`grace serve` on a free port, for so many sessions. After the last of them it has `patience` seconds to come
+    to its end."""
 
-    def __init__(self, sessions=1, workers=4, rooms=("r",), idle=None):
+    def __init__(self, sessions=1, workers=4, rooms=("r",), idle=None, patience=SECONDS):
         self.sessions = sessions
+        self.patience = patience
         self.rooms = list(rooms)
         self.words = [str(sessions), str(workers), *rooms]
         if idle is not None:
@@ -287,7 +290,7 @@ class Server:
     def output(self):
         """The lines of the output after the first, once the program ended."""
         try:
-            self.process.wait(SECONDS)
+            self.process.wait(self.patience)
         except subprocess.TimeoutExpired:
             raise Wrong("the program goes on after its last session") from None
         lines = list(iter(self.next_line, None))

@@ -14,10 +14,10 @@ use std::thread;
 use std::thread::Threads;
 use std::time::{Clock, Duration};
 
-/// Waits, at most 10,000 times a millisecond, until it is said that a call was answered.
-fn sees_the_answer(rt: &(impl Wait + Clock), answered: &Mutex<bool>) -> bool {
+/// Waits, at most 10,000 times a millisecond, until the other thread says so.
+fn is_said(rt: &(impl Wait + Clock), said: &Mutex<bool>) -> bool {
     for _turn in 0..10_000 {
-        if *answered.lock(rt) {
+        if *said.lock(rt) {
             return true;
         }
         thread::sleep(rt, Duration::from_millis(1));
@@ -25,24 +25,32 @@ fn sees_the_answer(rt: &(impl Wait + Clock), answered: &Mutex<bool>) -> bool {
     false
 }
 
-/// Holds a room's lock until a call in another room was answered.
+/// Holds a room's lock, which it says, until a call in another room was answered.
 fn holds<P: RoomLedger>(
     rt: &(impl Wait + Clock + Abort),
     rooms: &Rooms<P>,
     name: &RoomName,
+    held: &Mutex<bool>,
     answered: &Mutex<bool>,
 ) -> bool {
-    let seen = rooms.with(rt, name, |_room| sees_the_answer(rt, answered));
+    let seen = rooms.with(rt, name, |_room| {
+        *held.lock(rt) = true;
+        is_said(rt, answered)
+    });
     seen.expect(rt, "a room")
 }
 
-/// Calls a room, and says that it was answered.
+/// Calls a room once the other room's lock is held, and says that it was answered.
 fn calls<P: RoomLedger>(
-    rt: &(impl Wait + Abort + AllocGlobal),
+    rt: &(impl Wait + Clock + Abort + AllocGlobal),
     rooms: &Rooms<P>,
     mut pass: Pass<P>,
+    held: &Mutex<bool>,
     answered: &Mutex<bool>,
 ) -> bool {
+    if !is_said(rt, held) {
+        return false;
+    }
     let reply = asked(rt, rooms, &mut pass, CREATION);
     *answered.lock(rt) = true;
     reply.as_str() == r#"["made",1,[1,1]]"#
@@ -60,14 +68,14 @@ fn rooms_have_locks_of_their_own_in<
     let names = [room_name(rt, "a"), room_name(rt, "b")];
     let rooms = Rooms::<P>::new(rt.alloc(), blank, histories, &names, limits).expect(rt, "rooms");
     let pass = entered(rt, &rooms, &names[1]);
-    let answered = Mutex::new(false);
-    let (rooms, name, answered) = (&rooms, &names[0], &answered);
-    let (held, called) = thread::join(
+    let (held, answered) = (Mutex::new(false), Mutex::new(false));
+    let (rooms, name, held, answered) = (&rooms, &names[0], &held, &answered);
+    let (waited, called) = thread::join(
         rt,
-        move || holds(rt, rooms, name, answered),
-        move || calls(rt, rooms, pass, answered),
+        move || holds(rt, rooms, name, held, answered),
+        move || calls(rt, rooms, pass, held, answered),
     );
-    assert!(rt; held && called);
+    assert!(rt; waited && called);
 }
 
 #[test]

@@ -21,7 +21,8 @@ def entry_of(site, request):
 
 
 class Told:
-    """The requests of one client, in order, with the replies."""
+    """The requests of one client, in order, with the replies: `lines` has each room with the text of a line of a
+    transcript."""
 
     def __init__(self):
         self.waiting = collections.deque()
@@ -49,7 +50,7 @@ class Told:
             self.room, self.site = request[1], reply[2]
         elif request[0] == "join":
             return
-        self.lines.append((self.room, [self.site, request, reply]))
+        self.lines.append((self.room, compact([self.site, request, reply])))
         if reply[0] in ("joined", "made", "taken"):
             self.places.append((self.room, reply[1], compact(entry_of(self.site, request))))
         if reply[0] == "left":
@@ -114,4 +115,4 @@ def compare_record(room, record, clients):
 
 def transcript_of(room, clients):
     """The lines that tell what the clients in this room were told, client by client."""
-    return [compact(line) for told in clients for name, line in told.lines if name == room]
+    return [line for told in clients for name, line in told.lines if name == room]

@@ -25,7 +25,7 @@ PAUSE = 0.15
 # Rooms that honest clients share with hostile sessions; those of hostile sessions, which are full soon, and of the
 # loud ones; rooms of honest clients alone; and the room of those who come at the end.
 Rooms = collections.namedtuple("Rooms", "shared hostile loud")
-ROOMS, APART, LAST = Rooms(["a", "b"], ["e", "f", "g"], ["h", "i"]), ["c", "d"], "last"
+ROOMS, APART, LAST = Rooms(["a", "b"], ["e"], ["h"]), ["c", "d"], "last"
 # Seconds that the server waits for a client, that the whole may take, and that its end and its checks may take.
 IDLE = 120
 BOUND = 900
@@ -260,7 +260,8 @@ class Hostile:
         self.answered_at_once(clients, lambda client: ["new", 1, [], "rect", [["x", client.told.site]]], "made")
         self.answered_at_once(clients, lambda client: ["show", [client.told.site, 1]], "versions")
         for client in clients:
-            same("what is shown", client.told.lines[-1][1][2][4], [[[], [["x", client.told.site]]]])
+            _, line = client.told.lines[-1]
+            same("what is shown", json.loads(line)[2][4], [[[], [["x", client.told.site]]]])
             client.close()
 
     def answered_at_once(self, clients, request, word):

@@ -7,8 +7,9 @@ import random
 import threading
 import time
 
-from answers import must_answer
+from answers import BAD_MESSAGE, must_answer
 from drawing import Drawer
+from frame_reader import LONGEST_MESSAGE
 from hostile_kinds import KINDS
 from hostile_session import WAIT, HostileSession
 from records import compact, compare_record, entry_of, split_rooms, transcript_of
@@ -142,7 +143,7 @@ class Hostile:
     def __init__(self, seed, connections):
         self.seed, self.connections = seed, connections
         rooms = [*APART, *sum(ROOMS, []), LAST]
-        sessions = DRAWERS + connections + WORKERS
+        sessions = WORKERS + DRAWERS + connections + WORKERS
         self.server = Server(sessions, WORKERS, rooms, idle=IDLE, patience=PATIENCE)
         self.progress = Progress(connections)
         self.connecting = threading.Lock()
@@ -163,6 +164,7 @@ class Hostile:
     def tests(self):
         """The tests, with their names, in the order in which they are to be run."""
         return [
+            (f"{WORKERS} longest messages at once", self.warm_up),
             (f"{self.connections} hostile connections while {DRAWERS} clients draw", self.attack),
             (f"{WORKERS} clients at once after them", self.all_at_once),
             ("the end of the server", self.end),
@@ -170,6 +172,18 @@ class Hostile:
             ("a warning for each session that did not end well", self.warnings),
             ("memory is flat", self.memory),
         ]
+
+    # ---- before them
+
+    def warm_up(self):
+        """Each worker reads a longest message, all at once. What memory a worker's buffers need, it has had then."""
+        clients = [self.server.client() for _ in range(WORKERS)]
+        for client in clients:
+            client.socket.settimeout(WAIT)
+            client.say(b" " * LONGEST_MESSAGE)
+        for client in clients:
+            same("the reply to a longest message", client.hear(), BAD_MESSAGE)
+            client.close()
 
     # ---- the hostile connections, and who draws meanwhile
 
@@ -245,11 +259,12 @@ class Hostile:
 
     def all_at_once(self):
         """A client for each worker, all of which have asked before any reads its reply."""
-        same("the connections before", len(self.server.clients), DRAWERS + self.connections)
+        before = WORKERS + DRAWERS + self.connections
+        same("the connections before", len(self.server.clients), before)
         try:
             self.ask_at_once()
         finally:
-            for client in self.server.clients[DRAWERS + self.connections :]:
+            for client in self.server.clients[before:]:
                 client.hang_up()
 
     def ask_at_once(self):

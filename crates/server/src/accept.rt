@@ -2,6 +2,7 @@
 
 ghost use Rattle.std.specs.Iterator.{at_most};
 
+use crate::uninterrupted::Uninterrupted;
 use std::net::{OpenListener, OpenStream};
 use std::sync::atomic::{AtomicBool, Ordering};
 use std::time::Duration;
@@ -21,11 +22,11 @@ impl<'a, L: OpenListener> Iterator for Accepted<'a, L>
 where
     L::Stream: OpenStream,
 {
-    type Item = L::Stream;
+    type Item = Uninterrupted<L::Stream>;
 
     ghost remaining = { λ s. at_most s.left };
 
-    fn next(&mut self) -> Option<L::Stream> {
+    fn next(&mut self) -> Option<Uninterrupted<L::Stream>> {
         if self.left == 0 {
             return None;
         }
@@ -33,7 +34,7 @@ where
         match self.listener.accept() {
             Ok((stream, _)) => {
                 set_up(&stream, self.idle);
-                Some(stream)
+                Some(Uninterrupted { stream })
             }
             Err(_) => {
                 self.failed.store(true, Ordering::SeqCst);

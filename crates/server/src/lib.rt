@@ -8,6 +8,7 @@ mod fault;
 mod record;
 mod script;
 mod serve;
+mod uninterrupted;
 mod watch;
 
 pub use checking::{check_at, check_over};

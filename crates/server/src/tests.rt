@@ -1,4 +1,5 @@
 mod checking;
+mod interrupted;
 mod serving;
 mod watching;
 

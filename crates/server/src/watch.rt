@@ -1,6 +1,7 @@
 //! `grace watch ADDRESS ROOM`: shows the objects of a live room, by a replica.
 
 use crate::fault::Fault;
+use crate::uninterrupted::Uninterrupted;
 use late_join::{FeedFault, Replica, TakeFault};
 use op_names::{NoMemory, RoomName};
 use rules::Limits;
@@ -217,7 +218,7 @@ where
         return Err(Fault::CannotConnect);
     };
     let _ = stream.set_nodelay(true);
-    watch_over(rt, alloc, stream, &room, output)?;
+    watch_over(rt, alloc, Uninterrupted { stream }, &room, output)?;
     Ok(())
 }
 

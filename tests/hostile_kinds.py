@@ -148,20 +148,29 @@ def pings_between(session):
     ends_well_or_not(session)
 
 
-def loud(session):
-    """A session that sends much and reads nothing, or late. What it asks for is long, or short but often."""
+def opened_loud(session):
+    """Opens a session with a long object, and gives a frame that it may send again and again: its answer is long, or
+    it is short itself."""
     source = session.source
     session.open(SMALL_BUFFER)
     session.ask(["join", source.choice(session.rooms.loud)])
     session.ask(["new", 1, [], "text", [[f"key-{place}", "a text" * 30] for place in range(4)]])
     show = session.frame(["show", [session.client.told.site or 1, 1]])
     ping = bad.frame(source, PING, source.randbytes(125))
-    request = source.choice((show, ping, session.frame(b"[" * 100)))
-    if source.random() < 0.5:
-        session.send(request * LATE)
-        session.catch_up()
-        return ends_well_or_not(session)
-    session.flood(source.choice((request, session.frame(["pull", 0]))) * LATE, FLOOD)
+    return source.choice((show, ping, session.frame(b"[" * 100)))
+
+
+def reads_late(session):
+    """A session that asks a hundred times before it reads."""
+    session.send(opened_loud(session) * LATE)
+    session.catch_up()
+    ends_well_or_not(session)
+
+
+def reads_nothing(session):
+    """A session that asks for more and more, and never reads."""
+    request = session.source.choice((opened_loud(session), session.frame(["pull", 0])))
+    session.flood(request * LATE, FLOOD)
 
 
 def no_requests(session):
@@ -199,7 +208,8 @@ KINDS = [
     ("pings between fragments", pings_between),
     ("bytes at random", random_bytes),
     ("a frame cut short", half_frame),
-    ("much sent, and read late or never", loud),
+    ("much asked, and read late", reads_late),
+    ("much asked, and never read", reads_nothing),
     ("messages that are no requests", no_requests),
     ("rooms that aren't there", no_room),
 ]

@@ -8,11 +8,13 @@ from functools import partial
 from drawing import Drawer, draw_in_rounds
 from records import compact
 from serving import Server, Wrong, needs, run, same
-from websocket_client import PING, PONG, SECONDS, frame, head, new_key
+from websocket_client import PING, PONG, SECONDS, TEXT, frame, head, new_key
 
 JOIN = '["join","r"]'
 CLIENTS = 64
 SETS = 20
+# How many sessions come before the memory is looked at first, how many after that, and how many bytes each may leave.
+BEFORE, AFTER, LEFT = 1000, 3000, 64
 
 
 # ---- one client
@@ -139,6 +141,34 @@ def many_sessions():
         server.finish()
 
 
+def ends_badly(server, kind):
+    """A session in no room that ends without a close: by no handshake, or after it by what is allowed nowhere."""
+    client = server.client() if kind else server.connect()
+    client.send(frame(TEXT, b"[]", reserved=7) if kind else b"GET / HTTP/1.1\r\n\r\n")
+    client.must_be_ended()
+    return "stream fault" if kind else "handshake failed"
+
+
+def little_is_kept():
+    """Of sessions that ended in no room, one after the other, the server keeps 64 bytes each at most."""
+    warned = {}
+    with Server(BEFORE + AFTER + 1, 4) as server:
+        for session in range(1, BEFORE + AFTER + 1):
+            if session == BEFORE + 1:
+                before = server.memory()[0]
+            if session % 3:
+                warned[session] = ends_badly(server, session % 3 - 1)
+            else:
+                client = server.client()
+                client.asks('["leave"]', '["no",0,2,"not-joined"]')
+                client.close()
+        grown = server.memory()[0] - before
+        server.client().close()
+        server.finish(warned)
+    if 1024 * grown > LEFT * AFTER:
+        raise Wrong(f"{AFTER} sessions left {grown} KiB")
+
+
 def one_too_many():
     """With two workers the third client waits for its handshake until one of the first two is done."""
     with Server(3, 2) as server:
@@ -206,6 +236,7 @@ TESTS = [
     ("two requests at a time", two_at_a_time),
     ("64 clients at once", many_at_once),
     ("200 sessions by four workers", many_sessions),
+    ("4,000 sessions leave next to nothing", little_is_kept),
     ("one client more than workers", one_too_many),
     ("24 clients wait for one worker", many_wait),
     ("the replies are those of a script", as_script),

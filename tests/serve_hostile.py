@@ -31,7 +31,7 @@ ROOMS, APART, LAST = Rooms(["a", "b"], ["e"], ["h"]), ["c", "d"], "last"
 IDLE = 120
 BOUND = 900
 PATIENCE = 240
-# The peak of memory over the last quarter of the connections may be so much of that over the first.
+# The peak of memory over the last quarter of the connections may be so much of that up to the end of the first.
 GROWTH = 1.2
 SAMPLE = 0.05
 # After so many faults the rest isn't tried.
@@ -176,7 +176,8 @@ class Hostile:
     # ---- before them
 
     def warm_up(self):
-        """Each worker reads a longest message, all at once. What memory a worker's buffers need, it has had then."""
+        """Each worker reads a longest message, all at once. That is as much memory as the workers' buffers can need,
+        and the server comes near it again as what it keeps lies between what it gives back."""
         clients = [self.server.client() for _ in range(WORKERS)]
         for client in clients:
             client.socket.settimeout(WAIT)
@@ -184,6 +185,7 @@ class Hostile:
         for client in clients:
             same("the reply to a longest message", client.hear(), BAD_MESSAGE)
             client.close()
+        self.progress.peaks[0] = self.server.memory()[1]
 
     # ---- the hostile connections, and who draws meanwhile
 
@@ -316,7 +318,8 @@ class Hostile:
         same("sessions that there weren't", sorted(set(warned) - set(range(1, len(self.server.clients) + 1))), [])
 
     def memory(self):
-        """The peak over the last quarter of the connections is little more than that over the first."""
+        """The peak over the last quarter of the connections is little more than that over the first, with the longest
+        messages before it."""
         first, last = self.progress.peaks[0], self.progress.peaks[3]
         print(f"peaks of memory over each quarter: {self.progress.peaks} KiB", flush=True)
         if not 0 < last <= GROWTH * first:

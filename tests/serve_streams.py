@@ -1,5 +1,6 @@
 """Handshakes that fail, connections that end in the middle, clients that say or read nothing."""
 
+import signal
 import threading
 import time
 from functools import partial
@@ -170,6 +171,34 @@ def now_and_then(idle, pause, count):
         server.finish()
 
 
+# ---- a server that is stopped
+
+STOPPED = 0.3
+
+
+def stopped_and_goes_on():
+    """The server is stopped, and goes on, while it waits for a client that says nothing, for the rest of a frame
+    and for the rest of a handshake. Each is served then as if nothing had been."""
+    with Server(3, 3) as server:
+        silent, halfway, opening = server.client(), server.client(), server.connect()
+        silent.asks(JOIN, '["joined",0,1]')
+        data = halfway.frame_of(JOIN)
+        halfway.send(data[:9])
+        opening.send(head(KEY)[:60])
+        time.sleep(STOPPED)
+        server.process.send_signal(signal.SIGSTOP)
+        time.sleep(STOPPED)
+        server.process.send_signal(signal.SIGCONT)
+        time.sleep(STOPPED)
+        halfway.send(data[9:])
+        same("the reply to the frame", halfway.hear(), '["joined",1,2]')
+        opening.send(head(KEY)[60:])
+        opening.read_answer(KEY)
+        opening.asks(JOIN, '["joined",2,3]')
+        silent.asks('["leave"]', '["left",3]')
+        server.finish()
+
+
 # ---- a client that reads nothing
 
 
@@ -232,5 +261,6 @@ TESTS = [
     ("a client silent in the handshake is given up", partial(given_up, head(KEY)[:60], "handshake failed", opened=False)),
     ("a client that speaks now and then is not given up", partial(now_and_then, IDLE, 1, 4)),
     ("with --idle 0 a pause is no matter", partial(now_and_then, 0, 1, 2)),
+    ("a server that is stopped and goes on", stopped_and_goes_on),
     ("a client that never reads", never_reads),
 ]

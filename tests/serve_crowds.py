@@ -160,7 +160,7 @@ def little_is_kept():
                 warned[session] = ends_badly(server, session % 3 - 1)
             else:
                 client = server.client()
-                client.asks('["leave"]', '["no",0,2,"not-joined"]')
+                client.asks('["join","elsewhere"]', '["no",0,4,"no-such-room"]')
                 client.close()
         grown = server.memory()[0] - before
         server.client().close()

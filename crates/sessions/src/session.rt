@@ -76,11 +76,14 @@ impl<P: RoomLedger> Session<P> {
         self.passes.as_slice()
     }
 
-    /// Gives the session up for its passes.
+    /// Gives the session up for its passes, in no more memory than they need: they are kept to the end
+    /// of a run.
     pub fn into_passes(self) -> Vec<Pass<P>>
         ensures { result.items ≡ self.passes }
     {
-        self.passes
+        let mut passes = self.passes;
+        passes.shrink_to_fit();
+        passes
     }
 
     /// Answers one message by the text of its reply. The session itself refuses what is no request, a

@@ -28,6 +28,10 @@ class Drawer:
         """Joins a room."""
         self.site = self.told(["join", room])[2]
 
+    def goes_on_from(self, other):
+        """Holds what another client of its room had pulled, as a client does that comes back."""
+        self.held, self.counts, self.objects = other.held, dict(other.counts), list(other.objects)
+
     def catch_up(self):
         """Pulls what the record has more, and counts it."""
         at = None
@@ -52,12 +56,13 @@ class Drawer:
                 return [name for name, _ in reply[4]]
             self.catch_up()
 
-    def next_operation(self):
-        """An operation that counts all that was pulled."""
+    def next_operation(self, among=0):
+        """An operation that counts all that was pulled: a creation now and then, or a set on one of so many of the
+        newest objects, or of all."""
         self.catch_up()
         if not self.objects or self.source.random() < 0.07:
             return ["new", self.seq(), sorted(map(list, self.counts.items())), "rect", [["x", 0]]]
-        target = self.source.choice(self.objects)
+        target = self.source.choice(self.objects[-among:])
         version = self.source.choice(self.versions(target))
         seen = sorted(map(list, self.counts.items()))
         change = [self.source.choice(KEYS), self.source.choice(VALUES)]

@@ -50,7 +50,7 @@ class Told:
             self.room, self.site = request[1], reply[2]
         elif request[0] == "join":
             return
-        self.lines.append((self.room, compact([self.site, request, reply])))
+        self.lines.append((self.room, f"[{compact(self.site)},{compact(request)},{text}]"))
         if reply[0] in ("joined", "made", "taken"):
             self.places.append((self.room, reply[1], compact(entry_of(self.site, request))))
         if reply[0] == "left":

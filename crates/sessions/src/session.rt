@@ -76,13 +76,15 @@ impl<P: RoomLedger> Session<P> {
         self.passes.as_slice()
     }
 
-    /// Gives the session up for its passes, in no more memory than they need: they are kept to the end
-    /// of a run.
+    /// Gives the session up for its passes. Where there are none, the list has no memory either: a
+    /// refused join has reserved some, and lists are kept to the end of a run.
     pub fn into_passes(self) -> Vec<Pass<P>>
         ensures { result.items ≡ self.passes }
     {
         let mut passes = self.passes;
-        passes.shrink_to_fit();
+        if passes.is_empty() {
+            passes.shrink_to_fit();
+        }
         passes
     }
 

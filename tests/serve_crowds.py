@@ -13,7 +13,8 @@ from websocket_client import PING, PONG, SECONDS, TEXT, frame, head, new_key
 JOIN = '["join","r"]'
 CLIENTS = 64
 SETS = 20
-# How many sessions come before the memory is looked at first, how many after that, and how many bytes each may leave.
+# How many sessions come before the memory is looked at first, how many after that, and how many bytes each of
+# these may leave.
 BEFORE, AFTER, LEFT = 1000, 3000, 64
 
 

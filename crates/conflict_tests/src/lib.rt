@@ -1,4 +1,4 @@
-//! Tests of the public calls of `conflict`, `version_groups`, `version_ids` and `attributes`.
+//! Tests of the public calls of `conflict`, `version_groups`, `version_ids`, `attributes` and `shape`.
 #![tactic(auto)]
 
 #[cfg(test)]

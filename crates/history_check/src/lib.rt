@@ -9,6 +9,3 @@ mod replay;
 mod verdict;
 
 pub use verdict::{Verdict, check};
-
-#[cfg(test)]
-mod tests;

@@ -21,6 +21,7 @@ use Rattle.rules.specs.Records.{creation_conditions, objects, operations, set_co
 use Rattle.rules.proofs.Conditions.{not_first}
 use Rattle.rules.proofs.Counted.{In-names_counted, In-names_counted_back, count_in, count_of_pair, count_positive, found}
 use Rattle.rules.proofs.Lists.{any_back, any_from}
+use Rattle.rules.proofs.Relation.{same_answer}
 use Rattle.conflict.specs.Sets.{AreSetsOf}
 use Rattle.shape.specs.Objects.{Stored, set_refusal, with_set}
 use Rattle.shape.specs.Faults.{refusal_of}
@@ -35,14 +36,9 @@ use Rattle.objects.proofs.AtObject.{may_be_planned, object_there, refused_by_obj
 use Rattle.late_join.specs.Replay.{IsReplay}
 use Rattle.late_join.specs.Taking.{arriving_conditions, has_joined, is_early, is_repeat, lacks_another, may_take, take_fault}
 use Rattle.late_join.proofs.Replay.{may_take_if, new_name, replay_creation, replay_same, replay_set}
-use Rattle.late_join.proofs.Taken.{IsSound, not_ahead, operation_there, sound}
+use Rattle.late_join.proofs.Taken.{IsSound, not_ahead, operation_there, or_parts, sound}
 
 -- ---- which operations are missing
-
-same_answer : (a b : Bool) → (a ≡ true → b ≡ true) → (b ≡ true → a ≡ true) → a ≡ b
-same_answer true b f g = sym (f refl)
-same_answer false true f g = g refl
-same_answer false false f g = refl
 
 -- one of another site is missing where the count is above the number of that site's operations
 pub lacks_is : (h : List Op) → IsSound h → (o : Op) → is_vector o.seen ≡ true → list_any (λ pair. not (eqb pair.0 o.name.0) && ltb (count_at_site h pair.0) pair.1) o.seen ≡ lacks_another h o
@@ -80,10 +76,6 @@ lacks_is h s o r = same_answer _ _
     (and_from (not (eqb c.0.0 o.name.0)) (ltb (count_at_site h c.0.0) (count_of o.seen c.0.0)) d.0 fewer))
 
 -- ---- what is asked first
-
-or_parts : (a b : Bool) → (a || b) ≡ false → (a ≡ false) × (b ≡ false)
-or_parts true b e = absurd cc
-or_parts false b e = (refl, e)
 
 record Arrived (b : LimitValues) (t : List Entry) (o : Op) : Type 0 where
   seq : has_wrong_seq (operations t) o.name ≡ false

@@ -48,7 +48,7 @@ pub taken_from : (b : LimitValues) (t : List Entry) (e : Entry) → is_entry e �
 unfolding take_fault
 taken_from b t e v r f n = and_from (is_entry e) (is_none (take_fault b t e)) v (rw (r, f, n) refl)
 
-or_parts : (a b : Bool) → (a || b) ≡ false → (a ≡ false) × (b ≡ false)
+pub or_parts : (a b : Bool) → (a || b) ≡ false → (a ≡ false) × (b ≡ false)
 or_parts true b e = absurd cc
 or_parts false b e = (refl, e)
 

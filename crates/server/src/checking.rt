@@ -27,11 +27,7 @@ fn read_buffer(alloc: Global) -> Result<Vec<u8>, Fault>
 }
 
 /// All the bytes that are left, if there are no more than `limit`: otherwise the input is at fault.
-pub(crate) fn read_up_to<R: Read>(
-    alloc: Global,
-    input: &mut R,
-    limit: usize,
-) -> Result<Vec<u8>, Fault>
+pub fn read_up_to<R: Read>(alloc: Global, input: &mut R, limit: usize) -> Result<Vec<u8>, Fault>
     ensures all { IfOk result (λ bytes. IfSome (R.remaining input.old) (λ all. bytes.items ≡ all)) }
     ensures most { IfOk result (λ bytes. length bytes.items ≤ limit) }
     ensures end { OnOk result (IsAtEnd (R.remaining input.new)) }
@@ -81,7 +77,7 @@ fn read_at<H: Files>(rt: &H, alloc: Global, path: &str) -> Result<Vec<u8>, Fault
 }
 
 /// The line of a verdict.
-pub(crate) fn verdict_line(alloc: Global, verdict: Verdict) -> Result<String, Fault>
+fn verdict_line(alloc: Global, verdict: Verdict) -> Result<String, Fault>
     ensures ok { IfOk result (λ line. string_bytes line ≡ verdict_line verdict) }
     ensures fault { IfErr result (λ fault. fault ≡ Fault.NoMemory) }
 {

@@ -18,7 +18,26 @@ use std::thread::Threads;
 use std::time::Duration;
 
 /// What `--version` shows: what the number means stands in docs/DECISIONS.md.
-pub(crate) const VERSION: &str = "0.1.0";
+const VERSION: &str = "0.1.0";
+
+/// A word that must be there.
+fn word<'a>(alloc: Global, name: &'a str, help: &'a str) -> Arg<'a> {
+    Arg::new(alloc, name)
+        .required(true)
+        .action(ArgAction::Set)
+        .help(help)
+}
+
+/// How long a client is waited for.
+fn idle<'a>(alloc: Global) -> Arg<'a> {
+    Arg::new(alloc, "idle")
+        .long("idle")
+        .value_name("SECONDS")
+        .action(ArgAction::Set)
+        .value_parser(value_parser!(u32))
+        .default_value("300")
+        .help("How long it waits for a client that is silent or stuck; 0 is for good")
+}
 
 /// The names of rooms, last on the command line.
 fn rooms<'a>(alloc: Global) -> Arg<'a> {
@@ -38,66 +57,59 @@ fn script_command<'a>(alloc: Global) -> Result<Command<'a>, AllocError> {
 
 /// `grace serve`.
 fn serve_command<'a>(alloc: Global) -> Result<Command<'a>, AllocError> {
-    let address = Arg::new(alloc, "ADDRESS")
-        .required(true)
-        .action(ArgAction::Set)
-        .help("Where it listens: a host and a port, as 127.0.0.1:8080");
-    let sessions = Arg::new(alloc, "SESSIONS")
-        .required(true)
-        .action(ArgAction::Set)
-        .value_parser(value_parser!(u32).range(1..=100_000))
-        .help("How many connections it accepts in all, 1 to 100000");
-    let workers = Arg::new(alloc, "WORKERS")
-        .required(true)
-        .action(ArgAction::Set)
-        .value_parser(value_parser!(u32).range(1..=64))
-        .help("How many of them it serves at a time, 1 to 64");
-    let idle = Arg::new(alloc, "idle")
-        .long("idle")
-        .value_name("SECONDS")
-        .action(ArgAction::Set)
-        .value_parser(value_parser!(u32))
-        .default_value("300")
-        .help("How long it waits for a client that is silent or stuck; 0 is for good");
     Command::new(alloc, "serve")
         .about("Serves sessions over WebSocket, then prints the rooms' records")
-        .arg(idle)?
-        .arg(address)?
-        .arg(sessions)?
-        .arg(workers)?
+        .arg(idle(alloc))?
+        .arg(word(
+            alloc,
+            "ADDRESS",
+            "Where it listens: a host and a port, as 127.0.0.1:8080",
+        ))?
+        .arg(word(
+            alloc,
+            "SESSIONS",
+            "How many connections it accepts in all, 1 to 100000",
+        )
+        .value_parser(value_parser!(u32).range(1..=100_000)))?
+        .arg(word(
+            alloc,
+            "WORKERS",
+            "How many of them it serves at a time, 1 to 64",
+        )
+        .value_parser(value_parser!(u32).range(1..=64)))?
         .arg(rooms(alloc))
 }
 
 /// `grace watch`.
 fn watch_command<'a>(alloc: Global) -> Result<Command<'a>, AllocError> {
-    let address = Arg::new(alloc, "ADDRESS")
-        .required(true)
-        .action(ArgAction::Set)
-        .help("Where the server listens: a host and a port, as 127.0.0.1:8080");
-    let room = Arg::new(alloc, "ROOM")
-        .required(true)
-        .action(ArgAction::Set)
-        .help("The name of the room: 1 to 64 of a-z, 0-9 and -");
     Command::new(alloc, "watch")
         .about("Shows the objects of a live room with their versions")
-        .arg(address)?
-        .arg(room)
+        .arg(word(
+            alloc,
+            "ADDRESS",
+            "Where the server listens: a host and a port, as 127.0.0.1:8080",
+        ))?
+        .arg(word(
+            alloc,
+            "ROOM",
+            "The name of the room: 1 to 64 of a-z, 0-9 and -",
+        ))
 }
 
 /// `grace check`.
 fn check_command<'a>(alloc: Global) -> Result<Command<'a>, AllocError> {
-    let record = Arg::new(alloc, "RECORD")
-        .required(true)
-        .action(ArgAction::Set)
-        .help("A file of the record's entries, one a line");
-    let transcript = Arg::new(alloc, "TRANSCRIPT")
-        .required(true)
-        .action(ArgAction::Set)
-        .help("A file of requests and replies, one a line");
     Command::new(alloc, "check")
         .about("Checks a room's record and a transcript of it")
-        .arg(record)?
-        .arg(transcript)
+        .arg(word(
+            alloc,
+            "RECORD",
+            "A file of the record's entries, one a line",
+        ))?
+        .arg(word(
+            alloc,
+            "TRANSCRIPT",
+            "A file of requests and replies, one a line",
+        ))
 }
 
 /// The commands of the program.

@@ -13,7 +13,7 @@ use world::{RoomsFault, ScriptFault};
 
 /// Why a command ends early.
 #[derive(Clone, Copy, Debug, PartialEq, Eq, Error)]
-pub(crate) enum Fault {
+pub enum Fault {
     #[error("bad room name")]
     BadRoomName,
     #[error("room named twice")]
@@ -42,7 +42,7 @@ impl Fault {
     ghost use Rattle.server.specs.Faults.{status_of};
 
     /// 2 for the command line, 3 for input, output, connections and rooms, 4 for memory.
-    pub(crate) fn status(self) -> u8
+    pub fn status(self) -> u8
         ensures { result ≡ status_of self }
     {
         match self {
@@ -60,7 +60,7 @@ impl Fault {
     }
 
     /// Writes its line. A write that fails changes nothing.
-    pub(crate) fn write_line<E: Write>(self, errors: &mut E) {
+    pub fn write_line<E: Write>(self, errors: &mut E) {
         let line = match self {
             Fault::BadRoomName => "grace: bad room name\n",
             Fault::RoomNamedTwice => "grace: room named twice\n",

@@ -11,11 +11,10 @@ mod serve;
 mod uninterrupted;
 mod watch;
 
-pub use checking::{check_at, check_over};
+pub use checking::{check_at, check_over, read_up_to};
 pub use command::run;
+pub use fault::Fault;
 pub use script::script_over;
 pub use serve::{ServeFault, Service, serve_over, serve_streams};
+pub use uninterrupted::Uninterrupted;
 pub use watch::{WatchFault, watch_at, watch_over};
-
-#[cfg(test)]
-mod tests;

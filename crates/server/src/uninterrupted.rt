@@ -6,8 +6,8 @@ use std::io::{ErrorKind, Read, Write};
 /// A stream. What a signal interrupts is tried again: a read with a bound on its time is interrupted
 /// where the program is stopped and goes on, and that must end no session.
 #[derive(Drop)]
-pub(crate) struct Uninterrupted<S> {
-    pub(crate) stream: S,
+pub struct Uninterrupted<S> {
+    pub stream: S,
 }
 
 /// The fault of what was interrupted again and again.

@@ -11,6 +11,3 @@ mod order;
 pub use front::Front;
 pub use line::{TranscriptLine, adds, at_of, is_join};
 pub use lines::first_line;
-
-#[cfg(test)]
-mod tests;

@@ -1,0 +1,184 @@
+//! What a room answers that no script reaches.
+
+mod logs;
+
+use op_names::Kind;
+use room_core::{Limits, RoomState};
+use rules::{Attrs, LimitValues};
+use state_vector::StateVector;
+use std::process::Abort;
+use wire::{Reply, Request, read_request, write_reply};
+
+/// What is asked of a room with one site as a site that hasn't joined.
+const NOT_JOINED: &str = r#"0 ["leave"] => ["no",0,2,"not-joined"]
+2 ["leave"] => ["no",0,2,"not-joined"]"#;
+
+/// What is asked of a room after 16,384 entries: a join, 512 creations, and 31 sets on each object
+/// but one.
+const AT_THE_END: &str = r#"join => ["no",16384,6,"record-full"]
+1 ["new",16384,[[1,16383]],"rect",[]] => ["no",16384,6,"record-full"]
+1 ["set",16384,[[1,16383]],[1,1],[],"x",1] => ["no",16384,6,"record-full"]
+1 ["show",[1,1]] => ["versions",16384,[1,1],"rect",[[[],[["x",15872]]]]]
+1 ["list",511] => ["objects",16384,511,512,[[[1,512],"rect"]]]
+1 ["pull",16384] => ["entries",16384,16384,[]]"#;
+
+fn text(rt: &(impl Abort + AllocGlobal), reply: &Reply) -> String {
+    write_reply(rt.alloc(), reply).expect(rt, "memory")
+}
+
+fn room_of(rt: &(impl Abort + AllocGlobal), limits: LimitValues) -> RoomState {
+    let limits = Limits::new(limits);
+    RoomState::new(rt.alloc(), limits.expect(rt, "limits")).expect(rt, "memory")
+}
+
+fn join_text(rt: &(impl Abort + AllocGlobal), room: &mut RoomState) -> String {
+    let reply = room.join(rt.alloc()).expect(rt, "memory");
+    text(rt, &reply)
+}
+
+fn answer_text(
+    rt: &(impl Abort + AllocGlobal),
+    room: &mut RoomState,
+    site: u32,
+    request: Request,
+) -> String {
+    let reply = room.answer(rt.alloc(), site, request).expect(rt, "memory");
+    text(rt, &reply)
+}
+
+fn request_of(rt: &(impl Abort + AllocGlobal), text: &str) -> Request {
+    read_request(rt.alloc(), text.as_bytes()).expect(rt, "a request")
+}
+
+/// Does the room answer the line, SITE REQUEST => REPLY or join => REPLY where the next site joins?
+fn answers(rt: &(impl Abort + AllocGlobal), room: &mut RoomState, line: &str) -> bool {
+    let (asked, expected) = line.split_once(" => ").expect(rt, "an arrow");
+    let reply = match asked.split_once(' ') {
+        None => join_text(rt, room),
+        Some((site, request)) => {
+            let site = site.parse().expect(rt, "a site");
+            answer_text(rt, room, site, request_of(rt, request))
+        }
+    };
+    reply.as_str() == expected
+}
+
+fn answers_lines(rt: &(impl Abort + AllocGlobal), room: &mut RoomState, lines: &str) {
+    for line in lines.lines() {
+        assert!(rt; answers(rt, room, line), "{line}");
+    }
+}
+
+#[test]
+fn sites_that_have_not_joined(rt: HostRuntime) {
+    let mut room = room_of(&rt, LimitValues::FULL);
+    let _ = join_text(&rt, &mut room);
+    answers_lines(&rt, &mut room, NOT_JOINED);
+}
+
+/// A creation of this number, which may be out of range.
+fn creation_of_number(rt: &(impl Abort + AllocGlobal), seq: u32) -> Request {
+    let kind = Kind::parse(rt.alloc(), b"rect").expect(rt, "a kind");
+    let attrs = Attrs::from_pairs(Vec::new(rt.alloc())).expect(rt, "attributes");
+    Request::New {
+        seq,
+        seen: StateVector::empty(rt.alloc()),
+        kind,
+        attrs,
+    }
+}
+
+fn answers_number(
+    rt: &(impl Abort + AllocGlobal),
+    room: &mut RoomState,
+    seq: u32,
+    expected: &str,
+) -> bool {
+    answer_text(rt, room, 1, creation_of_number(rt, seq)).as_str() == expected
+}
+
+/// Is a creation of a number that is out of range answered so, by a room of these limits?
+fn answers_numbers(rt: &(impl Abort + AllocGlobal), limits: LimitValues, expected: &str) -> bool {
+    let mut room = room_of(rt, limits);
+    let _ = join_text(rt, &mut room);
+    answers_number(rt, &mut room, 0, expected)
+        && answers_number(rt, &mut room, 16385, expected)
+        && answers_number(rt, &mut room, 4294967295, expected)
+}
+
+// No text of a request has such numbers.
+#[test]
+fn numbers_out_of_range(rt: HostRuntime) {
+    let few = LimitValues {
+        joins: 9,
+        entries: 1,
+        objects: 9,
+        sets: 9,
+        keys: 9,
+        versions: 9,
+        page: 9,
+    };
+    assert!(rt; answers_numbers(&rt, LimitValues::FULL, r#"["no",1,7,"wrong-seq"]"#));
+    assert!(rt; answers_numbers(&rt, few, r#"["no",1,6,"record-full"]"#));
+}
+
+/// Have so many sites joined, and is there nothing else in the record?
+fn has_only_joins(room: &RoomState, joins: u32) -> bool {
+    room.sites() == joins && room.entries().len() == joins as usize
+}
+
+#[test]
+fn a_plan_changes_nothing_until_it_is_committed(rt: HostRuntime) {
+    let mut room = room_of(&rt, LimitValues::FULL);
+    let planned = room.plan_join(rt.alloc()).expect(&rt, "memory");
+    assert!(rt; has_only_joins(&room, 0));
+    assert_eq!(rt; text(&rt, planned.reply()).as_str(), r#"["joined",0,1]"#);
+    let reply = room.commit(planned);
+    assert_eq!(rt; text(&rt, &reply).as_str(), r#"["joined",0,1]"#);
+    assert!(rt; has_only_joins(&room, 1));
+    assert_eq!(rt; room.limits(), Limits::full());
+}
+
+/// What the only site asks for after so many: 512 creations, then sets on each of these objects in
+/// turn.
+fn next_request(rt: &(impl Abort + AllocGlobal), seen: u32, seq: u32) -> String {
+    let text = if seen == 0 {
+        format!(in rt.alloc(); "[\"new\",1,[],\"rect\",[]]")
+    } else if seq <= 512 {
+        format!(in rt.alloc(); "[\"new\",{seq},[[1,{seen}]],\"rect\",[]]")
+    } else {
+        let object = seq % 512 + 1;
+        format!(in rt.alloc(); "[\"set\",{seq},[[1,{seen}]],[1,{object}],[],\"x\",{seq}]")
+    };
+    text.expect(rt, "memory")
+}
+
+/// Asks for the next operation of the only site.
+fn ask_next(rt: &(impl Abort + AllocGlobal), room: &mut RoomState, seen: u32, seq: u32) {
+    let text = next_request(rt, seen, seq);
+    let request = request_of(rt, &text);
+    room.answer(rt.alloc(), 1, request).expect(rt, "memory");
+}
+
+/// How many entries or objects stand on the page that a request of site 1 is answered.
+fn page_of(rt: &(impl Abort + AllocGlobal), room: &mut RoomState, request: Request) -> usize {
+    match room.answer(rt.alloc(), 1, request).expect(rt, "memory") {
+        Reply::Entries { entries, .. } => entries.as_slice().len(),
+        Reply::Objects { objects, .. } => objects.as_slice().len(),
+        _ => 0,
+    }
+}
+
+#[test]
+fn a_full_room_still_shows(rt: HostRuntime) {
+    let mut room = room_of(&rt, LimitValues::FULL);
+    let _ = join_text(&rt, &mut room);
+    for seen in 0..16383 {
+        ask_next(&rt, &mut room, seen, seen + 1);
+    }
+    assert_eq!(rt; room.entries().len(), 16384);
+    answers_lines(&rt, &mut room, AT_THE_END);
+    assert_eq!(rt; page_of(&rt, &mut room, Request::Pull { from: 16000 }), 64);
+    assert_eq!(rt; page_of(&rt, &mut room, Request::List { from: 100 }), 64);
+    assert_eq!(rt; room.entries().len(), 16384);
+}

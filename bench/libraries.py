@@ -1,11 +1,14 @@
 #!/usr/bin/env python3
-"""Measures the libraries that no command uses yet, and prints tables in Markdown. `threads`: how many
-calls a second threads make of rooms behind locks, all in one room and each in a room of its own.
-`replicas`: what a page costs a replica, at the start and at the end of a record of 16,000 entries.
-The programs in bench/ are proved and built over a copy of the tree. Each figure is the best of the runs
-that the program makes: of 20 with threads, of five with replicas."""
+"""Measures libraries by themselves, and prints tables in Markdown. `threads`: how many calls a second threads
+make of rooms behind locks, all in one room and each in rooms of its own, and how many as many programs of one
+thread make at once, which is what the machine can do. `replicas`: what a page costs a replica, at the start and
+at the end of a record of 16,000 entries. The programs in bench/ are proved and built over a copy of the tree.
+With threads each figure is the median of the 20 rounds that the program makes, with replicas the best of five."""
 
+import collections
+import contextlib
 import pathlib
+import statistics
 import subprocess
 import sys
 import tempfile
@@ -21,35 +24,48 @@ PROGRAMS = {
 }
 
 
-def lines_of(crate, libraries):
-    """The words of each line that the program prints."""
+@contextlib.contextmanager
+def program(crate, libraries):
+    """The built program."""
     with tempfile.TemporaryDirectory() as name:
         folder = copy_of_tree(pathlib.Path(name), crate, f"bench/{crate}", libraries)
-        ran = subprocess.run(["rt", "run"], cwd=folder, capture_output=True, text=True)
-    lines = [line.split() for line in ran.stdout.splitlines()]
-    if not lines:
-        sys.exit(ran.stderr)
-    return lines
+        built = subprocess.run(["rt", "run"], cwd=folder, capture_output=True, text=True)
+        if not (folder / "out" / crate).is_file():
+            sys.exit(built.stderr)
+        yield folder / "out" / crate
+
+
+def lines_of(path, *words, times=1):
+    """The words of each line that the program prints, run so many times at once, run by run."""
+    runs = [subprocess.Popen([path, *words], stdout=subprocess.PIPE, text=True) for _ in range(times)]
+    return [[line.split() for line in run.communicate()[0].splitlines()] for run in runs]
+
+
+def medians(lines):
+    """The calls a second of each case, the median of the run's rounds."""
+    rates = collections.defaultdict(list)
+    for kind, threads, calls, micros in lines:
+        rates[kind, int(threads)].append(int(calls) * 1_000_000 / int(micros))
+    return {case: statistics.median(rounds) for case, rounds in rates.items()}
 
 
 def threads():
-    most = {}
-    for words in lines_of(*PROGRAMS["threads"]):
-        if len(words) == 4 and words[0] in ("one", "apart"):
-            key = words[0], int(words[1])
-            most[key] = max(int(words[2]) * 1_000_000 / int(words[3]), most.get(key, 0))
-    print("| Threads | All in one room | Each in a room of its own |")
-    print("|---|---|---|")
-    for count in (1, 2, 4, 8):
-        print(f"| {count} | {most['one', count]:,.0f} | {most['apart', count]:,.0f} |")
+    with program(*PROGRAMS["threads"]) as path:
+        rates = medians(*lines_of(path))
+        print("| Threads | All in one room | Each in rooms of its own | As many programs |")
+        print("|---|---|---|---|")
+        for count in (1, 2, 4, 8):
+            alone = sum(medians(lines)["apart", 1] for lines in lines_of(path, "1", times=count))
+            print(f"| {count} | {rates['one', count]:,.0f} | {rates['apart', count]:,.0f} | {alone:,.0f} |")
 
 
 def replicas():
     least = {}
-    for words in lines_of(*PROGRAMS["replicas"]):
-        if len(words) == 3 and words[0] == "pages":
-            last, micros = int(words[1]), int(words[2]) / 1000 / 50
-            least[last] = min(micros, least.get(last, micros))
+    with program(*PROGRAMS["replicas"]) as path:
+        [lines] = lines_of(path)
+    for _, last, nanos in lines:
+        micros = int(nanos) / 1000 / 50
+        least[int(last)] = min(micros, least.get(int(last), micros))
     print("| Pages of 64 entries | Microseconds a page |")
     print("|---|---|")
     for last in sorted(least):

@@ -26,7 +26,8 @@ fn read_buffer(alloc: Global) -> Result<Vec<u8>, Fault>
     Ok(vec![in alloc; 0u8; PIECE_LEN]?)
 }
 
-/// All the bytes that are left, if there are no more than `limit`: otherwise the input is at fault.
+/// All the bytes that are left, at most `limit`. `Input` where there are more, or a read fails for
+/// another reason than that a signal interrupted it; `NoMemory`.
 pub fn read_up_to<R: Read>(alloc: Global, input: &mut R, limit: usize) -> Result<Vec<u8>, Fault>
     ensures all { IfOk result (λ bytes. IfSome (R.remaining input.old) (λ all. bytes.items ≡ all)) }
     ensures most { IfOk result (λ bytes. length bytes.items ≤ limit) }

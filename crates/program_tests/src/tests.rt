@@ -2,13 +2,13 @@
 
 mod checking;
 mod interrupted;
-mod serving;
 mod transcripts;
 mod verdicts;
 mod watching;
 
+use commands::{Fault, script_over};
 use log::Log;
-use server::{Fault, run, script_over};
+use server::run;
 use std::alloc::Global;
 use std::io;
 use std::io::{ErrorKind, Read, Write};
@@ -111,7 +111,7 @@ grace,serve,127.0.0.1:0,1,1,r,r => grace: room named twice"#;
 /// Is this the first line of the bytes, and is it ended?
 fn begins_with_line(bytes: &[u8], line: &str) -> bool {
     match bytes.strip_prefix(line.as_bytes()) {
-        Some(rest) => rest.starts_with(b"\n"),
+        Some(rest) => rest.starts_with("\n".as_bytes()),
         None => false,
     }
 }
@@ -180,7 +180,7 @@ fn input_that_fails(rt: HostRuntime) {
     let mut output = Vec::new(rt.alloc());
     let mut errors = Vec::new(rt.alloc());
     let mut failing = Failing {
-        bytes: b"0 [\"leave\"]\n0",
+        bytes: "0 [\"leave\"]\n0".as_bytes(),
     };
     let status = script_over(rt.alloc(), &["r"], &mut failing, &mut output, &mut errors);
     let ran = Outcome {
@@ -235,7 +235,7 @@ fn help_on_an_output_that_fails(rt: HostRuntime) {
         &mut errors,
     );
     assert_eq!(rt; status, 3);
-    assert_eq!(rt; errors.as_slice(), b"grace: output failed\n".as_slice());
+    assert_eq!(rt; errors.as_slice(), "grace: output failed\n".as_bytes());
 }
 
 /// Does the fault end the program with this status and this line?

@@ -1,5 +1,6 @@
-//! Rooms.
+//! Rooms, and the texts that they take and give.
 
 mod one_room;
 mod replicas;
 mod scripts;
+mod texts;

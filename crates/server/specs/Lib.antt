@@ -1,4 +1,1 @@
-pub mod Names
 pub mod Faults
-pub mod Service
-pub mod Checks

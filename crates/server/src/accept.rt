@@ -2,7 +2,7 @@
 
 ghost use Rattle.std.specs.Iterator.{at_most};
 
-use crate::uninterrupted::Uninterrupted;
+use commands::Uninterrupted;
 use std::net::{OpenListener, OpenStream};
 use std::sync::atomic::{AtomicBool, Ordering};
 use std::time::Duration;

@@ -1,13 +1,11 @@
 //! The command line.
 
-use crate::checking::check_at;
-use crate::fault::Fault;
-use crate::script::script_over;
 use crate::serve::{Service, serve_over};
-use crate::watch::watch_at;
 use clap::error::ErrorKind;
 use clap::{Arg, ArgAction, ArgMatches, Command, Error, value_parser};
+use commands::{Fault, check_at, script_over};
 use log::Log;
+use room_watch::watch_at;
 use std::alloc::{AllocError, Global};
 use std::io::{Read, Write};
 use std::net::Net;

@@ -1,20 +1,18 @@
 //! `grace serve ADDRESS SESSIONS WORKERS ROOM..`: serves sessions over WebSocket.
 
 ghost use Rattle.std.specs.Prelude.{◌≡◌, ◌+◌, ◌*◌, length};
-ghost use Rattle.std.specs.Iterator.{IsFinite};
 ghost use Rattle.room_lock.specs.Kept.{SPARE_PARTS};
+ghost use Rattle.server.specs.Faults.{of_serving};
 
 use crate::accept::Accepted;
-use crate::fault::Fault;
-use crate::record::write_record;
-use crate::script::room_names;
-use log::{Log, warn};
-use op_names::{NoMemory, RoomName};
-use room_lock::{CloseFault, Opened, Pass, RoomLedger, Rooms, open_histories};
+use commands::{Fault, room_names};
+use log::Log;
+use op_names::RoomName;
+use room_lock::{Opened, RoomLedger, Rooms, open_histories};
 use rules::Limits;
-use sessions::{Cause, Gate, Open, PoolEnd, PoolFault, run_pool};
-use std::alloc::{AllocError, AllocFailed, Global};
-use std::io::{Read, Write};
+use sessions::{Open, ServeFault, serve_streams};
+use std::alloc::Global;
+use std::io::Write;
 use std::marker::Brand;
 use std::net::{Net, TcpListener};
 use std::sync::Wait;
@@ -22,128 +20,16 @@ use std::sync::atomic::{AtomicBool, Ordering};
 use std::sync::ledger::Blank;
 use std::thread::Threads;
 use std::time::Duration;
-use thiserror::Error;
 
-/// Why streams can't be served to the end.
-#[derive(Clone, Copy, Debug, PartialEq, Eq, Error)]
-pub enum ServeFault {
-    #[error("no worker")]
-    NoWorker,
-    /// The rooms can't be closed: their records don't agree with the sessions.
-    #[error("rooms torn")]
-    Torn,
-    #[error("the records can't be written")]
-    Write,
-    #[error("out of memory")]
-    NoMemory,
-}
-
-impl From<AllocError> for ServeFault {
-    fn from(_fault: AllocError) -> ServeFault {
-        ServeFault::NoMemory
-    }
-}
-
-impl From<NoMemory> for ServeFault {
-    fn from(_fault: NoMemory) -> ServeFault {
-        ServeFault::NoMemory
-    }
-}
-
-impl<T: Drop> From<AllocFailed<T>> for ServeFault {
-    fn from(_fault: AllocFailed<T>) -> ServeFault {
-        ServeFault::NoMemory
-    }
-}
-
-impl From<PoolFault> for ServeFault {
-    fn from(fault: PoolFault) -> ServeFault {
-        match fault {
-            PoolFault::NoWorker => ServeFault::NoWorker,
-            PoolFault::NoMemory => ServeFault::NoMemory,
-        }
-    }
-}
-
-impl From<CloseFault> for ServeFault {
-    fn from(fault: CloseFault) -> ServeFault {
-        match fault {
-            CloseFault::NoMemory => ServeFault::NoMemory,
-            CloseFault::Torn { .. } | CloseFault::Missing { .. } => ServeFault::Torn,
-        }
-    }
-}
-
-/// A gate that warns of each session that did not end well, and is another gate in all else.
-#[derive(Drop)]
-struct Warned<'a, R, G> {
-    rt: &'a R,
-    gate: &'a G,
-}
-
-impl<R: Log, G: Gate> Gate for Warned<'_, R, G> {
-    fn before_call(&self, session: u32) {
-        self.gate.before_call(session);
-    }
-
-    fn after_call(&self, session: u32) {
-        self.gate.after_call(session);
-    }
-
-    fn after_session(&self, session: u32, cause: Cause) {
-        if cause != Cause::Closed {
-            warn!(self.rt; "session {session}: {cause}");
-        }
-        self.gate.after_session(session, cause);
-    }
-}
-
-/// All passes of the sessions that a pool served.
-fn all_passes<P: RoomLedger>(alloc: Global, end: PoolEnd<P>) -> Result<Vec<Pass<P>>, ServeFault> {
-    let mut passes = Vec::new(alloc);
-    for list in end.ended {
-        for ended in list {
-            for pass in ended.passes {
-                passes.push(pass)?;
-            }
-        }
-    }
-    Ok(passes)
-}
-
-/// Serves the streams by this many workers, then closes the rooms and writes for each, in order, the
-/// line `room NAME COUNT` and its record, an entry a line. Warns of each session that did not end
-/// `Closed`, as it ends. `NoWorker` where no stream was served, since no worker could be started;
-/// `Torn` where the rooms' records don't agree with the sessions' passes; `Write` where the output
-/// fails, of which a front was then written; otherwise `NoMemory`.
-pub fn serve_streams<P, R, S, I, G, W>(
-    rt: &R,
-    alloc: Global,
-    rooms: Rooms<P>,
-    streams: I,
-    workers: u32,
-    gate: &G,
-    output: &mut W,
-) -> Result<(), ServeFault>
-where
-    P: RoomLedger + Send + Sync,
-    R: Threads + Wait + Log + Sync,
-    S: Read + Write + Drop + Send,
-    I: Iterator<Item = S> + Drop,
-    G: Gate + Sync,
-    W: Write,
-    requires can { I.can_next streams }
-    requires ends { IsFinite (I.remaining streams) }
+/// What a fault of serving is to the program.
+fn fault_of(fault: ServeFault) -> Fault
+    ensures { result ≡ of_serving fault }
 {
-    let gate = Warned { rt, gate };
-    let end = run_pool(rt, alloc, &rooms, streams, workers, &gate)?;
-    let passes = all_passes(alloc, end)?;
-    for record in rooms.close(alloc, passes)? {
-        write_record(alloc, &record, output)?;
-    }
-    match output.flush() {
-        Ok(()) => Ok(()),
-        Err(_) => Err(ServeFault::Write),
+    match fault {
+        ServeFault::NoWorker => Fault::NoWorker,
+        ServeFault::Torn => Fault::RoomsTorn,
+        ServeFault::Write => Fault::Output,
+        ServeFault::NoMemory => Fault::NoMemory,
     }
 }
 
@@ -191,7 +77,10 @@ where
         idle: service.idle,
         failed: &failed,
     };
-    serve_streams(rt, alloc, rooms, streams, service.workers, &Open, output)?;
+    let served = serve_streams(rt, alloc, rooms, streams, service.workers, &Open, output);
+    if let Err(fault) = served {
+        return Err(fault_of(fault));
+    }
     if failed.load(Ordering::SeqCst) {
         return Err(Fault::Accept);
     }

@@ -1,6 +1,5 @@
 //! Sessions over memory, one by one, by workers and against each other, and streams that are hostile or
-//! fail: tests of the public calls of `sessions`, and of what `world` and `server` do with readers and
-//! writers.
+//! fail: tests of the public calls of `sessions`, and of `room_watch` over streams that fail.
 #![tactic(auto)]
 
 #[cfg(test)]

@@ -5,7 +5,6 @@ mod faults;
 mod messages;
 mod pool;
 mod rows;
-mod scripts;
 mod served;
 mod stream;
 mod watched;
@@ -17,8 +16,8 @@ use std::process::Abort;
 use std::sync::atomic::{AtomicU64, Ordering};
 
 /// The head of a request that asks for a WebSocket, with the key of RFC 6455, section 1.3.
-const HEAD: &[u8] =
-    b"GET / HTTP/1.1\r\nHost: localhost\r\nUpgrade: websocket\r\nConnection: Upgrade\r\nSec-WebSocket-Key: dGhlIHNhbXBsZSBub25jZQ==\r\nSec-WebSocket-Version: 13\r\n\r\n";
+const HEAD: &str =
+    "GET / HTTP/1.1\r\nHost: localhost\r\nUpgrade: websocket\r\nConnection: Upgrade\r\nSec-WebSocket-Key: dGhlIHNhbXBsZSBub25jZQ==\r\nSec-WebSocket-Version: 13\r\n\r\n";
 
 /// A client's close of 1000, masked with zeros.
 const CLOSE: &[u8] = b"\x88\x82\x00\x00\x00\x00\x03\xe8";
@@ -84,7 +83,9 @@ fn frame_head(rt: &(impl Abort + AllocGlobal), first: u8, mask: u8, len: usize) 
 /// A client's message as a frame, masked with zeros.
 fn masked_bytes(rt: &(impl Abort + AllocGlobal), opcode: u8, bytes: &[u8]) -> Vec<u8> {
     let mut frame = frame_head(rt, 0x80 | opcode, 0x80, bytes.len());
-    frame.extend_from_slice(b"\0\0\0\0").expect(rt, "memory");
+    frame
+        .extend_from_slice("\0\0\0\0".as_bytes())
+        .expect(rt, "memory");
     frame.extend_from_slice(bytes).expect(rt, "memory");
     frame
 }
@@ -115,7 +116,7 @@ fn joined_up(rt: &(impl Abort + AllocGlobal), frames: &[&[u8]]) -> Vec<u8> {
 /// What follows the head of a request or a response.
 fn frames_of(output: &[u8]) -> &[u8] {
     for place in 0..output.len() {
-        if output[place..].starts_with(b"\r\n\r\n") {
+        if output[place..].starts_with("\r\n\r\n".as_bytes()) {
             return &output[place..][4..];
         }
     }
@@ -125,7 +126,7 @@ fn frames_of(output: &[u8]) -> &[u8] {
 /// What the session sends: the head of its request, then a frame for each message, then a close.
 fn asked_parts(rt: &(impl Abort + AllocGlobal)) -> Vec<Vec<u8>> {
     let mut parts = Vec::new(rt.alloc());
-    parts.push(copied(rt, HEAD)).expect(rt, "memory");
+    parts.push(copied(rt, HEAD.as_bytes())).expect(rt, "memory");
     for words in ASKED.lines() {
         parts.push(masked(rt, 2, words)).expect(rt, "memory");
     }
@@ -155,15 +156,6 @@ fn bytewise(rt: &(impl Abort + AllocGlobal), parts: &[Vec<u8>], whole: usize) ->
         }
     }
     pieces
-}
-
-/// The bytes of all parts.
-fn whole_of(rt: &(impl Abort + AllocGlobal), parts: &[Vec<u8>]) -> Vec<u8> {
-    let mut bytes = Vec::new(rt.alloc());
-    for part in parts {
-        bytes.extend_from_slice(part).expect(rt, "memory");
-    }
-    bytes
 }
 
 /// A gate that counts the calls that rooms have answered.

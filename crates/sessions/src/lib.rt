@@ -4,11 +4,14 @@
 mod cause;
 mod gate;
 mod pool;
+mod record;
 mod serve;
 mod session;
+mod streams;
 
 pub use cause::Cause;
 pub use gate::{Gate, Open};
 pub use pool::{PoolEnd, PoolFault, run_pool};
 pub use serve::{Ended, serve_one};
 pub use session::Session;
+pub use streams::{ServeFault, serve_streams};

@@ -1,7 +1,7 @@
 //! `check_over` over memory, and `check_at` over files that aren't there.
 
 use super::{Closed, Failing, Outcome, begins_with_line, run_words, shows};
-use server::{Fault, check_at, check_over, read_up_to};
+use commands::{Fault, check_at, check_over, read_up_to};
 use std::io;
 use std::io::{ErrorKind, Read};
 use std::process::Abort;
@@ -132,7 +132,7 @@ fn a_verdict_on_an_output_that_fails(rt: HostRuntime) {
         &mut errors,
     );
     assert_eq!(rt; status, 3);
-    assert_eq!(rt; errors.as_slice(), b"grace: output failed\n".as_slice());
+    assert_eq!(rt; errors.as_slice(), "grace: output failed\n".as_bytes());
 }
 
 /// A reader that is interrupted before each byte.

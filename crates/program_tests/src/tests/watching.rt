@@ -4,8 +4,8 @@ ghost use Rattle.std.specs.Prelude.{◌≡◌, length};
 
 use op_names::RoomName;
 use room_lock::{Joined, Opened, Pass, RoomLedger, Rooms, open_histories};
+use room_watch::watch_over;
 use rules::Limits;
-use server::watch_over;
 use sessions::{Cause, Open, serve_one};
 use std::io::{Read, Write};
 use std::marker::Brand;

@@ -1,6 +1,6 @@
 //! Scripts and their answers.
 
-mod full_objects;
+mod full_sizes;
 mod rows;
 mod streams;
 
@@ -88,6 +88,20 @@ fn rooms_share_nothing(rt: HostRuntime) {
 #[test]
 fn limits_are_kept(rt: HostRuntime) {
     all_hold(&rt, LIMITED);
+}
+
+#[test]
+fn full_limits(rt: HostRuntime) {
+    let full = LimitValues {
+        joins: 256,
+        entries: 16384,
+        objects: 512,
+        sets: 1024,
+        keys: 64,
+        versions: 32,
+        page: 64,
+    };
+    assert_eq!(rt; Limits::new(full), Some(Limits::full()));
 }
 
 /// Answers of session 1.

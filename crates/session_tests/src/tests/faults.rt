@@ -2,7 +2,7 @@
 
 use std::io;
 use std::io::{ErrorKind, Read, Write};
-use std::sync::atomic::{AtomicBool, AtomicU64, Ordering};
+use std::sync::atomic::{AtomicU64, Ordering};
 
 /// The reads, writes and flushes of a reader and a writer, counted together, of which one fails.
 #[derive(Drop)]
@@ -10,7 +10,6 @@ pub(super) struct Calls {
     made: AtomicU64,
     /// The number of the call that fails, from 1; 0 for none.
     fails: u64,
-    read_failed: AtomicBool,
     reads: AtomicU64,
     given: AtomicU64,
 }
@@ -21,7 +20,6 @@ impl Calls {
         Calls {
             made: AtomicU64::new(0),
             fails,
-            read_failed: AtomicBool::new(false),
             reads: AtomicU64::new(0),
             given: AtomicU64::new(0),
         }
@@ -44,7 +42,6 @@ impl Calls {
     fn read(&self) -> io::Result<()> {
         self.reads.fetch_add(1, Ordering::SeqCst);
         if self.fails_now() {
-            self.read_failed.store(true, Ordering::SeqCst);
             return Err(io::Error::from(ErrorKind::ConnectionReset));
         }
         Ok(())
@@ -53,11 +50,6 @@ impl Calls {
     /// Was the call that fails made?
     pub(super) fn have_failed(&self) -> bool {
         self.fails > 0 && self.made.load(Ordering::SeqCst) >= self.fails
-    }
-
-    /// Was it a read?
-    pub(super) fn failed_in_a_read(&self) -> bool {
-        self.read_failed.load(Ordering::SeqCst)
     }
 
     /// How many reads there were, with one that failed.

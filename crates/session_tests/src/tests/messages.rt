@@ -1,7 +1,5 @@
-//! Bad messages, in scripts, in sessions and over streams.
+//! Bad messages, in sessions and over streams.
 
-use super::faults::Calls;
-use super::scripts::run_world;
 use super::stream::{Session, served};
 use super::{CLOSE, CLOSED, copied, joined_up, masked, masked_bytes, text_frame};
 use sessions::Cause;
@@ -32,50 +30,6 @@ pub(super) fn bad_messages(rt: &(impl Abort + AllocGlobal)) -> Vec<Vec<u8>> {
     let long = vec![in rt.alloc(); b'a'; 100_000].expect(rt, "memory");
     messages.push(long).expect(rt, "memory");
     messages
-}
-
-/// Lines of session 1 with these messages.
-fn lines_of(rt: &(impl Abort + AllocGlobal), messages: &[Vec<u8>]) -> Vec<u8> {
-    let mut lines = Vec::new(rt.alloc());
-    for message in messages {
-        lines.extend_from_slice(b"1 ").expect(rt, "memory");
-        lines.extend_from_slice(message).expect(rt, "memory");
-        lines.push(b'\n').expect(rt, "memory");
-    }
-    lines
-}
-
-/// A script of these messages, a join and these messages again.
-fn script_with(rt: &(impl Abort + AllocGlobal), bad: &[Vec<u8>]) -> Vec<Vec<u8>> {
-    let mut parts = Vec::new(rt.alloc());
-    let join = copied(rt, b"1 [\"join\",\"r\"]\n");
-    parts.push(lines_of(rt, bad)).expect(rt, "memory");
-    parts.push(join).expect(rt, "memory");
-    parts.push(lines_of(rt, bad)).expect(rt, "memory");
-    parts
-}
-
-/// The lines that refuse so many messages.
-fn refusals(rt: &(impl Abort + AllocGlobal), count: usize) -> String {
-    let mut lines = String::new(rt.alloc());
-    for _message in 0..count {
-        writeln!(lines, "1 {BAD_MESSAGE}").expect(rt, "memory");
-    }
-    lines
-}
-
-#[test]
-fn bad_lines_of_a_script(rt: HostRuntime) {
-    let bad = bad_messages(&rt);
-    let parts = script_with(&rt, &bad);
-    let run = run_world(&rt, &parts, usize::MAX, &Calls::failing(0));
-    assert!(rt; run.end.is_ok());
-    let refused = refusals(&rt, bad.len());
-    let answers = format!(in rt.alloc(); "{refused}1 [\"joined\",0,1]\n{refused}");
-    assert_eq!(rt;
-        run.output.as_slice(),
-        answers.expect(&rt, "memory").as_bytes()
-    );
 }
 
 /// A frame for each of these messages.

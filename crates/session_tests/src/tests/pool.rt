@@ -109,7 +109,7 @@ fn gate_holds_both_in<
     let mut streams = Vec::new(rt.alloc());
     for _session in 0..2 {
         let stream = Duplex {
-            reader: HEAD.chain(sent.as_slice()),
+            reader: HEAD.as_bytes().chain(sent.as_slice()),
             writer: Vec::new(rt.alloc()),
         };
         streams.push(stream).expect(rt, "memory");
@@ -142,7 +142,7 @@ fn no_worker_in<P: RoomLedger + Send + Sync, R: Threads + Wait + Sync + Abort + 
     let rooms = Rooms::<P>::new(rt.alloc(), blank, histories, &names, limits).expect(rt, "rooms");
     let mut streams = Vec::new(rt.alloc());
     let stream = Duplex {
-        reader: HEAD,
+        reader: HEAD.as_bytes(),
         writer: Vec::new(rt.alloc()),
     };
     streams.push(stream).expect(rt, "memory");
@@ -163,7 +163,7 @@ fn no_worker(rt: HostRuntime) {
 fn asked_parts(rt: &(impl Abort + AllocGlobal), room: &str) -> Vec<Vec<u8>> {
     let join = format!(in rt.alloc(); "[\"join\",\"{room}\"]").expect(rt, "memory");
     let mut parts = Vec::new(rt.alloc());
-    parts.push(copied(rt, HEAD)).expect(rt, "memory");
+    parts.push(copied(rt, HEAD.as_bytes())).expect(rt, "memory");
     parts.push(masked(rt, 2, &join)).expect(rt, "memory");
     for words in [
         r#"["new",1,[],"rect",[["x",0]]]"#,

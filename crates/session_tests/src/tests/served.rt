@@ -4,15 +4,14 @@ ghost use Rattle.std.specs.Prelude.{◌≡◌, length};
 
 use super::faults::{Calls, Parts, Sparing};
 use super::{
-    ANSWERED, Counting, ENTRIES, RECORD, answer_frames, asked_parts, bytewise, frames_of,
+    ANSWERED, Counting, ENTRIES, RECORD, answer_frames, asked_parts, bytewise, copied, frames_of,
     room_name, text_frame,
 };
 use log::sink::Locked;
 use log::{LevelFilter, Log, Logged};
 use room_lock::{Opened, RoomLedger, Rooms, open_histories};
 use rules::Limits;
-use server::{ServeFault, serve_streams};
-use sessions::{Cause, serve_one};
+use sessions::{Cause, ServeFault, serve_one, serve_streams};
 use std::marker::Brand;
 use std::process::Abort;
 use std::sync::Wait;
@@ -298,6 +297,24 @@ fn records_after_a_stream_that_fails_at_each_call(rt: HostRuntime) {
     let warnings = sink.into_inner();
     let lines = warnings.iter().filter(|byte| **byte == b'\n').count();
     assert_eq!(rt; lines as u64, failed);
+}
+
+#[test]
+fn a_session_that_fails_is_warned_of(rt: HostRuntime) {
+    let sink = Locked::new(rt, Vec::new(rt.alloc()));
+    let logged = Logged::new(rt, LevelFilter::Warn, &sink);
+    let mut parts = Vec::new(rt.alloc());
+    parts
+        .push(copied(&rt, "GET / HTTP/1.1\r\n\r\n".as_bytes()))
+        .expect(&rt, "memory");
+    let calls = Calls::failing(0);
+    let run = run_streams(&logged, &parts, usize::MAX, &calls, &calls);
+    assert!(rt; run.end.is_ok());
+    assert_eq!(rt; run.output.as_slice(), "room r 0\n".as_bytes());
+    assert_eq!(rt;
+        sink.into_inner().as_slice(),
+        "[WARN  server::serve] session 1: handshake failed\n".as_bytes()
+    );
 }
 
 /// Looks at what is written to an output that fails at this call; false where there is no such call.

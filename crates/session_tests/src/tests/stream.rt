@@ -19,7 +19,7 @@ pub(super) struct Session {
 /// Serves the session in a room `r`, which is closed then with the passes that came back.
 pub(super) fn served(rt: &(impl Wait + Abort + AllocGlobal), session: Session) {
     let mut parts = Vec::new(rt.alloc());
-    parts.push(copied(rt, HEAD)).expect(rt, "memory");
+    parts.push(copied(rt, HEAD.as_bytes())).expect(rt, "memory");
     parts.push(session.sent).expect(rt, "memory");
     let run = run_session(rt, &parts, usize::MAX, &Calls::failing(0));
     assert_eq!(rt; run.cause, session.cause);
@@ -29,13 +29,11 @@ pub(super) fn served(rt: &(impl Wait + Abort + AllocGlobal), session: Session) {
 
 #[test]
 fn a_request_from_no_room(rt: HostRuntime) {
-    let sent = b"\x82\x89\x00\x00\x00\x00\x5b\x22\x6c\x65\x61\x76\x65\x22\x5d";
-    let answer = b"\x81\x17[\"no\",0,2,\"not-joined\"]";
     served(
         &rt,
         Session {
-            sent: joined_up(&rt, &[sent]),
-            answer: joined_up(&rt, &[answer]),
+            sent: masked(&rt, 2, r#"["leave"]"#),
+            answer: text_frame(&rt, r#"["no",0,2,"not-joined"]"#),
             cause: Cause::StreamFault,
             passes: 0,
         },
@@ -79,8 +77,10 @@ fn a_frame_that_is_too_long(rt: HostRuntime) {
 #[test]
 fn no_handshake(rt: HostRuntime) {
     let mut parts = Vec::new(rt.alloc());
-    let head = copied(&rt, b"GET / HTTP/1.1\r\nHost: localhost\r\n\r\n");
-    parts.push(head).expect(&rt, "memory");
+    let head = "GET / HTTP/1.1\r\nHost: localhost\r\n\r\n";
+    parts
+        .push(copied(&rt, head.as_bytes()))
+        .expect(&rt, "memory");
     let run = run_session(&rt, &parts, usize::MAX, &Calls::failing(0));
     assert_eq!(rt; run.cause, Cause::HandshakeFailed);
 }

@@ -3,7 +3,7 @@
 
 use super::faults::{Calls, Parts, Sparing};
 use super::{CLOSE, CLOSED, bytewise, copied, frames_of, joined_up, masked, room_name, text_frame};
-use server::{WatchFault, watch_over};
+use room_watch::{WatchFault, watch_over};
 use std::io;
 use std::process::Abort;
 use std::random::RandomSource;
@@ -20,8 +20,8 @@ impl RandomSource for Zeros {
 }
 
 /// The server's head for that key, by RFC 6455, section 4.2.2.
-const ACCEPTED: &[u8] =
-    b"HTTP/1.1 101 Switching Protocols\r\nUpgrade: websocket\r\nConnection: Upgrade\r\nSec-WebSocket-Accept: ICX+Yqv66kxgM0FcWaLWlFLwTAI=\r\n\r\n";
+const ACCEPTED: &str =
+    "HTTP/1.1 101 Switching Protocols\r\nUpgrade: websocket\r\nConnection: Upgrade\r\nSec-WebSocket-Accept: ICX+Yqv66kxgM0FcWaLWlFLwTAI=\r\n\r\n";
 
 /// What who watches asks.
 const ASKED: &str = r#"["join","r"]
@@ -39,7 +39,9 @@ const SHOWN: &str = "[\"versions\",3,[1,1],\"rect\",[[[],[[\"x\",0]]]]]\n";
 /// What the server sends: the head of its response, a frame for each reply, and a close.
 fn answer_parts(rt: &(impl Abort + AllocGlobal)) -> Vec<Vec<u8>> {
     let mut parts = Vec::new(rt.alloc());
-    parts.push(copied(rt, ACCEPTED)).expect(rt, "memory");
+    parts
+        .push(copied(rt, ACCEPTED.as_bytes()))
+        .expect(rt, "memory");
     for words in ANSWERED.lines() {
         parts.push(text_frame(rt, words)).expect(rt, "memory");
     }

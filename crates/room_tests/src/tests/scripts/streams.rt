@@ -122,7 +122,7 @@ fn a_byte_at_a_read(rt: HostRuntime) {
     let mut written = Vec::new(rt.alloc());
     let done = world.script(rt.alloc(), &mut reader, &mut written);
     assert!(rt; done.is_ok());
-    assert!(rt; written.starts_with(b"1 [\"no\",0,2,\"not-joined\"]\n"));
+    assert!(rt; written.starts_with("1 [\"no\",0,2,\"not-joined\"]\n".as_bytes()));
     assert!(rt; written.ends_with(BAD_MESSAGE.as_bytes()));
 }
 
@@ -169,13 +169,13 @@ impl Write for InterruptedWriter {
     }
 }
 
-const JOIN_AND_LEAVE: &[u8] = b"1 [\"join\",\"r\"]\n1 [\"leave\"]\n";
+const JOIN_AND_LEAVE: &str = "1 [\"join\",\"r\"]\n1 [\"leave\"]\n";
 
 #[test]
 fn interrupted_calls_are_tried_again(rt: HostRuntime) {
     let mut world = world_of(&rt, &["r"], LimitValues::FULL);
     let mut reader = InterruptedReader {
-        bytes: JOIN_AND_LEAVE,
+        bytes: JOIN_AND_LEAVE.as_bytes(),
         again: false,
     };
     let mut writer = InterruptedWriter {
@@ -192,7 +192,7 @@ fn interrupted_calls_are_tried_again(rt: HostRuntime) {
 #[test]
 fn a_flush_that_fails_is_a_fault(rt: HostRuntime) {
     let mut world = world_of(&rt, &["r"], LimitValues::FULL);
-    let mut reader = JOIN_AND_LEAVE;
+    let mut reader = JOIN_AND_LEAVE.as_bytes();
     let mut writer = InterruptedWriter {
         held: Vec::new(rt.alloc()),
         again: true,

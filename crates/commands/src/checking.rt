@@ -1,0 +1,238 @@
+//! `grace check RECORD TRANSCRIPT`: checks a room's record and a transcript of it.
+
+ghost use Rattle.std.specs.Prelude.{◌≡◌, ◌≤◌, ◌⊎◌, IfErr, IfOk, IfSome, OnErr, OnOk, length, string_bytes};
+ghost use Rattle.std.specs.Io.KnownBytes.{Appends, IsAtEnd};
+ghost use Rattle.world.specs.Script.{AppendsFront};
+ghost use Rattle.commands.specs.Checks.{Checks, EndsEarly, OfReaders, OfSome, OfThese, Tells, end_status, verdict_line};
+
+use crate::fault::Fault;
+use history_check::{Verdict, check};
+use std::alloc::Global;
+use std::fs::File;
+use std::io::{ErrorKind, Read, Write};
+use std::rt::Files;
+
+/// How many bytes a file may have.
+const MAX_FILE_LEN: usize = 1_073_741_824;
+
+/// How many bytes are read at once.
+const PIECE_LEN: usize = 65536;
+
+/// Where a read puts what it reads.
+fn read_buffer(alloc: Global) -> Result<Vec<u8>, Fault>
+    ensures ok { IfOk result (λ piece. length piece.items ≡ PIECE_LEN) }
+    ensures fault { IfErr result (λ fault. fault ≡ Fault.NoMemory) }
+{
+    Ok(vec![in alloc; 0u8; PIECE_LEN]?)
+}
+
+/// All the bytes that are left, at most `limit`. `Input` where there are more, or a read fails for
+/// another reason than that a signal interrupted it; `NoMemory`.
+pub fn read_up_to<R: Read>(alloc: Global, input: &mut R, limit: usize) -> Result<Vec<u8>, Fault>
+    ensures all { IfOk result (λ bytes. IfSome (R.remaining input.old) (λ all. bytes.items ≡ all)) }
+    ensures most { IfOk result (λ bytes. length bytes.items ≤ limit) }
+    ensures end { OnOk result (IsAtEnd (R.remaining input.new)) }
+    ensures fault { IfErr result (λ fault. (fault ≡ Fault.Input) ⊎ (fault ≡ Fault.NoMemory)) }
+{
+    let mut buffer = read_buffer(alloc)?;
+    let piece = buffer.as_mut_slice();
+    let mut bytes = Vec::new(alloc);
+    for _ in 0..u64::MAX {
+        match input.read(piece) {
+            Ok(0) => return Ok(bytes),
+            Ok(count) => {
+                if count > limit - bytes.len() {
+                    return Err(Fault::Input);
+                }
+                bytes.extend_from_slice(&piece[..count])?;
+            }
+            Err(fault) => {
+                if fault.kind() != ErrorKind::Interrupted {
+                    return Err(Fault::Input);
+                }
+            }
+        }
+    }
+    Err(Fault::Input)
+}
+
+/// All bytes of a file.
+fn read_whole<R: Read>(alloc: Global, input: &mut R) -> Result<Vec<u8>, Fault>
+    ensures all { IfOk result (λ bytes. IfSome (R.remaining input.old) (λ all. bytes.items ≡ all)) }
+    ensures most { IfOk result (λ bytes. length bytes.items ≤ MAX_FILE_LEN) }
+    ensures end { OnOk result (IsAtEnd (R.remaining input.new)) }
+    ensures fault { IfErr result (λ fault. (fault ≡ Fault.Input) ⊎ (fault ≡ Fault.NoMemory)) }
+{
+    read_up_to(alloc, input, MAX_FILE_LEN)
+}
+
+/// All bytes of the file of this name.
+fn read_at<H: Files>(rt: &H, alloc: Global, path: &str) -> Result<Vec<u8>, Fault>
+    ensures most { IfOk result (λ bytes. length bytes.items ≤ MAX_FILE_LEN) }
+    ensures fault { IfErr result (λ fault. (fault ≡ Fault.Input) ⊎ (fault ≡ Fault.NoMemory)) }
+{
+    let Ok(mut file) = File::open(rt, path) else {
+        return Err(Fault::Input);
+    };
+    read_whole(alloc, &mut file)
+}
+
+/// The line of a verdict.
+fn verdict_line(alloc: Global, verdict: Verdict) -> Result<String, Fault>
+    ensures ok { IfOk result (λ line. string_bytes line ≡ verdict_line verdict) }
+    ensures fault { IfErr result (λ fault. fault ≡ Fault.NoMemory) }
+{
+    let line = match verdict {
+        Verdict::Holds => "holds\n".to_string(alloc)?,
+        Verdict::BadRecord(number) => format!(in alloc; "bad record line {number}\n")?,
+        Verdict::BadTranscript(number) => format!(in alloc; "bad transcript line {number}\n")?,
+        Verdict::WrongReply(number) => format!(in alloc; "wrong reply line {number}\n")?,
+    };
+    Ok(line)
+}
+
+/// Writes all of the bytes, in as many calls as it takes.
+fn write_out<W: Write>(output: &mut W, bytes: &[u8]) -> Result<(), Fault>
+    ensures ok { OnOk result (Appends (W.contents output.old) (W.contents output.new) bytes.now) }
+    ensures front { OnErr result
+        (AppendsFront (W.contents output.old) (W.contents output.new) bytes.now) }
+    ensures fault { IfErr result (λ fault. fault ≡ Fault.Output) }
+{
+    let mut written = 0;
+    for _ in 0..u64::MAX {
+        if written >= bytes.len() {
+            return Ok(());
+        }
+        match output.write(&bytes[written..]) {
+            Ok(0) => return Err(Fault::Output),
+            Ok(count) => written += count,
+            Err(fault) => {
+                if fault.kind() != ErrorKind::Interrupted {
+                    return Err(Fault::Output);
+                }
+            }
+        }
+    }
+    Err(Fault::Output)
+}
+
+/// Writes a line, and hands it on.
+fn write_line<W: Write>(output: &mut W, line: &[u8]) -> Result<(), Fault>
+    ensures ok { OnOk result (Appends (W.contents output.old) (W.contents output.new) line.now) }
+    ensures front { OnErr result
+        (AppendsFront (W.contents output.old) (W.contents output.new) line.now) }
+    ensures fault { IfErr result (λ fault. fault ≡ Fault.Output) }
+{
+    write_out(output, line)?;
+    match output.flush() {
+        Ok(()) => Ok(()),
+        Err(_fault) => Err(Fault::Output),
+    }
+}
+
+/// The verdict on these bytes, whose line it writes.
+fn judge<W: Write>(
+    alloc: Global,
+    entries: &[u8],
+    transcript: &[u8],
+    output: &mut W,
+) -> Result<Verdict, Fault>
+    ensures ok { IfOk result (λ verdict. Tells (W.contents output.old) (W.contents output.new)
+        verdict entries.now transcript.now) }
+    ensures fault { IfErr result (EndsEarly (OfThese entries.now transcript.now)
+        (W.contents output.old) (W.contents output.new)) }
+{
+    let verdict = check(alloc, entries, transcript)?;
+    let line = verdict_line(alloc, verdict)?;
+    write_line(output, line.as_bytes())?;
+    Ok(verdict)
+}
+
+/// The verdict on what two readers give, whose line it writes.
+fn judge_over<A: Read, B: Read, W: Write>(
+    alloc: Global,
+    first: &mut A,
+    second: &mut B,
+    output: &mut W,
+) -> Result<Verdict, Fault>
+    ensures ok { IfOk result (λ verdict. OfReaders (A.remaining first.old) (B.remaining second.old)
+        (Tells (W.contents output.old) (W.contents output.new) verdict)) }
+    ensures fault { IfErr result
+        (EndsEarly (OfReaders (A.remaining first.old) (B.remaining second.old))
+        (W.contents output.old) (W.contents output.new)) }
+{
+    let entries = read_whole(alloc, first)?;
+    let transcript = read_whole(alloc, second)?;
+    judge(alloc, entries.as_slice(), transcript.as_slice(), output)
+}
+
+/// The verdict on the bytes of the files of these names, whose line it writes.
+fn judge_at<H: Files, W: Write>(
+    rt: &H,
+    alloc: Global,
+    record: &str,
+    transcript: &str,
+    output: &mut W,
+) -> Result<Verdict, Fault>
+    ensures ok { IfOk result (λ verdict. OfSome
+        (Tells (W.contents output.old) (W.contents output.new) verdict)) }
+    ensures fault { IfErr result
+        (EndsEarly OfSome (W.contents output.old) (W.contents output.new)) }
+{
+    let entries = read_at(rt, alloc, record)?;
+    let transcript = read_at(rt, alloc, transcript)?;
+    judge(alloc, entries.as_slice(), transcript.as_slice(), output)
+}
+
+/// The status of an end. A fault comes with its line.
+fn end_with<E: Write>(end: Result<Verdict, Fault>, errors: &mut E) -> u8
+    ensures { result ≡ end_status end }
+{
+    match end {
+        Ok(Verdict::Holds) => 0,
+        Ok(_) => 1,
+        Err(fault) => {
+            fault.write_line(errors);
+            fault.status()
+        }
+    }
+}
+
+/// Reads a room's record from the first reader and then a transcript of it from the second, each to
+/// its end, writes the line of the verdict on them, and gives the status: 0 where the record is legal
+/// and the transcript true of it, 1 after another verdict, 3 where input or output failed or a file
+/// is longer than 1,073,741,824 bytes, 4 for want of memory. 3 and 4 come with a line on `errors`.
+///
+/// The clauses say which statuses there are, which verdict was written before 0 and 1, and what was
+/// written before 3 and 4, of readers whose bytes are known and a writer that tells what it holds.
+/// When it is 3 and not 4, and the line on `errors`, tests alone show.
+pub fn check_over<A: Read, B: Read, W: Write, E: Write>(
+    alloc: Global,
+    first: &mut A,
+    second: &mut B,
+    output: &mut W,
+    errors: &mut E,
+) -> u8
+    ensures { Checks (OfReaders (A.remaining first.old) (B.remaining second.old))
+        (W.contents output.old) (W.contents output.new) result }
+{
+    end_with(judge_over(alloc, first, second, output), errors)
+}
+
+/// Does as `check_over` with the files of these names: the first is read whole, then the second is
+/// opened. A file that can't be opened is an input that failed.
+///
+/// The clauses say which statuses there are, and that there are bytes on which the verdict was
+/// written before 0 and 1. That they are those of the files, no clause can say.
+pub fn check_at<H: Files, W: Write, E: Write>(
+    rt: &H,
+    alloc: Global,
+    record: &str,
+    transcript: &str,
+    output: &mut W,
+    errors: &mut E,
+) -> u8
+    ensures { Checks OfSome (W.contents output.old) (W.contents output.new) result }
+{
+    end_with(judge_at(rt, alloc, record, transcript, output), errors)
+}

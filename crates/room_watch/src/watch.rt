@@ -1,0 +1,270 @@
+//! `grace watch ADDRESS ROOM`: shows the objects of a live room, by a replica.
+
+use commands::{Fault, Uninterrupted};
+use late_join::{FeedFault, Replica, TakeFault};
+use op_names::{NoMemory, OpName, RoomName};
+use rules::Limits;
+use std::alloc::{AllocError, Global};
+use std::io::{Read, Write};
+use std::net::{Net, OpenStream, TcpStream};
+use std::random::RandomSource;
+use thiserror::Error;
+use tungstenite::handshake::client::request_of;
+use tungstenite::{
+    CloseCode, CloseFrame, Error, HandshakeError, MaskKeys, Message, Utf8Bytes, WebSocket, client,
+};
+use wire::{ReadFault, Reply, Request, read_reply, write_reply, write_request};
+
+/// How many messages that are no text are passed over while a reply is awaited.
+const MAX_PASSED_OVER: u32 = 1_000_000;
+
+/// Why a room can't be shown.
+#[derive(Clone, Copy, Debug, PartialEq, Eq, Error)]
+pub enum WatchFault {
+    /// The stream failed, or the server answered what it should not.
+    #[error("the session failed")]
+    Session,
+    #[error("the output can't be written")]
+    Write,
+    #[error("out of memory")]
+    NoMemory,
+}
+
+impl From<AllocError> for WatchFault {
+    fn from(_fault: AllocError) -> WatchFault {
+        WatchFault::NoMemory
+    }
+}
+
+impl From<NoMemory> for WatchFault {
+    fn from(_fault: NoMemory) -> WatchFault {
+        WatchFault::NoMemory
+    }
+}
+
+impl From<Error> for WatchFault {
+    fn from(fault: Error) -> WatchFault {
+        match fault {
+            Error::OutOfMemory => WatchFault::NoMemory,
+            _ => WatchFault::Session,
+        }
+    }
+}
+
+impl From<ReadFault> for WatchFault {
+    fn from(fault: ReadFault) -> WatchFault {
+        match fault {
+            ReadFault::Bad => WatchFault::Session,
+            ReadFault::NoMemory => WatchFault::NoMemory,
+        }
+    }
+}
+
+impl From<FeedFault> for WatchFault {
+    fn from(fault: FeedFault) -> WatchFault {
+        match fault {
+            FeedFault::NoMemory => WatchFault::NoMemory,
+            FeedFault::Take { place: _, fault } => match fault {
+                TakeFault::NoMemory => WatchFault::NoMemory,
+                _ => WatchFault::Session,
+            },
+            FeedFault::NotAPage => WatchFault::Session,
+        }
+    }
+}
+
+impl From<WatchFault> for Fault {
+    ghost use Rattle.std.specs.Prelude.{◌≡◌};
+    ghost use Rattle.room_watch.specs.Faults.{of_watching};
+
+    ghost from_gives = { λ fault gives. gives ≡ of_watching fault };
+
+    fn from(fault: WatchFault) -> Fault {
+        match fault {
+            WatchFault::Session => Fault::Session,
+            WatchFault::Write => Fault::Output,
+            WatchFault::NoMemory => Fault::NoMemory,
+        }
+    }
+}
+
+/// The next text message. Others are passed over.
+fn next_text<S: Read + Write + Drop, K: MaskKeys + Drop>(
+    socket: &mut WebSocket<S, K>,
+) -> Result<Utf8Bytes, WatchFault> {
+    for _passed_over in 0..=MAX_PASSED_OVER {
+        if let Message::Text(words) = socket.read()? {
+            return Ok(words);
+        }
+    }
+    Err(WatchFault::Session)
+}
+
+/// Sends a request, and gives the text of the reply.
+fn ask<S: Read + Write + Drop, K: MaskKeys + Drop>(
+    alloc: Global,
+    socket: &mut WebSocket<S, K>,
+    request: &Request,
+) -> Result<Utf8Bytes, WatchFault> {
+    let text = write_request(alloc, request)?;
+    let message = Message::text(alloc, text.as_str())?;
+    socket.send(message)?;
+    next_text(socket)
+}
+
+/// Joins the room of this name.
+fn join<S: Read + Write + Drop, K: MaskKeys + Drop>(
+    alloc: Global,
+    socket: &mut WebSocket<S, K>,
+    room: &RoomName,
+) -> Result<(), WatchFault> {
+    let room = room.copy(alloc)?;
+    let text = ask(alloc, socket, &Request::Join { room })?;
+    match read_reply(alloc, text.as_bytes())? {
+        Reply::Joined { .. } => Ok(()),
+        _ => Err(WatchFault::Session),
+    }
+}
+
+/// A replica of the whole record, page by page.
+fn pulled<S: Read + Write + Drop, K: MaskKeys + Drop>(
+    alloc: Global,
+    socket: &mut WebSocket<S, K>,
+) -> Result<Replica, WatchFault> {
+    let mut replica = Replica::new(alloc, Limits::full())?;
+    // Each page but the last one has an entry, so there are no more pages than this.
+    for _page in 0..=Limits::MAX_ENTRIES {
+        let from = replica.taken();
+        let text = ask(alloc, socket, &Request::Pull { from })?;
+        let fed = replica.feed_page(alloc, text.as_bytes())?;
+        if fed.from != from || replica.taken() > fed.at {
+            return Err(WatchFault::Session);
+        }
+        if replica.taken() == fed.at {
+            return Ok(replica);
+        }
+        if fed.count == 0 {
+            return Err(WatchFault::Session);
+        }
+    }
+    Err(WatchFault::Session)
+}
+
+/// The line of what the replica shows of an object.
+fn line_of(alloc: Global, replica: &Replica, object: OpName) -> Result<String, WatchFault> {
+    let reply = replica.show(alloc, object)?;
+    let mut line = write_reply(alloc, &reply)?;
+    line.push('\n')?;
+    Ok(line)
+}
+
+/// The lines of all objects.
+fn lines_of(alloc: Global, replica: &Replica) -> Result<String, WatchFault> {
+    let mut lines = String::new(alloc);
+    for object in replica.objects(alloc)? {
+        let line = line_of(alloc, replica, object)?;
+        lines.push_str(line.as_str())?;
+    }
+    Ok(lines)
+}
+
+/// Leaves the room, closes the session with 1000, and reads on until the closing is done.
+fn leave<S: Read + Write + Drop, K: MaskKeys + Drop>(
+    alloc: Global,
+    socket: &mut WebSocket<S, K>,
+) -> Result<(), WatchFault> {
+    let text = ask(alloc, socket, &Request::Leave)?;
+    let Reply::Left { .. } = read_reply(alloc, text.as_bytes())? else {
+        return Err(WatchFault::Session);
+    };
+    socket.close(Some(CloseFrame {
+        code: CloseCode::Normal,
+        reason: Utf8Bytes::from_static(""),
+    }))?;
+    for _passed_over in 0..=MAX_PASSED_OVER {
+        match socket.read() {
+            Ok(_) => {}
+            Err(Error::ConnectionClosed) => return Ok(()),
+            Err(_) => return Err(WatchFault::Session),
+        }
+    }
+    Err(WatchFault::Session)
+}
+
+/// Joins the room of this name over a stream, takes its record into a replica, writes what the replica
+/// shows of each object, a line each in the order of the record, leaves, and closes the session. The
+/// lines are written at once, when all of them are there. `Session` where the stream fails or the
+/// server answers what it should not, a refusal among it; `Write`; `NoMemory`.
+pub fn watch_over<R, S, W>(
+    rt: &R,
+    alloc: Global,
+    stream: S,
+    room: &RoomName,
+    output: &mut W,
+) -> Result<(), WatchFault>
+where
+    R: RandomSource,
+    S: Read + Write + Drop,
+    W: Write,
+{
+    let request = request_of(alloc, "ws://localhost/")?;
+    let mut socket = match client(alloc, rt, request, stream) {
+        Ok((socket, _response)) => socket,
+        Err(HandshakeError::Failure(fault)) => return Err(fault.into()),
+        Err(HandshakeError::Interrupted(_handshake)) => return Err(WatchFault::Session),
+    };
+    join(alloc, &mut socket, room)?;
+    let replica = pulled(alloc, &mut socket)?;
+    let lines = lines_of(alloc, &replica)?;
+    if output.write_all(lines.as_bytes()).is_err() || output.flush().is_err() {
+        return Err(WatchFault::Write);
+    }
+    leave(alloc, &mut socket)
+}
+
+/// Connects, and watches.
+fn watch<R, W>(
+    rt: &R,
+    alloc: Global,
+    address: &str,
+    room: &str,
+    output: &mut W,
+) -> Result<(), Fault>
+where
+    R: Net + RandomSource,
+    W: Write,
+{
+    let room = RoomName::parse(alloc, room.as_bytes())?;
+    let Ok(stream) = TcpStream::connect(rt, address) else {
+        return Err(Fault::CannotConnect);
+    };
+    let _ = stream.set_nodelay(true);
+    watch_over(rt, alloc, Uninterrupted { stream }, &room, output)?;
+    Ok(())
+}
+
+/// Shows the objects of the room of this name of the server at this address, and gives the status: 0
+/// where all were shown and the session closed; 2 for a bad room name; 3 where there is nobody to
+/// connect to, the session or the output failed; 4 for want of memory. All but 0 come with a line on
+/// `errors`.
+pub fn watch_at<R, W, E>(
+    rt: &R,
+    alloc: Global,
+    address: &str,
+    room: &str,
+    output: &mut W,
+    errors: &mut E,
+) -> u8
+where
+    R: Net + RandomSource,
+    W: Write,
+    E: Write,
+{
+    match watch(rt, alloc, address, room, output) {
+        Ok(()) => 0,
+        Err(fault) => {
+            fault.write_line(errors);
+            fault.status()
+        }
+    }
+}

@@ -6,6 +6,6 @@ mod reply;
 mod request;
 mod rising;
 
-pub use entry::{entry_of, read_entry};
+pub use entry::read_entry;
 pub use reply::{read_reply, reply_of};
 pub use request::{read_request, request_of};

@@ -4,7 +4,7 @@ ghost use Rattle.std.specs.Prelude.{◌≡◌, map, IfOk, IsErrOf, Some, None};
 ghost use Rattle.std.specs.Arc.{arc_value};
 ghost use Rattle.serde_json.specs.View.{view};
 ghost use Rattle.rules.specs.declared.history.Entry.{Entry as AnyEntry};
-ghost use Rattle.wire.specs.Form.{IsEntryText, IsEntryValue};
+ghost use Rattle.wire.specs.Form.{IsEntryText};
 ghost use Rattle.wire.specs.Reading.{Gives};
 ghost use Rattle.wire.specs.Entries.{join_at, new_at, set_at, entry_of};
 ghost use Rattle.wire.specs.Texts.{entry_read};
@@ -98,17 +98,6 @@ impl Part for Arc<Entry> {
         let entry = Entry::read(alloc, value)?;
         Ok(Arc::new(alloc, entry)?)
     }
-}
-
-/// The entry whose form a JSON value is. Otherwise `Bad`, or `NoMemory`.
-pub fn entry_of(alloc: Global, value: &Value) -> Result<Entry, ReadFault>
-    ensures ok { IfOk result (IsEntryValue (view value.now)) }
-    ensures bad { IsErrOf result ReadFault.Bad
-        → (e : AnyEntry) → ¬ IsEntryValue (view value.now) e }
-    ensures value { IfOk result (λ entry. entry_of (view value.now) ≡ Some entry) }
-    ensures none { IsErrOf result ReadFault.Bad → entry_of (view value.now) ≡ None }
-{
-    Entry::read(alloc, value)
 }
 
 /// The entry that the bytes are a text of: UTF-8 that holds one JSON value, the entry's form.

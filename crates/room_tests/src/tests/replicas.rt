@@ -1,11 +1,10 @@
 //! Replicas: the worked rows, every order of a record, and pages.
 
 mod orders;
-mod pages;
 mod rows;
 
-use self::rows::{EXAMPLES, LIMITED};
-use late_join::{Limits, Replica, TakeFault};
+use self::rows::{EXAMPLES, LIMITED, PAGES};
+use late_join::{FeedFault, Limits, Replica, TakeFault};
 use op_names::OpName;
 use rules::{Entry, LimitValues};
 use std::process::Abort;
@@ -15,8 +14,10 @@ use wire::{read_entry, write_reply};
 pub struct Example {
     pub name: &'static str,
     pub limits: LimitValues,
-    /// Lines ENTRY => ANSWER, where the answer is taken, repeat, early or the word of a refusal, or
-    /// SITE SEQ => REPLY, where the object of that name is shown.
+    /// Lines ENTRY => ANSWER, where the answer is taken, repeat, early or the word of a refusal; page
+    /// REPLY => ANSWER, where a page is fed and the answer tells where it stands and how long it and
+    /// the record are, or which place of it is answered so; SITE SEQ => REPLY, where the object of that
+    /// name is shown; count => ENTRIES, how many were taken; or objects => NAMES.
     pub parts: &'static [&'static str],
 }
 
@@ -45,16 +46,50 @@ fn shown(rt: &(impl Abort + AllocGlobal), replica: &Replica, site: u32, seq: u32
     write_reply(rt.alloc(), &reply).expect(rt, "memory")
 }
 
+/// What is answered to a page.
+fn fed(rt: &(impl Abort + AllocGlobal), replica: &mut Replica, page: &str) -> String {
+    let answer = match replica.feed_page(rt.alloc(), page.as_bytes()) {
+        Ok(fed) => format!(in rt.alloc(); "from {} {} of {}", fed.from, fed.count, fed.at),
+        Err(FeedFault::Take { place, fault }) => {
+            format!(in rt.alloc(); "place {place} {}", word_of(Err(fault)))
+        }
+        Err(FeedFault::NotAPage) => "no page".to_string(rt.alloc()),
+        Err(FeedFault::NoMemory) => "no memory".to_string(rt.alloc()),
+    };
+    answer.expect(rt, "memory")
+}
+
+/// The names of the replica's objects.
+fn names(rt: &(impl Abort + AllocGlobal), replica: &Replica) -> String {
+    let mut text = String::new(rt.alloc());
+    for name in replica.objects(rt.alloc()).expect(rt, "memory") {
+        write!(text, "({},{})", name.site(), name.seq()).expect(rt, "memory");
+    }
+    text
+}
+
+/// Does the replica show the object of this name so?
+fn shows(
+    rt: &(impl Abort + AllocGlobal),
+    replica: &Replica,
+    site: &str,
+    seq: &str,
+    expected: &str,
+) -> bool {
+    let site = site.parse().expect(rt, "a site");
+    let seq = seq.parse().expect(rt, "a number");
+    shown(rt, replica, site, seq).as_str() == expected
+}
+
 /// Does the replica answer the line as the line says?
 fn answers(rt: &(impl Abort + AllocGlobal), replica: &mut Replica, line: &str) -> bool {
     let (asked, expected) = line.split_once(" => ").expect(rt, "an arrow");
     match asked.split_once(' ') {
+        Some(("page", page)) => fed(rt, replica, page).as_str() == expected,
+        Some((site, seq)) => shows(rt, replica, site, seq, expected),
+        None if asked == "count" => expected.parse() == Ok(replica.taken()),
+        None if asked == "objects" => names(rt, replica).as_str() == expected,
         None => word_of(replica.take(rt.alloc(), entry_of(rt, asked))) == expected,
-        Some((site, seq)) => {
-            let site = site.parse().expect(rt, "a site");
-            let seq = seq.parse().expect(rt, "a number");
-            shown(rt, replica, site, seq).as_str() == expected
-        }
     }
 }
 
@@ -84,6 +119,13 @@ fn limits_are_kept(rt: HostRuntime) {
     }
 }
 
+#[test]
+fn pages_are_fed(rt: HostRuntime) {
+    for example in PAGES {
+        assert!(rt; holds(&rt, example), "{}", example.name);
+    }
+}
+
 // No text of an entry has such a site.
 #[test]
 fn sites_out_of_range(rt: HostRuntime) {
@@ -95,24 +137,4 @@ fn sites_out_of_range(rt: HostRuntime) {
         );
     }
     assert_eq!(rt; replica.taken(), 0);
-}
-
-#[test]
-fn objects_are_in_the_order_in_which_they_were_taken(rt: HostRuntime) {
-    let mut replica = replica_of(&rt, LimitValues::FULL);
-    for text in [
-        r#"["join",2]"#,
-        r#"["new",[2,1],[],"line",[]]"#,
-        r#"["join",1]"#,
-        r#"["new",[1,1],[],"rect",[]]"#,
-    ] {
-        assert_eq!(rt;
-            word_of(replica.take(rt.alloc(), entry_of(&rt, text))),
-            "taken"
-        );
-    }
-    let names = replica.objects(rt.alloc()).expect(&rt, "memory");
-    let line = OpName::new(2, 1).expect(&rt, "a name");
-    let rect = OpName::new(1, 1).expect(&rt, "a name");
-    assert_eq!(rt; names.as_slice(), [line, rect].as_slice());
 }

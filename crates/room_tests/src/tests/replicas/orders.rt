@@ -53,8 +53,12 @@ fn order_of(number: usize) -> [usize; 8] {
 
 /// Are all places that the entry of this place comes after among these?
 fn is_ready(rt: &impl Abort, taken: &[usize], place: usize) -> bool {
-    let earlier = EARLIER.get(place).expect(rt, "a place");
-    earlier.iter().all(|p| taken.iter().any(|q| *q == *p))
+    for earlier in *EARLIER.get(place).expect(rt, "a place") {
+        if !taken.contains(earlier) {
+            return false;
+        }
+    }
+    true
 }
 
 /// Takes the entries in this order up to the first that is early, and asserts that it is that one.

@@ -105,6 +105,66 @@ pub const EXAMPLES: &[Example] = &[
     },
 ];
 
+/// Pages of a record that a replica is fed with. Where a page stands is for who asked for it to see.
+pub const PAGES: &[Example] = &[
+    Example {
+        name: "a page is taken once",
+        limits: LimitValues::FULL,
+        parts: &[
+            r#"page ["entries",5,0,[["join",1],["new",[1,1],[],"rect",[["x",0]]],["join",2],["set",[1,2],[[1,1]],[1,1],[],"x",5],["set",[2,1],[[1,1]],[1,1],[],"x",9]]] => from 0 5 of 5
+page ["entries",5,0,[["join",1],["new",[1,1],[],"rect",[["x",0]]],["join",2],["set",[1,2],[[1,1]],[1,1],[],"x",5],["set",[2,1],[[1,1]],[1,1],[],"x",9]]] => place 0 repeat"#,
+            SHOWN,
+            "count => 5",
+        ],
+    },
+    Example {
+        name: "no page",
+        limits: LimitValues::FULL,
+        parts: &[
+            r#"page ["left",5] => no page
+page ["entries",5,0] => no page
+page  => no page
+page ["join",1] => no page
+count => 0"#,
+        ],
+    },
+    Example {
+        name: "from one place to the next",
+        limits: LimitValues::FULL,
+        parts: &[
+            r#"page ["entries",5,2,[["join",2],["set",[1,2],[[1,1]],[1,1],[],"x",5],["set",[2,1],[[1,1]],[1,1],[],"x",9]]] => place 1 early
+count => 1
+page ["entries",5,0,[["join",1],["new",[1,1],[],"rect",[["x",0]]]]] => from 0 2 of 5
+page ["entries",5,2,[["join",2],["set",[1,2],[[1,1]],[1,1],[],"x",5],["set",[2,1],[[1,1]],[1,1],[],"x",9]]] => place 0 repeat
+count => 3"#,
+        ],
+    },
+    Example {
+        name: "a bad entry in the middle",
+        limits: LimitValues::FULL,
+        parts: &[
+            r#"page ["entries",4,0,[["join",1],["new",[1,1],[],"rect",[["x",0]]],["set",[1,2],[[1,1]],[1,1],[[1,1]],"x",5],["join",2]]] => place 2 no-such-version
+count => 2"#,
+        ],
+    },
+    Example {
+        name: "one that ends past its record",
+        limits: LimitValues::FULL,
+        parts: &[r#"page ["entries",1,9,[["join",1],["join",2]]] => from 9 2 of 1"#],
+    },
+    Example {
+        name: "objects in the order in which they were taken",
+        limits: LimitValues::FULL,
+        parts: &[
+            r#"["join",2] => taken
+["new",[2,1],[],"line",[]] => taken
+["join",1] => taken
+["new",[1,1],[],"rect",[]] => taken
+objects => (2,1)(1,1)"#,
+        ],
+    },
+];
+
 pub const LIMITED: &[Example] = &[
     Example {
         name: "two joins",

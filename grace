@@ -53,6 +53,9 @@ build() {
     trap - EXIT
 }
 
+# ./test builds the program too, and reads this file to note of what.
+[ "${BASH_SOURCE[0]}" = "$0" ] || return 0
+
 sum=$(sum_of_sources)
 if ! [ -x "$program" ] || [ "$(cat "$program.sources" 2>/dev/null)" != "$sum" ]; then
     build

@@ -10,8 +10,8 @@ use Rattle.rules.specs.Operations.{IsCausallyOrdered, before, is_set_on}
 use Rattle.rules.proofs.Lists.{In, In-from_Contains, Contains-from_In, In-filter_back, In-map_back, In-range_back}
 use Rattle.rules.proofs.Relation.{not_before_self}
 use Rattle.places.specs.Members.{has}
-use Rattle.conflict.specs.Sets.{at, AreSetsOf}
-use Rattle.conflict.proofs.SetsAt.{at_in}
+use Rattle.places.specs.Sets.{at, AreSetsOf}
+use Rattle.places.proofs.SetsAt.{at_in}
 use Rattle.places.proofs.Rising.{among_places}
 
 pub is_set : (k : List Op) (members : List ℕ) → All (λ place. place < length k) members → (x : Op) → In x (map (at k) members) → In x k

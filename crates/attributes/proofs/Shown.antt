@@ -25,7 +25,7 @@ use Rattle.rules.proofs.Sorting.{Rises, sort_is}
 use Rattle.rules.proofs.Decided.{value_is_last}
 use Rattle.rules.proofs.Reordered.{In-each_once, Once-each_once, key_cmp_total, one_key, same_key_is, same_key_itself, untied_with_values}
 use Rattle.rules.proofs.Sorted.{sorted_rises}
-use Rattle.conflict.specs.Sets.{at, AreSetsOn}
+use Rattle.places.specs.Sets.{at, AreSetsOn}
 use Rattle.attributes.specs.Pairs.{given_backwards, given_by, with_all}
 use Rattle.attributes.proofs.Pairs.{Apart, Apart-all, attr_of, attr_of-all, attr_if_in}
 use Rattle.attributes.proofs.Members.{is_set, members_ordered, not_before_itself}

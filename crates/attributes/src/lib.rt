@@ -8,7 +8,7 @@ ghost use Rattle.op_names.specs.Names.{Name};
 ghost use Rattle.rules.specs.Groups.{is_compatible};
 ghost use Rattle.rules.specs.Conflicts.{conflict};
 ghost use Rattle.rules.specs.Versions.{attributes, key_cmp};
-ghost use Rattle.conflict.specs.Sets.{at, AreSetsOn};
+ghost use Rattle.places.specs.Sets.{at, AreSetsOn};
 ghost use Rattle.attributes.specs.Pairs.{given_backwards, given_by, with_all, with_new};
 
 use op_names::{Key, NoMemory, Value};

@@ -55,7 +55,7 @@ impl From<NotAdmitted> for Refusal {
 
 /// The operations of a room so far, in the order in which they were added. A look-up by name takes
 /// the same time however many there are.
-#[derive(Debug, Drop)]
+#[derive(Drop)]
 pub struct Past {
     operations: Vec<SharedOp>,
     /// For each site, from site 1 on, the places of its operations, by their numbers.

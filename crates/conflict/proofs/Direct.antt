@@ -14,9 +14,9 @@ use Rattle.rules.proofs.Lists.{any_back, filter_agree}
 use Rattle.rules.proofs.Sets.{in_known_back}
 use Rattle.places.specs.Members.{has, with_place, places, with_all}
 use Rattle.conflict.specs.Rows.{conflicts_below, is_in_row, with_those}
-use Rattle.conflict.specs.Sets.{AreSetsOf, at, clash_of, base_places, places_counted}
+use Rattle.places.specs.Sets.{AreSetsOf, at, clash_of, base_places, places_counted}
 use Rattle.places.proofs.Places.{In-places, below, has_if_in, in_if_has, has-filter, has-filter_past, all_below, in_all}
-use Rattle.conflict.proofs.SetsAt.{has-places_of}
+use Rattle.places.proofs.SetsAt.{has-places_of}
 use Rattle.places.proofs.WordPlaces.{Up, same_set, up_range, up_filter, up_with_place, up_with_all, has-with_place, has-with_all, has-kept, or_turned, and_turned}
 use Rattle.conflict.proofs.Growth.{base_within, never_before}
 use Rattle.conflict.proofs.Rows.{direct_if_known, direct_if_unknown}

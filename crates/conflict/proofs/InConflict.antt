@@ -10,13 +10,13 @@ use Rattle.rules.specs.Conflicts.{conflict}
 use Rattle.rules.proofs.Relation.{conflict_symmetric}
 use Rattle.rules.proofs.Lists.{In, In-filter, In-filter_back, any_from, any_back, any_agree, Contains-from_In, filter_agree}
 use Rattle.rules.proofs.Relation.{same_answer}
-use Rattle.conflict.specs.Sets.{clash_of, Added, IsAddition, AreSetsOn, at}
+use Rattle.places.specs.Sets.{clash_of, Added, IsAddition, AreSetsOn, at}
 use Rattle.conflict.proofs.Growth.{never_alone}
 use Rattle.conflict.proofs.Rows.{one_set_more, sets_with_addition, last_in_row, conflict_stays, row_found}
 use Rattle.places.specs.Members.{has, places, with_all}
 use Rattle.conflict.specs.Rows.{conflicts_below, earlier_conflicts, has_earlier_conflict, places_in_conflict, with_row, with_rows}
 use Rattle.places.proofs.Places.{In-places, below, has_if_in, in_if_has, has-filter, has-filter_past, kept_next, left_next}
-use Rattle.conflict.proofs.SetsAt.{at_in}
+use Rattle.places.proofs.SetsAt.{at_in}
 use Rattle.places.proofs.WordPlaces.{Up, same_set, up_range, up_filter, up_with_place, up_with_all, has-with_place, has-with_all, or_turned}
 
 -- none is below 0

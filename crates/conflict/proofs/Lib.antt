@@ -1,4 +1,3 @@
-pub mod SetsAt
 pub mod InConflict
 pub mod Growth
 pub mod Indexed

@@ -19,10 +19,10 @@ use Rattle.places.specs.Members.{has, places}
 use Rattle.places.specs.Relations.{IsRelation}
 use Rattle.conflict.specs.Indexes.{SiteIndex, KeyIndex}
 use Rattle.conflict.specs.Stored.{AreStored}
-use Rattle.conflict.specs.Sets.{AreSetsOf, AreSetsOn, Added, IsAddition, at, places_of, base_places, new_conflicts}
+use Rattle.places.specs.Sets.{AreSetsOf, AreSetsOn, Added, IsAddition, at, places_of, base_places, new_conflicts}
 use Rattle.conflict.specs.Rows.{earlier_conflicts, is_in_row, has_earlier_conflict, places_in_conflict}
 use Rattle.places.proofs.Places.{In-places, below, has-filter, has-filter_past, kept_next, left_next}
-use Rattle.conflict.proofs.SetsAt.{at_in, place_of, one_place_each, at_push, at_last, has-places_of, any-places_of}
+use Rattle.places.proofs.SetsAt.{at_in, place_of, one_place_each, at_push, at_last, has-places_of, any-places_of}
 use Rattle.conflict.proofs.Sited.{by_site_push}
 use Rattle.conflict.proofs.Keyed.{by_key_push}
 use Rattle.conflict.proofs.Growth.{apart, once, few_sets, base_inside, base_within, never_alone, conflict_from_base_on, stays, is_there, apart_before, before_none, base_grows, conflict_grows}

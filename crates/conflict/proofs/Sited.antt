@@ -12,10 +12,10 @@ use Rattle.rules.specs.declared.history.Op.{Op}
 use Rattle.rules.proofs.Lists.{In, In-from_Contains, Contains-from_In, In-filter, In-filter_back, any_from, any_back, filter_agree}
 use Rattle.rules.proofs.Relation.{same_answer}
 use Rattle.places.specs.Members.{has, with_place, places, with_all}
-use Rattle.conflict.specs.Sets.{AreSetsOf, at}
+use Rattle.places.specs.Sets.{AreSetsOf, at}
 use Rattle.conflict.specs.Indexes.{IsIndex, OfSite, SiteIndex, AreBySite, AreInOrder, IsRising, site_at, of_site, numbered, with_set, counted_of, with_counted}
 use Rattle.places.proofs.Places.{In-places, below, has_if_in, in_if_has, kept_next, put_next}
-use Rattle.conflict.proofs.SetsAt.{at_in, at_push}
+use Rattle.places.proofs.SetsAt.{at_in, at_push}
 use Rattle.places.proofs.WordPlaces.{Up, same_set, up_range, up_filter, up_with_all, has-with_all, kept_rises, or_turned, or_grouped}
 use Rattle.conflict.proofs.Growth.{in_history, never_before}
 use Rattle.conflict.proofs.Indexed.{filter_all, index_agrees, index_grown, index_begun}

@@ -9,7 +9,7 @@ use Rattle.rules.specs.declared.history.Op.{Op}
 use Rattle.rules.specs.declared.history.Body.{Body}
 use Rattle.rules.specs.Bodies.{keys_in}
 use Rattle.places.specs.Members.{with_place, places, with_all}
-use Rattle.conflict.specs.Sets.{at}
+use Rattle.places.specs.Sets.{at}
 
 -- the first n places by classes, of which each place has one at most: the classes that occur there, each once, with all its places
 pub record IsIndex {C : Type 0} (of : C → ℕ → Bool) (n size : ℕ) (class : ℕ → C) (found : ℕ → List ℕ) : Type 0 where

@@ -6,7 +6,7 @@ use Rattle.rules.specs.declared.history.Body.{Body}
 use Rattle.rules.specs.Bodies.{differ_on_a_key}
 use Rattle.rules.specs.Conflicts.{base, conflict, direct_conflict}
 use Rattle.places.specs.Members.{has, places, with_place, with_all}
-use Rattle.conflict.specs.Sets.{at, base_places}
+use Rattle.places.specs.Sets.{at, base_places}
 
 -- ---- the sets on an object
 

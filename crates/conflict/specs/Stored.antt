@@ -4,7 +4,7 @@ use Rattle.op_names.specs.Names.{Name, is_op_name}
 use Rattle.rules.specs.declared.history.Op.{Op}
 use Rattle.places.specs.Members.{places}
 use Rattle.conflict.specs.Indexes.{SiteIndex, KeyIndex, AreBySite, AreByKey}
-use Rattle.conflict.specs.Sets.{AreSetsOn, base_places}
+use Rattle.places.specs.Sets.{AreSetsOn, base_places}
 use Rattle.conflict.specs.Rows.{earlier_conflicts, places_in_conflict}
 
 -- what is stored beside the sets: the places of each one's base, those of the earlier sets that conflict with it, and at

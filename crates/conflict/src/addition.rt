@@ -2,7 +2,7 @@
 
 ghost use Rattle.std.specs.Prelude.{◌≡◌, ◌+◌, ◌<◌, ◌^◌, ◌++◌, ◌∷◌, [], List, length};
 ghost use Rattle.rules.specs.declared.history.Op.{Op};
-ghost use Rattle.conflict.specs.Sets.{IsAddition};
+ghost use Rattle.places.specs.Sets.{IsAddition};
 
 use crate::Clashes;
 use crate::joins::add_row;
@@ -14,7 +14,7 @@ use std::marker::Model;
 
 /// A set that `Clashes` has planned, with the places of its base and of the sets that it is in
 /// conflict with.
-#[derive(Debug, Drop)]
+#[derive(Drop)]
 pub struct Addition {
     op: SharedOp,
     base: Members,
@@ -22,7 +22,7 @@ pub struct Addition {
 }
 
 impl Model for Addition {
-    ghost use Rattle.conflict.specs.Sets.{Added};
+    ghost use Rattle.places.specs.Sets.{Added};
 
     ghost Value = { Added };
 
@@ -59,7 +59,7 @@ impl Addition {
 }
 
 /// The sets on an object and one that is planned for them, as a relation.
-#[derive(Debug, Drop)]
+#[derive(Drop)]
 pub struct WithAddition<'a> {
     sets: &'a Clashes,
     addition: &'a Addition,
@@ -68,7 +68,7 @@ pub struct WithAddition<'a> {
 impl<'a> Model for WithAddition<'a> {
     ghost use Rattle.std.specs.Prelude.{◌+◌, ◌<◌, ◌^◌, List, [], ◌∷◌, ◌++◌, length};
     ghost use Rattle.rules.specs.declared.history.Op.{Op};
-    ghost use Rattle.conflict.specs.Sets.{IsAddition};
+    ghost use Rattle.places.specs.Sets.{IsAddition};
 
     ghost Value = { List Op };
 
@@ -91,7 +91,7 @@ impl<'a> WithAddition<'a> {
 impl<'a> Relation for WithAddition<'a> {
     ghost use Rattle.std.specs.Prelude.{length};
     ghost use Rattle.rules.specs.Conflicts.{conflict};
-    ghost use Rattle.conflict.specs.Sets.{at};
+    ghost use Rattle.places.specs.Sets.{at};
 
     ghost size = { λ ops. length ops };
 

@@ -13,7 +13,7 @@ use std::alloc::Global;
 use std::marker::Model;
 
 /// The places of the sets on an object that give a key a value.
-#[derive(Debug, Drop)]
+#[derive(Drop)]
 struct KeySets {
     key: Key,
     places: Members,
@@ -58,7 +58,7 @@ fn gives(body: &Body, key: &Key) -> bool
 }
 
 /// The first sets on an object, as many as `len`, by key.
-#[derive(Debug, Drop)]
+#[derive(Drop)]
 pub(crate) struct ByKey {
     len: u32,
     keys: Vec<KeySets>,

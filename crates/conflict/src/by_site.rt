@@ -2,7 +2,7 @@
 
 ghost use Rattle.std.specs.Prelude.{◌≡◌, ℕ, ◌+◌, ◌<◌, ◌^◌, [], ◌∷◌, length, IfOk, OnOk, OnErr};
 ghost use Rattle.places.specs.Members.{with_all};
-ghost use Rattle.conflict.specs.Sets.{places_counted};
+ghost use Rattle.places.specs.Sets.{places_counted};
 ghost use Rattle.conflict.specs.Indexes.{counted_of, site_at, with_counted, with_new_site, with_set, with_set_at, AreBySite, AreInOrder, IsPlaceOf, IsRising};
 
 use op_names::{NoMemory, OpName};
@@ -13,7 +13,7 @@ use std::alloc::Global;
 use std::marker::Model;
 
 /// The sets of a site on an object.
-#[derive(Debug, Drop)]
+#[derive(Drop)]
 struct SiteSets {
     site: u32,
     /// The number of each and its place, in order of arrival.
@@ -79,7 +79,7 @@ impl SiteSets {
 }
 
 /// The first sets on an object, as many as `len`, by site.
-#[derive(Debug, Drop)]
+#[derive(Drop)]
 pub(crate) struct BySite {
     len: u32,
     sites: Vec<SiteSets>,

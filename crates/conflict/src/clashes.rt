@@ -5,7 +5,7 @@ ghost use Rattle.std.specs.List.{list_any};
 ghost use Rattle.rules.specs.Bodies.{differ_on_a_key, keys_in};
 ghost use Rattle.places.specs.Members.{has, places, with_place};
 ghost use Rattle.conflict.specs.Rows.{conflicts_below, differs_at, direct_places, earlier_conflicts, is_in_row, with_those};
-ghost use Rattle.conflict.specs.Sets.{at, base_places, clash_of, new_conflicts, places_counted, AreSetsOn, IsAddition};
+ghost use Rattle.places.specs.Sets.{at, base_places, clash_of, new_conflicts, places_counted, AreSetsOn, IsAddition};
 
 use crate::by_key::ByKey;
 use crate::by_site::BySite;
@@ -21,7 +21,7 @@ use std::marker::Model;
 /// The sets on an object in order of arrival, by their places, which count from 0. With each stand
 /// the places of its base. Which of the earlier sets it is in conflict with is worked out once, before
 /// it is put in.
-#[derive(Debug, Drop)]
+#[derive(Drop)]
 pub struct Clashes {
     object: OpName,
     ops: Vec<SharedOp>,
@@ -38,7 +38,7 @@ pub struct Clashes {
 
 impl Model for Clashes {
     ghost use Rattle.std.specs.Prelude.{◌-◌, min, vec_capacity, vec_len};
-    ghost use Rattle.conflict.specs.Sets.{Sets};
+    ghost use Rattle.places.specs.Sets.{Sets};
     ghost use Rattle.conflict.specs.Stored.{AreStored};
 
     ghost Value = { Sets };
@@ -145,10 +145,7 @@ impl Clashes {
     {
         self.catch_up(alloc)?;
         let row = self.row(alloc, &op, &base, known)?;
-        self.ops.reserve(1)?;
-        self.bases.reserve(1)?;
-        self.rows.reserve(1)?;
-        self.in_conflict.reserve(1)?;
+        self.reserve()?;
         Ok(Addition::new(op, base, row))
     }
 
@@ -231,6 +228,19 @@ impl Clashes {
             ≡ list_any (λ op. list_any (bytes_eq key.now) (keys_in op.body)) self.now.ops }
     {
         self.keys.has(&self.ops, key)
+    }
+
+    /// Takes the memory for one set more. The sets stay as they are.
+    fn reserve(&mut self) -> Result<(), NoMemory>
+        ensures spare { OnOk result (0 < self.new.spare) }
+        ensures object { self.new.object ≡ self.old.object }
+        ensures ops { self.new.ops ≡ self.old.ops }
+    {
+        self.ops.reserve(1)?;
+        self.bases.reserve(1)?;
+        self.rows.reserve(1)?;
+        self.in_conflict.reserve(1)?;
+        Ok(())
     }
 
     /// Brings the places by site and by key up to date. For a caller all stays as it is.
@@ -399,7 +409,7 @@ impl Clashes {
 impl Relation for Clashes {
     ghost use Rattle.std.specs.Prelude.{length};
     ghost use Rattle.rules.specs.Conflicts.{conflict};
-    ghost use Rattle.conflict.specs.Sets.{at};
+    ghost use Rattle.places.specs.Sets.{at};
 
     ghost size = { λ sets. length sets.ops };
 

@@ -22,7 +22,7 @@ use Rattle.rules.proofs.Conditions.{not_first}
 use Rattle.rules.proofs.Counted.{In-names_counted, In-names_counted_back, count_in, count_of_pair, count_positive, found}
 use Rattle.rules.proofs.Lists.{any_back, any_from}
 use Rattle.rules.proofs.Relation.{same_answer}
-use Rattle.conflict.specs.Sets.{AreSetsOf}
+use Rattle.places.specs.Sets.{AreSetsOf}
 use Rattle.shape.specs.Objects.{Stored, set_refusal, with_set}
 use Rattle.shape.specs.Faults.{refusal_of}
 use Rattle.shape.specs.declared.fault.SetFault.{SetFault}

@@ -15,7 +15,7 @@ use Rattle.rules.specs.Operations.{IsCausallyOrdered, IsHistory, creation_of, is
 use Rattle.rules.specs.Records.{operations, version_conditions}
 use Rattle.rules.specs.Versions.{versions}
 use Rattle.rules.proofs.Counted.{same_name-refl}
-use Rattle.conflict.specs.Sets.{AreSetsOf}
+use Rattle.places.specs.Sets.{AreSetsOf}
 use Rattle.shape.specs.Objects.{IsNextSet, Stored, set_refusal, shown_ids, with_set}
 use Rattle.shape.proofs.Next.{next_history, next_set, object_with_set}
 use Rattle.shape.proofs.Objects.{refusal_beside, versions_beside}

@@ -1,3 +1,4 @@
 pub mod Members
 pub mod Words
 pub mod Relations
+pub mod Sets

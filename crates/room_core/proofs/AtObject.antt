@@ -20,7 +20,7 @@ use Rattle.rules.specs.Records.{creation_conditions, operations, order_condition
 use Rattle.rules.specs.Versions.{versions}
 use Rattle.rules.proofs.Conditions.{none_of_both, not_first}
 use Rattle.rules.proofs.Founded.{history_if_legal, ordered_if_legal}
-use Rattle.conflict.specs.Sets.{AreSetsOf}
+use Rattle.places.specs.Sets.{AreSetsOf}
 use Rattle.shape.specs.Objects.{Stored, set_refusal}
 use Rattle.shape.proofs.Refusals.{first_of_front, front_passed}
 use Rattle.shape.specs.declared.fault.SetFault.{SetFault}

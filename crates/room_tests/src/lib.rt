@@ -1,6 +1,5 @@
-//! Rooms: one by itself, replicas of it, and many that answer a script; and the texts of requests,
-//! replies and entries. Tests of the public calls of `wire`, `room_core`, `late_join` and `world`, and
-//! by these of all that they stand on.
+//! Rooms by themselves, replicas of them, and the texts of requests, replies and entries: tests of the
+//! public calls of `room_core`, `late_join` and `wire`, and by these of all that they stand on.
 #![tactic(auto)]
 
 #[cfg(test)]

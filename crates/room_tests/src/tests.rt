@@ -2,5 +2,4 @@
 
 mod one_room;
 mod replicas;
-mod scripts;
 mod texts;

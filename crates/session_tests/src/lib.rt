@@ -1,5 +1,5 @@
-//! Sessions over memory, one by one, by workers and against each other, and streams that are hostile or
-//! fail: tests of the public calls of `sessions`, and of `room_watch` over streams that fail.
+//! Sessions over memory, one by one and by workers, whose streams fail or give and take little: tests of the
+//! public calls of `sessions`, and of `room_watch` over such streams.
 #![tactic(auto)]
 
 #[cfg(test)]

@@ -1,12 +1,8 @@
 //! Sessions.
 
-mod crossed;
 mod faults;
-mod messages;
 mod pool;
-mod rows;
 mod served;
-mod stream;
 mod watched;
 
 use op_names::RoomName;
@@ -54,63 +50,32 @@ fn copied(rt: &(impl Abort + AllocGlobal), bytes: &[u8]) -> Vec<u8> {
     bytes.to_vec(rt.alloc()).expect(rt, "memory")
 }
 
-/// A frame's first byte, the bit that tells whether it is masked, and the length of its payload in as
-/// few bytes as hold it (RFC 6455, section 5.2).
-fn frame_head(rt: &(impl Abort + AllocGlobal), first: u8, mask: u8, len: usize) -> Vec<u8> {
-    let mut head = Vec::new(rt.alloc());
-    head.push(first).expect(rt, "memory");
-    if len < 126 {
-        let len = u8::try_from(len).expect(rt, "a short length");
-        head.push(mask | len).expect(rt, "memory");
-        return head;
+/// A frame: its first byte, the bit that tells whether it is masked with its payload's length, which one
+/// byte holds here, then the mask and the payload (RFC 6455, section 5.2).
+fn frame(
+    rt: &(impl Abort + AllocGlobal),
+    first: u8,
+    masked: u8,
+    mask: &str,
+    words: &str,
+) -> Vec<u8> {
+    let len = u8::try_from(words.len()).expect(rt, "a short text");
+    assert!(rt; len < 126);
+    let mut frame = Vec::new(rt.alloc());
+    for part in [&[first, masked | len], mask.as_bytes(), words.as_bytes()] {
+        frame.extend_from_slice(part).expect(rt, "memory");
     }
-    match u16::try_from(len) {
-        Ok(len) => {
-            head.push(mask | 126).expect(rt, "memory");
-            head.extend_from_slice(&len.to_be_bytes())
-                .expect(rt, "memory");
-        }
-        Err(_) => {
-            head.push(mask | 127).expect(rt, "memory");
-            let len = u64::try_from(len).expect(rt, "a length");
-            head.extend_from_slice(&len.to_be_bytes())
-                .expect(rt, "memory");
-        }
-    }
-    head
-}
-
-/// A client's message as a frame, masked with zeros.
-fn masked_bytes(rt: &(impl Abort + AllocGlobal), opcode: u8, bytes: &[u8]) -> Vec<u8> {
-    let mut frame = frame_head(rt, 0x80 | opcode, 0x80, bytes.len());
-    frame
-        .extend_from_slice("\0\0\0\0".as_bytes())
-        .expect(rt, "memory");
-    frame.extend_from_slice(bytes).expect(rt, "memory");
     frame
 }
 
 /// A client's message of these words as a frame, masked with zeros.
 fn masked(rt: &(impl Abort + AllocGlobal), opcode: u8, words: &str) -> Vec<u8> {
-    masked_bytes(rt, opcode, words.as_bytes())
+    frame(rt, 0x80 | opcode, 0x80, "\0\0\0\0", words)
 }
 
 /// The server's text message as a frame.
 fn text_frame(rt: &(impl Abort + AllocGlobal), words: &str) -> Vec<u8> {
-    let mut frame = frame_head(rt, 0x81, 0, words.len());
-    frame
-        .extend_from_slice(words.as_bytes())
-        .expect(rt, "memory");
-    frame
-}
-
-/// These frames, one after the other.
-fn joined_up(rt: &(impl Abort + AllocGlobal), frames: &[&[u8]]) -> Vec<u8> {
-    let mut bytes = Vec::new(rt.alloc());
-    for frame in frames {
-        bytes.extend_from_slice(frame).expect(rt, "memory");
-    }
-    bytes
+    frame(rt, 0x81, 0, "", words)
 }
 
 /// What follows the head of a request or a response.

@@ -11,7 +11,7 @@ use Rattle.rules.specs.Operations.{is_set_on}
 use Rattle.rules.specs.Admission.{first_that_applies}
 use Rattle.rules.specs.Records.{has_too_many_keys, version_conditions}
 use Rattle.rules.specs.Versions.{versions}
-use Rattle.conflict.specs.Sets.{AreSetsOf}
+use Rattle.places.specs.Sets.{AreSetsOf}
 
 -- an object: the limits of its room, its creation, and the sets on it in order of arrival
 pub record Object : Type 0 where

@@ -8,7 +8,7 @@ ghost use Rattle.rules.specs.Groups.{groups_of, identifier};
 ghost use Rattle.rules.specs.Versions.{by_id};
 ghost use Rattle.places.specs.Members.{places};
 ghost use Rattle.version_groups.specs.Kept.{AreGroups};
-ghost use Rattle.conflict.specs.Sets.{clash_of};
+ghost use Rattle.places.specs.Sets.{clash_of};
 ghost use Rattle.shape.specs.Kept.{version_at, AreGroupsOf};
 ghost use Rattle.version_ids.specs.Scopes.{places_in_conflict};
 

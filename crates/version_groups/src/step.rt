@@ -5,7 +5,7 @@ ghost use Rattle.std.specs.Prelude.{◌≡◌, ◌-◌, ◌<◌, map, filter, no
 ghost use Rattle.std.specs.List.{list_any};
 ghost use Rattle.places.specs.Members.{has, is_within, places, with_place};
 ghost use Rattle.version_groups.specs.Kept.{AreGroups};
-ghost use Rattle.version_groups.specs.Steps.{group_after, candidate, incompatible_groups, sift, next_groups, AreBelow};
+ghost use Rattle.version_groups.specs.Steps.{group_after, candidate, incompatible_groups, sift, next_groups, with_candidate, AreBelow};
 
 use op_names::NoMemory;
 use places::{Members, Relation};
@@ -124,9 +124,22 @@ fn add_candidates(
     ensures { OnOk result (groups.new.items ≡ sift groups.old.items candidates.items) }
 {
     while let Some(candidate) = candidates.pop_front() {
-        if !lies_in(&candidate, groups) && !lies_in_later(&candidate, &candidates) {
-            groups.push(candidate)?;
-        }
+        add_candidate(groups, candidate, &candidates)?;
+    }
+    Ok(())
+}
+
+/// Puts a candidate behind the groups, where it lies in none of them and in no later candidate.
+fn add_candidate(
+    groups: &mut Vec<Members>,
+    candidate: Members,
+    later: &VecDeque<Members>,
+) -> Result<(), NoMemory>
+    ensures { OnOk result (groups.new.items
+        ≡ with_candidate groups.old.items candidate later.now.items) }
+{
+    if !lies_in(&candidate, groups) && !lies_in_later(&candidate, later) {
+        groups.push(candidate)?;
     }
     Ok(())
 }

@@ -1,5 +1,5 @@
 use Rattle.std.proofs.Common.{◌≡◌, [], map, take}
-use Rattle.conflict.specs.Sets.{at}
+use Rattle.places.specs.Sets.{at}
 use Rattle.attributes.specs.Pairs.{with_all, given_backwards}
 use Rattle.attributes.proofs.last_given.Given as goal
 

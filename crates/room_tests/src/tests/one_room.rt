@@ -13,15 +13,6 @@ use wire::{Reply, Request, read_request, write_reply};
 const NOT_JOINED: &str = r#"0 ["leave"] => ["no",0,2,"not-joined"]
 2 ["leave"] => ["no",0,2,"not-joined"]"#;
 
-/// What is asked of a room after 16,384 entries: a join, 512 creations, and 31 sets on each object
-/// but one.
-const AT_THE_END: &str = r#"join => ["no",16384,6,"record-full"]
-1 ["new",16384,[[1,16383]],"rect",[]] => ["no",16384,6,"record-full"]
-1 ["set",16384,[[1,16383]],[1,1],[],"x",1] => ["no",16384,6,"record-full"]
-1 ["show",[1,1]] => ["versions",16384,[1,1],"rect",[[[],[["x",15872]]]]]
-1 ["list",511] => ["objects",16384,511,512,[[[1,512],"rect"]]]
-1 ["pull",16384] => ["entries",16384,16384,[]]"#;
-
 fn text(rt: &(impl Abort + AllocGlobal), reply: &Reply) -> String {
     write_reply(rt.alloc(), reply).expect(rt, "memory")
 }
@@ -137,48 +128,4 @@ fn a_plan_changes_nothing_until_it_is_committed(rt: HostRuntime) {
     assert_eq!(rt; text(&rt, &reply).as_str(), r#"["joined",0,1]"#);
     assert!(rt; has_only_joins(&room, 1));
     assert_eq!(rt; room.limits(), Limits::full());
-}
-
-/// What the only site asks for after so many: 512 creations, then sets on each of these objects in
-/// turn.
-fn next_request(rt: &(impl Abort + AllocGlobal), seen: u32, seq: u32) -> String {
-    let text = if seen == 0 {
-        format!(in rt.alloc(); "[\"new\",1,[],\"rect\",[]]")
-    } else if seq <= 512 {
-        format!(in rt.alloc(); "[\"new\",{seq},[[1,{seen}]],\"rect\",[]]")
-    } else {
-        let object = seq % 512 + 1;
-        format!(in rt.alloc(); "[\"set\",{seq},[[1,{seen}]],[1,{object}],[],\"x\",{seq}]")
-    };
-    text.expect(rt, "memory")
-}
-
-/// Asks for the next operation of the only site.
-fn ask_next(rt: &(impl Abort + AllocGlobal), room: &mut RoomState, seen: u32, seq: u32) {
-    let text = next_request(rt, seen, seq);
-    let request = request_of(rt, &text);
-    room.answer(rt.alloc(), 1, request).expect(rt, "memory");
-}
-
-/// How many entries or objects stand on the page that a request of site 1 is answered.
-fn page_of(rt: &(impl Abort + AllocGlobal), room: &mut RoomState, request: Request) -> usize {
-    match room.answer(rt.alloc(), 1, request).expect(rt, "memory") {
-        Reply::Entries { entries, .. } => entries.as_slice().len(),
-        Reply::Objects { objects, .. } => objects.as_slice().len(),
-        _ => 0,
-    }
-}
-
-#[test]
-fn a_full_room_still_shows(rt: HostRuntime) {
-    let mut room = room_of(&rt, LimitValues::FULL);
-    let _ = join_text(&rt, &mut room);
-    for seen in 0..16383 {
-        ask_next(&rt, &mut room, seen, seen + 1);
-    }
-    assert_eq!(rt; room.entries().len(), 16384);
-    answers_lines(&rt, &mut room, AT_THE_END);
-    assert_eq!(rt; page_of(&rt, &mut room, Request::Pull { from: 16000 }), 64);
-    assert_eq!(rt; page_of(&rt, &mut room, Request::List { from: 100 }), 64);
-    assert_eq!(rt; room.entries().len(), 16384);
 }

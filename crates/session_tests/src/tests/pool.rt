@@ -3,11 +3,10 @@
 ghost use Rattle.std.specs.Prelude.{◌≡◌, length};
 
 use super::faults::{Calls, Parts};
-use super::{CLOSE, HEAD, copied, joined_up, masked, passes_of, room_name};
+use super::{CLOSE, HEAD, copied, masked, passes_of, room_name};
 use room_lock::{Opened, RoomLedger, Rooms, open_histories};
 use rules::Limits;
 use sessions::{Cause, Gate, Open, PoolEnd, PoolFault, run_pool};
-use std::io::Read;
 use std::marker::Brand;
 use std::process::Abort;
 use std::sync::Wait;
@@ -90,41 +89,6 @@ fn look_at<P: RoomLedger>(rt: &impl Abort, end: &PoolEnd<P>, failing: u32, sessi
     }
     assert_eq!(rt; count, sessions);
     assert_eq!(rt; end.unserved, 0);
-}
-
-fn gate_holds_both_in<
-    P: RoomLedger + Send + Sync,
-    R: Threads + Wait + Clock + Copy + Sync + Abort + AllocGlobal,
->(rt: &R, blank: Blank, histories: Vec<Opened>, limits: Limits)
-    requires name { blank.name ≡ P.name }
-    requires parts { (blank.parts ≡ P.parts) × (blank.parts ≡ 259) }
-    requires limits { limits ≡ P.limits }
-    requires histories { (histories.items ≡ P.books) × (length histories.items ≡ 1) }
-{
-    let names = [room_name(rt, "r")];
-    let rooms = Rooms::<P>::new(rt.alloc(), blank, histories, &names, limits).expect(rt, "rooms");
-    let join = masked(rt, 2, r#"["join","r"]"#);
-    let create = masked(rt, 1, r#"["new",1,[],"rect",[["x",0]]]"#);
-    let sent = joined_up(rt, &[&join, &create, CLOSE]);
-    let mut streams = Vec::new(rt.alloc());
-    for _session in 0..2 {
-        let stream = Duplex {
-            reader: HEAD.as_bytes().chain(sent.as_slice()),
-            writer: Vec::new(rt.alloc()),
-        };
-        streams.push(stream).expect(rt, "memory");
-    }
-    let gate = Crossed::new(*rt);
-    let end = run_pool(rt, rt.alloc(), &rooms, streams.into_iter(), 2, &gate).expect(rt, "a pool");
-    assert_eq!(rt; gate.timed_out.load(Ordering::SeqCst), 0);
-    look_at(rt, &end, 3, 2);
-    assert!(rt; rooms.close(rt.alloc(), passes_of(rt, end)).is_ok());
-}
-
-#[test]
-fn gate_holds_both(rt: HostRuntime) {
-    let histories = open_histories(rt.alloc(), 1).expect(&rt, "memory");
-    gate_holds_both_in::<Brand, _>(&rt, Blank::new(259), histories, Limits::full());
 }
 
 fn no_worker_in<P: RoomLedger + Send + Sync, R: Threads + Wait + Sync + Abort + AllocGlobal>(

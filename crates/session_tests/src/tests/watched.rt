@@ -2,7 +2,7 @@
 //! and take single bytes.
 
 use super::faults::{Calls, Parts, Sparing};
-use super::{CLOSE, CLOSED, bytewise, copied, frames_of, joined_up, masked, room_name, text_frame};
+use super::{CLOSE, CLOSED, bytewise, copied, frames_of, masked, room_name, text_frame};
 use room_watch::{WatchFault, watch_over};
 use std::io;
 use std::process::Abort;
@@ -57,7 +57,8 @@ fn asked_frames(rt: &(impl Abort + AllocGlobal)) -> Vec<u8> {
             .extend_from_slice(&masked(rt, 1, words))
             .expect(rt, "memory");
     }
-    joined_up(rt, &[&frames, CLOSE])
+    frames.extend_from_slice(CLOSE).expect(rt, "memory");
+    frames
 }
 
 /// How watching ended, what was sent, and what was written.

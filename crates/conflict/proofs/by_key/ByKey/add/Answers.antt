@@ -1,7 +1,7 @@
 use Rattle.std.proofs.Common.{◌≡◌, ◌+◌, ◌∙◌, sym, ap, subst, get_or, true}
 use Rattle.std.proofs.lemmas.List.{get_or_default}
 use Rattle.op_names.specs.Texts.{Bytes}
-use Rattle.conflict.specs.Sets.{at, nothing}
+use Rattle.places.specs.Sets.{at, nothing}
 use Rattle.conflict.specs.Indexes.{KeyIndex, AreByKey, of_key}
 use Rattle.conflict.proofs.Indexed.{by_result}
 use Rattle.conflict.proofs.Keyed.{given_there, given_none, by_key_skipped, by_key_grown, by_key_begun}

@@ -4,7 +4,7 @@ use Rattle.std.proofs.lemmas.Bool.{and_from}
 use Rattle.op_names.specs.Names.{Name, is_op_name, is_site, is_seq}
 use Rattle.rules.specs.declared.history.Op.{Op}
 use Rattle.conflict.specs.Indexes.{SiteIndex, KeyIndex}
-use Rattle.conflict.specs.Sets.{Added, IsAddition, Sets}
+use Rattle.places.specs.Sets.{Added, IsAddition, Sets}
 use Rattle.conflict.specs.Stored.{AreStored}
 use Rattle.conflict.proofs.Rows.{stored_push}
 use Rattle.conflict.proofs.clashes.Clashes.commit.Goals as goal

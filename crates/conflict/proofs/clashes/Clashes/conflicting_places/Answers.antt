@@ -3,7 +3,7 @@ use Rattle.std.specs.Prelude.{filter, All}
 use Rattle.std.proofs.lemmas.Result.{IfOk-weaker}
 use Rattle.places.specs.Members.{places}
 use Rattle.conflict.specs.Rows.{conflicts_below, has_earlier_conflict}
-use Rattle.conflict.specs.Sets.{Sets, clash_of}
+use Rattle.places.specs.Sets.{Sets, clash_of}
 use Rattle.places.proofs.Places.{all_below}
 use Rattle.conflict.proofs.Rows.{rows_length}
 use Rattle.conflict.proofs.InConflict.{all_rows}

@@ -1,7 +1,7 @@
 use Rattle.std.proofs.Common.{◌≡◌, ◌∙◌, ap, length, arith}
 use Rattle.std.proofs.lemmas.Result.{IfOk-weaker}
 use Rattle.places.specs.Members.{places}
-use Rattle.conflict.specs.Sets.{Sets}
+use Rattle.places.specs.Sets.{Sets}
 use Rattle.conflict.proofs.Direct.{direct_conflicts_are, others_below}
 use Rattle.conflict.proofs.clashes.Clashes.direct_conflicts.Goals as goal
 

@@ -1,6 +1,6 @@
 use Rattle.std.proofs.Common.{◌≡◌, ◌∙◌, ap, subst, arith, length, cond}
 use Rattle.places.specs.Members.{with_place}
-use Rattle.conflict.specs.Sets.{AreSetsOf, Sets}
+use Rattle.places.specs.Sets.{AreSetsOf, Sets}
 use Rattle.conflict.proofs.Direct.{row_begun, row_more, row_done, row_if_none}
 use Rattle.conflict.proofs.clashes.Clashes.row_from.Goals as goal
 

@@ -6,7 +6,7 @@ use Rattle.rules.specs.declared.history.Body.{Body}
 use Rattle.rules.specs.Bodies.{differ_on_a_key}
 use Rattle.places.specs.Members.{has}
 use Rattle.conflict.specs.Indexes.{AreByKey}
-use Rattle.conflict.specs.Sets.{at, Sets}
+use Rattle.places.specs.Sets.{at, Sets}
 use Rattle.conflict.proofs.Indexed.{filter_none}
 use Rattle.conflict.proofs.Keyed.{candidates_same}
 use Rattle.conflict.proofs.clashes.Clashes.without_other_keys.Goals as goal

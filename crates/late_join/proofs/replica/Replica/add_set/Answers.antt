@@ -4,7 +4,7 @@ use Rattle.std.proofs.Common.{List, ◌≡◌, [], ◌∷◌, ◌++◌, map, tru
 use Rattle.std.specs.Arc.{arc_value}
 use Rattle.std.specs.Map.{lookup}
 use Rattle.op_names.specs.Names.{Name, same_name}
-use Rattle.conflict.specs.Sets.{AreSetsOf}
+use Rattle.places.specs.Sets.{AreSetsOf}
 use Rattle.rules.specs.Admission.{causal_refusal}
 use Rattle.rules.specs.Conflicts.{has_object}
 use Rattle.rules.specs.Operations.{object_of}

@@ -1,10 +1,9 @@
-//! `check_over` over memory, and `check_at` over files that aren't there.
+//! `check_over` over memory.
 
-use super::{Closed, Failing, Outcome, begins_with_line, run_words, shows};
-use commands::{Fault, check_at, check_over, read_up_to};
+use super::{Closed, Failing, Outcome};
+use commands::{Fault, check_over, read_up_to};
 use std::io;
 use std::io::{ErrorKind, Read};
-use std::process::Abort;
 
 /// A record, an entry a line.
 const RECORD: &str = r#"["join",1]
@@ -23,25 +22,6 @@ const TRANSCRIPT: &str = r#"[1,["join","r"],["joined",0,1]]
 [1,["show",[1,1]],["versions",5,[1,1],"rect",[[[[1,2]],[["x",5]]],[[[2,1]],[["x",9]]]]]]
 "#;
 
-/// What is put in place of a part of a file: the part stands in it once.
-#[derive(Clone, Copy)]
-struct Change<'a> {
-    old: &'a str,
-    new: &'a str,
-}
-
-/// No change.
-const SAME: Change<'static> = Change { old: "", new: "" };
-
-/// The text with a change.
-fn changed(rt: &(impl Abort + AllocGlobal), text: &str, change: Change<'_>) -> String {
-    if change.old.is_empty() {
-        return text.to_string(rt.alloc()).expect(rt, "memory");
-    }
-    let (before, after) = text.split_once(change.old).expect(rt, "the part");
-    format!(in rt.alloc(); "{before}{}{after}", change.new).expect(rt, "memory")
-}
-
 /// What is done with these files.
 fn checked<A: Read, B: Read>(rt: &impl AllocGlobal, first: &mut A, second: &mut B) -> Outcome {
     let mut output = Vec::new(rt.alloc());
@@ -54,56 +34,10 @@ fn checked<A: Read, B: Read>(rt: &impl AllocGlobal, first: &mut A, second: &mut 
     }
 }
 
-/// Do the record and the transcript with these changes end with this status and line?
-fn ends(
-    rt: &(impl Abort + AllocGlobal),
-    record: Change<'_>,
-    transcript: Change<'_>,
-    status: u8,
-    line: &str,
-) -> bool {
-    let record = changed(rt, RECORD, record);
-    let transcript = changed(rt, TRANSCRIPT, transcript);
-    let (mut first, mut second) = (record.as_bytes(), transcript.as_bytes());
-    checked(rt, &mut first, &mut second).is(status, line, "")
-}
-
 #[test]
 fn a_true_transcript_holds(rt: HostRuntime) {
-    assert!(rt; ends(&rt, SAME, SAME, 0, "holds\n"));
-}
-
-#[test]
-fn empty_files_hold(rt: HostRuntime) {
-    let (mut first, mut second) = ("".as_bytes(), "".as_bytes());
+    let (mut first, mut second) = (RECORD.as_bytes(), TRANSCRIPT.as_bytes());
     assert!(rt; checked(&rt, &mut first, &mut second).is(0, "holds\n", ""));
-}
-
-#[test]
-fn a_wrong_reply_is_told(rt: HostRuntime) {
-    let change = Change {
-        old: r#"["x",9]]]]]]"#,
-        new: r#"["x",8]]]]]]"#,
-    };
-    assert!(rt; ends(&rt, SAME, change, 1, "wrong reply line 6\n"));
-}
-
-#[test]
-fn a_bad_transcript_is_told(rt: HostRuntime) {
-    let change = Change {
-        old: r#"["taken",4,"#,
-        new: r#"["taken",9,"#,
-    };
-    assert!(rt; ends(&rt, SAME, change, 1, "bad transcript line 5\n"));
-}
-
-#[test]
-fn a_bad_record_is_told(rt: HostRuntime) {
-    let change = Change {
-        old: "[\"new\",[1,1],[],\"rect\",[[\"x\",0]]]\n",
-        new: "",
-    };
-    assert!(rt; ends(&rt, change, SAME, 1, "bad record line 3\n"));
 }
 
 #[test]
@@ -185,40 +119,4 @@ fn a_file_longer_than_a_piece_is_read(rt: HostRuntime) {
     let mut reader = bytes.as_slice();
     let read = read_up_to(rt.alloc(), &mut reader, 150_000).expect(&rt, "the bytes");
     assert_eq!(rt; read.as_slice(), bytes.as_slice());
-}
-
-#[test]
-fn files_that_are_not_there(rt: HostRuntime) {
-    let mut output = Vec::new(rt.alloc());
-    let mut errors = Vec::new(rt.alloc());
-    let status = check_at(
-        &rt,
-        rt.alloc(),
-        "no/record",
-        "no/transcript",
-        &mut output,
-        &mut errors,
-    );
-    let ran = Outcome {
-        status,
-        output,
-        errors,
-    };
-    assert!(rt; ran.is(3, "", "grace: input failed\n"));
-    let ran = run_words(&rt, "grace,check,no/record,no/transcript", "");
-    assert!(rt; ran.is(3, "", "grace: input failed\n"));
-}
-
-#[test]
-fn words_of_check(rt: HostRuntime) {
-    let ran = run_words(&rt, "grace,check,record", "");
-    let line = "error: the following required arguments were not provided:";
-    assert!(rt; ran.status == 2 && begins_with_line(ran.errors.as_slice(), line));
-    assert!(rt;
-        shows(
-            &rt,
-            "grace,check,--help",
-            "Checks a room's record and a transcript of it\n\nUsage: grace check <RECORD> <TRANSCRIPT>\n\nArguments:\n  <RECORD>      A file of the record's entries, one a line\n  <TRANSCRIPT>  A file of requests and replies, one a line\n",
-        )
-    );
 }

@@ -1,12 +1,19 @@
 //! Readers and writers that give little, wait, or fail.
 
-use super::{BAD_MESSAGE, JOINED, LEFT, ended_by, world_of};
+use super::world_of;
 use rules::LimitValues;
 use std::alloc::AllocError;
 use std::cell::Cell;
 use std::io;
 use std::io::{ErrorKind, Read, Write};
 use world::ScriptFault;
+
+/// Answers of session 1.
+const JOINED: &str = "1 [\"joined\",0,1]\n";
+
+const LEFT: &str = "1 [\"left\",1]\n";
+
+const BAD_MESSAGE: &str = "1 [\"no\",0,1,\"bad-message\"]\n";
 
 /// A reader that gives a part of a text at a read, where `|` stands between the parts, and counts
 /// the reads.
@@ -115,7 +122,8 @@ impl Read for Bytewise<'_> {
 #[test]
 fn a_byte_at_a_read(rt: HostRuntime) {
     let mut world = world_of(&rt, &["r"], LimitValues::FULL);
-    let input = ended_by(&rt, "1 [\"leave\"]\n1 ", 'x', 1_500_000);
+    let long = "x".repeat(rt.alloc(), 1_500_000).expect(&rt, "memory");
+    let input = format!(in rt.alloc(); "1 [\"leave\"]\n1 {long}").expect(&rt, "memory");
     let mut reader = Bytewise {
         bytes: input.as_bytes(),
     };

@@ -11,7 +11,7 @@ use Rattle.rules.proofs.Relation.{same_answer}
 use Rattle.rules.proofs.Counted.{same_name-true, same_name-refl}
 use Rattle.places.specs.Members.{has, places}
 use Rattle.places.proofs.Places.{In-places, below, has-filter}
-use Rattle.conflict.specs.Sets.{at, places_of}
+use Rattle.places.specs.Sets.{at, places_of}
 
 pub at_in : (k : List Op) (p : ℕ) → p < length k → In (at k p) k
 at_in [] p l = absurd (omega arith)

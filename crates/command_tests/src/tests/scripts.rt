@@ -1,10 +1,9 @@
-//! Scripts and their answers.
+//! Scripts in rooms of small limits, and over readers and writers that fail.
 
-mod full_sizes;
 mod rows;
 mod streams;
 
-use self::rows::{LIMITED, REFUSALS, ROOMS, SETS, SHORT};
+use self::rows::{LIMITED, SHORT};
 use op_names::RoomName;
 use rules::{LimitValues, Limits};
 use std::alloc::Global;
@@ -71,21 +70,6 @@ fn all_hold(rt: &(impl Abort + AllocGlobal), examples: &[Example]) {
 }
 
 #[test]
-fn sets_are_taken(rt: HostRuntime) {
-    all_hold(&rt, SETS);
-}
-
-#[test]
-fn messages_are_refused(rt: HostRuntime) {
-    all_hold(&rt, REFUSALS);
-}
-
-#[test]
-fn rooms_share_nothing(rt: HostRuntime) {
-    all_hold(&rt, ROOMS);
-}
-
-#[test]
 fn limits_are_kept(rt: HostRuntime) {
     all_hold(&rt, LIMITED);
 }
@@ -102,65 +86,6 @@ fn full_limits(rt: HostRuntime) {
         page: 64,
     };
     assert_eq!(rt; Limits::new(full), Some(Limits::full()));
-}
-
-/// Answers of session 1.
-const JOINED: &str = "1 [\"joined\",0,1]\n";
-
-const LEFT: &str = "1 [\"left\",1]\n";
-
-const BAD_MESSAGE: &str = "1 [\"no\",0,1,\"bad-message\"]\n";
-
-/// Answers lines by these.
-fn answers(rt: &(impl Abort + AllocGlobal), world: &mut World, input: &str, output: &str) {
-    let written = output_of(rt, world, input);
-    assert_eq!(rt; written.as_slice(), output.as_bytes());
-}
-
-#[test]
-fn the_last_line_needs_no_break(rt: HostRuntime) {
-    let mut world = world_of(&rt, &["r"], LimitValues::FULL);
-    answers(&rt, &mut world, "", "");
-    answers(
-        &rt,
-        &mut world,
-        r#"0 ["leave"]"#,
-        "0 [\"no\",0,2,\"not-joined\"]\n",
-    );
-}
-
-/// A line that begins so and ends with this character so many times.
-fn ended_by(rt: &(impl Abort + AllocGlobal), start: &str, end: char, times: usize) -> String {
-    let mut line = start.to_string(rt.alloc()).expect(rt, "memory");
-    for _ in 0..times {
-        line.push(end).expect(rt, "memory");
-    }
-    line
-}
-
-/// Answers a line that ends with this character so many times.
-fn answers_ended(
-    rt: &(impl Abort + AllocGlobal),
-    world: &mut World,
-    start: &str,
-    end: char,
-    times: usize,
-    output: &str,
-) {
-    let line = ended_by(rt, start, end, times);
-    answers(rt, world, line.as_str(), output);
-}
-
-#[test]
-fn lines_of_a_length(rt: HostRuntime) {
-    let brackets = ended_by(&rt, "1 ", '[', 128);
-    let leave = r#"1 ["leave"]"#;
-    let mut world = world_of(&rt, &["r"], LimitValues::FULL);
-    answers(&rt, &mut world, r#"1 ["join","r"]"#, JOINED);
-    answers_ended(&rt, &mut world, brackets.as_str(), ']', 128, BAD_MESSAGE);
-    answers_ended(&rt, &mut world, leave, ' ', 16376, BAD_MESSAGE);
-    answers_ended(&rt, &mut world, leave, ' ', 1000000, BAD_MESSAGE);
-    answers_ended(&rt, &mut world, leave, ' ', 16375, LEFT);
 }
 
 /// A reader that gives seven bytes at a call, and fails after so many calls.

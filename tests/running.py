@@ -35,14 +35,19 @@ def outcome_of(test, seconds):
         signal.alarm(0)
 
 
-def run_tests(tests, seconds=SECONDS):
-    """Runs the tests, each for so many seconds at most. The status: 0 where some passed and none failed."""
+def run_tests(tests, seconds=SECONDS, tries=1):
+    """Runs the tests, each for so many seconds at most. One that failed is tried again where there are tries left, and
+    that is told. The status: 0 where some passed and none failed."""
     signal.signal(signal.SIGALRM, give_up)
     signal.signal(signal.SIGINT, signal.default_int_handler)
     count = {"passed": 0, "failed": 0, "skipped": 0}
     for name, test in tests:
         start = time.monotonic()
         outcome, why = outcome_of(test, seconds)
+        for _ in range(1, tries):
+            if outcome == "failed":
+                print(f"tried again: {name}: {why}", flush=True)
+                outcome, why = outcome_of(test, seconds)
         count[outcome] += 1
         print(f"{outcome}: {name}{why and ': '}{why} ({time.monotonic() - start:.1f} s)", flush=True)
     print(f"{count['passed']} passed, {count['failed']} failed")

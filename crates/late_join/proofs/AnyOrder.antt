@@ -27,6 +27,7 @@ use Rattle.rules.proofs.Once.{Once, Once-from_HasNoRepeats, HasNoRepeats-from_On
 use Rattle.rules.proofs.Permutations.{in_permutation, once_permutation}
 use Rattle.rules.proofs.Counted.{In-names_counted, covers_if, found, same_name-refl, same_name-true}
 use Rattle.rules.proofs.Sets.{in_sets_on, in_sets_on_back, Once-sets_on}
+use Rattle.rules.proofs.Conditions.{is_none_if}
 use Rattle.rules.proofs.Records.{operations-join, operations-push}
 use Rattle.rules.proofs.Founded.{history_if_legal, founded_if_legal}
 use Rattle.rules.proofs.Histories.{count_at_site_push}
@@ -34,7 +35,7 @@ use Rattle.rules.proofs.Agreement.{base_in_part}
 use Rattle.rules.proofs.Parts.{base_before_adding, group_count_in_part}
 use Rattle.rules.proofs.Shown.{versions_same}
 use Rattle.shape.proofs.Next.{numbered_if}
-use Rattle.shape.proofs.KeyCounts.{one_more_key}
+use Rattle.shape.proofs.KeyCounts.{one_key_of_set, one_more_key}
 use Rattle.shape.proofs.Objects.{creation_there}
 use Rattle.shape.proofs.Refusals.{passed}
 use Rattle.shape.specs.Objects.{IsOf}
@@ -43,7 +44,7 @@ use Rattle.objects.specs.Objects.{object_with_sets}
 use Rattle.objects.specs.Shown.{shown, shown_by}
 use Rattle.late_join.specs.Taking.{is_join_of, has_joined, lacks_another, may_take, has_past, IsTakeable, IsTakeableAfter, IsInOrderAfter, IsCausalOrderOf}
 use Rattle.late_join.proofs.Taken.{taken_from, sound}
-use Rattle.late_join.proofs.Within.{IsWithin, within, keys_within, OneKey, one_key_of_set}
+use Rattle.late_join.proofs.Within.{IsWithin, within, keys_within}
 
 -- ---- lists
 
@@ -70,10 +71,6 @@ once_operations (Operation p ∷ t) o = (
 length_range : (a c : ℕ) → length (range_with_len a c) ≡ c
 length_range a Rattle.std.proofs.Common.zero = refl
 length_range a (Rattle.std.proofs.Common.suc c) = let h = length_range (a + 1) c in omega (arith, h)
-
-is_none_if : {X : Type 0} (r : Option X) → is_some r ≡ true → is_none r ≡ false
-is_none_if None e = absurd (true≢false (sym e))
-is_none_if (Some x) e = refl
 
 -- ---- what operations count is among them
 

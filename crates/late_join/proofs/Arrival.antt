@@ -3,7 +3,7 @@ use Rattle.std.proofs.Common.{◌≡◌, ◌≢◌, ℕ, Bool, true, false, not,
 use Rattle.std.specs.Prelude.{IfErr, OnOk, Result, is_some, option_map}
 use Rattle.std.specs.List.{list_any}
 use Rattle.std.specs.Map.{lookup}
-use Rattle.std.proofs.lemmas.Bool.{true≢false, and_from, and_parts, cases_Bool, not-false, not-true, not_from_false, eqb-true, lt-leb, leb-true, le-leb, ltb-true, lt-ltb, leb-false}
+use Rattle.std.proofs.lemmas.Bool.{true≢false, and_from, and_parts, cases_Bool, not-true, not_from_false, leb-true, le-leb, ltb-true, lt-ltb, leb-false}
 use Rattle.std.proofs.lemmas.Result.{IfErr-weaker, on_ok_weaker}
 use Rattle.op_names.specs.Names.{Name, same_name}
 use Rattle.state_vector.specs.Vectors.{count_of, counts, is_vector}

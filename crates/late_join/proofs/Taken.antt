@@ -3,27 +3,26 @@ use Rattle.std.proofs.Common.{◌≡◌, ◌+◌, ◌<◌, ◌≤◌, Bool, true
 use Rattle.std.specs.Prelude.{Contains, is_none, is_some, option_map}
 use Rattle.std.proofs.lemmas.Bool.{true≢false, cases_Bool, and_parts, and_from, not-false, not-true, not_from_false, false_from_ne_true, leb-true, leb-false, eqb-true, cases_eq}
 use Rattle.std.proofs.lemmas.List.{append-nil}
-use Rattle.std.proofs.lemmas.List.Elements.{Contains-push_cases, Contains-append_left, Contains-push}
+use Rattle.std.proofs.lemmas.List.Elements.{Contains-append_left, Contains-push}
 use Rattle.op_names.specs.Names.{Name, same_name}
 use Rattle.state_vector.specs.Vectors.{count_of, is_vector}
 use Rattle.rules.specs.declared.history.Op.{Op}
 use Rattle.rules.specs.declared.history.Entry.{Entry}
 use Rattle.rules.specs.declared.history.Entry.TheVariants.{Join, Operation}
 use Rattle.rules.specs.declared.refusal.Refusal.{Refusal}
-use Rattle.rules.specs.declared.refusal.Refusal.TheVariants.{RecordFull, WrongSeq, OwnCount, Ahead, NotClosed, NoSuchObject, NoSuchVersion, ObjectFull, TooManyKeys, TooManyVersions}
+use Rattle.rules.specs.declared.refusal.Refusal.TheVariants.{RecordFull, WrongSeq, OwnCount, Ahead, NotClosed}
 use Rattle.rules.specs.declared.limits.LimitValues.{LimitValues}
 use Rattle.rules.specs.Bodies.{is_set_body}
-use Rattle.rules.specs.Operations.{IsHistory, IsCausallyOrdered, before, is_creation_of, object_of, operation, sets_on}
+use Rattle.rules.specs.Operations.{IsHistory, IsCausallyOrdered, operation}
 use Rattle.rules.specs.Admission.{Condition, first_that_applies, names_counted, count_at_site, has_wrong_seq, has_wrong_own_count, is_ahead, is_not_closed, causal_refusal}
-use Rattle.rules.specs.Conflicts.{base, has_object, IsFounded}
-use Rattle.rules.specs.Records.{operations, refusal, creation_conditions, set_conditions, has_too_many_keys, has_too_many_versions}
-use Rattle.rules.proofs.Lists.{In-from_Contains, In-append_left, any_from, any_back, any_none, find_none}
+use Rattle.rules.specs.Conflicts.{IsFounded}
+use Rattle.rules.specs.Records.{operations, refusal, creation_conditions, set_conditions}
+use Rattle.rules.proofs.Lists.{In-from_Contains, any_back, any_none, find_none}
 use Rattle.rules.proofs.Counted.{In-names_counted_back, same_name-refl}
 use Rattle.rules.proofs.Conditions.{none_of_both, not_first}
 use Rattle.rules.proofs.Histories.{IsNumbered, numbered_push, numbered_empty, count_at_site_push}
+use Rattle.rules.proofs.Founded.{HasGround, founded_push, ground_if}
 use Rattle.rules.proofs.Records.{operations-join, operations-push}
-use Rattle.rules.proofs.Agreement.{base_in_part}
-use Rattle.rules.proofs.Parts.{part_of_grown, base_before_adding}
 use Rattle.shape.proofs.Next.{next_ordered}
 use Rattle.late_join.specs.declared.fault.TakeFault.TheVariants.{Repeat, Early, Refused}
 use Rattle.late_join.specs.Taking.{has_joined, is_repeat, is_early, lacks_another, arriving_conditions, taking_conditions, take_fault, is_entry, may_take, IsTakeable, IsTakeableAfter}
@@ -128,43 +127,12 @@ causal_if b t o i whole k =
     let s = k.seq in let w = k.own in let c = k.closed in
     rw (s, w, a, c) refl
 
--- what a set has that is taken
-record HasGround (h : List Op) (op : Op) : Type 0 where
-  object : has_object h op ≡ true
-  based : is_some (base h op) ≡ true
-
-is_some-not_none : {X : Type 0} (r : Option X) → is_none r ≡ false → is_some r ≡ true
-is_some-not_none None e = absurd (true≢false e)
-is_some-not_none (Some x) e = refl
-
-ground_if : (b : LimitValues) (t : List Entry) (op : Op) → Taken b t op → is_set_body op.body ≡ true → HasGround (operations t) op
-ground_if b t op k e =
-    let h = operations t in
+-- a set that is taken has its object and its base
+ground_if_taken : (b : LimitValues) (t : List Entry) (op : Op) → Taken b t op → is_set_body op.body ≡ true → HasGround (operations t) op
+ground_if_taken b t op k e =
     let rest = k.rest in
-    let y : first_that_applies (set_conditions b h op) ≡ None = rw e at rest in
-    let sets = sets_on h (object_of op) in
-    let late = (leb b.sets (length sets), ObjectFull) ∷ (has_too_many_keys b sets op, TooManyKeys) ∷ (has_too_many_versions b h op, TooManyVersions) ∷ [] in
-    let first = not_first (not (has_object h op), NoSuchObject) ((is_none (base h op), NoSuchVersion) ∷ late) y in
-    let second = not_first (is_none (base h op), NoSuchVersion) late first.1 in
-    record { object = not-false (has_object h op) first.0; based = is_some-not_none (base h op) second.0 }
-
-object_stays : (h : List Op) (o op : Op) → has_object h op ≡ true → has_object (h ++ o ∷ []) op ≡ true
-object_stays h o op e =
-    let test : Op → Bool = λ a. is_creation_of (object_of op) a && before a op in
-    let c = any_back test h e in
-    any_from test c.0 (h ++ o ∷ []) (In-append_left c.0 h (o ∷ []) c.1) c.2
-
-founded_push : (h : List Op) (o : Op) → IsHistory h → IsFounded h → IsHistory (h ++ o ∷ []) → (is_set_body o.body ≡ true → HasGround h o) → IsFounded (h ++ o ∷ [])
-founded_push h o i f j ground = record {
-  object = λ x m t. elim (Contains-push_cases h o x m) [
-    | inl p ↦ object_stays h o x (f.object x p t)
-    | inr e ↦ subst (λ z. has_object (h ++ o ∷ []) z ≡ true) e (object_stays h o o (ground (ap (λ (z : Op). is_set_body z.body) e ∙ t)).object)
-  ];
-  based = λ x m t. elim (Contains-push_cases h o x m) [
-    | inl p ↦ ap is_some (sym (base_in_part (part_of_grown o i j) x p)) ∙ f.based x p t
-    | inr e ↦ subst (λ z. is_some (base (h ++ o ∷ []) z) ≡ true) e (ap is_some (sym (base_before_adding o i j)) ∙ (ground (ap (λ (z : Op). is_set_body z.body) e ∙ t)).based)
-  ];
-}
+    let none : first_that_applies (set_conditions b (operations t) op) ≡ None = rw e at rest in
+    ground_if b (operations t) op none
 
 -- a history in causal order, whose sites number their operations without a gap, and whose sets have their objects and bases
 pub record IsSound (h : List Op) : Type 0 where
@@ -199,7 +167,7 @@ sound_push b t o s k =
     record {
       numbered = n;
       ordered = next_ordered h o s.numbered.history s.ordered none k.vector;
-      founded = founded_push h o s.numbered.history s.founded n.history (ground_if b t o k);
+      founded = founded_push h o s.numbered.history s.founded n.history (ground_if_taken b t o k);
       whole = whole_push h o s.whole k.seq;
     }
 

@@ -1,14 +1,12 @@
 -- A legal record is within its limits, and no entry stands twice in it.
-use Rattle.std.proofs.Common.{◌≡◌, ℕ, ◌+◌, ◌<◌, ◌≤◌, Bool, true, false, cond, not, List, [], ◌∷◌, ◌++◌, length, refl, sym, ap, ◌∙◌, subst, arith, inl, inr, Option, Some, None, eqb, leb, ltb, ◌&&◌, append_assoc}
+use Rattle.std.proofs.Common.{◌≡◌, ℕ, ◌+◌, ◌<◌, ◌≤◌, Bool, true, false, cond, not, List, [], ◌∷◌, ◌++◌, length, refl, sym, ap, ◌∙◌, subst, arith, inl, inr, None, leb, ltb, ◌&&◌, append_assoc}
 use Rattle.std.specs.Prelude.{filter, flat_map, bytes_eq, is_none}
-use Rattle.std.proofs.lemmas.Bool.{true≢false, cases_Bool, and_parts, false_from_ne_true, leb-false, eqb-true, cases_lt, lt-ltb}
+use Rattle.std.proofs.lemmas.Bool.{true≢false, cases_Bool, and_parts, leb-false, eqb-true, cases_lt, lt-ltb}
 use Rattle.std.proofs.lemmas.List.{append-nil, length_push}
 use Rattle.op_names.specs.Names.{Name}
 use Rattle.op_names.specs.Texts.{Bytes}
 use Rattle.state_vector.specs.Vectors.{is_vector}
 use Rattle.rules.specs.declared.history.Op.{Op}
-use Rattle.rules.specs.declared.history.Body.{Body}
-use Rattle.rules.specs.declared.history.Body.TheVariants.{New, Set}
 use Rattle.rules.specs.declared.history.Entry.{Entry}
 use Rattle.rules.specs.declared.history.Entry.TheVariants.{Join, Operation}
 use Rattle.rules.specs.declared.refusal.Refusal.TheVariants.{NoSuchObject, NoSuchVersion, ObjectFull, TooManyKeys, TooManyVersions}
@@ -31,17 +29,9 @@ use Rattle.rules.proofs.Conditions.{none_of_both, not_first, none_applies, room_
 use Rattle.rules.proofs.Founded.{history_if_legal}
 use Rattle.rules.proofs.Histories.{follows_if}
 use Rattle.shape.proofs.Next.{numbered_if}
-use Rattle.shape.proofs.KeyCounts.{keys_as_many, one_more_key, as_many_keys}
+use Rattle.shape.proofs.KeyCounts.{keys_as_many, one_key_of_set, one_more_key, as_many_keys}
 
 -- ---- keys
-
-pub record OneKey (body : Body) : Type 0 where
-  pub key : Bytes
-  pub is : keys_in body ≡ key ∷ []
-
-pub one_key_of_set : (body : Body) → is_set_body body ≡ true → OneKey body
-one_key_of_set (New kind attrs) e = absurd (true≢false (sym e))
-one_key_of_set (Set object version key value) e = record { key = key; is = refl }
 
 -- sets that have all that others have have no fewer keys
 pub keys_within : (f g : List Op) → ((x : Op) → In x f → In x g) → length (keys_of f) ≤ length (keys_of g)

@@ -1,10 +1,9 @@
 -- How far what was seen agrees with a record.
-use Rattle.std.proofs.Common.{◌≡◌, ◌≢◌, ℕ, zero, suc, ◌+◌, ◌-◌, ◌<◌, ◌≤◌, Bool, true, false, List, [], ◌∷◌, ◌++◌, length, get_or, take, drop, refl, sym, ap, ◌∙◌, arith, Option, Some, None, append_assoc, append-nil, cond}
+use Rattle.std.proofs.Common.{◌≡◌, ℕ, zero, suc, ◌+◌, ◌-◌, ◌<◌, ◌≤◌, Bool, true, false, List, [], ◌∷◌, ◌++◌, length, get_or, take, drop, refl, sym, ap, ◌∙◌, arith, Option, Some, None, append_assoc, append-nil}
 use Rattle.std.specs.Prelude.{map, slice_get, filter, option_map}
-use Rattle.std.specs.Bool.{Decides}
 use Rattle.std.proofs.Math.Seq.{drop-cons}
 use Rattle.std.proofs.lemmas.Bool.{cond-true, cond-false}
-use Rattle.std.proofs.lemmas.List.{drop-map, length-drop, get_or-map, length-map, map-append, map_more, take-map, take-append-drop, length-take-le, take_more, take_all}
+use Rattle.std.proofs.lemmas.List.{drop-map, length-drop, get_or-map, length-map, map_more, take-map, take-append-drop, length-take-le, take_more, take_all}
 use Rattle.std.proofs.lemmas.List.Elements.{filter-append, filter_more}
 use Rattle.std.proofs.lemmas.Option.{slice_get-get_or, slice_get_within, get_or_from_slice_get}
 use Rattle.rules.specs.declared.history.Entry.{Entry}
@@ -106,7 +105,7 @@ goes_on f xs ys k a b in_xs in_ys at_a at_b same before =
     ∙ sym (map_more f ys k b in_ys) ∙ sym (take-map f (k + 1) ys)
 
 -- an element behind as many as there are before it
-at_seam : {A : Type 0} (xs : List A) (x : A) (ys : List A) → slice_get (xs ++ x ∷ ys) (length xs) ≡ Some x
+pub at_seam : {A : Type 0} (xs : List A) (x : A) (ys : List A) → slice_get (xs ++ x ∷ ys) (length xs) ≡ Some x
 at_seam [] x ys = refl
 at_seam (y ∷ xs) x ys = at_seam xs x ys
 

@@ -1,6 +1,6 @@
 -- Lists of conditions, and what it says of a record that an entry isn't refused.
 use Rattle.std.proofs.Common.{◌≡◌, ℕ, ◌+◌, ◌<◌, ◌≤◌, Bool, true, false, List, [], ◌∷◌, ◌++◌, length, refl, sym, ◌∙◌, inl, inr, arith, Some, None, ◌&&◌, leb, eqb, cond}
-use Rattle.std.specs.Prelude.{is_none, find, option_map}
+use Rattle.std.specs.Prelude.{Option, is_none, is_some, find, option_map}
 use Rattle.std.proofs.lemmas.Bool.{and_parts, and_from, le-leb, leb-false, ne_eqb, cases_Bool, true≢false}
 use Rattle.op_names.specs.Names.{is_site, is_op_name}
 use Rattle.op_names.specs.declared.op_name.TheConstants.{MAX_SEQ}
@@ -14,6 +14,15 @@ use Rattle.rules.specs.Bodies.{is_set_body}
 use Rattle.rules.specs.Admission.{Condition, count_at_site, first_that_applies, causal_conditions, causal_refusal}
 use Rattle.rules.proofs.Records.{count_at_site-length}
 use Rattle.rules.specs.Records.{operations, objects, sites, is_placed, admits, refusal, conditions, order_conditions, creation_conditions, set_conditions}
+
+-- what isn't absent is there, and the other way round
+pub is_some-not_none : {X : Type 0} (r : Option X) → is_none r ≡ false → is_some r ≡ true
+is_some-not_none None e = absurd (true≢false e)
+is_some-not_none (Some x) e = refl
+
+pub is_none_if : {X : Type 0} (r : Option X) → is_some r ≡ true → is_none r ≡ false
+is_none_if None e = absurd (true≢false (sym e))
+is_none_if (Some x) e = refl
 
 -- the first condition doesn't apply, nor any later one
 pub not_first : (c : Condition) (cs : List Condition) → first_that_applies (c ∷ cs) ≡ None → (c.0 ≡ false) × (first_that_applies cs ≡ None)

@@ -1,8 +1,7 @@
 -- A legal record's operations are a history in causal order, and each of its sets has its object and its base.
-use Rattle.std.proofs.Common.{◌≡◌, true, false, not, List, [], ◌∷◌, ◌++◌, refl, sym, ap, ◌∙◌, subst, inl, inr, Option, Some, None, leb, cond, ◌&&◌}
-use Rattle.std.specs.Prelude.{Contains, IsTrue, is_none, is_some, Bool}
-use Rattle.std.specs.List.{list_any}
-use Rattle.std.proofs.lemmas.Bool.{true≢false, and_parts, not-false, not_from_false, false_from_ne_true}
+use Rattle.std.proofs.Common.{◌≡◌, true, false, not, List, [], ◌∷◌, ◌++◌, length, refl, sym, ap, ◌∙◌, subst, inl, inr, None, leb, cond, ◌&&◌}
+use Rattle.std.specs.Prelude.{IsTrue, is_none, is_some, Bool}
+use Rattle.std.proofs.lemmas.Bool.{and_parts, not-false, not_from_false, false_from_ne_true}
 use Rattle.std.proofs.lemmas.List.Elements.{Contains-push_cases}
 use Rattle.std.proofs.lemmas.List.{append_assoc, append-nil}
 use Rattle.state_vector.specs.Vectors.{is_vector}
@@ -19,29 +18,30 @@ use Rattle.rules.specs.Records.{operations, sites, admits, is_placed, refusal, o
 use Rattle.rules.proofs.Lists.{In, In-from_Contains, Contains-from_In, In-append_left, any_from, any_back}
 use Rattle.rules.proofs.Histories.{IsNumbered, numbered_push, numbered_empty, not_counted}
 use Rattle.rules.proofs.Records.{operations-join, operations-push}
-use Rattle.rules.proofs.Conditions.{not_first, none_of_both, none_applies, room_for_operation}
+use Rattle.rules.proofs.Conditions.{is_some-not_none, not_first, none_of_both, none_applies, room_for_operation}
 use Rattle.rules.proofs.Agreement.{base_in_part}
 use Rattle.rules.proofs.Parts.{part_of_grown, base_before_adding}
 
-is_some-not_none : {X : Type 0} (r : Option X) → is_none r ≡ false → is_some r ≡ true
-is_some-not_none None e = absurd (true≢false e)
-is_some-not_none (Some x) e = refl
+pub record HasGround (h : List Op) (op : Op) : Type 0 where
+  pub object : has_object h op ≡ true
+  pub based : is_some (base h op) ≡ true
 
-record HasGround (h : List Op) (op : Op) : Type 0 where
-  object : has_object h op ≡ true
-  based : is_some (base h op) ≡ true
-
--- a set that is admitted has its object and its base
-ground_if : (b : LimitValues) (r : List Entry) (op : Op) → admits b r (Operation op) ≡ true → is_set_body op.body ≡ true → HasGround (operations r) op
-ground_if b r op a e =
-    let h = operations r in
-    let x = none_of_both (order_conditions b r op) (cond (is_set_body op.body) (set_conditions b h op) (creation_conditions b r)) (none_applies b r (Operation op) a) in
-    let y : first_that_applies (set_conditions b h op) ≡ None = rw e at x.1 in
+-- a set to which no condition on sets applies has its object and its base
+pub ground_if : (b : LimitValues) (h : List Op) (op : Op) → first_that_applies (set_conditions b h op) ≡ None → HasGround h op
+ground_if b h op none =
     let sets = sets_on h (object_of op) in
-    let late = (leb b.sets (Rattle.std.specs.Prelude.length sets), ObjectFull) ∷ (has_too_many_keys b sets op, TooManyKeys) ∷ (has_too_many_versions b h op, TooManyVersions) ∷ [] in
-    let first = not_first (not (has_object h op), NoSuchObject) ((is_none (base h op), NoSuchVersion) ∷ late) y in
+    let late = (leb b.sets (length sets), ObjectFull) ∷ (has_too_many_keys b sets op, TooManyKeys) ∷ (has_too_many_versions b h op, TooManyVersions) ∷ [] in
+    let first = not_first (not (has_object h op), NoSuchObject) ((is_none (base h op), NoSuchVersion) ∷ late) none in
     let second = not_first (is_none (base h op), NoSuchVersion) late first.1 in
     record { object = not-false (has_object h op) first.0; based = is_some-not_none (base h op) second.0 }
+
+-- and so has one that is admitted
+ground_if_admitted : (b : LimitValues) (r : List Entry) (op : Op) → admits b r (Operation op) ≡ true → is_set_body op.body ≡ true → HasGround (operations r) op
+ground_if_admitted b r op a e =
+    let h = operations r in
+    let x = none_of_both (order_conditions b r op) (cond (is_set_body op.body) (set_conditions b h op) (creation_conditions b r)) (none_applies b r (Operation op) a) in
+    let none : first_that_applies (set_conditions b h op) ≡ None = rw e at x.1 in
+    ground_if b h op none
 
 -- a history in causal order, whose sites number their operations, and whose sets have their objects and bases
 record IsSound (h : List Op) : Type 0 where
@@ -65,20 +65,17 @@ ordered_push (x ∷ h) o c f = (
   ordered_push h o c.1 (λ z m. f z (inr m)),
 )
 
-founded_push : (b : LimitValues) (r : List Entry) (o : Op) (s : IsSound (operations r)) → IsHistory (operations r ++ o ∷ []) → admits b r (Operation o) ≡ true → IsFounded (operations r ++ o ∷ [])
-founded_push b r o s j a =
-    let h = operations r in
-    let i = s.numbered.history in
-    record {
-      object = λ x m t. elim (Contains-push_cases h o x m) [
-        | inl p ↦ object_stays h o x (s.founded.object x p t)
-        | inr e ↦ subst (λ z. has_object (h ++ o ∷ []) z ≡ true) e (object_stays h o o (ground_if b r o a (ap (λ (z : Op). is_set_body z.body) e ∙ t)).object)
-      ];
-      based = λ x m t. elim (Contains-push_cases h o x m) [
-        | inl p ↦ ap is_some (sym (base_in_part (part_of_grown o i j) x p)) ∙ s.founded.based x p t
-        | inr e ↦ subst (λ z. is_some (base (h ++ o ∷ []) z) ≡ true) e (ap is_some (sym (base_before_adding o i j)) ∙ (ground_if b r o a (ap (λ (z : Op). is_set_body z.body) e ∙ t)).based)
-      ];
-    }
+pub founded_push : (h : List Op) (o : Op) → IsHistory h → IsFounded h → IsHistory (h ++ o ∷ []) → (is_set_body o.body ≡ true → HasGround h o) → IsFounded (h ++ o ∷ [])
+founded_push h o i f j ground = record {
+  object = λ x m t. elim (Contains-push_cases h o x m) [
+    | inl p ↦ object_stays h o x (f.object x p t)
+    | inr e ↦ subst (λ z. has_object (h ++ o ∷ []) z ≡ true) e (object_stays h o o (ground (ap (λ (z : Op). is_set_body z.body) e ∙ t)).object)
+  ];
+  based = λ x m t. elim (Contains-push_cases h o x m) [
+    | inl p ↦ ap is_some (sym (base_in_part (part_of_grown o i j) x p)) ∙ f.based x p t
+    | inr e ↦ subst (λ z. is_some (base (h ++ o ∷ []) z) ≡ true) e (ap is_some (sym (base_before_adding o i j)) ∙ (ground (ap (λ (z : Op). is_set_body z.body) e ∙ t)).based)
+  ];
+}
 
 sound_push : (b : LimitValues) (r : List Entry) (o : Op) → IsSound (operations r) → admits b r (Operation o) ≡ true → IsSound (operations r ++ o ∷ [])
 sound_push b r o s a =
@@ -89,7 +86,7 @@ sound_push b r o s a =
     record {
       numbered = n;
       ordered = ordered_push h o s.ordered (λ x m. false_from_ne_true (before o x) (λ t. not_counted h o s.numbered none vector x (Contains-from_In x h m) t));
-      founded = founded_push b r o s n.history a;
+      founded = founded_push h o s.numbered.history s.founded n.history (ground_if_admitted b r o a);
     }
 
 sound_after : (b : LimitValues) (r rest : List Entry) → IsSound (operations r) → IsLegalAfter b r rest → IsSound (operations (r ++ rest))

@@ -1,17 +1,15 @@
 //! A line of a transcript.
 
-ghost use Rattle.std.specs.Prelude.{◌≡◌, ◌≤◌, map};
+ghost use Rattle.std.specs.Prelude.{◌≡◌, ◌≤◌};
 ghost use Rattle.serde_json.specs.View.{view};
-ghost use Rattle.wire.specs.Reading.{Gives, items_in, whole_in};
-ghost use Rattle.wire.specs.Texts.{json_of};
+ghost use Rattle.wire.specs.Reading.{Gives};
 ghost use Rattle.rules.specs.declared.limits.TheConstants.Limits.{MAX_ENTRIES};
-ghost use Rattle.op_names.specs.declared.op_name.TheConstants.{MAX_SITE};
 ghost use Rattle.transcript.specs.Lines.{adds, at_of, entries_after, is_join, is_joined, is_answer, go_together, line_with, line_of, line_read};
 
 use op_names::MAX_SITE;
 use serde_json::Value;
 use std::alloc::Global;
-use wire::{ReadFault, Reply, Request, reply_of, request_of};
+use wire::{ReadFault, Reply, Request, items_of, json_of, reply_of, request_of, whole_of};
 
 /// What a site asked, and what it was answered.
 #[derive(Drop)]
@@ -95,19 +93,6 @@ pub(crate) fn entries_after(reply: &Reply) -> u32
     }
 }
 
-/// A site, from 1 to 256.
-#[tactic(auto, unfolding(wire::specs::Reading::whole_in, wire::specs::Reading::natural_in))]
-fn site_of(value: &Value) -> Result<u32, ReadFault>
-    ensures { Gives (λ site. site) result (whole_in 1 MAX_SITE (view value.now)) }
-{
-    let number = value.as_u64().ok_or(ReadFault::Bad)?;
-    if 1 <= number && number <= MAX_SITE as u64 {
-        Ok(number as u32)
-    } else {
-        Err(ReadFault::Bad)
-    }
-}
-
 /// The line of these three, where request and reply may stand together.
 fn line_with(site: u32, request: Request, reply: Reply) -> Result<TranscriptLine, ReadFault>
     ensures { Gives (λ line. line) result (line_with site request reply) }
@@ -123,23 +108,6 @@ fn line_with(site: u32, request: Request, reply: Reply) -> Result<TranscriptLine
     }
 }
 
-/// The items of a list.
-#[tactic(auto, using(wire::proofs::Parts::listed_items_view), unfolding(wire::specs::Reading::items_in))]
-fn items_of(value: &Value) -> Result<&[Value], ReadFault>
-    ensures { Gives (λ items. map view items.now) result (items_in (view value.now)) }
-{
-    let items = value.as_array().ok_or(ReadFault::Bad)?;
-    Ok(items.as_slice())
-}
-
-/// The JSON value that the bytes are a text of.
-#[tactic(auto, unfolding(wire::specs::Texts::json_of))]
-fn json_of(alloc: Global, bytes: &[u8]) -> Result<Value, ReadFault>
-    ensures { Gives view result (json_of bytes.now) }
-{
-    Ok(Value::from_slice(alloc, bytes)?)
-}
-
 /// The line whose form a JSON value is. Otherwise `Bad`, or `NoMemory`.
 #[tactic(auto, unfolding(crate::specs::Lines::line_of, crate::specs::Lines::line_at))]
 fn line_of(alloc: Global, value: &Value) -> Result<TranscriptLine, ReadFault>
@@ -148,7 +116,7 @@ fn line_of(alloc: Global, value: &Value) -> Result<TranscriptLine, ReadFault>
     let [site, request, reply] = items_of(value)? else {
         return Err(ReadFault::Bad);
     };
-    let site = site_of(site)?;
+    let site = whole_of(site, 1, MAX_SITE)?;
     let request = request_of(alloc, request)?;
     let reply = reply_of(alloc, reply)?;
     line_with(site, request, reply)

@@ -1,5 +1,5 @@
 -- Equality of replies, as a test.
-use Rattle.std.specs.Prelude.{◌≡◌, ℕ, Bool, true, false, ◌&&◌, ◌==◌, List, bytes_eq, unwrap_or}
+use Rattle.std.specs.Prelude.{◌≡◌, ℕ, Bool, false, ◌&&◌, ◌==◌, List, bytes_eq, unwrap_or}
 use Rattle.std.specs.Bool.{Decides}
 use Rattle.std.specs.Cmp.{IsEquivalence, decided, unsigned_Decides}
 use Rattle.std.specs.Cmp.Lexicographic.{pointwise}
@@ -8,7 +8,7 @@ use Rattle.std.proofs.lemmas.Bool.Decides.{Decides-like, Decides-and}
 use Rattle.std.proofs.lemmas.Slice.Eq.{bytes_eq-Decides, slice_eq-Decides}
 use Rattle.op_names.specs.Names.{Name, same_name}
 use Rattle.op_names.specs.VersionIds.{same_names}
-use Rattle.op_names.specs.Values.{same_value, same_value-Decides}
+use Rattle.op_names.specs.Values.{same_value-Decides}
 use Rattle.rules.specs.AttrLists.{Attr, same_attrs}
 use Rattle.rules.specs.Equality.{same_name-Decides, same_entry, same_entry-Decides}
 use Rattle.rules.specs.Refusals.{code_of, refusal_at}

@@ -11,7 +11,9 @@ mod write;
 
 pub use fault::ReadFault;
 pub use lists::{EntryList, IdList, ObjectList, VersionList};
-pub use read::{read_entry, read_reply, read_request, reply_of, request_of};
+pub use read::{
+    items_of, json_of, read_entry, read_reply, read_request, reply_of, request_of, whole_of,
+};
 pub use reply::Reply;
 pub use request::{MAX_FROM, MAX_REQUEST_LEN, Request};
 pub use rules::Refusal;

@@ -15,9 +15,9 @@ use serde_json::Value;
 use state_vector::StateVector;
 use std::alloc::Global;
 
-/// The items of a list.
+/// The items of a list. Otherwise `Bad`.
 #[tactic(auto, using(crate::proofs::Parts::listed_items_view), unfolding(crate::specs::Reading::items_in))]
-pub(crate) fn items_of(value: &Value) -> Result<&[Value], ReadFault>
+pub fn items_of(value: &Value) -> Result<&[Value], ReadFault>
     ensures { Gives (λ items. map view items.now) result (items_in (view value.now)) }
 {
     let items = value.as_array().ok_or(ReadFault::Bad)?;
@@ -43,9 +43,9 @@ pub(crate) fn worded_of(value: &Value) -> Result<(&str, &[Value]), ReadFault>
     Ok((word, rest))
 }
 
-/// The JSON value that the bytes are a text of.
+/// The JSON value that the bytes are a text of. Otherwise `Bad`, or `NoMemory`. Linear in the bytes.
 #[tactic(auto, unfolding(crate::specs::Texts::json_of))]
-fn json_of(alloc: Global, bytes: &[u8]) -> Result<Value, ReadFault>
+pub fn json_of(alloc: Global, bytes: &[u8]) -> Result<Value, ReadFault>
     ensures { Gives view result (json_of bytes.now) }
 {
     Ok(Value::from_slice(alloc, bytes)?)
@@ -59,9 +59,9 @@ fn integer_of(value: &Value) -> Result<i64, ReadFault>
     number.as_i64().ok_or(ReadFault::Bad)
 }
 
-/// A whole number from `low` to `high`.
+/// A whole number from `low` to `high`, both included. Otherwise `Bad`.
 #[tactic(auto, unfolding(crate::specs::Reading::whole_in, crate::specs::Reading::natural_in))]
-pub(crate) fn whole_of(value: &Value, low: u32, high: u32) -> Result<u32, ReadFault>
+pub fn whole_of(value: &Value, low: u32, high: u32) -> Result<u32, ReadFault>
     ensures { Gives (λ number. number) result (whole_in low high (view value.now)) }
 {
     let number = value.as_u64().ok_or(ReadFault::Bad)?;

@@ -1,4 +1,4 @@
-use Rattle.std.proofs.Common.{◌≡◌, None, true, false, true≢false, map, sym, ◌∙◌, ap, rules}
+use Rattle.std.proofs.Common.{◌≡◌, None, true, true≢false, map, sym, ◌∙◌, ap, rules}
 use Rattle.std.specs.Arc.{arc_value}
 use Rattle.room_core.specs.Logs.{entries_of, first_difference}
 use Rattle.state_vector.proofs.Vectors.{none_if}

@@ -1,12 +1,11 @@
-use Rattle.std.proofs.Common.{◌≡◌, ◌≢◌, ◌<◌, ◌≤◌, length, map, arith, rules, sym, ◌∙◌, ap, Some, true, false}
+use Rattle.std.proofs.Common.{◌≡◌, map, arith, rules, sym, ◌∙◌, ap, Some, true, false}
 use Rattle.std.specs.Prelude.{slice_get}
 use Rattle.std.specs.Arc.{arc_value}
 use Rattle.std.proofs.lemmas.List.{length-map}
 use Rattle.std.proofs.lemmas.Option.{slice_get_past}
-use Rattle.std.proofs.lemmas.Bool.Decides.{nat_tests}
 use Rattle.rules.specs.Equality.{same_entry, same_entry-Decides}
 use Rattle.room_core.specs.Logs.{is_of_site}
-use Rattle.room_core.proofs.Seen.{at_map, must_be_next, pass_next, skip_next, all_compared, some_same}
+use Rattle.room_core.proofs.Seen.{at_map, must_be_next, pass_next, skip_next, some_same}
 use Rattle.room_core.proofs.agreement.are_entries_of.Goals as goal
 use Rattle.room_core.proofs.agreement.are_entries_of.Goals.{then-next-added-via-then-next-added, then-next-added-via-else-next-added+then-not-same_entry, then-is_of_site+else-next-added+else-not-same_entry, else-is_of_site}
 

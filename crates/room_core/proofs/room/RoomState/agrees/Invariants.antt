@@ -1,4 +1,4 @@
-use Rattle.std.proofs.Common.{◌≡◌, ◌≤◌, ◌+◌, ◌*◌, ◌^◌, take, length}
+use Rattle.std.proofs.Common.{◌≡◌, ◌≤◌, ◌*◌, ◌^◌, take, length}
 use Rattle.std.specs.Prelude.{All, sum_by}
 use Rattle.room_core.specs.Logs.{AgreesWith}
 use Rattle.room_core.proofs.room.RoomState.agrees.Given as goal

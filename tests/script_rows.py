@@ -1,9 +1,12 @@
-"""The worked rows, and lines that are none, as scripts."""
+"""The worked rows, and lines that are none, as scripts; and the README's session."""
 
+import re
+import shlex
+import textwrap
 from functools import partial
 
 from rows import ROWS, lines_of, rooms_of
-from serving import run, same
+from serving import ROOT, Wrong, run, same
 
 
 def script(rooms, lines, answers):
@@ -26,6 +29,17 @@ def test_rows(rows):
         [f"{client} {request}" for client, request, _ in asked],
         [f"{client} {reply}" for client, _, reply in asked],
     )
+
+
+def session_of_readme():
+    """The session to paste in README.md prints what stands below it."""
+    text = (ROOT / "README.md").read_text()
+    found = re.search(r"\n((?:    .*\n)+)\nIt prints:\n\n((?:    .*\n)+)", text)
+    if not found:
+        raise Wrong("README.md has no session with what it prints")
+    words = shlex.split(found[1].replace("\\\n", " "))
+    same("the command", (words[:2], words[-4:]), (["printf", r"%s\n"], ["|", "./try", "script", "r"]))
+    script(["r"], words[2:-4], textwrap.dedent(found[2]).splitlines())
 
 
 # Lines of a script, and below each the line that answers it.
@@ -74,6 +88,7 @@ def long_lines():
 
 
 TESTS = [(f"{name}, as a script", partial(test_rows, rows)) for name, rows in ROWS] + [
+    ("the session of README.md", session_of_readme),
     ("lines of another form", other_lines),
     ("a last line without a line feed", no_last_break),
     ("lines that are no text", no_utf8),

@@ -1,12 +1,15 @@
-"""The reference client in Python, run as a command."""
+"""The client in Python, run as a command and as a module."""
 
+import importlib.util
 import subprocess
 import sys
+from functools import partial
 
 from records import compact
-from serving import ROOT, Server, same
+from serving import ROOT, Server, Wrong, free_address, same
 
 CLIENT = ROOT / "clients/python/grace_client.py"
+COMMANDS = "the commands are show, new KIND [KEY VALUE].. and set OBJECT VERSION KEY VALUE"
 
 
 class Terminal:
@@ -51,7 +54,13 @@ def two_terminals():
         second.types("show", "1 rect version 1 x=5", "1 rect version 2 x=9")
         second.types("set 1 2 fill red")
         second.types("set 1 2 name große")
-        second.types("set 2 1 x 1", "there is no such command, object or version")
+        second.types("set 2 1 x 1", "there is no object 2")
+        second.types("set 0 1 x 1", "there is no object 0")
+        second.types("set 1 3 x 1", "there is no version 3")
+        second.types("set lake 1 x 1", "lake is no number")
+        second.types("set 1 1 x", COMMANDS)
+        second.types("new rect x", COMMANDS)
+        second.types("new rect x 1 x 2", "a key stands twice")
         second.types("set 1 1 X 1", "refused: 1 bad-message")
         shown = "1 rect version 1 x=5", "1 rect version 2 fill=red name=große x=9"
         second.types("show", *shown)
@@ -72,4 +81,64 @@ def two_terminals():
         server.finish()
 
 
-TESTS = [("two clients in Python", two_terminals)]
+def cannot_begin(status, line, *words):
+    """The client ends with this status, and with this as its last line."""
+    command = [sys.executable, CLIENT, *words]
+    done = subprocess.run(command, stdin=subprocess.DEVNULL, capture_output=True, text=True, timeout=10)
+    same("the end", (done.returncode, done.stdout), (status, ""))
+    if line not in done.stderr or "Traceback" in done.stderr:
+        raise Wrong(f"on standard error stands {done.stderr!r:.300}")
+
+
+def nobody_there():
+    """Where nobody listens the client says so."""
+    cannot_begin(1, "Connection refused", "{}:{}".format(*free_address()), "r")
+
+
+def no_room():
+    """A room that the server doesn't have is told as the server does."""
+    with Server() as server:
+        told = server.another().told
+        cannot_begin(1, "refused: 4 no-such-room", server.name, "s")
+        told.asked(compact(["join", "s"]))
+        told.answered(compact(["no", 0, 4, "no-such-room"]))
+        server.finish()
+
+
+def as_module():
+    """A program that imports the client hands in numbers and texts."""
+    found = importlib.util.spec_from_file_location("grace_client", CLIENT)
+    client = importlib.util.module_from_spec(found)
+    found.loader.exec_module(client)
+    with Server() as server:
+        told = server.another().told
+        room = client.Room(client.Connection(*server.address), "r")
+        room.new("rect", {"x": 0, "name": "7"})
+        room.look()
+        room.set(1, 1, "x", -5)
+        room.look()
+        same("what it shows", room.objects, [[[1, 1], "rect", [[[], [["name", "7"], ["x", -5]]]]]])
+        try:
+            room.set(1, 0, "x", 5)
+            raise Wrong("there is a version 0")
+        except client.Mistake:
+            pass
+        room.connection.close()
+        for request, reply in [
+            (["join", "r"], ["joined", 0, 1]),
+            (["new", 1, [], "rect", [["x", 0], ["name", "7"]]], ["made", 1, [1, 1]]),
+            (["set", 2, [[1, 1]], [1, 1], [], "x", -5], ["taken", 2, [[]]]),
+        ]:
+            told.asked(compact(request))
+            told.answered(compact(reply))
+        server.finish()
+
+
+TESTS = [
+    ("two clients in Python", two_terminals),
+    ("the client in Python as a module", as_module),
+    ("the client in Python where nobody listens", nobody_there),
+    ("the client in Python with a room that isn't there", no_room),
+    ("the client in Python without a room", partial(cannot_begin, 2, "required: ROOM", "127.0.0.1:7000")),
+    ("the client in Python without a port", partial(cannot_begin, 2, "localhost has no port", "localhost", "r")),
+]

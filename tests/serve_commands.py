@@ -38,7 +38,8 @@ def taken_address():
     with socket.socket() as other:
         other.bind(("127.0.0.1", 0))
         other.listen()
-        ends_with("grace: cannot listen", 3, "{}:{}".format(*other.getsockname()), 1, 1, "r")
+        line = "grace: cannot listen: Address already in use (os error 98)"
+        ends_with(line, 3, "{}:{}".format(*other.getsockname()), 1, 1, "r")
 
 
 def output_is_full():
@@ -164,13 +165,13 @@ def nobody_there():
     """Where nobody listens there is nothing to watch."""
     needs("watch")
     name = "{}:{}".format(*free_address())
-    same("the end", run("watch", name, "r"), (3, "", "grace: cannot connect\n"))
+    line = "grace: cannot connect: Connection refused (os error 111)\n"
+    same("the end", run("watch", name, "r"), (3, "", line))
 
 
 ANYWHERE = "127.0.0.1:0"
 BAD_NAME = partial(ends_with, "grace: bad room name", 2)
 TWICE = partial(ends_with, "grace: room named twice", 2)
-NO_LISTENING = partial(ends_with, "grace: cannot listen", 3)
 
 TESTS = [
     ("a bad room name", partial(BAD_NAME, ANYWHERE, 1, 1, "r", "Room")),
@@ -180,8 +181,12 @@ TESTS = [
     ("a room named twice", partial(TWICE, ANYWHERE, 1, 1, "r", "s", "r")),
     ("a room named twice before an address", partial(TWICE, "nowhere", 1, 1, "r", "r")),
     ("an address that is taken", taken_address),
-    ("an address that is none", partial(NO_LISTENING, "nowhere", 1, 1, "r")),
-    ("a port that is none", partial(NO_LISTENING, "127.0.0.1:65536", 1, 1, "r")),
+    ("an address that is none",
+     partial(ends_with, "grace: cannot listen: invalid socket address", 3, "nowhere", 1, 1, "r")),
+    ("a port that is none",
+     partial(ends_with, "grace: cannot listen: invalid port value", 3, "127.0.0.1:65536", 1, 1, "r")),
+    ("an address of another machine",
+     partial(ends_with, "grace: cannot listen: Cannot assign requested address (os error 99)", 3, "192.0.2.1:0", 1, 1, "r")),
     ("no session", partial(no_command_line, ANYWHERE, 0, 1, "r")),
     ("100,001 sessions", partial(no_command_line, ANYWHERE, 100001, 1, "r")),
     ("sessions that are no number", partial(no_command_line, ANYWHERE, "many", 1, "r")),

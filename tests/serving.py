@@ -19,6 +19,10 @@ ROOT = pathlib.Path(__file__).resolve().parent.parent
 WARNING = re.compile(r"\] session (\d+): (handshake failed|stream fault|out of memory|torn from its room)$")
 
 
+# The first line of `grace serve`, with the port.
+LISTENING = re.compile(r"listening 127\.0\.0\.1:([1-9]\d*)\n")
+
+
 class Wrong(Exception):
     """Something isn't as it must be."""
 
@@ -60,8 +64,11 @@ def find_program():
 def run(*words, stdin=b"", stdout=subprocess.PIPE, seconds=3 * SECONDS):
     """Runs the program with these words to its end, which it comes to in so many seconds: status, output and
     errors."""
-    command = [PROGRAM, *map(str, words)]
-    done = subprocess.run(command, input=stdin, stdout=stdout, stderr=subprocess.PIPE, timeout=seconds)
+    # Its texts begin with the name that it was started under, whatever its file is named.
+    done = subprocess.run(
+        ["grace", *map(str, words)], executable=PROGRAM,
+        input=stdin, stdout=stdout, stderr=subprocess.PIPE, timeout=seconds,
+    )
     return done.returncode, (done.stdout or b"").decode(), done.stderr.decode()
 
 
@@ -207,15 +214,17 @@ class Server:
         return self
 
     def listen(self):
-        """Starts the program, and awaits that it listens. Another process can take the port before it does."""
-        for _ in range(3):
-            self.start()
-            first = self.next_line()
-            if first is not None:
-                return same("the first line", first, f"listening {self.name}\n")
-            self.process.wait(SECONDS)
-        self.errors.seek(0)
-        raise Wrong(f"the program does not listen: {self.errors.read():.300}")
+        """Starts the program, and awaits that it tells which port it got."""
+        self.start()
+        first = self.next_line()
+        if first is None:
+            self.errors.seek(0)
+            raise Wrong(f"the program does not listen: {self.errors.read():.300}")
+        found = LISTENING.fullmatch(first)
+        if not found:
+            raise Wrong(f"the first line is {first!r:.100}")
+        self.address = "127.0.0.1", int(found[1])
+        self.name = "{}:{}".format(*self.address)
 
     def __exit__(self, *_):
         for client in self.clients:
@@ -228,11 +237,9 @@ class Server:
 
     def start(self):
         """Starts the program."""
-        self.address = free_address()
-        self.name = "{}:{}".format(*self.address)
         self.errors = tempfile.TemporaryFile("w+")
         self.process = subprocess.Popen(
-            [PROGRAM, "serve", self.name, *self.words],
+            [PROGRAM, "serve", "127.0.0.1:0", *self.words],
             stdin=subprocess.DEVNULL, stdout=subprocess.PIPE, stderr=self.errors, text=True,
         )
         self.lines = queue.Queue()

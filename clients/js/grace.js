@@ -36,7 +36,7 @@ export { Drawing, LIMITS, Lost, ProtocolFault, Refused, Version, entryOf, isSame
  * @typedef {"connecting" | "open" | "waiting" | "closed"} State `waiting` is between a lost connection and the next try
  * @typedef {object} Options
  * @property {(address: string) => import("./connection.js").Socket} [connect] opens a socket that does as a `WebSocket`
- *   does. Where it isn't given, the global `WebSocket` is taken
+ *   does. Where it isn't given, the global `WebSocket` is taken, which browsers have, and node from version 22 on
  * @property {number} [pollMilliseconds] how long to wait before asking for news again: 300
  * @property {number} [replyMilliseconds] after how long without a reply a connection counts as lost: 15,000
  * @property {number} [settleMilliseconds] how long a change on the way may take to reach the server, after the
@@ -52,6 +52,9 @@ const DEFAULTS = {
   settleMilliseconds: 250,
   retryMilliseconds: [100, 500, 1000, 2000, 5000],
 }
+
+const NO_WEB_SOCKET = "There is no global WebSocket here. Hand in the option connect, as in " +
+  "new Room(address, name, { connect: (address) => new WebSocket(address) }) with the WebSocket of a library."
 
 // A connection that stood for so long begins the waits for the next one from the first. Each connection that joins
 // uses up a site of the room, so one that breaks again and again must not be tried too often.
@@ -139,10 +142,11 @@ export class Room {
    * @param {string} address of the server, as `ws://localhost:7000/`
    * @param {string} name of the room: 1 to 64 of a-z, 0-9 and `-`
    * @param {Options} [options]
-   * @throws {TypeError} the name is none
+   * @throws {TypeError} the name is none, or there is neither `options.connect` nor a global `WebSocket`
    */
   constructor(address, name, options = {}) {
     if (!/^[a-z0-9-]{1,64}$/.test(name)) throw new TypeError(`${name} isn't the name of a room`)
+    if (options.connect === undefined && globalThis.WebSocket === undefined) throw new TypeError(NO_WEB_SOCKET)
     this.#address = address
     this.#name = name
     this.#options = { ...DEFAULTS, ...options }

@@ -5,8 +5,11 @@
     new KIND [KEY VALUE]..         creates an object
     set OBJECT VERSION KEY VALUE   sets a key of a version of an object, by their numbers in the last show
 
-A VALUE is a whole number where it reads as one, otherwise a text. Needs Python's standard library alone."""
+OBJECT and VERSION count from 1. A VALUE is a whole number where it reads as one, otherwise a text. At the end of its
+input it closes the session; it ends with status 1 where the server or the room can't be had. As a module it offers
+`Connection` and `Room`. Needs Python's standard library alone."""
 
+import argparse
 import base64
 import json
 import os
@@ -20,13 +23,12 @@ TEXT, CLOSE = 1, 8
 class Connection:
     """A WebSocket to the server (RFC 6455), on which each request has one reply."""
 
-    def __init__(self, address):
-        host, _, port = address.rpartition(":")
-        self.socket = socket.create_connection((host.strip("[]"), int(port)))
+    def __init__(self, host, port):
+        self.socket = socket.create_connection((host, port))
         self.stream = self.socket.makefile("rb")
         key = base64.b64encode(os.urandom(16)).decode()
         fields = f"Upgrade: websocket\r\nConnection: Upgrade\r\nSec-WebSocket-Version: 13\r\nSec-WebSocket-Key: {key}"
-        self.socket.sendall(f"GET / HTTP/1.1\r\nHost: {address}\r\n{fields}\r\n\r\n".encode())
+        self.socket.sendall(f"GET / HTTP/1.1\r\nHost: {host}:{port}\r\n{fields}\r\n\r\n".encode())
         if b" 101 " not in self.stream.readline():
             raise ConnectionError("the server opens no WebSocket")
         while self.stream.readline().strip():
@@ -64,9 +66,19 @@ class Connection:
             if opcode == CLOSE:
                 raise ConnectionError("the server closed the session")
 
+    def close(self):
+        """Closes the session, and awaits the server's answer to that."""
+        self.send(CLOSE, struct.pack("!H", 1000))
+        while self.read()[0] != CLOSE:
+            pass
+
 
 class Refused(Exception):
     """The room refused a request. Nothing has changed."""
+
+
+class Mistake(Exception):
+    """What was asked for isn't there. Nothing was sent."""
 
 
 class Room:
@@ -104,17 +116,17 @@ class Room:
         counts[self.site] = self.seq
         return [[site, count] for site, count in sorted(counts.items()) if count]
 
-    def new(self, kind, *words):
-        """Creates an object with these keys and values."""
-        attributes = [[key, value_of(value)] for key, value in zip(words[::2], words[1::2], strict=True)]
-        self.ask(["new", self.seq + 1, self.seen(), kind, attributes])
+    def new(self, kind, attributes):
+        """Creates an object with these attributes, a dictionary of numbers and texts."""
+        self.ask(["new", self.seq + 1, self.seen(), kind, [*attributes.items()]])
         self.seq += 1
 
     def set(self, number, version, key, value):
-        """Sets a key of a version. Of versions with names in their identifiers, that one then has one name more."""
-        name, _, versions = self.objects[int(number) - 1]
-        shown = versions[int(version) - 1]
-        self.ask(["set", self.seq + 1, self.seen(), name, shown[0], key, value_of(value)])
+        """Sets a key of a version, by the numbers of the object and the version in the last look. Of versions with
+        names in their identifiers, that one then has one name more."""
+        name, _, versions = member(self.objects, number, "object")
+        shown = member(versions, version, "version")
+        self.ask(["set", self.seq + 1, self.seen(), name, shown[0], key, value])
         self.seq += 1
         shown[0] = shown[0] and sorted([*shown[0], [self.site, self.seq]])
 
@@ -126,25 +138,83 @@ class Room:
                 print(number, kind, "version", version, *(f"{key}={value}" for key, value in attributes))
 
 
+def member(members, number, what):
+    """The member of this number, from 1."""
+    if not 1 <= number <= len(members):
+        raise Mistake(f"there is no {what} {number}")
+    return members[number - 1]
+
+
+def number_of(word):
+    """The whole number that a word says."""
+    value = value_of(word)
+    if isinstance(value, str):
+        raise Mistake(f"{word} is no number")
+    return value
+
+
 def value_of(word):
     """A whole number where the word reads as one, otherwise the word."""
     return int(word) if word.removeprefix("-").isdecimal() else word
 
 
-def main(address, name):
-    room = Room(Connection(address), name)
-    commands = {"show": room.show, "new": room.new, "set": room.set}
-    for command, *words in map(str.split, filter(str.strip, sys.stdin)):
+def carry_out(room, words):
+    """Carries out a line of the input."""
+    match words:
+        case ["show"]:
+            room.show()
+        case ["new", kind, *pairs] if len(pairs) % 2 == 0:
+            keys = pairs[::2]
+            if len({*keys}) < len(keys):
+                raise Mistake("a key stands twice")
+            room.new(kind, dict(zip(keys, map(value_of, pairs[1::2]))))
+        case ["set", number, version, key, value]:
+            room.set(number_of(number), number_of(version), key, value_of(value))
+        case _:
+            raise Mistake("the commands are show, new KIND [KEY VALUE].. and set OBJECT VERSION KEY VALUE")
+
+
+def draw(room):
+    """Carries out the lines of standard input."""
+    for line in filter(str.strip, sys.stdin):
         try:
-            commands[command](*words)
-        except (KeyError, IndexError, TypeError, ValueError):
-            print("there is no such command, object or version")
+            carry_out(room, line.split())
+        except Mistake as mistake:
+            print(mistake)
         except Refused as refusal:
             print("refused:", refusal)
         sys.stdout.flush()
-    room.connection.send(CLOSE, struct.pack("!H", 1000))
-    room.connection.read()
+
+
+def run(connection, name):
+    """Draws in the room of this name, and closes the session: None, or why the room can't be had."""
+    try:
+        draw(Room(connection, name))
+        return None
+    except Refused as refusal:
+        return f"grace_client.py: refused: {refusal}"
+    finally:
+        connection.close()
+
+
+def address_of(word):
+    """The host and the port of an address."""
+    host, _, port = word.rpartition(":")
+    if not port.isdecimal() or int(port) > 65535:
+        raise argparse.ArgumentTypeError(f"{word} has no port: an address is as 127.0.0.1:7000")
+    return host.strip("[]"), int(port)
+
+
+def main():
+    parser = argparse.ArgumentParser(description="Draws in a room from a terminal, by lines of standard input.")
+    parser.add_argument("address", metavar="ADDRESS", type=address_of, help="of the server, as 127.0.0.1:7000")
+    parser.add_argument("room", metavar="ROOM", help="the name of the room")
+    words = parser.parse_args()
+    try:
+        sys.exit(run(Connection(*words.address), words.room))
+    except OSError as fault:
+        sys.exit(f"grace_client.py: {fault}")
 
 
 if __name__ == "__main__":
-    main(*sys.argv[1:])
+    main()

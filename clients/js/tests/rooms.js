@@ -1,7 +1,7 @@
 /** Clients in one room of `grace serve`: what they see of each other, and of refusals. */
 
 import { LIMITS, Room } from "../grace.js"
-import { comes, fails, same } from "./checks.js"
+import { comes, fails, holds, same } from "./checks.js"
 import { Server } from "./program.js"
 import { WebSocket } from "./websocket.js"
 
@@ -165,6 +165,18 @@ async function noSuchRoom(client, server) {
   same("the words", room.words, "The server has no room of this name.")
 }
 
+/** Without a global WebSocket and without the option, it is told at once what to hand in. */
+function noWebSocket() {
+  const own = Object.getOwnPropertyDescriptor(globalThis, "WebSocket")
+  delete globalThis.WebSocket
+  try {
+    const { message } = fails("a room", () => new Room("ws://127.0.0.1:1/", "r"), "TypeError")
+    holds("it says what to hand in", message.includes("Hand in the option connect"))
+  } finally {
+    if (own !== undefined) Object.defineProperty(globalThis, "WebSocket", own)
+  }
+}
+
 export const TESTS = [
   ["two clients make two versions", served(twoVersions)],
   ["many changes in one go", served(inOneGo)],
@@ -172,4 +184,5 @@ export const TESTS = [
   ["refused before it is sent", served(refusedHere)],
   ["a refusal of the server", served(takenBack)],
   ["no such room", served(noSuchRoom)],
+  ["no WebSocket", noWebSocket],
 ]

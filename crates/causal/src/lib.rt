@@ -9,16 +9,11 @@ ghost use Rattle.rules.specs.Admission.{count_at_site, is_ahead, is_not_closed, 
 ghost use Rattle.causal.specs.Index.{at_number, places_of, has_fewer, lacks, knows, lacks_beyond};
 
 use op_names::{MAX_SITE, NoMemory, OpName};
-use rules::Refusal;
-pub use rules::{AttrList, Attrs, AttrsFault, Body, Entry, Op, SharedOp, Version};
+use rules::{Op, Refusal, SharedOp};
 use state_vector::StateVector;
 use std::alloc::Global;
 use std::marker::Model;
 use thiserror::Error;
-
-mod order;
-
-pub use order::{before, concurrent};
 
 /// Why an operation is not admitted, the first cause that applies in this order.
 #[derive(Clone, Copy, Debug, PartialEq, Eq, Error)]
@@ -144,13 +139,6 @@ impl Past {
     {
         let op = self.operations.get(self.place(site, seq)?)?;
         Some(op)
-    }
-
-    /// The operation of this name, or `None` where it is not there.
-    pub fn find(&self, name: OpName) -> Option<&Op>
-        ensures { option_copied result ≡ operation self.now.history name }
-    {
-        self.operation(name.site(), name.seq())
     }
 
     /// Is some pair's count above the number of its site's operations?

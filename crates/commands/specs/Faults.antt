@@ -14,11 +14,11 @@ status_of BadRoomName = 2
 status_of RoomNamedTwice = 2
 status_of Input = 3
 status_of Output = 3
-status_of CannotListen = 3
+status_of (CannotListen why) = 3
 status_of Accept = 3
 status_of NoWorker = 3
 status_of RoomsTorn = 3
-status_of CannotConnect = 3
+status_of (CannotConnect why) = 3
 status_of Session = 3
 status_of NoMemory = 4
 

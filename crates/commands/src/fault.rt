@@ -5,12 +5,13 @@ ghost use Rattle.commands.specs.declared.fault.Fault.TheVariants.{NoMemory};
 
 use op_names::{NameFault, NoMemory};
 use std::alloc::{AllocError, AllocFailed};
+use std::io;
 use std::io::Write;
 use thiserror::Error;
 use world::{RoomsFault, ScriptFault};
 
 /// Why a command ends early.
-#[derive(Clone, Copy, Debug, PartialEq, Eq, Error)]
+#[derive(Clone, Copy, Debug, Error)]
 pub enum Fault {
     #[error("bad room name")]
     BadRoomName,
@@ -20,16 +21,16 @@ pub enum Fault {
     Input,
     #[error("output failed")]
     Output,
-    #[error("cannot listen")]
-    CannotListen,
+    #[error("cannot listen: {0}")]
+    CannotListen(io::Error),
     #[error("accept failed")]
     Accept,
     #[error("no worker")]
     NoWorker,
     #[error("rooms torn")]
     RoomsTorn,
-    #[error("cannot connect")]
-    CannotConnect,
+    #[error("cannot connect: {0}")]
+    CannotConnect(io::Error),
     #[error("session failed")]
     Session,
     #[error("no memory")]
@@ -47,11 +48,11 @@ impl Fault {
             Fault::BadRoomName | Fault::RoomNamedTwice => 2,
             Fault::Input
             | Fault::Output
-            | Fault::CannotListen
+            | Fault::CannotListen(_)
             | Fault::Accept
             | Fault::NoWorker
             | Fault::RoomsTorn
-            | Fault::CannotConnect
+            | Fault::CannotConnect(_)
             | Fault::Session => 3,
             Fault::NoMemory => 4,
         }
@@ -59,20 +60,7 @@ impl Fault {
 
     /// Writes its line. A write that fails changes nothing.
     pub fn write_line<E: Write>(self, errors: &mut E) {
-        let line = match self {
-            Fault::BadRoomName => "grace: bad room name\n",
-            Fault::RoomNamedTwice => "grace: room named twice\n",
-            Fault::Input => "grace: input failed\n",
-            Fault::Output => "grace: output failed\n",
-            Fault::CannotListen => "grace: cannot listen\n",
-            Fault::Accept => "grace: accept failed\n",
-            Fault::NoWorker => "grace: no worker\n",
-            Fault::RoomsTorn => "grace: rooms torn\n",
-            Fault::CannotConnect => "grace: cannot connect\n",
-            Fault::Session => "grace: session failed\n",
-            Fault::NoMemory => "grace: no memory\n",
-        };
-        let _ = errors.write_all(line.as_bytes());
+        let _ = writeln!(errors, "grace: {self}");
         let _ = errors.flush();
     }
 }

@@ -201,7 +201,7 @@ conflicting_at k based conflicting p low l e =
     ∙ has-filter (in_conflict_with (clash_of k) based) (length k) p l
     ∙ any_agree (clash_of k p) (λ other. conflict k (at k other) (at k p)) based (λ x m. conflict_symmetric k (at k p) (at k x))
 
--- what is known of the first places, of a with_addition relation
+-- what is known of the first places, of a wider relation
 lifted : (clash more : ℕ → ℕ → Bool) (scope : List ℕ) (n size : ℕ) (found : List ℕ) → n ≤ size → ((i j : ℕ) → i < n → j < n → clash i j ≡ more i j)
     → found ≡ filter (conflicts_below clash scope n) (places n) → found ≡ filter (conflicts_below more scope n) (places size)
 lifted clash more scope n size found l same e =

@@ -169,20 +169,6 @@ impl Clashes {
         push_if_in_conflict(&mut self.in_conflict, place, conflicts);
     }
 
-    /// Adds a set on the object: `plan`, then `commit`. On `NoMemory` the sets are as before.
-    pub fn add(&mut self, alloc: Global, op: SharedOp, base: Members) -> Result<(), NoMemory>
-        requires sets { AreSetsOn self.old.object (self.old.ops ++ op ∷ []) }
-        requires base { base ≡ base_places self.old.ops op }
-        ensures object { self.new.object ≡ self.old.object }
-        ensures ok { OnOk result (self.new.ops ≡ self.old.ops ++ op ∷ []) }
-        ensures err { OnErr result (self.new.ops ≡ self.old.ops) }
-    {
-        let known = self.known_places(alloc, &op.seen)?;
-        let addition = self.plan(alloc, op, base, &known)?;
-        self.commit(addition);
-        Ok(())
-    }
-
     /// These sets and one that was planned for them, as a relation.
     pub fn with<'a>(&'a self, addition: &'a Addition) -> WithAddition<'a>
         requires { IsAddition self.now.object self.now.ops addition.now }

@@ -54,7 +54,7 @@ impl VersionId {
         }
     }
 
-    /// The identifier of these names. Otherwise `NotRising`, or `NoMemory`.
+    /// The identifier of a copy of these names. Otherwise `NotRising`, or `NoMemory`.
     pub fn from_names(alloc: Global, names: &[OpName]) -> Result<VersionId, ListFault>
         ensures ok { IfOk result (λ id. (id ≡ names.now) × (names_rise names.now ≡ true)) }
         ensures fault { FailsBy ListFault.NoMemory (names_fault names.now) result }

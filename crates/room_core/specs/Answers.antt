@@ -33,7 +33,7 @@ reply_alone reply = (reply, None)
 abbrev pub refusal_answer : Room → Refusal → Outcome
 refusal_answer room why = reply_alone (No (length room.entries) why)
 
--- the entry is added and answered so, or refusal_answer
+-- the entry is added and answered so, or refused
 abbrev pub entry_or_refusal : Room → Option Refusal → Entry → Reply → Outcome
 entry_or_refusal room None entry reply = (reply, Some entry)
 entry_or_refusal room (Some why) entry reply = refusal_answer room why

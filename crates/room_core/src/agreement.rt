@@ -1,4 +1,4 @@
-//! How far entries that were seen agree with a entries.
+//! How far entries that were seen agree with a record.
 
 ghost use Rattle.std.specs.Prelude.{◌≡◌, false, map, true};
 ghost use Rattle.std.specs.Arc.{arc_value};

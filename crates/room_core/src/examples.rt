@@ -1,7 +1,7 @@
 //! Worked examples of answers, computed by the check from the definitions. These functions run
 //! nothing.
 //!
-//! The records are those of `rules::examples`, in which one rectangle is without_spare.
+//! The records are those of `rules::examples`, in which one rectangle is drawn.
 
 ghost use Rattle.std.specs.Prelude.{◌≡◌, [], ◌∷◌, Some, None, pos, codes};
 ghost use Rattle.op_names.specs.declared.value.Value.TheVariants.{Number, Text};

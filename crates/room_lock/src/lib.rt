@@ -18,5 +18,5 @@ pub use histories::{Opened, open_histories};
 pub use joined::Joined;
 pub use ledger::RoomLedger;
 pub use pass::Pass;
-pub use room_core::{CallFault, RoomsFault};
+pub use room_core::CallFault;
 pub use rooms::Rooms;

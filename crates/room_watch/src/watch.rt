@@ -235,8 +235,9 @@ where
     W: Write,
 {
     let room = RoomName::parse(alloc, room.as_bytes())?;
-    let Ok(stream) = TcpStream::connect(rt, address) else {
-        return Err(Fault::CannotConnect);
+    let stream = match TcpStream::connect(rt, address) {
+        Ok(stream) => stream,
+        Err(why) => return Err(Fault::CannotConnect(why)),
     };
     let _ = stream.set_nodelay(true);
     watch_over(rt, alloc, Uninterrupted { stream }, &room, output)?;

@@ -1,5 +1,4 @@
-//! The program over words, readers, writers and connections: what `main` calls, and what tests call in
-//! its place.
+//! The program over words, readers, writers and connections: what `main` calls.
 #![tactic(auto)]
 
 mod accept;
@@ -7,4 +6,3 @@ mod command;
 mod serve;
 
 pub use command::run;
-pub use serve::{Service, serve_over};

@@ -11,10 +11,10 @@ use op_names::RoomName;
 use room_lock::{Opened, RoomLedger, Rooms, open_histories};
 use rules::Limits;
 use sessions::{Open, ServeFault, serve_streams};
-use std::alloc::Global;
+use std::alloc::{AllocError, Global};
 use std::io::Write;
 use std::marker::Brand;
-use std::net::{Net, TcpListener};
+use std::net::{Net, OpenListener, TcpListener};
 use std::sync::Wait;
 use std::sync::atomic::{AtomicBool, Ordering};
 use std::sync::ledger::Blank;
@@ -35,19 +35,32 @@ fn fault_of(fault: ServeFault) -> Fault
 
 /// What `grace serve` is asked to do.
 #[derive(Clone, Copy, Debug)]
-pub struct Service<'a> {
-    /// Where it listens, as std's `bind` reads it.
-    pub address: &'a str,
+pub(crate) struct Service<'a> {
+    /// Where it listens, as std's `bind` reads it: a host and a port, which is 0 for any free one.
+    pub(crate) address: &'a str,
     /// How many connections it accepts, 1 to 100,000.
-    pub sessions: u32,
+    pub(crate) sessions: u32,
     /// How many it serves at a time, 1 to 64.
-    pub workers: u32,
+    pub(crate) workers: u32,
     /// How long a connection may keep a worker waiting, if there is a bound.
-    pub idle: Option<Duration>,
+    pub(crate) idle: Option<Duration>,
 }
 
 /// The most rooms that can be asked for: a ledger has an amount for as many.
 const MAX_ROOMS: usize = 1 << 49;
+
+/// The line that tells where a listener listens: the host as it was asked for, and the port that the
+/// system gave, since port 0 asks for any free one.
+fn listening_line<L: OpenListener>(
+    alloc: Global,
+    address: &str,
+    listener: &L,
+) -> Result<String, AllocError> {
+    match (address.rsplit_once(':'), listener.local_addr()) {
+        (Some((host, _)), Ok(local)) => format!(in alloc; "listening {host}:{}\n", local.port()),
+        _ => format!(in alloc; "listening {address}\n"),
+    }
+}
 
 /// Listens, tells so on the output, and serves what it accepts in these rooms.
 fn listen_and_serve<P, R, W>(
@@ -63,10 +76,11 @@ where
     R::Stream: Send,
     W: Write,
 {
-    let Ok(listener) = TcpListener::bind(rt, service.address) else {
-        return Err(Fault::CannotListen);
+    let listener = match TcpListener::bind(rt, service.address) {
+        Ok(listener) => listener,
+        Err(why) => return Err(Fault::CannotListen(why)),
     };
-    let line = format!(in alloc; "listening {}\n", service.address)?;
+    let line = listening_line(alloc, service.address, &listener)?;
     if output.write_all(line.as_bytes()).is_err() || output.flush().is_err() {
         return Err(Fault::Output);
     }
@@ -149,7 +163,7 @@ where
 /// served and the records written; 2 for a bad room name or, where all are good, a room named twice;
 /// 3 where it can't listen, accepting or the output failed, there is no worker or the rooms are torn;
 /// 4 for want of memory. All but 0 come with a line on `errors`.
-pub fn serve_over<R, W, E>(
+pub(crate) fn serve_over<R, W, E>(
     rt: &R,
     alloc: Global,
     names: &[&str],

@@ -9,8 +9,7 @@ ghost use Rattle.places.specs.Members.{has, places};
 ghost use Rattle.places.specs.Relations.{IsRelation};
 ghost use Rattle.version_ids.specs.Scopes.{places_in_conflict, AreAmong};
 
-pub use op_names::VersionId;
-use op_names::{NoMemory, OpName};
+use op_names::{NoMemory, OpName, VersionId};
 use places::{Members, Relation};
 use std::alloc::Global;
 
@@ -26,21 +25,7 @@ pub fn places_in_conflict<R: Relation>(alloc: Global, relation: &R) -> Result<Me
 }
 
 /// The identifier of a group of a relation's places: the rising list of the names of those members
-/// that are in conflict with some place.
-pub fn id_of<R: Relation>(
-    alloc: Global,
-    relation: &R,
-    group: &Members,
-) -> Result<VersionId, NoMemory>
-    requires { All (λ place. place < R.size relation.now) group.now }
-    ensures { let all = places (R.size relation.now) in IfOk result (λ id.
-        id ≡ identifier (R.clashes relation.now) (R.name_at relation.now) all group.now) }
-{
-    let conflicting = places_in_conflict(alloc, relation)?;
-    id_by(alloc, relation, &conflicting, group)
-}
-
-/// As `id_of`, by the places that are in conflict with some place: these serve for each group.
+/// that are in conflict with some place. Those places (`places_in_conflict`) serve for each group.
 #[tactic(auto, using(places::proofs::Rising::among_places))]
 pub fn id_by<R: Relation>(
     alloc: Global,

@@ -2,7 +2,7 @@
 use Rattle.std.specs.Prelude.{◌≡◌, ◌↔◌, ◌⊎◌, ◌++◌, ◌∷◌, [], ℕ, List, Option, Result, Ok, Err, IfSome, codes}
 use Rattle.std.specs.Fmt.{decimal}
 use Rattle.std.specs.Io.KnownBytes.{Appends, Keeps}
-use Rattle.world.specs.Script.{AppendsFront}
+use Rattle.byte_streams.specs.Fronts.{AppendsFront}
 use Rattle.history_check.specs.declared.verdict.Verdict.{Verdict}
 use Rattle.history_check.specs.declared.verdict.Verdict.TheVariants.{Holds, BadRecord, BadTranscript, WrongReply}
 use Rattle.history_check.specs.Verdicts.{AreTrue, IsVerdict}

@@ -2,7 +2,8 @@
 use Rattle.std.specs.Prelude.{ℕ, ◌≡◌, ◌⊎◌, List, Option, Some, None, IsSome}
 use Rattle.rules.specs.Limits.{full_limits}
 use Rattle.world.specs.State.{State, new_world}
-use Rattle.world.specs.Script.{AppendsFront, AnswersScript, output_of}
+use Rattle.byte_streams.specs.Fronts.{AppendsFront}
+use Rattle.world.specs.Script.{AnswersScript, output_of}
 use Rattle.commands.specs.declared.fault.Fault.{Fault}
 use Rattle.commands.specs.declared.fault.Fault.TheVariants.{Input, Output, NoMemory}
 use Rattle.commands.specs.Names.{mistake_in}

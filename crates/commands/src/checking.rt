@@ -2,32 +2,22 @@
 
 ghost use Rattle.std.specs.Prelude.{◌≡◌, ◌≤◌, ◌⊎◌, IfErr, IfOk, IfSome, OnErr, OnOk, length, string_bytes};
 ghost use Rattle.std.specs.Io.KnownBytes.{Appends, IsAtEnd};
-ghost use Rattle.world.specs.Script.{AppendsFront};
+ghost use Rattle.byte_streams.specs.Fronts.{AppendsFront};
 ghost use Rattle.commands.specs.Checks.{Checks, EndsEarly, OfReaders, OfSome, OfThese, Tells, end_status, verdict_line};
 
 use crate::fault::Fault;
+use byte_streams::{Uninterrupted, read_buffer, write_out};
 use history_check::{Verdict, check};
 use std::alloc::Global;
 use std::fs::File;
-use std::io::{ErrorKind, Read, Write};
+use std::io::{Read, Write};
 use std::rt::Files;
 
 /// How many bytes a file may have.
 const MAX_FILE_LEN: usize = 1_073_741_824;
 
-/// How many bytes are read at once.
-const PIECE_LEN: usize = 65536;
-
-/// Where a read puts what it reads.
-fn read_buffer(alloc: Global) -> Result<Vec<u8>, Fault>
-    ensures ok { IfOk result (λ piece. length piece.items ≡ PIECE_LEN) }
-    ensures fault { IfErr result (λ fault. fault ≡ Fault.NoMemory) }
-{
-    Ok(vec![in alloc; 0u8; PIECE_LEN]?)
-}
-
-/// All the bytes that are left, at most `limit`. `Input` where there are more, or a read fails for
-/// another reason than that a signal interrupted it; `NoMemory`.
+/// All the bytes that are left, at most `limit`. `Input` where there are more, or a read fails;
+/// `NoMemory`.
 pub fn read_up_to<R: Read>(alloc: Global, input: &mut R, limit: usize) -> Result<Vec<u8>, Fault>
     ensures all { IfOk result (λ bytes. IfSome (R.remaining input.old) (λ all. bytes.items ≡ all)) }
     ensures most { IfOk result (λ bytes. length bytes.items ≤ limit) }
@@ -46,11 +36,7 @@ pub fn read_up_to<R: Read>(alloc: Global, input: &mut R, limit: usize) -> Result
                 }
                 bytes.extend_from_slice(&piece[..count])?;
             }
-            Err(fault) => {
-                if fault.kind() != ErrorKind::Interrupted {
-                    return Err(Fault::Input);
-                }
-            }
+            Err(_fault) => return Err(Fault::Input),
         }
     }
     Err(Fault::Input)
@@ -71,10 +57,10 @@ fn read_at<H: Files>(rt: &H, alloc: Global, path: &str) -> Result<Vec<u8>, Fault
     ensures most { IfOk result (λ bytes. length bytes.items ≤ MAX_FILE_LEN) }
     ensures fault { IfErr result (λ fault. (fault ≡ Fault.Input) ⊎ (fault ≡ Fault.NoMemory)) }
 {
-    let Ok(mut file) = File::open(rt, path) else {
+    let Ok(stream) = File::open(rt, path) else {
         return Err(Fault::Input);
     };
-    read_whole(alloc, &mut file)
+    read_whole(alloc, &mut Uninterrupted { stream })
 }
 
 /// The line of a verdict.
@@ -91,31 +77,6 @@ fn verdict_line(alloc: Global, verdict: Verdict) -> Result<String, Fault>
     Ok(line)
 }
 
-/// Writes all of the bytes, in as many calls as it takes.
-fn write_out<W: Write>(output: &mut W, bytes: &[u8]) -> Result<(), Fault>
-    ensures ok { OnOk result (Appends (W.contents output.old) (W.contents output.new) bytes.now) }
-    ensures front { OnErr result
-        (AppendsFront (W.contents output.old) (W.contents output.new) bytes.now) }
-    ensures fault { IfErr result (λ fault. fault ≡ Fault.Output) }
-{
-    let mut written = 0;
-    for _ in 0..u64::MAX {
-        if written >= bytes.len() {
-            return Ok(());
-        }
-        match output.write(&bytes[written..]) {
-            Ok(0) => return Err(Fault::Output),
-            Ok(count) => written += count,
-            Err(fault) => {
-                if fault.kind() != ErrorKind::Interrupted {
-                    return Err(Fault::Output);
-                }
-            }
-        }
-    }
-    Err(Fault::Output)
-}
-
 /// Writes a line, and hands it on.
 fn write_line<W: Write>(output: &mut W, line: &[u8]) -> Result<(), Fault>
     ensures ok { OnOk result (Appends (W.contents output.old) (W.contents output.new) line.now) }
@@ -123,11 +84,10 @@ fn write_line<W: Write>(output: &mut W, line: &[u8]) -> Result<(), Fault>
         (AppendsFront (W.contents output.old) (W.contents output.new) line.now) }
     ensures fault { IfErr result (λ fault. fault ≡ Fault.Output) }
 {
-    write_out(output, line)?;
-    match output.flush() {
-        Ok(()) => Ok(()),
-        Err(_fault) => Err(Fault::Output),
+    if write_out(output, line).is_err() || output.flush().is_err() {
+        return Err(Fault::Output);
     }
+    Ok(())
 }
 
 /// The verdict on these bytes, whose line it writes.

@@ -1,13 +1,11 @@
 //! The commands that need readers and writers alone, `script` and `check`; and what every command has:
-//! the fault that ends it early, the names of rooms, and streams that no signal interrupts.
+//! the fault that ends it early, and the names of rooms.
 #![tactic(auto)]
 
 mod checking;
 mod fault;
 mod script;
-mod uninterrupted;
 
 pub use checking::{check_at, check_over, read_up_to};
 pub use fault::Fault;
 pub use script::{room_names, script_over};
-pub use uninterrupted::Uninterrupted;

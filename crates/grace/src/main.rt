@@ -1,6 +1,7 @@
 //! The program: `main` over the library `server`.
 #![tactic(auto)]
 
+use byte_streams::Uninterrupted;
 use std::env;
 use std::io::{self, ErrorKind};
 use std::process::ExitCode;
@@ -15,7 +16,13 @@ fn words(rt: &(impl Env + AllocGlobal)) -> io::Result<Vec<String>> {
 fn main(rt: HostRuntime) -> ExitCode {
     match words(&rt) {
         Ok(words) => {
-            let (mut input, mut output, mut errors) = (rt.stdin(), rt.stdout(), rt.stderr());
+            let mut input = Uninterrupted { stream: rt.stdin() };
+            let mut output = Uninterrupted {
+                stream: rt.stdout(),
+            };
+            let mut errors = Uninterrupted {
+                stream: rt.stderr(),
+            };
             ExitCode::from(server::run(
                 &rt,
                 rt.alloc(),

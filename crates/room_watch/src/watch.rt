@@ -1,6 +1,7 @@
 //! `grace watch ADDRESS ROOM`: shows the objects of a live room, by a replica.
 
-use commands::{Fault, Uninterrupted};
+use byte_streams::Uninterrupted;
+use commands::Fault;
 use late_join::{FeedFault, Replica, TakeFault};
 use op_names::{NoMemory, OpName, RoomName};
 use rules::Limits;

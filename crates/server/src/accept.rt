@@ -2,7 +2,7 @@
 
 ghost use Rattle.std.specs.Iterator.{at_most};
 
-use commands::Uninterrupted;
+use byte_streams::Uninterrupted;
 use std::net::{OpenListener, OpenStream};
 use std::sync::atomic::{AtomicBool, Ordering};
 use std::time::Duration;

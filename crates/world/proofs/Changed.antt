@@ -1,5 +1,5 @@
 -- What one answer does to the rooms side by side.
-use Rattle.std.proofs.Common.{◌≡◌, ℕ, ◌<◌, List, length, get_or, set, Option, Some, None, Bool, true, false, cond, eqb, Result, Ok, Err, OnOk, OnErr, refl, sym, ap, subst, ◌∙◌}
+use Rattle.std.proofs.Common.{◌≡◌, ℕ, ◌<◌, List, length, get_or, set, Option, Some, None, Bool, true, false, cond, eqb, Result, Ok, Err, OnOk, refl, sym, ap, subst, ◌∙◌}
 use Rattle.std.specs.Option.{option_map, option_and_then}
 use mathlib.Core.Path.{fun_ext}
 use Rattle.std.proofs.lemmas.Bool.{eq-eqb, eqb-true, eqb-false}
@@ -191,7 +191,3 @@ both_ok (Err y) f p q = tt
 pub ok_of : {T E P : Type 0} (r : Result T E) → P → OnOk r P
 ok_of (Ok x) p = p
 ok_of (Err y) p = tt
-
-pub err_of : {T E P : Type 0} (r : Result T E) → P → OnErr r P
-err_of (Ok x) p = tt
-err_of (Err y) p = p

@@ -1,34 +1,18 @@
 -- Lines, and what goes out for them.
 use Rattle.std.proofs.Common.{◌≡◌, ◌≢◌, ℕ, ◌+◌, ◌-◌, ◌*◌, ◌^◌, ◌<◌, ◌≤◌, ◌&&◌, ltb, eqb, List, [], ◌∷◌, ◌++◌, append-nil, length, get_or, take, drop, Option, Some, None, false, cond, zero, suc, refl, sym, ap, subst, ◌∙◌, arith}
 use Rattle.std.specs.Char.{is_ascii_digit}
-use Rattle.std.proofs.lemmas.List.{drop_more, take_all, take_rest, take-append-drop, length-take, length-drop}
-use Rattle.std.proofs.Math.Seq.{take-add}
-use Rattle.std.proofs.KnownBytes.{Appends-trans, Appends-nil}
-use Rattle.std.specs.Io.KnownBytes.{Appends}
+use Rattle.std.proofs.lemmas.List.{drop_more, take_all, take-append-drop}
 use Rattle.std.proofs.lemmas.Bool.{ne_eqb, eqb-true, eq-eqb}
 use Rattle.memchr.specs.Find.{Nowhere, NoneBefore, Passes, is_byte}
 use Rattle.wire.specs.Lines.{lines_of, onto_first}
 use Rattle.world.specs.Alone.{message_of}
 use Rattle.world.specs.State.{State, names_of, rooms_of}
-use Rattle.world.specs.Script.{number_then, HasNoBreak, AppendsFront, message_in, text_for, rooms_for, lines_out, lines_end, output_of, end_of}
+use Rattle.world.specs.Script.{number_then, HasNoBreak, message_in, text_for, rooms_for, lines_out, lines_end, output_of, end_of}
 
 pub number_then_more : (value : ℕ) (bytes : List ℕ) (i : ℕ) → i < length bytes
     → number_then value (drop i bytes) ≡ cond (eqb (get_or bytes i 0) 32) (Some (message_of value (drop (i + 1) bytes)))
     (cond (is_ascii_digit (get_or bytes i 0) && ltb 0 value && ltb (value * 10 + (get_or bytes i 0 - 48)) (2 ^ 32)) (number_then (value * 10 + (get_or bytes i 0 - 48)) (drop (i + 1) bytes)) None)
 number_then_more value bytes i lt = ap (number_then value) (drop_more bytes i 0 lt)
-
--- ---- what was written so far
-
-pub front_at : (old new : Option (List ℕ)) (n : ℕ) (bytes : List ℕ) → Appends old new (take n bytes) → AppendsFront old new bytes
-front_at old new n bytes h = record { front = take n bytes; rest = drop n bytes; adds = h; whole = sym (take-append-drop n bytes) }
-
-pub wrote_more : (a b c : Option (List ℕ)) (n m : ℕ) (bytes : List ℕ) → Appends a b (take n bytes) → Appends b c (take m (take (length bytes - n) (drop n bytes))) → Appends a c (take (n + m) bytes)
-wrote_more a b c n m bytes p q =
-    let next : Appends b c (take m (drop n bytes)) = rw take_rest at q in
-    subst (Appends a c) (sym (take-add n m bytes)) (Appends-trans a b c _ _ p next)
-
-pub wrote_within : (n m : ℕ) (bytes : List ℕ) → n ≤ length bytes → m ≤ length (take (length bytes - n) (drop n bytes)) → n + m ≤ length bytes
-wrote_within n m bytes h k = omega (arith, length-take (length bytes - n) (drop n bytes), length-drop n bytes, k, h)
 
 -- ---- where lines end
 
@@ -74,12 +58,6 @@ output_last mid (x ∷ line) h some = ap (lines_out (names_of mid) (rooms_of mid
 pub end_last : (mid : State) (line : List ℕ) → HasNoBreak line → 0 < length line → end_of mid line ≡ rooms_for (names_of mid) (rooms_of mid) (message_in line)
 end_last mid [] h some = absurd (omega (arith, some))
 end_last mid (x ∷ line) h some = ap (lines_end (names_of mid) (rooms_of mid)) (lines_last x line h)
-
-pub no_front : (a : Option (List ℕ)) (bytes : List ℕ) → AppendsFront a a bytes
-no_front a bytes = record { front = []; rest = bytes; adds = Appends-nil a; whole = refl }
-
-pub whole_front : (a b : Option (List ℕ)) (bytes : List ℕ) → Appends a b bytes → AppendsFront a b bytes
-whole_front a b bytes h = record { front = bytes; rest = []; adds = h; whole = sym (append-nil bytes) }
 
 pub some_from_test : (n : ℕ) → false ≡ eqb n 0 → 0 < n
 some_from_test zero e = absurd (cc)

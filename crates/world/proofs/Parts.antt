@@ -4,14 +4,16 @@ use Rattle.std.proofs.lemmas.List.{length-take, take-append-drop, take_min, map-
 use Rattle.std.proofs.Math.Seq.{take-append-add}
 use Rattle.std.proofs.KnownBytes.{Appends-trans, Appends-nil, Appends-kept}
 use Rattle.std.specs.Io.KnownBytes.{Appends, Keeps}
+use Rattle.byte_streams.specs.Fronts.{AppendsFront}
+use Rattle.byte_streams.proofs.Written.{no_front}
 use Rattle.wire.specs.Lines.{lines_of}
 use Rattle.world.specs.Rooms.{Rooms}
 use Rattle.world.specs.State.{State, names_of, rooms_of}
-use Rattle.world.specs.Script.{HasNoBreak, AppendsFront, Stops, message_in, text_for, rooms_for, lines_out, lines_end, output_of, end_of}
+use Rattle.world.specs.Script.{HasNoBreak, Stops, message_in, text_for, rooms_for, lines_out, lines_end, output_of, end_of}
 use Rattle.world.specs.declared.script.TheConstants.{LINE_LIMIT}
 use Rattle.world.specs.Answered.{kept_part, line_text, IsHeld, LinesShow, IsPastLine, IsPastEnd, Answered, Adds, AnswersSome, Hands, Wrote, WroteSome}
 use Rattle.world.proofs.LongLines.{lines_cut, out_kept, end_kept, shows_kept, shows_whole}
-use Rattle.world.proofs.Lines.{lines_break, lines_last, end_last, no_break_append, no_break_parts, no_front}
+use Rattle.world.proofs.Lines.{lines_break, lines_last, end_last, no_break_append, no_break_parts}
 
 -- ---- lines one after the other
 

@@ -2,9 +2,10 @@
 use Rattle.std.proofs.Common.{◌≡◌, ℕ, List, [], ◌++◌, take, append-nil, Option, Some, None, IfSome, sym, ap, subst, ◌∙◌}
 use Rattle.std.proofs.KnownBytes.{Appends-trans, Consumes-trans, Consumes-kept}
 use Rattle.std.specs.Io.KnownBytes.{Appends, Consumes, Keeps, IsAtEnd}
+use Rattle.byte_streams.specs.Fronts.{AppendsFront}
 use Rattle.wire.specs.Lines.{lines_of}
 use Rattle.world.specs.State.{State, names_of, rooms_of}
-use Rattle.world.specs.Script.{AppendsFront, Stops, AnswersScript, output_of, end_of}
+use Rattle.world.specs.Script.{Stops, AnswersScript, output_of, end_of}
 use Rattle.world.specs.Answered.{LinesShow, IsPastEnd, Wrote, WroteSome}
 use Rattle.world.proofs.ScriptForms.{script_run}
 use Rattle.world.proofs.Parts.{wrote_then, wrote_more, stops_of, stops_then, stops_front, stops_at_once, output_after, end_after, shown_after}

@@ -3,6 +3,7 @@ use Rattle.std.specs.Prelude.{ℕ, ◌+◌, ◌-◌, ◌*◌, ◌^◌, ◌==◌,
 use Rattle.std.specs.Char.{is_ascii_digit}
 use Rattle.std.specs.Fmt.{decimal}
 use Rattle.std.specs.Io.KnownBytes.{Appends, Consumes}
+use Rattle.byte_streams.specs.Fronts.{AppendsFront}
 use Rattle.wire.specs.Lines.{ends_line, lines_of}
 use Rattle.wire.specs.Texts.{reply_text}
 use Rattle.world.specs.Alone.{Message, message_of}
@@ -97,13 +98,6 @@ pub record AnswersScript (before after : Option (List ℕ)) (old : State) (bytes
 abbrev pub HasNoBreak : List ℕ → Type 0
 HasNoBreak [] = Unit {0}
 HasNoBreak (byte ∷ bytes) = (byte ≢ 10) × HasNoBreak bytes
-
--- some front of the bytes is added to what a writer holds
-pub record AppendsFront (old new : Option (List ℕ)) (bytes : List ℕ) : Type 0 where
-  pub front : List ℕ
-  pub rest : List ℕ
-  pub adds : Appends old new front
-  pub whole : bytes ≡ front ++ rest
 
 -- some of the first lines of these bytes were answered, and a front of the answers was written
 pub record Stops (old new : Option (List ℕ)) (from to : State) (bytes : List ℕ) : Type 0 where

@@ -5,23 +5,24 @@ ghost use Rattle.std.specs.Fmt.{decimal};
 ghost use Rattle.std.specs.Io.KnownBytes.{Appends, IsAtEnd, Keeps};
 ghost use Rattle.world.specs.Alone.{message_of};
 ghost use Rattle.world.specs.State.{names_of};
-ghost use Rattle.world.specs.Script.{message_in, output_of, HasNoBreak, AppendsFront, AnswersScript, Stops, AnswersRead};
+ghost use Rattle.byte_streams.specs.Fronts.{AppendsFront};
+ghost use Rattle.world.specs.Script.{message_in, output_of, HasNoBreak, AnswersScript, Stops, AnswersRead};
 ghost use Rattle.world.specs.Answered.{kept_part, line_text, IsHeld, IsPastLine, IsPastEnd, Adds, AnswersSome, Hands, Wrote, WroteSome};
 
 use crate::World;
 use crate::fault::ScriptFault;
+use byte_streams::{read_buffer, write_out};
 use itoa::Buffer;
 use memchr::memchr;
 use op_names::NoMemory;
 use std::alloc::Global;
-use std::io::{ErrorKind, Read, Write};
+use std::io::{Read, Write};
 
 /// How many bytes of a line are kept: a session, a space and one byte more than a request has.
 const LINE_LIMIT: usize = 16396;
 
-/// How many bytes are read at once, and from how many bytes on the answers are written out though
-/// not all that was read is answered.
-const CHUNK: usize = 65536;
+/// From how many bytes on the answers are written out though not all that was read is answered.
+const MANY_ANSWERS: usize = 65536;
 
 /// The session and the message that a line is, if it is of that form.
 #[tactic(auto, using(crate::proofs::Lines::number_then_more))]
@@ -49,31 +50,6 @@ fn message_in(line: &[u8]) -> Option<(u32, &[u8])>
         value = next as u32;
     }
     None
-}
-
-/// Writes all of the bytes, in as many calls as it takes.
-fn write_out<W: Write>(output: &mut W, bytes: &[u8]) -> Result<(), ScriptFault>
-    ensures ok { OnOk result (Appends (W.contents output.old) (W.contents output.new) bytes.now) }
-    ensures fault { OnErr result
-        (AppendsFront (W.contents output.old) (W.contents output.new) bytes.now) }
-    ensures kind { IfErr result (λ fault. fault ≡ ScriptFault.Write) }
-{
-    let mut written = 0;
-    for _ in 0..u64::MAX {
-        if written >= bytes.len() {
-            return Ok(());
-        }
-        match output.write(&bytes[written..]) {
-            Ok(0) => return Err(ScriptFault::Write),
-            Ok(count) => written += count,
-            Err(fault) => {
-                if fault.kind() != ErrorKind::Interrupted {
-                    return Err(ScriptFault::Write);
-                }
-            }
-        }
-    }
-    Err(ScriptFault::Write)
 }
 
 /// The bytes before the first line break, and those after it, if there is one.
@@ -104,7 +80,9 @@ fn hand_out<W: Write>(output: &mut W, answers: &mut Vec<u8>) -> Result<(), Scrip
         (AppendsFront (W.contents output.old) (W.contents output.new) answers.old.items) }
     ensures kind { IfErr result (λ fault. fault ≡ ScriptFault.Write) }
 {
-    write_out(output, answers.as_slice())?;
+    if write_out(output, answers.as_slice()).is_err() {
+        return Err(ScriptFault::Write);
+    }
     answers.clear();
     Ok(())
 }
@@ -122,7 +100,7 @@ fn hand_out_many<W: Write>(
         (AppendsFront (W.contents output.old) (W.contents output.new) answers.old.items) }
     ensures kind { IfErr result (λ fault. fault ≡ ScriptFault.Write) }
 {
-    if now || answers.len() >= CHUNK {
+    if now || answers.len() >= MANY_ANSWERS {
         return hand_out(output, answers);
     }
     Ok(())
@@ -153,13 +131,6 @@ fn add_reply(answers: &mut Vec<u8>, session: u32, reply: &str) -> Result<(), NoM
     answers.extend_from_slice(reply.as_bytes()).unwrap();
     answers.push(b'\n').unwrap();
     Ok(())
-}
-
-/// Where a read puts what it reads.
-fn read_buffer(alloc: Global) -> Result<Vec<u8>, NoMemory>
-    ensures { IfOk result (λ chunk. length chunk.items ≡ CHUNK) }
-{
-    Ok(vec![in alloc; 0u8; CHUNK]?)
 }
 
 impl World {
@@ -309,8 +280,9 @@ impl World {
     /// maximal compatible groups of its operations. All whole lines that a read gave are answered
     /// and flushed before the next read; a last line may lack its line break.
     ///
-    /// `Read` where the input can't be read, or after 1,000,000,000 reads; `Write` where the output
-    /// can't be written; `NoMemory` where memory was refused. Then some of the first lines were
+    /// `Read` where a read fails, or after 1,000,000,000 reads; `Write` where a write or a flush does;
+    /// `NoMemory` where memory was refused. What a signal interrupts has failed too: hand in streams
+    /// that are `byte_streams::Uninterrupted`. Then some of the first lines were
     /// answered, and a front of their answers is written; on `Read` those are all the lines whose
     /// end was read, and their answers are written whole.
     ///
@@ -347,11 +319,7 @@ impl World {
                 Ok(count) => {
                     self.take_bytes(alloc, &mut line, &chunk[..count], &mut answers, output)?
                 }
-                Err(fault) => {
-                    if fault.kind() != ErrorKind::Interrupted {
-                        return Err(ScriptFault::Read);
-                    }
-                }
+                Err(_fault) => return Err(ScriptFault::Read),
             }
         }
         Err(ScriptFault::Read)

@@ -1,6 +1,7 @@
 //! `check_over` over memory.
 
 use super::{Closed, Failing, Outcome};
+use byte_streams::Uninterrupted;
 use commands::{Fault, check_over, read_up_to};
 use std::io;
 use std::io::{ErrorKind, Read};
@@ -95,8 +96,8 @@ impl Read for Interrupted<'_> {
 
 /// What is read of these bytes by a reader that is interrupted, if there may be so many.
 fn read_of(rt: &impl AllocGlobal, bytes: &[u8], limit: usize) -> Result<Vec<u8>, Fault> {
-    let mut reader = Interrupted { bytes, ready: true };
-    read_up_to(rt.alloc(), &mut reader, limit)
+    let stream = Interrupted { bytes, ready: true };
+    read_up_to(rt.alloc(), &mut Uninterrupted { stream }, limit)
 }
 
 #[test]

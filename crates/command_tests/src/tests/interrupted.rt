@@ -2,7 +2,7 @@
 
 ghost use Rattle.std.specs.Prelude.{◌≡◌, IfOk};
 
-use commands::Uninterrupted;
+use byte_streams::Uninterrupted;
 use std::io;
 use std::io::{ErrorKind, Read, Write};
 use std::process::Abort;

@@ -1,6 +1,7 @@
 //! Readers and writers that give little, wait, or fail.
 
 use super::world_of;
+use byte_streams::Uninterrupted;
 use rules::LimitValues;
 use std::alloc::AllocError;
 use std::cell::Cell;
@@ -182,19 +183,23 @@ const JOIN_AND_LEAVE: &str = "1 [\"join\",\"r\"]\n1 [\"leave\"]\n";
 #[test]
 fn interrupted_calls_are_tried_again(rt: HostRuntime) {
     let mut world = world_of(&rt, &["r"], LimitValues::FULL);
-    let mut reader = InterruptedReader {
-        bytes: JOIN_AND_LEAVE.as_bytes(),
-        again: false,
+    let mut reader = Uninterrupted {
+        stream: InterruptedReader {
+            bytes: JOIN_AND_LEAVE.as_bytes(),
+            again: false,
+        },
     };
-    let mut writer = InterruptedWriter {
-        held: Vec::new(rt.alloc()),
-        again: false,
-        flushes: true,
+    let mut writer = Uninterrupted {
+        stream: InterruptedWriter {
+            held: Vec::new(rt.alloc()),
+            again: false,
+            flushes: true,
+        },
     };
     let done = world.script(rt.alloc(), &mut reader, &mut writer);
     assert!(rt; done.is_ok());
-    assert!(rt; writer.held.starts_with(JOINED.as_bytes()));
-    assert!(rt; writer.held.ends_with(LEFT.as_bytes()));
+    assert!(rt; writer.stream.held.starts_with(JOINED.as_bytes()));
+    assert!(rt; writer.stream.held.ends_with(LEFT.as_bytes()));
 }
 
 #[test]

@@ -1,6 +1,6 @@
 use Rattle.std.proofs.Common.{◌≡◌, ◌≤◌, length}
 use Rattle.std.specs.Io.KnownBytes.{Consumes}
-use Rattle.commands.specs.declared.checking.TheConstants.{PIECE_LEN}
+use Rattle.byte_streams.specs.declared.whole.TheConstants.{PIECE_LEN}
 use Rattle.commands.proofs.checking.read_up_to.Given as goal
 
 abbrev pub invariant-loop : goal.invariant-loop

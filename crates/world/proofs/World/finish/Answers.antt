@@ -2,8 +2,9 @@ use Rattle.std.proofs.Common.{◌≡◌, sym, ap, subst, ◌++◌, ◌∙◌}
 use Rattle.std.proofs.KnownBytes.{Appends-kept}
 use Rattle.std.specs.Io.KnownBytes.{Appends}
 use Rattle.world.specs.Answered.{line_text}
-use Rattle.world.proofs.Changed.{err_of, ok_of}
-use Rattle.world.proofs.Lines.{output_last, whole_front, some_from_test}
+use Rattle.world.proofs.Changed.{ok_of}
+use Rattle.byte_streams.proofs.Written.{err_of, whole_front}
+use Rattle.world.proofs.Lines.{output_last, some_from_test}
 use Rattle.world.proofs.Parts.{stops_line, stops_lost, past_end}
 use Rattle.world.proofs.World.finish.Goals as goal
 

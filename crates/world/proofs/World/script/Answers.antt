@@ -1,10 +1,10 @@
 use Rattle.std.proofs.Common.{take, arith}
 use Rattle.std.proofs.lemmas.Result.{on_err_weaker}
-use Rattle.world.proofs.Changed.{both_ok, err_of}
+use Rattle.byte_streams.proofs.Written.{err_of}
+use Rattle.world.proofs.Changed.{both_ok}
 use Rattle.world.proofs.Transcript.{read_whole, read_last, read_stop, read_part, read_more, read_again, read_none, read_nothing, stop_front}
 use Rattle.world.proofs.EndedLines.{read_fault, no_fault}
 use Rattle.world.proofs.World.script.Goals as goal
-use Rattle.world.proofs.World.script.Goals.{in-Ok+in_ok-take_bytes-in-Ok, in-Err+else-ne}
 
 pub returns-in_err-buffer-clause-stops : goal.returns-in_err-buffer-clause-stops
 returns-in_err-buffer-clause-stops g c = err_of c.from_residual.result (read_nothing (g.R.Read.remaining c.args.input.now) (g.W.Write.contents c.args.output.now) c.args.self.now)
@@ -33,27 +33,19 @@ pub returns-in_err-take_bytes-in-Ok-clause-stops : goal.returns-in_err-take_byte
 returns-in_err-take_bytes-in-Ok-clause-stops g c =
     err_of c.from_residual-in_err-take_bytes-in-Ok.result (read_part _ (take c.in-Ok.count c.read.new.buf) c.loop.invariant.told c.in-Ok.ensures.bytes.0 c.in_err-take_bytes-in-Ok.ensures.fault)
 
-pub returns-then-ne-clause-fault : goal.returns-then-ne-clause-fault
-returns-then-ne-clause-fault g c = stop_front _ _ _ _ _ (read_stop c.loop.invariant.told)
+pub returns-in-Err-clause-fault : goal.returns-in-Err-clause-fault
+returns-in-Err-clause-fault g c = stop_front _ _ _ _ _ (read_stop c.loop.invariant.told)
 
-pub returns-then-ne-clause-stops : goal.returns-then-ne-clause-stops
-returns-then-ne-clause-stops g c = read_stop c.loop.invariant.told
+pub returns-in-Err-clause-stops : goal.returns-in-Err-clause-stops
+returns-in-Err-clause-stops g c = read_stop c.loop.invariant.told
 
 pub loop-preserved : goal.loop-preserved
-loop-preserved g c = elim c.match-read.branch [
-  | in-Ok+in_ok-take_bytes-in-Ok w ↦ rw (w.self-is, w.output-is, w.line-is, w.answers-is) (record {
-    room = omega (arith, c.read.auto.buf, c.loop.invariant.room);
-    held = w.in_ok-take_bytes-in-Ok.ensures.held;
-    none = w.in_ok-take_bytes-in-Ok.ensures.none;
-    told = read_more (take w.in-Ok.count c.read.new.buf) c.loop.invariant.told w.in-Ok.ensures.bytes.0 w.in_ok-take_bytes-in-Ok.ensures.ok;
-  })
-  | in-Err+else-ne w ↦ rw (w.self-is, w.output-is, w.line-is, w.answers-is) (record {
-    room = omega (arith, c.read.auto.buf, c.loop.invariant.room);
-    held = c.loop.invariant.held;
-    none = c.loop.invariant.none;
-    told = read_again c.loop.invariant.told w.in-Err.ensures.bytes;
-  })
-]
+loop-preserved g c = record {
+  room = omega (arith, c.read.auto.buf, c.loop.invariant.room);
+  held = c.in_ok-take_bytes-in-Ok.ensures.held;
+  none = c.in_ok-take_bytes-in-Ok.ensures.none;
+  told = read_more (take c.in-Ok.count c.read.new.buf) c.loop.invariant.told c.in-Ok.ensures.bytes.0 c.in_ok-take_bytes-in-Ok.ensures.ok;
+}
 
 pub returns-clause-fault : goal.returns-clause-fault
 returns-clause-fault g c = stop_front _ _ _ _ _ (read_stop c.loop.invariant.told)
@@ -64,8 +56,8 @@ returns-clause-stops g c = read_stop c.loop.invariant.told
 pub returns-in-Ok-eq0-clause-read : goal.returns-in-Ok-eq0-clause-read
 returns-in-Ok-eq0-clause-read g c = no_fault c.finish.result _ c.finish.ensures.kind
 
-pub returns-then-ne-clause-read : goal.returns-then-ne-clause-read
-returns-then-ne-clause-read g c = λ is. read_fault (read_again c.loop.invariant.told c.in-Err.ensures.bytes) c.loop.invariant.held.clean
+pub returns-in-Err-clause-read : goal.returns-in-Err-clause-read
+returns-in-Err-clause-read g c = λ is. read_fault (read_again c.loop.invariant.told c.in-Err.ensures.bytes) c.loop.invariant.held.clean
 
 pub returns-clause-read : goal.returns-clause-read
 returns-clause-read g c = λ is. read_fault c.loop.invariant.told c.loop.invariant.held.clean

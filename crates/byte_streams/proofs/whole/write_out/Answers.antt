@@ -1,0 +1,17 @@
+use Rattle.std.proofs.KnownBytes.{Appends-kept}
+use Rattle.byte_streams.proofs.Written.{err_of, front_at, wrote_more, wrote_within}
+use Rattle.byte_streams.proofs.whole.write_out.Goals as goal
+
+pub returns-in_err-count-clause-front : goal.returns-in_err-count-clause-front
+returns-in_err-count-clause-front g c =
+    err_of c.from_residual.result (front_at _ _ _ _ (Appends-kept _ _ _ _ c.loop-written.invariant.told c.in_err-count.ensures.bytes))
+
+pub returns-then-count-eq0-clause-front : goal.returns-then-count-eq0-clause-front
+returns-then-count-eq0-clause-front g c =
+    front_at _ _ _ _ (wrote_more _ _ _ c.loop-written.written c.in_ok-count.count _ c.loop-written.invariant.told c.in_ok-count.ensures.bytes)
+
+pub loop-written-preserved : goal.loop-written-preserved
+loop-written-preserved g c = record {
+  within = wrote_within _ _ _ c.loop-written.invariant.within c.in_ok-count.ensures.bound;
+  told = wrote_more _ _ _ _ _ _ c.loop-written.invariant.told c.in_ok-count.ensures.bytes;
+}

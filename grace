@@ -34,7 +34,7 @@ is_current() {
 [ "${BASH_SOURCE[0]}" = "$0" ] || return 0
 
 if ! is_current "$program"; then
-    echo "grace: the program is proved and built first, from nothing in half an hour on 4 cores;" \
+    echo "grace: the program is proved and built first, from nothing in about half an hour on 4 cores;" \
         "./try runs it unproved in two" >&2
     sum=$(sum_of_sources)
     "$root/build" || exit

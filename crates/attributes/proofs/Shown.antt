@@ -23,7 +23,7 @@ use Rattle.rules.proofs.Once.{Once}
 use Rattle.rules.proofs.Relation.{same_answer}
 use Rattle.rules.proofs.Sorting.{Rises, sort_is}
 use Rattle.rules.proofs.Decided.{value_is_last}
-use Rattle.rules.proofs.Reordered.{In-each_once, Once-each_once, key_cmp_total, one_key, same_key_is, same_key_itself, untied_with_values}
+use Rattle.rules.proofs.Reordered.{In-each_once, Once-each_once, in_keys, key_cmp_total, one_key, same_key_is, same_key_itself, untied_with_values}
 use Rattle.rules.proofs.Sorted.{sorted_rises}
 use Rattle.places.specs.Sets.{at, AreSetsOn}
 use Rattle.attributes.specs.Pairs.{given_backwards, given_by, with_all}
@@ -97,7 +97,7 @@ key_there initial g key v e = go (find (decides key g) g) refl e
     go (Some a) f t =
         let c = find_is (decides key g) a g f in
         In-append_right key (map (λ (attr : Attr). attr.0) initial) (keys_of g)
-        (In-each_once bytes_eq same_key_is same_key_itself key (flat_map (λ (op : Op). keys_in op.body) g) (In-flat_map (λ (op : Op). keys_in op.body) a key g c.0 (from_body a.body t)))
+        (in_keys g a key c.0 (from_body a.body t))
 
 -- a rising list that has a key with a value exactly where that is the key's value are the attributes
 are_attributes : (initial : List Attr) (g : List Op) (pairs : List Attr) → Rises key_cmp key_cmp_total pairs → ((z : Attr) → In z pairs → value_of_key initial g z.0 ≡ Some z.1) → ((z : Attr) → value_of_key initial g z.0 ≡ Some z.1 → In z pairs) → pairs ≡ attributes initial g

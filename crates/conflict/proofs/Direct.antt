@@ -2,7 +2,7 @@
 use Rattle.std.proofs.Common.{◌≡◌, ℕ, ◌<◌, ◌≤◌, Bool, true, false, not, ◌&&◌, ◌||◌, List, [], ◌∷◌, ◌++◌, length, refl, sym, ap, subst, cond, eqb, ◌+◌, ◌∙◌, inl, inr, arith}
 use Rattle.std.specs.Prelude.{filter, nat_lt, All}
 use Rattle.std.specs.List.{list_any}
-use Rattle.std.proofs.lemmas.Bool.{true≢false, cases_Bool, cases_lt, cases_order, eq-eqb, ne_eqb, lt-ltb, le-ltb, or_right, false_from_ne_true}
+use Rattle.std.proofs.lemmas.Bool.{and_right, true≢false, cases_Bool, cases_lt, cases_order, eq-eqb, ne_eqb, lt-ltb, le-ltb, or_right, false_from_ne_true}
 use Rattle.state_vector.specs.Vectors.{counts}
 use Rattle.op_names.specs.Names.{Name}
 use Rattle.rules.specs.declared.history.Op.{Op}
@@ -17,7 +17,7 @@ use Rattle.conflict.specs.Rows.{conflicts_below, is_in_row, with_those}
 use Rattle.places.specs.Sets.{AreSetsOf, at, clash_of, base_places, places_counted}
 use Rattle.places.proofs.Places.{In-places, below, has_if_in, in_if_has, has-filter, has-filter_past, all_below, in_all}
 use Rattle.places.proofs.SetsAt.{has-places_of}
-use Rattle.places.proofs.WordPlaces.{Up, same_set, up_range, up_filter, up_with_place, up_with_all, has-with_place, has-with_all, has-kept, or_turned, and_turned}
+use Rattle.places.proofs.WordPlaces.{Up, same_set, up_range, up_filter, up_with_place, up_with_all, has-with_place, has-with_all, has-kept, or_turned}
 use Rattle.conflict.proofs.Growth.{base_within, never_before}
 use Rattle.conflict.proofs.Rows.{direct_if_known, direct_if_unknown}
 use Rattle.conflict.proofs.InConflict.{conflicting_at}
@@ -173,7 +173,7 @@ module _ {object : Name} (k : List Op) (w : AreSetsOf object k) where
 
     none_more : (p x : ℕ) → has_direct p ≡ false → (nat_lt x p && has_direct x) ≡ (nat_lt x (p + 1) && has_direct x)
     none_more p x f = elim (cases_order x p) [
-      | inl e ↦ rw (ap has_direct e ∙ f) (and_turned (nat_lt x p) false ∙ sym (and_turned (nat_lt x (p + 1)) false))
+      | inl e ↦ rw (ap has_direct e ∙ f) (and_right (nat_lt x p) false refl ∙ sym (and_right (nat_lt x (p + 1)) false refl))
       | inr c ↦ elim c [
         | inl l ↦ (let b : x < p + 1 = omega arith in rw (lt-ltb x p l, lt-ltb x (p + 1) b) refl)
         | inr g ↦ (let b : p + 1 ≤ x = omega arith in rw (le-ltb x p (omega arith), le-ltb x (p + 1) b) refl)

@@ -2,7 +2,8 @@
 use Rattle.std.proofs.Common.{◌≡◌, ℕ, zero, suc, ◌+◌, ◌<◌, ◌≤◌, Bool, true, false, ◌&&◌, ◌||◌, List, [], ◌∷◌, ◌++◌, length, map, get_or, refl, sym, ap, ◌∙◌, subst, inl, inr, arith, eqb, cond}
 use Rattle.std.specs.Prelude.{filter, nat_lt, All}
 use Rattle.std.specs.List.{list_any}
-use Rattle.std.proofs.lemmas.Bool.{true≢false, cases_Bool, cases_lt, eq-eqb, eqb-true, ltb-true, lt-ltb, or_left, or_right, or_cases, and_parts, and_from, false_from_ne_true}
+use Rattle.std.proofs.lemmas.Bool.{true≢false, cases_Bool, cases_lt, eq-eqb, eqb-true, ltb-false, ltb-true, lt-ltb, or_left, or_right, or_cases, and_parts, and_from, false_from_ne_true}
+use Rattle.std.proofs.lemmas.List.{nil_from_length}
 use Rattle.op_names.specs.Names.{Name}
 use Rattle.rules.specs.declared.history.Op.{Op}
 use Rattle.rules.specs.Groups.{in_conflict_with}
@@ -163,8 +164,7 @@ no_row : (scope : List ℕ) (p : ℕ) (found : List ℕ) → with_row scope [] p
 no_row scope p found = elim (cases_Bool (has scope p)) [ inl t ↦ rw t refl | inr t ↦ rw t refl ]
 
 empty_if : (xs : List ℕ) → nat_lt 0 (length xs) ≡ false → xs ≡ []
-empty_if [] e = refl
-empty_if (x ∷ xs) e = absurd (true≢false (sym (lt-ltb 0 (length (x ∷ xs)) (omega arith)) ∙ e))
+empty_if xs e = nil_from_length xs (let none = ltb-false 0 (length xs) e in omega arith)
 
 with_rows-append : (scope : List ℕ) (rows : List (List ℕ)) (found xs ys : List ℕ) → with_rows scope rows found (xs ++ ys) ≡ with_rows scope rows (with_rows scope rows found xs) ys
 with_rows-append scope rows found [] ys = refl

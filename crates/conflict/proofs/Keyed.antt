@@ -13,12 +13,11 @@ use Rattle.rules.specs.declared.history.Body.{Body}
 use Rattle.rules.specs.declared.history.Body.TheVariants.{New, Set}
 use Rattle.rules.specs.AttrLists.{Attr}
 use Rattle.rules.specs.Bodies.{differ_on_a_key}
-use Rattle.rules.proofs.Lists.{In, In-filter_back, any_from, any_back, filter_agree}
+use Rattle.rules.proofs.Lists.{In, In-filter_back, any_from, any_back, filter_agree, filter_inner}
 use Rattle.rules.proofs.Reordered.{same_key_is, same_key_itself}
 use Rattle.places.specs.Members.{has, with_place, places}
 use Rattle.places.specs.Sets.{at}
 use Rattle.conflict.specs.Indexes.{IsIndex, OfKey, KeyIndex, AreByKey, key_at, gives, of_key, of_other_keys}
-use Rattle.conflict.proofs.Images.{filter_inner}
 use Rattle.places.proofs.Places.{in_if_has, below, has-filter}
 use Rattle.places.proofs.SetsAt.{at_in, at_push, place_of}
 use Rattle.conflict.proofs.Indexed.{filter_all, index_agrees, index_skipped, index_grown, index_begun}

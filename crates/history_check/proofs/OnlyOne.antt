@@ -1,14 +1,14 @@
 -- There is no more than one verdict: before a faulty line all is well, and a faulty line stands in nothing that is well.
-use Rattle.std.proofs.Common.{◌≡◌, ℕ, ◌+◌, ◌<◌, Bool, true, false, cond, List, [], ◌∷◌, ◌++◌, length, get_or, map, refl, sym, ap, ◌∙◌, subst, append_assoc, arith, ◌⊎◌, inl, inr, length-append}
+use Rattle.std.proofs.Common.{◌≡◌, ℕ, ◌+◌, ◌<◌, Bool, true, false, cond, List, [], ◌∷◌, ◌++◌, length, get_or, map, refl, sym, ap, ◌∙◌, subst, arith, ◌⊎◌, inl, inr, length-append}
 use Rattle.std.specs.Prelude.{◌↔◌, All, IfOk, Some, Result, Ok, Err}
 use Rattle.std.specs.List.{AllPairs}
 use Rattle.std.proofs.lemmas.Bool.{true≢false}
-use Rattle.std.proofs.lemmas.List.{append-nil, get_or_append_left}
+use Rattle.std.proofs.lemmas.List.{get_or_append_left, get_or_at}
 use Rattle.std.proofs.lemmas.Option.{same_Some}
 use Rattle.rules.specs.declared.history.Entry.{Entry}
-use Rattle.rules.specs.declared.limits.LimitValues.{LimitValues}
 use Rattle.rules.specs.Limits.{full_limits}
 use Rattle.rules.specs.Records.{admits, IsLegalAfter}
+use Rattle.rules.proofs.Records.{admitted_at}
 use Rattle.wire.specs.Lines.{lines_of}
 use Rattle.wire.specs.Texts.{entry_read}
 use Rattle.transcript.specs.declared.line.TranscriptLine.{TranscriptLine}
@@ -22,11 +22,6 @@ use Rattle.history_check.specs.Verdicts.{AreTranscript, AreTrue, FailsAt, IsBadL
 use Rattle.history_check.proofs.Parts.{same_read, split_read, nested}
 
 -- ---- records
-
--- an entry of a legal record was admitted
-admitted_at : (b : LimitValues) (r before : List Entry) (entry : Entry) (later : List Entry) → IsLegalAfter b r (before ++ entry ∷ later) → admits b (r ++ before) entry ≡ true
-admitted_at b r [] entry later g = ap (λ x. admits b x entry) (append-nil r) ∙ g.0
-admitted_at b r (x ∷ before) entry later g = ap (λ y. admits b y entry) (sym (append_assoc r (x ∷ []) before)) ∙ admitted_at b (r ++ x ∷ []) before entry later g.1
 
 -- a line that is refused after these stands in no legal record after them
 no_record : (front : List (List ℕ)) (line : List ℕ) (later : List (List ℕ)) (entries r : List Entry) → AreRecord front entries
@@ -62,8 +57,7 @@ length_more : {X : Type 0} (xs : List X) (y : X) (ys : List X) → length xs < l
 length_more xs y ys = omega (arith, length-append xs (y ∷ ys))
 
 get_or_there : {X : Type 0} (xs : List X) (y : X) (ys : List X) (d : X) → get_or (xs ++ y ∷ ys) (length xs) d ≡ y
-get_or_there [] y ys d = refl
-get_or_there (x ∷ xs) y ys d = get_or_there xs y ys d
+get_or_there xs y ys d = get_or_at xs y ys d (length xs) refl
 
 all_at : {X : Type 0} (P : X → Type 0) (xs : List X) (y : X) (ys : List X) → All P (xs ++ y ∷ ys) → P y
 all_at P xs y ys h = subst P (get_or_there xs y ys y) (h (length xs) y (length_more xs y ys))

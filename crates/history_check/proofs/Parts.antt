@@ -1,31 +1,20 @@
 -- Lists that go on from the same beginning, and what holds of the parts of a list.
 use Rattle.std.proofs.Common.{◌≡◌, ℕ, zero, suc, List, [], ◌∷◌, ◌++◌, length, map, take, refl, sym, ap, ◌∙◌, ◌⊎◌, inl, inr, subst}
-use Rattle.std.specs.Prelude.{Option, Some, slice_get}
-use Rattle.std.proofs.lemmas.Option.{same_Some}
+use Rattle.std.specs.Prelude.{Option, Some, filter_map, slice_get}
+use Rattle.std.proofs.lemmas.List.{length-map}
 
 module _ {A B : Type 0} (f : A → Option B) where
   -- lines that all read are as many as what they read
   pub same_length : (xs : List A) (ys : List B) → map f xs ≡ map Some ys → length ys ≡ length xs
-  same_length [] [] e = refl
-  same_length [] (y ∷ ys) e = absurd (cc)
-  same_length (x ∷ xs) [] e = absurd (cc)
-  same_length (x ∷ xs) (y ∷ ys) e = ap suc (same_length xs ys cc)
+  same_length xs ys e = sym (length-map ys Some) ∙ sym (ap length e) ∙ length-map xs f
 
   -- and read one thing only
   pub same_read : (xs : List A) (ys zs : List B) → map f xs ≡ map Some ys → map f xs ≡ map Some zs → ys ≡ zs
-  same_read [] [] [] e g = refl
-  same_read [] [] (z ∷ zs) e g = absurd (cc)
-  same_read [] (y ∷ ys) zs e g = absurd (cc)
-  same_read (x ∷ xs) [] zs e g = absurd (cc)
-  same_read (x ∷ xs) (y ∷ ys) [] e g = absurd (cc)
-  same_read (x ∷ xs) (y ∷ ys) (z ∷ zs) e g =
-      let one : f x ≡ Some y = cc in
-      let other : f x ≡ Some z = cc in
-      let head : y ≡ z = same_Some y z (sym one ∙ other) in
-      let ones : map f xs ≡ map Some ys = cc in
-      let others : map f xs ≡ map Some zs = cc in
-      let tail : ys ≡ zs = same_read xs ys zs ones others in
-      λ i. head i ∷ tail i
+  same_read xs ys zs e g = sym (values_read ys) ∙ ap (filter_map (λ o. o)) (sym e ∙ g) ∙ values_read zs
+    where
+      values_read : (bs : List B) → filter_map (λ o. o) (map Some bs) ≡ bs
+      values_read [] = refl
+      values_read (b ∷ bs) = ap (λ l. b ∷ l) (values_read bs)
 
   -- what was read of some lines, of the next and of the later ones
   pub record IsReadSplit (front : List A) (line : A) (read : List B) : Type 0 where

@@ -1,25 +1,22 @@
 -- A record played on.
-use Rattle.std.proofs.Common.{◌≡◌, ℕ, zero, suc, ◌+◌, ◌<◌, true, List, [], ◌∷◌, ◌++◌, length, get_or, take, sym, ap, ◌∙◌, subst, arith, append_assoc, add-one, Some, None, cond}
+use Rattle.std.proofs.Common.{◌≡◌, ℕ, ◌+◌, ◌<◌, true, List, [], ◌∷◌, ◌++◌, length, get_or, take, drop, sym, ap, ◌∙◌, subst, add-one, Some, None, cond}
 use Rattle.std.specs.Prelude.{slice_get}
 use Rattle.std.proofs.Math.Seq.{take-suc}
+use Rattle.std.proofs.lemmas.List.{drop_more, take-append-drop}
 use Rattle.std.proofs.lemmas.Option.{get_or_from_slice_get, slice_get_within}
 use Rattle.rules.specs.declared.history.Entry.{Entry}
 use Rattle.rules.specs.declared.limits.LimitValues.{LimitValues}
 use Rattle.rules.specs.Limits.{full_limits}
-use Rattle.rules.specs.Records.{admits, IsLegal, IsLegalAfter}
+use Rattle.rules.specs.Records.{admits, IsLegal}
+use Rattle.rules.proofs.Records.{admitted_at}
 use Rattle.room_core.specs.Room.{with_entry, full_room}
 use Rattle.room_core.specs.Answers.{admitted}
 
--- each entry of what may follow is admitted by those before it
-admitted_after : (b : LimitValues) (r later : List Entry) (k : ℕ) (d : Entry) → IsLegalAfter b r later → k < length later → admits b (r ++ take k later) (get_or later k d) ≡ true
-admitted_after b r [] k d legal h = absurd (omega (arith, h))
-admitted_after b r (e ∷ later) zero d legal h = subst (λ q. admits b q e ≡ true) (sym (Rattle.std.proofs.Common.append-nil r)) legal.0
-admitted_after b r (e ∷ later) (suc k) d legal h =
-    subst (λ q. admits b q (get_or later k d) ≡ true) (append_assoc r (e ∷ []) (take k later)) (admitted_after b (r ++ e ∷ []) later k d legal.1 (omega (arith, h)))
-
 -- each entry of a legal record is admitted by those before it
 pub admitted_in_place : (b : LimitValues) (r : List Entry) (k : ℕ) (d : Entry) → IsLegal b r → k < length r → admits b (take k r) (get_or r k d) ≡ true
-admitted_in_place b r k d legal h = admitted_after b [] r k d legal h
+admitted_in_place b r k d legal h =
+    let whole : r ≡ take k r ++ get_or r k d ∷ drop (k + 1) r = sym (take-append-drop k r) ∙ ap (λ l. take k r ++ l) (drop_more r k d h) in
+    admitted_at b [] (take k r) (get_or r k d) (drop (k + 1) r) (subst (IsLegal b) whole legal)
 
 -- the room of a record's first entries, with the next one
 pub room_goes_on : (r : List Entry) (k : ℕ) (x : Entry) → IsLegal full_limits r → slice_get r k ≡ Some x

@@ -13,7 +13,7 @@ use Rattle.std.proofs.lemmas.List.{length-append, length-take-le}
 use Rattle.std.proofs.lemmas.List.Elements.{All-nil, All-cons, All-get_or}
 use Rattle.transcript.specs.declared.line.TranscriptLine.{TranscriptLine}
 use Rattle.transcript.specs.Lines.{at_of}
-use Rattle.room_core.proofs.Seen.{some_same}
+use Rattle.room_core.proofs.Seen.{at_seam, some_same}
 use Rattle.history_check.specs.Replays.{AreByTime, timed_from}
 
 timed_push : (place : ℕ) (lines : List TranscriptLine) (line : TranscriptLine)
@@ -39,15 +39,11 @@ timed_more lines k line at =
 pub IsTimed : List TranscriptLine → ℕ × ℕ → Type 0
 IsTimed lines timed = (line : TranscriptLine) × (slice_get lines timed.1 ≡ Some line) × (timed.0 ≡ at_of line.reply)
 
-within_rest : (front : List TranscriptLine) (line : TranscriptLine) (lines : List TranscriptLine) → slice_get (front ++ line ∷ lines) (length front) ≡ Some line
-within_rest [] line lines = refl
-within_rest (x ∷ front) line lines = within_rest front line lines
-
 all_timed_from : (front lines : List TranscriptLine) (place : ℕ) → place ≡ length front → All (IsTimed (front ++ lines)) (timed_from place lines)
 unfolding IsTimed
 all_timed_from front [] place is = All-nil (IsTimed (front ++ []))
 all_timed_from front (line ∷ lines) place is =
-    let here : slice_get (front ++ line ∷ lines) place ≡ Some line = ap (slice_get (front ++ line ∷ lines)) is ∙ within_rest front line lines in
+    let here : slice_get (front ++ line ∷ lines) place ≡ Some line = ap (slice_get (front ++ line ∷ lines)) is ∙ at_seam front line lines in
     let next : place + 1 ≡ length (front ++ line ∷ []) = ap (λ n. n + 1) is ∙ sym (length-append front (line ∷ [])) in
     All-cons (IsTimed (front ++ line ∷ lines)) (at_of line.reply, place) (timed_from (place + 1) lines) (line, here, refl)
     (subst (λ all. All (IsTimed all) (timed_from (place + 1) lines)) (append_assoc front (line ∷ []) lines) (all_timed_from (front ++ line ∷ []) lines (place + 1) next))

@@ -5,6 +5,7 @@ ghost use Rattle.history_check.specs.declared.verdict.Verdict.{Verdict};
 ghost use Rattle.history_check.specs.Verdicts.{IsVerdict};
 
 /// Of the bytes of a record and of a transcript there is no more than one verdict.
+#[tactic(auto, using(crate::proofs::OnlyOne::one))]
 pub fn one_verdict()
     ensures { (entries transcript : List ℕ) (one other : Verdict)
         → IsVerdict entries transcript one → IsVerdict entries transcript other → one ≡ other }

@@ -40,8 +40,8 @@ use Rattle.shape.proofs.Objects.{creation_there}
 use Rattle.shape.proofs.Refusals.{passed}
 use Rattle.shape.specs.Objects.{IsOf}
 use Rattle.wire.specs.declared.reply.Reply.TheVariants.{No, Versions}
-use Rattle.objects.specs.Objects.{object_with_sets}
-use Rattle.objects.specs.Shown.{shown, shown_by}
+use Rattle.drawing.specs.Objects.{object_with_sets}
+use Rattle.drawing.specs.Shown.{shown, shown_by}
 use Rattle.late_join.specs.Taking.{is_join_of, has_joined, lacks_another, may_take, has_past, IsTakeable, IsTakeableAfter, IsInOrderAfter, IsCausalOrderOf}
 use Rattle.late_join.proofs.Taken.{taken_from, sound}
 use Rattle.late_join.proofs.Within.{IsWithin, within, keys_within}

@@ -1,42 +1,34 @@
--- Why an operation isn't taken: what is asked of each first, then what is asked of a creation or of a set's object.
-use Rattle.std.proofs.Common.{◌≡◌, ◌≢◌, ℕ, Bool, true, false, not, List, [], ◌∷◌, ◌++◌, length, refl, sym, ap, ◌∙◌, subst, arith, Option, Some, None, cond, ◌&&◌, ◌||◌, leb, ltb, eqb, inl, inr}
-use Rattle.std.specs.Prelude.{IfErr, OnOk, Result, is_some, option_map}
+-- Why an operation isn't taken: what is asked of each first, then what it does.
+use Rattle.std.proofs.Common.{◌≡◌, ◌≢◌, Bool, true, false, not, List, [], ◌∷◌, ◌++◌, length, refl, sym, ap, ◌∙◌, subst, arith, Option, Some, None, cond, ◌&&◌, ◌||◌, leb, ltb, eqb, inl, inr}
+use Rattle.std.specs.Prelude.{is_some, option_map}
 use Rattle.std.specs.List.{list_any}
-use Rattle.std.specs.Map.{lookup}
 use Rattle.std.proofs.lemmas.Bool.{true≢false, and_from, and_parts, cases_Bool, not-true, not_from_false, leb-true, le-leb, ltb-true, lt-ltb, leb-false}
-use Rattle.std.proofs.lemmas.Result.{IfErr-weaker, on_ok_weaker}
-use Rattle.op_names.specs.Names.{Name, same_name}
+use Rattle.op_names.specs.Names.{Name}
 use Rattle.state_vector.specs.Vectors.{count_of, counts, is_vector}
 use Rattle.rules.specs.declared.history.Op.{Op}
 use Rattle.rules.specs.declared.history.Entry.{Entry}
 use Rattle.rules.specs.declared.history.Entry.TheVariants.{Operation}
 use Rattle.rules.specs.declared.refusal.Refusal.{Refusal}
-use Rattle.rules.specs.declared.refusal.Refusal.TheVariants.{RecordFull, OwnCount, NotClosed, NoSuchObject, TooManyObjects}
+use Rattle.rules.specs.declared.refusal.Refusal.TheVariants.{RecordFull, OwnCount, NotClosed}
 use Rattle.rules.specs.Admission.{Condition, causal_refusal, count_at_site, first_that_applies, has_wrong_own_count, has_wrong_seq, is_not_closed, names_counted}
 use Rattle.rules.specs.Bodies.{is_set_body}
 use Rattle.rules.specs.declared.limits.LimitValues.{LimitValues}
-use Rattle.rules.specs.Conflicts.{has_object}
-use Rattle.rules.specs.Operations.{object_of, operation}
-use Rattle.rules.specs.Records.{creation_conditions, objects, operations, set_conditions, version_conditions}
+use Rattle.rules.specs.Operations.{operation}
+use Rattle.rules.specs.Records.{creation_conditions, operations, set_conditions}
 use Rattle.rules.proofs.Conditions.{not_first}
 use Rattle.rules.proofs.Counted.{In-names_counted, In-names_counted_back, count_in, count_of_pair, count_positive, found}
 use Rattle.rules.proofs.Lists.{any_back, any_from}
 use Rattle.rules.proofs.Relation.{same_answer}
-use Rattle.places.specs.Sets.{AreSetsOf}
-use Rattle.shape.specs.Objects.{Stored, set_refusal, with_set}
-use Rattle.shape.specs.Faults.{refusal_of}
-use Rattle.shape.specs.declared.fault.SetFault.{SetFault}
-use Rattle.shape.specs.declared.fault.SetFault.TheVariants as set_fault
-use Rattle.shape.proofs.Refusals.{first_of_front, front_passed, passed}
+use Rattle.shape.proofs.Refusals.{first_of_front, front_passed}
+use Rattle.drawing.specs.Additions.{IsNext, body_refusal}
+use Rattle.drawing.specs.Faults.{IsRefusal}
+use Rattle.drawing.specs.declared.fault.AddFault.{AddFault}
+use Rattle.drawing.specs.declared.fault.AddFault.TheVariants as add_fault
 use Rattle.late_join.specs.declared.fault.TakeFault.{TakeFault}
-use Rattle.late_join.specs.declared.fault.TakeFault.TheVariants.{Repeat, Early, Refused}
-use Rattle.late_join.specs.Steps.{arrival_fault, of_set}
-use Rattle.objects.specs.Changes.{IsSetAt}
-use Rattle.objects.proofs.AtObject.{may_be_planned, object_there, refused_by_object}
-use Rattle.late_join.specs.Replay.{IsReplay}
-use Rattle.late_join.specs.Taking.{arriving_conditions, has_joined, is_early, is_repeat, lacks_another, may_take, take_fault}
-use Rattle.late_join.proofs.Replay.{may_take_if, new_name, replay_creation, replay_same, replay_set}
-use Rattle.late_join.proofs.Taken.{IsSound, not_ahead, operation_there, or_parts, sound}
+use Rattle.late_join.specs.declared.fault.TakeFault.TheVariants.{Repeat, Early, Refused, NoMemory}
+use Rattle.late_join.specs.Steps.{arrival_fault, of_adding}
+use Rattle.late_join.specs.Taking.{arriving_conditions, has_joined, is_early, is_repeat, lacks_another, take_fault}
+use Rattle.late_join.proofs.Taken.{IsSound, not_ahead, operation_there, or_parts}
 
 -- ---- which operations are missing
 
@@ -148,80 +140,19 @@ module _ (b : LimitValues) (t : List Entry) (o : Op) where
         let q = k.seq in let w = k.own in let c = k.closed in
         rw (q, w, a, c) refl
 
-    -- a creation
-    module _ (creates : is_set_body o.body ≡ false) where
-      creation_fault : take_fault b t (Operation o) ≡ option_map Refused (first_that_applies (creation_conditions b t))
-      creation_fault = fault_is ∙ ap (λ c. option_map Refused (first_that_applies (cond c (set_conditions b (operations t) o) (creation_conditions b t)))) creates
+    -- so it may come next to a drawing of these entries
+    pub may_be_next : IsSound (operations t) → is_vector o.seen ≡ true → IsNext (record { limits = b; entries = t }) o
+    may_be_next s v = record {
+      vector = v;
+      ready = next_causal s v;
+      short = leb-false b.entries (length t) (not_first (leb b.entries (length t), RecordFull) ((has_wrong_own_count o.name o.seen, OwnCount) ∷ (is_not_closed (operations t) o.seen, NotClosed) ∷ []) parts.1).0;
+    }
 
-      pub too_many : leb b.objects (length (objects t)) ≡ true → take_fault b t (Operation o) ≡ Some (Refused TooManyObjects)
-      too_many e = creation_fault ∙ (rw e refl)
+    -- and is refused where that refuses what it does
+    pub refused_so : (fault : AddFault) → IsRefusal (body_refusal (record { limits = b; entries = t }) o) fault → of_adding fault ≢ NoMemory → take_fault b t (Operation o) ≡ Some (of_adding fault)
+    refused_so (add_fault.Refused why) is n = fault_is ∙ ap (option_map Refused) (is (λ e. cc))
+    refused_so add_fault.NoMemory is n = absurd (n refl)
 
-      pub created : leb b.objects (length (objects t)) ≡ false → take_fault b t (Operation o) ≡ None
-      created e = creation_fault ∙ (rw e refl)
-
-    -- a set
-    module _ (sets : is_set_body o.body ≡ true) where
-      set_fault_is : take_fault b t (Operation o) ≡ option_map Refused (first_that_applies (set_conditions b (operations t) o))
-      set_fault_is = fault_is ∙ ap (λ c. option_map Refused (first_that_applies (cond c (set_conditions b (operations t) o) (creation_conditions b t)))) sets
-
-      pub no_object : has_object (operations t) o ≡ false → take_fault b t (Operation o) ≡ Some (Refused NoSuchObject)
-      no_object f = set_fault_is ∙ (rw f refl)
-
-      module _ (has : has_object (operations t) o ≡ true) where
-        by_versions : take_fault b t (Operation o) ≡ option_map Refused (first_that_applies (version_conditions b (operations t) o))
-        by_versions = set_fault_is ∙ ap (option_map Refused) (passed (not (has_object (operations t) o), NoSuchObject) (version_conditions b (operations t) o) (ap not has))
-
-        module _ (joined : List ℕ) (shapes : List (Name × Stored)) (history : List Op) (replay : IsReplay b t joined shapes history) (vector : is_vector o.seen ≡ true) where
-          abbrev h : List Op
-          h = operations t
-
-          s : IsSound h
-          s = sound b t replay.takeable
-
-          -- its object is there, and may be asked
-          pub can_set : (d : Stored) × (lookup (same_name (object_of o)) shapes ≡ Some d) × AreSetsOf d.object.creation.name (d.object.sets ++ o ∷ [])
-          can_set =
-              let d = object_there b t shapes replay.shapes_are o sets has in
-              (d.0, d.1, may_be_planned b t shapes replay.shapes_are o sets d.0 d.1 s.numbered.history s.ordered (next_causal s vector) vector)
-
-          by_object : (d : Stored) → lookup (same_name (object_of o)) shapes ≡ Some d → take_fault b t (Operation o) ≡ option_map Refused (set_refusal d.object o)
-          by_object d there = by_versions ∙ ap (option_map Refused) (refused_by_object b t shapes replay.shapes_are o sets d there)
-
-          fault_of : (fault : SetFault) → fault ≢ set_fault.NoMemory → option_map Refused (refusal_of fault) ≡ Some (of_set fault)
-          fault_of set_fault.NoSuchVersion n = refl
-          fault_of set_fault.ObjectFull n = refl
-          fault_of set_fault.TooManyKeys n = refl
-          fault_of set_fault.TooManyVersions n = refl
-          fault_of set_fault.NoMemory n = absurd (n refl)
-
-          module _ (new : List (Name × Stored)) (answer : Result Unit SetFault) (p : IsSetAt (object_of o) o shapes new answer) where
-            pub set_taken : OnOk answer (take_fault b t (Operation o) ≡ None)
-            set_taken = on_ok_weaker answer (λ e. by_object p.before p.was ∙ ap (option_map Refused) e) p.taken
-
-            pub set_refused : IfErr answer (λ fault. fault ≢ set_fault.NoMemory → take_fault b t (Operation o) ≡ Some (of_set fault))
-            set_refused = IfErr-weaker answer _ _ (λ fault e n. by_object p.before p.was ∙ ap (option_map Refused) (e n) ∙ fault_of fault n) p.refused
-
-            pub set_kept : p.after.object ≡ p.before.object → IsReplay b t joined new history
-            set_kept same = subst (λ k. IsReplay b t joined k history) (sym p.now) (replay_same b t joined shapes history replay (same_name (object_of o)) p.before p.after p.was same)
-
-            pub set_added : take_fault b t (Operation o) ≡ None → p.after.object ≡ with_set p.before.object o → IsReplay b (t ++ Operation o ∷ []) joined new (history ++ o ∷ [])
-            set_added none more = subst (λ k. IsReplay b (t ++ Operation o ∷ []) joined k (history ++ o ∷ [])) (sym p.now)
-                (replay_set b t joined shapes history replay o p.before p.after (may_take_if b t (Operation o) vector none) sets p.unique p.was more)
-
--- ---- a creation that is added
-
-module _ (l : LimitValues) (t : List Entry) (joined : List ℕ) (shapes : List (Name × Stored)) (history : List Op) (replay : IsReplay l t joined shapes history) (o : Op) (vector : is_vector o.seen ≡ true)
-    (arrived : arrival_fault l t o ≡ None) where
-  -- an operation may be added to the operations that were taken
-  pub may_add : causal_refusal history o.name o.seen ≡ None
-  may_add = ap (λ h. causal_refusal h o.name o.seen) replay.past ∙ next_causal l t o arrived (sound l t replay.takeable) vector
-
-  module _ (creates : is_set_body o.body ≡ false) (room : leb l.objects (length (objects t)) ≡ false) where
-    may : may_take l t (Operation o) ≡ true
-    may = may_take_if l t (Operation o) vector (created l t o arrived creates room)
-
-    pub new_object : lookup (same_name o.name) shapes ≡ None
-    new_object = new_name l t joined shapes history replay o may
-
-    pub creation_added : (d : Stored) → d.object ≡ record { limits = l; creation = o; sets = [] } → IsReplay l (t ++ Operation o ∷ []) joined (shapes ++ (o.name, d) ∷ []) (history ++ o ∷ [])
-    creation_added d made = replay_creation l t joined shapes history replay o d may (leb-false l.objects (length (objects t)) room) creates made
+    -- and taken where that allows it
+    pub taken_so : body_refusal (record { limits = b; entries = t }) o ≡ None → take_fault b t (Operation o) ≡ None
+    taken_so allowed = fault_is ∙ ap (option_map Refused) allowed

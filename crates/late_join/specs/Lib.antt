@@ -1,8 +1,8 @@
 pub use Rattle.rules.specs.Limits
 pub use Rattle.rules.specs.Records
-pub use Rattle.objects.specs.Shown
+pub use Rattle.drawing.specs.Shown
 pub mod Taking
 pub mod Replica
-pub mod Replay
+pub mod Kept
 pub mod Steps
 pub mod Feeding

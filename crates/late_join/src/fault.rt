@@ -4,9 +4,9 @@ ghost use Rattle.std.specs.Prelude.{◌≡◌};
 ghost use Rattle.late_join.specs.declared.fault.FeedFault.TheVariants as feed_fault;
 ghost use Rattle.late_join.specs.declared.fault.TakeFault.TheVariants as take_fault;
 
+use drawing::AddFault;
 use op_names::NoMemory;
 use rules::Refusal;
-use shape::SetFault;
 use thiserror::Error;
 use wire::ReadFault;
 
@@ -35,16 +35,16 @@ impl From<NoMemory> for TakeFault {
     }
 }
 
-impl From<SetFault> for TakeFault {
+impl From<AddFault> for TakeFault {
     ghost use Rattle.std.specs.Prelude.{◌≡◌};
-    ghost use Rattle.late_join.specs.Steps.{of_set};
+    ghost use Rattle.late_join.specs.Steps.{of_adding};
 
-    ghost from_gives = { λ set_fault fault. fault ≡ of_set set_fault };
+    ghost from_gives = { λ add_fault fault. fault ≡ of_adding add_fault };
 
-    fn from(fault: SetFault) -> TakeFault {
-        match fault.refusal() {
-            Some(refusal) => TakeFault::Refused(refusal),
-            None => TakeFault::NoMemory,
+    fn from(fault: AddFault) -> TakeFault {
+        match fault {
+            AddFault::Refused(refusal) => TakeFault::Refused(refusal),
+            AddFault::NoMemory => TakeFault::NoMemory,
         }
     }
 }

@@ -12,7 +12,7 @@ ghost use Rattle.rules.specs.Operations.{IsHistory, IsCausallyOrdered};
 ghost use Rattle.rules.specs.Conflicts.{IsFounded};
 ghost use Rattle.rules.specs.Records.{operations, refusal, IsLegal};
 ghost use Rattle.rules.specs.Versions.{versions};
-ghost use Rattle.objects.specs.Shown.{shown};
+ghost use Rattle.drawing.specs.Shown.{shown};
 ghost use Rattle.late_join.specs.Taking.{is_repeat, is_early, taking_conditions, IsTakeable};
 ghost use Rattle.late_join.specs.Taking.{IsCausalOrderOf};
 

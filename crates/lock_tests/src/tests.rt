@@ -7,7 +7,8 @@ mod refused;
 mod told;
 
 use op_names::RoomName;
-use room_lock::{Joined, Pass, RoomLedger, Rooms};
+use room_lock::{Joined, NewRooms, Pass, RoomLedger, Rooms};
+use rules::Limits;
 use std::process::Abort;
 use std::sync::Wait;
 use wire::{Request, read_request, write_reply};
@@ -23,13 +24,25 @@ fn request_of(rt: &(impl Abort + AllocGlobal), text: &str) -> Request {
     read_request(rt.alloc(), text.as_bytes()).expect(rt, "a request")
 }
 
+/// Rooms of these names that are to be made.
+fn planned(rt: &(impl Abort + AllocGlobal), names: &[&str], limits: Limits) -> NewRooms {
+    let mut parsed = Vec::new(rt.alloc());
+    for name in names {
+        parsed.push(room_name(rt, name)).expect(rt, "memory");
+    }
+    NewRooms::plan(rt.alloc(), parsed, limits).expect(rt, "rooms")
+}
+
 /// The pass of the next site of the room.
 fn entered<P: RoomLedger>(
     rt: &(impl Wait + Abort + AllocGlobal),
     rooms: &Rooms<P>,
-    name: &RoomName,
+    name: &str,
 ) -> Pass<P> {
-    match rooms.join(rt, rt.alloc(), name).expect(rt, "memory") {
+    match rooms
+        .join(rt, rt.alloc(), &room_name(rt, name))
+        .expect(rt, "memory")
+    {
         Joined::Entered(pass, _) => pass,
         Joined::Refused(_) => panic!(rt; "a refused join"),
     }
@@ -53,8 +66,8 @@ fn asked<P: RoomLedger>(
 fn size_of<P: RoomLedger>(
     rt: &(impl Wait + Abort + AllocGlobal),
     rooms: &Rooms<P>,
-    name: &RoomName,
+    name: &str,
 ) -> usize {
-    let size = rooms.with(rt, name, |room| room.entries().len());
+    let size = rooms.with(rt, &room_name(rt, name), |room| room.entries().len());
     size.expect(rt, "a room")
 }

@@ -1,5 +1,5 @@
 -- A label is ASCII, and so it is text.
-use Rattle.std.proofs.Common.{◌≡◌, ℕ, ◌<◌, ◌≤◌, Bool, true, false, not, ◌&&◌, ◌||◌, length, Option, Some, None, refl, inl, inr, cond, arith, get_or, leb, eqb, ltb, lit<}
+use Rattle.std.proofs.Common.{◌≡◌, ℕ, ◌<◌, ◌≤◌, Bool, true, false, not, ◌&&◌, ◌||◌, length, Some, None, refl, inl, inr, cond, arith, get_or, leb, eqb, ltb, lit<}
 use Rattle.std.specs.Prelude.{IsUtf8}
 use Rattle.std.specs.List.{position_or_len}
 use Rattle.std.specs.Str.{IsAscii}
@@ -10,6 +10,7 @@ use Rattle.std.proofs.lemmas.List.Sums.{fails_before_first}
 use Rattle.std.proofs.lemmas.Str.{IsUtf8-from_ascii}
 use Rattle.op_names.specs.declared.fault.NameFault.TheVariants.{Empty, TooLong, BadByte}
 use Rattle.op_names.specs.Texts.{Bytes, is_label_byte, label_fault}
+use Rattle.op_names.proofs.Choices.{not_first}
 
 label_byte-below : (byte : ℕ) → is_label_byte byte ≡ true → byte < 128
 label_byte-below byte e =
@@ -24,10 +25,6 @@ label_byte-below byte e =
 abbrev bad : ℕ → Bool
 bad byte = not (is_label_byte byte)
 
-not_first : {X : Type 0} (b : Bool) (x : X) (z : Option X) → cond b (Some x) z ≡ None → z ≡ None
-not_first true x z e = absurd cc
-not_first false x z e = e
-
 good_if : (b : Bool) → not b ≡ false → b ≡ true
 good_if true e = refl
 good_if false e = absurd cc
@@ -41,7 +38,7 @@ all_good bytes e = elim (cases_Bool (ltb (position_or_len bad bytes) (length byt
 ascii_if : (longest : ℕ) (bytes : Bytes) → label_fault longest bytes ≡ None → IsAscii bytes
 unfolding label_fault
 ascii_if longest bytes none i =
-    let within : length bytes ≤ position_or_len bad bytes = all_good bytes (not_first (ltb longest (length bytes)) TooLong _ (not_first (eqb (length bytes) 0) Empty _ none)) in
+    let within : length bytes ≤ position_or_len bad bytes = all_good bytes (not_first (ltb longest (length bytes)) TooLong _ (not_first (eqb (length bytes) 0) Empty _ none).1).1 in
     elim (cases_Bool (ltb i (length bytes))) [
       | inl t ↦ (let here : i < position_or_len bad bytes = omega (arith, ltb-true i (length bytes) t, within) in
           label_byte-below (get_or bytes i 0) (good_if _ (fails_before_first bad bytes i 0 here)))

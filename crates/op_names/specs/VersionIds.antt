@@ -25,6 +25,10 @@ id_cmp = slice_cmp name_cmp
 abbrev pub same_names : List Name → List Name → Bool
 same_names = pointwise same_name
 
--- two identifiers are the same exactly where neither comes before the other
+-- two names are the same exactly where neither comes before the other
+pub same_name-ties : (m n : Name) → same_name m n ≡ eq_by_cmp name_cmp m n
+same_name-ties m n = both_tied _ _ (nat_cmp m.0 n.0) (nat_cmp m.1 n.1) (unsigned_ties m.0 n.0) (unsigned_ties m.1 n.1)
+
+-- and so are two identifiers
 pub same_names-ties : (ms ns : List Name) → same_names ms ns ≡ eq_by_cmp id_cmp ms ns
-same_names-ties = lists_ties name_cmp (λ m n. both_tied _ _ (nat_cmp m.0 n.0) (nat_cmp m.1 n.1) (unsigned_ties m.0 n.0) (unsigned_ties m.1 n.1))
+same_names-ties = lists_ties name_cmp same_name-ties

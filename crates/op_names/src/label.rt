@@ -1,12 +1,54 @@
-//! Labels: some bytes of a-z, 0-9 and `-`, which name rooms, keys and kinds.
+//! Labels: texts of some bytes of a-z, 0-9 and `-`, which name rooms, keys and kinds.
 
-ghost use Rattle.std.specs.Prelude.{◌≡◌, None, IfOk, not, position};
-ghost use Rattle.op_names.specs.Faults.{FailsBy};
-ghost use Rattle.op_names.specs.Texts.{is_label_byte, label_fault};
+ghost use Rattle.std.specs.Prelude.{◌≡◌, List, ℕ, true, false, None, IfOk, not, position};
+ghost use Rattle.op_names.specs.Faults.{FailsBy, OnFault};
+ghost use Rattle.op_names.specs.Texts.{is_label, is_label_byte, label_fault};
 
-use crate::fault::NameFault;
+use crate::fault::{NameFault, NoMemory};
 use crate::text::Text;
 use std::alloc::Global;
+use std::marker::{Model, PhantomData};
+
+/// A text of 1 to `LONGEST` bytes of a-z, 0-9 and `-`. The mark tells labels of one length apart.
+/// Labels are ordered by bytes.
+#[derive(Drop)]
+#[derive_where(Debug, PartialEq, Eq, PartialOrd, Ord, Hash)]
+pub struct Label<const LONGEST: usize, Mark> {
+    text: Text,
+    #[derive_where(skip)]
+    mark: PhantomData<Mark>,
+}
+
+/// Marks keys.
+#[derive(Drop)]
+pub enum KeyMark {}
+
+/// Marks kinds.
+#[derive(Drop)]
+pub enum KindMark {}
+
+/// Marks names of rooms.
+#[derive(Drop)]
+pub enum RoomMark {}
+
+/// The key of an attribute: 1 to 32 bytes.
+pub type Key = Label<32, KeyMark>;
+
+/// The kind of an object: 1 to 32 bytes.
+pub type Kind = Label<32, KindMark>;
+
+/// The name of a room: 1 to 64 bytes.
+pub type RoomName = Label<64, RoomMark>;
+
+impl<const LONGEST: usize, Mark> Model for Label<LONGEST, Mark> {
+    ghost Value = { List ℕ };
+
+    ghost view = { λ label. label.text };
+
+    ghost invariant = { λ label. is_label LONGEST label.text ≡ true };
+
+    ghost inverse = { λ bytes. record { text = bytes; mark = record {} } };
+}
 
 /// Is it one of a-z, 0-9 and `-`?
 fn is_label_byte(byte: u8) -> bool
@@ -40,7 +82,7 @@ fn label_fault(bytes: &[u8], longest: usize) -> Option<NameFault>
 }
 
 /// The bytes as the text of a label of at most `longest` bytes.
-pub(crate) fn label_text(alloc: Global, bytes: &[u8], longest: usize) -> Result<Text, NameFault>
+fn label_text(alloc: Global, bytes: &[u8], longest: usize) -> Result<Text, NameFault>
     ensures ok { IfOk result (λ text. (text ≡ bytes.now) × (label_fault longest bytes.now ≡ None)) }
     ensures fault { FailsBy NameFault.NoMemory (label_fault longest bytes.now) result }
 {
@@ -51,4 +93,40 @@ pub(crate) fn label_text(alloc: Global, bytes: &[u8], longest: usize) -> Result<
         unreachable!()
     };
     Ok(Text::from_str(alloc, text)?)
+}
+
+impl<const LONGEST: usize, Mark> Label<LONGEST, Mark> {
+    /// The label that the bytes are. Otherwise `Empty`, `TooLong` above `LONGEST` bytes or
+    /// `BadByte`, the first that applies, or `NoMemory`.
+    pub fn parse(alloc: Global, bytes: &[u8]) -> Result<Self, NameFault>
+        ensures ok { IfOk result (λ label.
+            (label ≡ bytes.now) × (is_label LONGEST bytes.now ≡ true)) }
+        ensures fault { FailsBy NameFault.NoMemory (label_fault LONGEST bytes.now) result }
+        ensures refused { OnFault NameFault.NoMemory result (is_label LONGEST bytes.now ≡ false) }
+    {
+        let text = label_text(alloc, bytes, LONGEST)?;
+        Ok(Label {
+            text,
+            mark: PhantomData,
+        })
+    }
+
+    /// Its text.
+    pub fn text(&self) -> &str
+        ensures text { result.now ≡ self.now }
+        ensures range { is_label LONGEST self.now ≡ true }
+    {
+        self.text.as_str()
+    }
+
+    /// Another one of the same text.
+    pub fn copy(&self, alloc: Global) -> Result<Self, NoMemory>
+        ensures { IfOk result (λ label. label ≡ self.now) }
+    {
+        let text = self.text.copy(alloc)?;
+        Ok(Label {
+            text,
+            mark: PhantomData,
+        })
+    }
 }

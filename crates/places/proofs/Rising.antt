@@ -11,19 +11,15 @@ use Rattle.std.proofs.lemmas.Cmp.{nat_cmp_total}
 use Rattle.std.proofs.lemmas.List.Kept.{IsStrictlySortedBy-filter}
 use Rattle.std.proofs.lemmas.List.FromFn.{length-range_with_len, get_or-range_with_len}
 use Rattle.std.proofs.lemmas.Map.Keys.{sorted_from_strictly_increasing}
-use Rattle.rules.proofs.Lists.{In, Contains-from_In, In-filter, In-filter_back}
+use Rattle.rules.proofs.Lists.{In, all_at, Contains-from_In, In-filter, In-filter_back}
 use Rattle.rules.proofs.Sorting.{Rises, rises_same}
 use Rattle.places.specs.Members.{has, places}
 use Rattle.places.proofs.Places.{In-places, has_if_in, in_if_has}
 
-each_in : {X : Type 0} (P : X → Type 0) (xs : List X) → AllByRecursion P xs → (x : X) → In x xs → P x
-each_in P [] a x m = absurd m
-each_in P (y ∷ ys) a x m = elim m [ inl e ↦ subst P (sym e) a.0 | inr r ↦ each_in P ys a.1 x r ]
-
 pub rises : {X : Type 0} (cmp : X → X → Ordering) (o : IsTotalOrder cmp) (xs : List X) → IsStrictlySortedBy cmp xs → Rises cmp o xs
 unfolding IsStrictlySortedBy
 rises cmp o [] s = tt
-rises cmp o (x ∷ xs) s = (each_in (λ y. cmp x y ≡ Less) xs s.0, rises cmp o xs s.1)
+rises cmp o (x ∷ xs) s = (all_at (λ y. cmp x y ≡ Less) xs s.0, rises cmp o xs s.1)
 
 pub range_rises : (a n : ℕ) → IsStrictlyIncreasing (range_with_len a n)
 range_rises a n k l =

@@ -114,12 +114,6 @@ pub up_with_all : (xs ys : List ℕ) → Up xs → Up (with_all xs ys)
 up_with_all xs [] u = u
 up_with_all xs (y ∷ ys) u = up_with_all (with_place y xs) ys (up_with_place y xs u)
 
-pub and_turned : (a b : Bool) → (a && b) ≡ (b && a)
-and_turned true true = refl
-and_turned true false = refl
-and_turned false true = refl
-and_turned false false = refl
-
 pub has-kept : (p : ℕ → Bool) (xs : List ℕ) (x : ℕ) → has (filter p xs) x ≡ (has xs x && p x)
 has-kept p xs x = same_answer (has (filter p xs) x) (has xs x && p x)
     (λ e. let m = In-filter_back p x xs (in_if_has (filter p xs) x e) in and_from (has xs x) (p x) (has_if_in xs x m.0) m.1)

@@ -1,130 +1,90 @@
--- A room with one more entry is the replay of its record with that entry.
-use Rattle.std.proofs.Common.{◌≡◌, ℕ, ◌+◌, Bool, true, false, List, [], ◌∷◌, ◌++◌, length, map, sym, ap, ◌∙◌, subst, arith, Some, None, ◌&&◌, leb}
-use Rattle.std.specs.Prelude.{is_none}
-use Rattle.std.specs.List.{IsDistinct}
-use Rattle.std.specs.Map.{keys_of, lookup, set_value}
-use Rattle.std.proofs.lemmas.Bool.{and_parts}
-use Rattle.std.proofs.lemmas.List.{length_push, map-append}
-use Rattle.op_names.specs.Names.{Name, same_name}
-use Rattle.state_vector.specs.Vectors.{is_vector}
+-- A room with one more entry that is admitted, and what it says that an operation is placed.
+use Rattle.std.proofs.Common.{◌≡◌, ℕ, ◌+◌, ◌<◌, ◌≤◌, Bool, true, false, cond, List, [], ◌∷◌, ◌++◌, length, refl, ap, ◌∙◌, arith, ◌&&◌, leb, None, Some}
+use Rattle.std.specs.Prelude.{Option, is_none}
+use Rattle.std.proofs.lemmas.Bool.{and_from, and_parts, eq-eqb, leb-false}
 use Rattle.rules.specs.declared.history.Op.{Op}
 use Rattle.rules.specs.declared.history.Entry.{Entry}
 use Rattle.rules.specs.declared.history.Entry.TheVariants.{Join, Operation}
-use Rattle.rules.specs.declared.limits.LimitValues.{LimitValues}
+use Rattle.rules.specs.declared.refusal.Refusal.{Refusal}
+use Rattle.rules.specs.declared.refusal.Refusal.TheVariants.{RecordFull}
+use Rattle.rules.specs.Admission.{causal_conditions, causal_refusal, first_that_applies}
+use Rattle.rules.specs.Records.{is_join, is_placed, operations, order_conditions, refusal, sites}
+use Rattle.rules.proofs.Conditions.{not_first, room_for_join}
+use Rattle.rules.proofs.Records.{legal_push, sites-join, sites-operation}
+use Rattle.state_vector.specs.Vectors.{is_vector}
+use Rattle.shape.proofs.Refusals.{first_of_front, front_passed}
+use Rattle.op_names.specs.Names.{Name}
 use Rattle.rules.specs.Bodies.{is_set_body}
-use Rattle.rules.specs.Admission.{count_at_site}
-use Rattle.rules.specs.Operations.{object_of}
-use Rattle.rules.specs.Records.{operations, sites, admits, is_placed, refusal, IsLegal}
-use Rattle.rules.proofs.Records.{operations-join, operations-push, sites-join, sites-operation, objects-join, legal_push}
-use Rattle.rules.proofs.Conditions.{room_for_join, room_for_operation, room_for_object}
-use Rattle.rules.proofs.Founded.{founded_if_legal, history_if_legal}
-use Rattle.rules.proofs.Histories.{IsNumbered, follows_if}
-use Rattle.shape.specs.Objects.{Stored, with_set}
-use Rattle.shape.proofs.Next.{numbered_if}
-use Rattle.objects.proofs.Lookup.{none_there}
-use Rattle.objects.proofs.NewNames.{no_set_yet, not_created}
-use Rattle.objects.proofs.OneMore.{length-objects-creation, objects-set, with_creation, with_join, with_set_on}
-use Rattle.objects.proofs.WithSets.{objects_with_sets_same}
-use Rattle.room_core.specs.Replay.{IsReplay}
-
--- the vector of an operation that is admitted is one
-pub vector_if : (l : LimitValues) (r : List Entry) (o : Op) → is_placed r (Operation o) ≡ true → is_vector o.seen ≡ true
-vector_if l r o p = (and_parts (leb 1 o.name.0 && leb o.name.0 (sites r)) (is_vector o.seen) p).1
-
--- ---- an operation that is admitted
-
-module _ (l : LimitValues) (r : List Entry) (legal : IsLegal l r) (o : Op) (a : admits l r (Operation o) ≡ true) where
-  numbered : IsNumbered (operations r)
-  numbered = numbered_if (history_if_legal l r legal)
-
-  next_seq : o.name.1 ≡ count_at_site (operations r) o.name.0 + 1
-  next_seq =
-      let v = vector_if l r o (and_parts (is_placed r (Operation o)) (is_none (refusal l r (Operation o))) a).0 in
-      (follows_if (operations r) o (room_for_operation l r o a).1 v).seq
+use Rattle.wire.specs.declared.reply.Reply.TheVariants.{Made, Taken}
+use Rattle.drawing.specs.Additions.{IsNext, body_conditions, body_refusal, planned_ids}
+use Rattle.drawing.specs.Shown.{ids_with}
+use Rattle.drawing.specs.Room.{Room}
+use Rattle.drawing.proofs.Replay.{more}
+use Rattle.room_core.specs.Answers.{entry_or_refusal, operation_answer, operation_reply, refusal_answer}
+use Rattle.room_core.specs.Kept.{IsRoom}
+use Rattle.room_core.specs.Plans.{IsAdmitted, order_refusal, refusal_in, reply_by}
 
 -- ---- one more entry
 
-module _ (l : LimitValues) (r : List Entry) (joined : ℕ) (shapes : List (Name × Stored)) (history : List Op) (replay : IsReplay l r joined shapes history) where
-  -- an admitted creation is of no object that is there
-  pub new_name : (o : Op) → admits l r (Operation o) ≡ true → lookup (same_name o.name) shapes ≡ None
-  new_name o a = none_there l r shapes replay.shapes_are o.name (not_created (operations r) (numbered l r replay.legal o a) o (next_seq l r replay.legal o a))
+module _ (room : Room) (joined : ℕ) (kept : IsRoom room joined) where
+  joined_by : (e : Entry) → IsAdmitted room e → sites (room.entries ++ e ∷ []) ≡ sites room.entries + cond (is_join e) 1 0
+  joined_by (Join site) a = sites-join room.entries site
+  joined_by (Operation o) a = let e = sites-operation room.entries o in omega (arith, e)
 
-  replay_join : (site : ℕ) → admits l r (Join site) ≡ true → IsReplay l (r ++ Join site ∷ []) (joined + 1) shapes history
-  replay_join site a =
-      let room = room_for_join l r site a in
-      record {
-        legal = legal_push l r (Join site) replay.legal a;
-        joins = (let e = sites-join r site in omega (arith, e, replay.joins));
-        shapes_are = with_join l r shapes replay.shapes_are site;
-        past = replay.past ∙ sym (operations-join r site);
-        few = omega (arith, replay.joins, room.0);
-        short = (let e = length_push r (Join site) in omega (arith, e, room.1));
-        fits = (let e = ap length (objects-join r site) in omega (arith, e, replay.fits));
-      }
+  few_by : (e : Entry) → IsAdmitted room e → joined + cond (is_join e) 1 0 ≤ room.limits.joins
+  few_by (Join site) a = let r = room_for_join room.limits room.entries site a in let j = kept.joins in omega (arith, r.0, j)
+  few_by (Operation o) a = let f = kept.few in omega (arith, f)
 
-  replay_creation : (o : Op) (d : Stored) → admits l r (Operation o) ≡ true → is_set_body o.body ≡ false → d.object ≡ record { limits = l; creation = o; sets = [] }
-      → IsReplay l (r ++ Operation o ∷ []) joined (shapes ++ (o.name, d) ∷ []) (history ++ o ∷ [])
-  replay_creation o d a creates made =
-      let room = room_for_operation l r o a in
-      let more = length-objects-creation r o creates in
-      record {
-        legal = legal_push l r (Operation o) replay.legal a;
-        joins = replay.joins ∙ sym (sites-operation r o);
-        shapes_are = with_creation l r shapes replay.shapes_are o d creates (no_set_yet (operations r) (numbered l r replay.legal o a) o (next_seq l r replay.legal o a) (founded_if_legal l r replay.legal)) made;
-        past = ap (λ (h : List Op). h ++ o ∷ []) replay.past ∙ sym (operations-push r o);
-        few = replay.few;
-        short = (let e = length_push r (Operation o) in omega (arith, e, room.0));
-        fits = omega (arith, more, room_for_object l r o a creates);
-      }
-
-  replay_set : (o : Op) (d w : Stored) → admits l r (Operation o) ≡ true → is_set_body o.body ≡ true → IsDistinct same_name (keys_of shapes)
-      → lookup (same_name (object_of o)) shapes ≡ Some d → w.object ≡ with_set d.object o
-      → IsReplay l (r ++ Operation o ∷ []) joined (set_value (same_name (object_of o)) shapes w) (history ++ o ∷ [])
-  replay_set o d w a sets unique there taken =
-      let room = room_for_operation l r o a in
-      record {
-        legal = legal_push l r (Operation o) replay.legal a;
-        joins = replay.joins ∙ sym (sites-operation r o);
-        shapes_are = with_set_on l r shapes replay.shapes_are o d w sets unique there taken;
-        past = ap (λ (h : List Op). h ++ o ∷ []) replay.past ∙ sym (operations-push r o);
-        few = replay.few;
-        short = (let e = length_push r (Operation o) in omega (arith, e, room.0));
-        fits = (let e = ap length (objects-set r o sets) in omega (arith, e, replay.fits));
-      }
-
-  -- an object that stays, in another's place
-  pub replay_same : (t : Name → Bool) (d w : Stored) → lookup t shapes ≡ Some d → w.object ≡ d.object → IsReplay l r joined (set_value t shapes w) history
-  replay_same t d w there same = record {
-    legal = replay.legal;
-    joins = replay.joins;
-    shapes_are = objects_with_sets_same t d w shapes there same ∙ replay.shapes_are;
-    past = replay.past;
-    few = replay.few;
-    short = replay.short;
-    fits = replay.fits;
+  pub room_with : (e : Entry) → IsAdmitted room e → IsRoom (more room e) (joined + cond (is_join e) 1 0)
+  room_with e a = record {
+    legal = legal_push room.limits room.entries e kept.legal a;
+    joins = (let s = joined_by e a in let j = kept.joins in omega (arith, s, j));
+    few = few_by e a;
   }
 
--- ---- the same, of a list that gives the entries
+-- the next join finds room where it isn't refused
+pub room_for_next : (room : Room) → refusal_in room (Join (sites room.entries + 1)) ≡ None → length room.entries < room.limits.entries
+room_for_next room e = (room_for_join room.limits room.entries (sites room.entries + 1) (and_from _ _ (eq-eqb (sites room.entries + 1) _ refl) (ap is_none e))).1
 
-module _ {X : Type 0} (f : X → Entry) (l : LimitValues) (xs : List X) (x : X) (joined : ℕ) (shapes : List (Name × Stored)) (history : List Op) (replay : IsReplay l (map f xs) joined shapes history) where
-  pushed : {e : Entry} → f x ≡ e → map f xs ++ e ∷ [] ≡ map f (xs ++ x ∷ [])
-  pushed is = ap (λ (e : Entry). map f xs ++ e ∷ []) (sym is) ∙ sym (map-append f xs (x ∷ []))
+-- ---- an operation that is placed
 
-  admitted : {e : Entry} → f x ≡ e → admits l (map f xs) (f x) ≡ true → admits l (map f xs) e ≡ true
-  admitted is a = ap (admits l (map f xs)) (sym is) ∙ a
+module _ (room : Room) (o : Op) where
+  in_two : refusal_in room (Operation o) ≡ first_that_applies (order_conditions room.limits room.entries o ++ body_conditions room o)
+  unfolding refusal
+  in_two = refl
 
-  pub replay_joined : {site : ℕ} → f x ≡ Join site → admits l (map f xs) (f x) ≡ true → IsReplay l (map f (xs ++ x ∷ [])) (joined + 1) shapes history
-  replay_joined {site} is a = subst (λ r. IsReplay l r (joined + 1) shapes history) (pushed is) (replay_join l (map f xs) joined shapes history replay site (admitted is a))
+  -- it is refused for the order first
+  pub refused_first : (why : Refusal) → order_refusal room o ≡ Some why → operation_answer room o ≡ refusal_answer room why
+  refused_first why e =
+      ap (λ q. entry_or_refusal room q (Operation o) (operation_reply room o))
+      (in_two ∙ first_of_front (order_conditions room.limits room.entries o) (body_conditions room o) why e)
 
-  pub replay_created : {o : Op} (d : Stored) → f x ≡ Operation o → admits l (map f xs) (f x) ≡ true → is_set_body o.body ≡ false → d.object ≡ record { limits = l; creation = o; sets = [] }
-      → IsReplay l (map f (xs ++ x ∷ [])) joined (shapes ++ (o.name, d) ∷ []) (history ++ o ∷ [])
-  replay_created {o} d is a creates made =
-      subst (λ r. IsReplay l r joined (shapes ++ (o.name, d) ∷ []) (history ++ o ∷ [])) (pushed is)
-      (replay_creation l (map f xs) joined shapes history replay o d (admitted is a) creates made)
+  module _ (placed : is_placed room.entries (Operation o) ≡ true) (ordered : order_refusal room o ≡ None) where
+    -- otherwise for what it does
+    by_body : refusal_in room (Operation o) ≡ body_refusal room o
+    by_body = in_two ∙ front_passed (order_conditions room.limits room.entries o) (body_conditions room o) ordered
 
-  pub replay_changed : {o : Op} (d w : Stored) → f x ≡ Operation o → admits l (map f xs) (f x) ≡ true → is_set_body o.body ≡ true → IsDistinct same_name (keys_of shapes)
-      → lookup (same_name (object_of o)) shapes ≡ Some d → w.object ≡ with_set d.object o
-      → IsReplay l (map f (xs ++ x ∷ [])) joined (set_value (same_name (object_of o)) shapes w) (history ++ o ∷ [])
-  replay_changed {o} d w is a sets unique there taken =
-      subst (λ r. IsReplay l r joined (set_value (same_name (object_of o)) shapes w) (history ++ o ∷ [])) (pushed is)
-      (replay_set l (map f xs) joined shapes history replay o d w (admitted is a) sets unique there taken)
+    pub may_be_next : IsNext room o
+    unfolding causal_refusal
+    may_be_next =
+        let parts = not_first (leb room.limits.entries (length room.entries), RecordFull) (causal_conditions (operations room.entries) o.name o.seen) ordered in
+        record {
+          vector = (and_parts (leb 1 o.name.0 && leb o.name.0 (sites room.entries)) (is_vector o.seen) placed).1;
+          ready = parts.1;
+          short = leb-false room.limits.entries (length room.entries) parts.0;
+        }
+
+    pub answered : (q : Option Refusal) → body_refusal room o ≡ q → operation_answer room o ≡ entry_or_refusal room q (Operation o) (operation_reply room o)
+    answered q e = ap (λ w. entry_or_refusal room w (Operation o) (operation_reply room o)) (by_body ∙ e)
+
+    pub admitted : body_refusal room o ≡ None → IsAdmitted room (Operation o)
+    admitted e = and_from _ _ placed (ap is_none (by_body ∙ e))
+
+-- ---- the reply to it, by the identifiers that are planned
+
+reply_by_body : (at : ℕ) (name : Name) (ids : List (List Name)) (b : Bool) → reply_by at name (cond b (Some ids) None) ≡ cond b (Taken at ids) (Made at name)
+reply_by_body at name ids true = refl
+reply_by_body at name ids false = refl
+
+pub reply_is : (room : Room) (o : Op) → reply_by (length room.entries) o.name (planned_ids room o) ≡ operation_reply room o
+reply_is room o = reply_by_body (length room.entries) o.name (ids_with room o) (is_set_body o.body)

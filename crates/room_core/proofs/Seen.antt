@@ -136,11 +136,5 @@ module _ {A : Type 0} (p : A → Bool) (xs ys : List A) (k n : ℕ) where
       let in_xs = slice_get_within xs k x at in
       filter_more p xs k x in_xs ∙ rw (get_or_from_slice_get xs k x x at, fails) (append-nil _ ∙ before)
 
-  -- and ends with the other list
-  pub all_compared : length xs ≤ k → n ≤ length ys → filter p (take k xs) ≡ take n ys → ys ≡ filter p xs → length ys ≤ n
-  all_compared whole in_ys before is =
-      let same : ys ≡ take n ys = is ∙ ap (filter p) (sym (take_all k xs whole)) ∙ before in
-      omega (arith, ap length same, length-take-le n ys in_ys)
-
 pub some_same : {A : Type 0} {x y : A} → Some x ≡ Some y → x ≡ y
 some_same e = cc

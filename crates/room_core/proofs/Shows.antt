@@ -1,16 +1,15 @@
 -- Which answers of a room show an object, and that they show its groups.
-use Rattle.std.proofs.Common.{◌≡◌, ◌+◌, ℕ, Bool, true, false, cond, List, [], ◌∷◌, ◌++◌, length, map, Option, Some, None, refl, sym, subst}
+use Rattle.std.proofs.Common.{◌≡◌, ◌+◌, ℕ, Bool, true, false, cond, List, length, Option, Some, None, refl, sym, subst}
 use Rattle.op_names.specs.Names.{Name}
 use Rattle.op_names.specs.Texts.{Bytes}
 use Rattle.rules.specs.declared.history.Op.{Op}
 use Rattle.rules.specs.declared.history.Entry.{Entry}
 use Rattle.rules.specs.declared.history.Entry.TheVariants.{Join, Operation}
-use Rattle.rules.specs.declared.history.Body.TheVariants as body
 use Rattle.rules.specs.declared.refusal.Refusal.{Refusal}
 use Rattle.rules.specs.declared.refusal.Refusal.TheVariants.{NotJoined}
 use Rattle.rules.specs.declared.version.Version.{Version}
-use Rattle.rules.specs.Bodies.{kind_in}
-use Rattle.rules.specs.Operations.{IsHistory, creation_of, object_of, sets_on}
+use Rattle.rules.specs.Bodies.{is_set_body, kind_in}
+use Rattle.rules.specs.Operations.{IsHistory, creation_of, sets_on}
 use Rattle.rules.specs.Conflicts.{conflict}
 use Rattle.rules.specs.Records.{operations, refusal, sites, IsLegal}
 use Rattle.rules.specs.Versions.{groups, versions}
@@ -23,8 +22,9 @@ use Rattle.wire.specs.declared.request.Request.{Request}
 use Rattle.wire.specs.declared.request.Request.TheVariants as request
 use Rattle.wire.specs.declared.reply.Reply.{Reply}
 use Rattle.wire.specs.declared.reply.Reply.TheVariants.{Joined, Made, Taken, Versions, Objects, Entries, No}
-use Rattle.room_core.specs.Room.{Room}
-use Rattle.room_core.specs.Answers.{entry_or_refusal, join_answer, site_answer, versions_reply, has_site, answer, reply_alone}
+use Rattle.drawing.specs.Room.{Room}
+use Rattle.drawing.specs.Shown.{shown_by as shown_by_creation}
+use Rattle.room_core.specs.Answers.{entry_or_refusal, join_answer, operation_answer, operation_reply, site_answer, has_site, answer, reply_alone}
 use Rattle.room_core.specs.Shown.{AreVersionsOf, HasObject}
 
 -- the versions of a history are its groups
@@ -74,7 +74,7 @@ module _ (room : Room) (at : ℕ) (object : Name) (kind : Bytes) (vs : List Vers
   either_not true one other f g e = f e
   either_not false one other f g e = g e
 
-  shown_by : (name : Name) (o : Option Op) → creation_of (operations room.entries) name ≡ o → versions_reply room name o ≡ Versions at object kind vs → IsShownBy room at object kind vs None
+  shown_by : (name : Name) (o : Option Op) → creation_of (operations room.entries) name ≡ o → shown_by_creation room.entries name o ≡ Versions at object kind vs → IsShownBy room at object kind vs None
   shown_by name None f e = absurd cc
   shown_by name (Some op) f e = record {
     at_end = cc;
@@ -90,15 +90,15 @@ module _ (room : Room) (at : ℕ) (object : Name) (kind : Bytes) (vs : List Vers
   unfolding join_answer
   join_shows e = decided_not (refusal room.limits room.entries (Join (sites room.entries + 1))) (Join (sites room.entries + 1)) (Joined (length room.entries) (sites room.entries + 1)) (joined_not _ _) e
 
+  -- nor does an operation
+  operation_shows : (op : Op) {added : Option Entry} → (operation_answer room op).0 ≡ Versions at object kind vs → IsShownBy room at object kind vs added
+  operation_shows op e =
+      absurd (decided_not (refusal room.limits room.entries (Operation op)) (Operation op) (operation_reply room op)
+      (either_not (is_set_body op.body) _ _ (taken_not _ _) (made_not _ _)) e)
+
   site_shows : (site : ℕ) (asks : Request) → (site_answer room site asks).0 ≡ Versions at object kind vs → IsShownBy room at object kind vs (site_answer room site asks).1
   site_shows site (request.Join name) e = absurd cc
-  site_shows site (request.New seq seen k attrs) e =
-      let op : Op = record { name = (site, seq); seen = seen; body = body.New k attrs } in
-      absurd (decided_not (refusal room.limits room.entries (Operation op)) (Operation op) (Made (length room.entries) op.name) (made_not _ _) e)
-  site_shows site (request.Set seq seen o version key value) e =
-      let op : Op = record { name = (site, seq); seen = seen; body = body.Set o version key value } in
-      let ids = map (λ (v : Version). v.id) (versions (operations room.entries ++ op ∷ []) (object_of op)) in
-      absurd (decided_not (refusal room.limits room.entries (Operation op)) (Operation op) (Taken (length room.entries) ids) (taken_not _ _) e)
+  site_shows site (request.Change seq seen b) e = operation_shows (record { name = (site, seq); seen = seen; body = b }) e
   site_shows site (request.Show name) e = shown_by name (creation_of (operations room.entries) name) refl e
   site_shows site (request.List from) e = absurd (either_not _ _ _ (refused_not _ _) (objects_not _ _ _ _) e)
   site_shows site (request.Pull from) e = absurd (either_not _ _ _ (refused_not _ _) (entries_not _ _ _) e)

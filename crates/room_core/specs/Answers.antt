@@ -1,23 +1,20 @@
 -- What a room answers: a reply, and the entry that is added if there is one.
-use Rattle.std.specs.Prelude.{ℕ, ◌+◌, Bool, ◌&&◌, List, [], ◌∷◌, ◌++◌, Option, Some, None, nat_le, nat_lt, length, map, take, drop, if◌then◌else◌}
+use Rattle.std.specs.Prelude.{ℕ, ◌+◌, Bool, ◌&&◌, List, Option, Some, None, nat_le, nat_lt, length, take, drop, if◌then◌else◌}
 use Rattle.op_names.specs.Names.{Name}
 use Rattle.rules.specs.declared.history.Op.{Op}
 use Rattle.state_vector.specs.Vectors.{Vector}
 use Rattle.rules.specs.declared.history.Body.{Body}
-use Rattle.rules.specs.declared.history.Body.TheVariants.{New, Set}
 use Rattle.rules.specs.declared.history.Entry.{Entry}
 use Rattle.rules.specs.declared.history.Entry.TheVariants.{Join, Operation}
 use Rattle.rules.specs.declared.refusal.Refusal.{Refusal}
 use Rattle.rules.specs.declared.refusal.Refusal.TheVariants.{NotJoined, AlreadyJoined, TooFar}
 use Rattle.rules.specs.Bodies.{is_set_body}
-use Rattle.rules.specs.Operations.{creation_of, object_of}
-use Rattle.rules.specs.Records.{operations, objects, sites, refusal, admits}
-use Rattle.rules.specs.Versions.{versions}
-use Rattle.objects.specs.Shown.{shown_by}
+use Rattle.rules.specs.Records.{objects, sites, refusal, admits}
+use Rattle.drawing.specs.Room.{Room, all_objects, with_entry}
+use Rattle.drawing.specs.Shown.{ids_with, shown}
 use Rattle.wire.specs.declared.request.Request.{Request}
 use Rattle.wire.specs.declared.reply.Reply.{Reply}
 use Rattle.wire.specs.declared.reply.Reply.TheVariants.{Joined, Made, Taken, Objects, Entries, Left, No}
-use Rattle.room_core.specs.Room.{Room, all_objects, with_entry}
 
 -- a reply, and the entry that is added if there is one
 abbrev pub Outcome : Type 0
@@ -49,28 +46,17 @@ join_answer room = let site = sites room.entries + 1 in entry_answer room (Join 
 abbrev pub operation_by : ℕ → ℕ → Vector → Body → Op
 operation_by site seq seen body = record { name = (site, seq); seen = seen; body = body }
 
--- a creation makes an object
-abbrev pub creation_answer : Room → Op → Outcome
-creation_answer room op = entry_answer room (Operation op) (Made (length room.entries) op.name)
+-- a creation is answered made, and a set taken, with the identifiers of its object's versions
+abbrev pub operation_reply : Room → Op → Reply
+operation_reply room op = if is_set_body op.body then Taken (length room.entries) (ids_with room op) else Made (length room.entries) op.name
 
--- the identifiers of the versions of a set's object, with the set
-abbrev pub ids_with : Room → Op → List (List Name)
-ids_with room op = map (λ version. version.id) (versions (operations room.entries ++ op ∷ []) (object_of op))
-
--- a set is taken
-abbrev pub set_answer : Room → Op → Outcome
-set_answer room op = entry_answer room (Operation op) (Taken (length room.entries) (ids_with room op))
-
--- the answer to either
+-- the answer to an operation
 abbrev pub operation_answer : Room → Op → Outcome
-operation_answer room op = if is_set_body op.body then set_answer room op else creation_answer room op
+operation_answer room op = entry_answer room (Operation op) (operation_reply room op)
 
--- the versions of an object, by its creation
-abbrev pub versions_reply : Room → Name → Option Op → Reply
-versions_reply room name op = shown_by room.entries name op
-
+-- the versions of an object
 abbrev pub show_reply : Room → Name → Reply
-show_reply room name = versions_reply room name (creation_of (operations room.entries) name)
+show_reply room name = shown room.entries name
 
 -- as many members of a list as stand on a page, from a place on
 abbrev pub page : {X : Type 0} → Room → ℕ → List X → List X
@@ -89,8 +75,7 @@ pull_reply room from =
 -- the answer to a request of a site that has joined
 abbrev pub site_answer : Room → ℕ → Request → Outcome
 site_answer room site (Request.Join name) = reply_alone (No 0 AlreadyJoined)
-site_answer room site (Request.New seq seen kind attrs) = creation_answer room (operation_by site seq seen (New kind attrs))
-site_answer room site (Request.Set seq seen object version key value) = set_answer room (operation_by site seq seen (Set object version key value))
+site_answer room site (Request.Change seq seen body) = operation_answer room (operation_by site seq seen body)
 site_answer room site (Request.Show object) = reply_alone (show_reply room object)
 site_answer room site (Request.List from) = reply_alone (list_reply room from)
 site_answer room site (Request.Pull from) = reply_alone (pull_reply room from)

@@ -1,9 +1,9 @@
 pub use Rattle.rules.specs.Limits
 pub use Rattle.rules.specs.Records
-pub mod Room
-pub mod State
+pub use Rattle.drawing.specs.Room
+pub use Rattle.drawing.specs.State
+pub mod Kept
 pub mod Answers
 pub mod Plans
-pub mod Replay
 pub mod Logs
 pub mod Shown

@@ -3,13 +3,16 @@
 //!
 //! The records are those of `rules::examples`, in which one rectangle is drawn.
 
+#![tactic(auto, unfolding(state_vector::specs::Vectors::vector_fault, rules::specs::Operations::known, rules::specs::Operations::sets_on, rules::specs::Groups::groups_of, rules::specs::Groups::group_named, rules::specs::Groups::identifier, rules::specs::Conflicts::base, rules::specs::Conflicts::conflict, rules::specs::Versions::attributes, rules::specs::Versions::groups, rules::specs::Versions::version_of, rules::specs::Versions::versions, rules::specs::Records::refusal, crate::specs::Answers::answer))]
+
 ghost use Rattle.std.specs.Prelude.{◌≡◌, [], ◌∷◌, Some, None, pos, codes};
 ghost use Rattle.op_names.specs.declared.value.Value.TheVariants.{Number, Text};
+ghost use Rattle.rules.specs.declared.history.Body.TheVariants.{Set};
 ghost use Rattle.rules.specs.declared.history.Entry.TheVariants.{Join as Joins};
 ghost use Rattle.rules.specs.declared.refusal.Refusal.TheVariants.{NotJoined, AlreadyJoined, NoSuchObject, NoSuchVersion, TooFar};
 ghost use Rattle.rules.specs.Limits.{full_limits};
 ghost use Rattle.rules.specs.Examples.{x, red, sets, version, creation_alone, one_set, two_sets, three_sites};
-ghost use Rattle.wire.specs.declared.request.Request.TheVariants.{Join, Set, Show, Pull, Leave, List as ListObjects};
+ghost use Rattle.wire.specs.declared.request.Request.TheVariants.{Join, Change, Show, Pull, Leave, List as ListObjects};
 ghost use Rattle.wire.specs.declared.reply.Reply.TheVariants.{Taken, Versions, Objects, Entries, Left, No};
 ghost use Rattle.room_core.specs.Room.{full_room};
 ghost use Rattle.room_core.specs.Answers.{answer};
@@ -17,17 +20,17 @@ ghost use Rattle.room_core.specs.Answers.{answer};
 /// A set that is taken is answered by the identifiers of all versions, and added to the record.
 pub fn sets_are_taken()
     ensures conflicting { answer (full_room one_set) 2
-        (Set 1 creation_alone (1, 1) [] (codes "x") (Number (pos 9)))
+        (Change 1 creation_alone (Set (1, 1) [] (codes "x") (Number (pos 9))))
         ≡ (Taken 4 (((1, 2) ∷ []) ∷ ((2, 1) ∷ []) ∷ []), Some (sets (2, 1) creation_alone [] (x 9))) }
     ensures of_a_version_as_seen { answer (full_room three_sites) 3
-        (Set 1 ((1, 2) ∷ []) (1, 1) [] (codes "fill") (Text (codes "red")))
+        (Change 1 ((1, 2) ∷ []) (Set (1, 1) [] (codes "fill") (Text (codes "red"))))
         ≡ (Taken 6 (((1, 2) ∷ (3, 1) ∷ []) ∷ ((2, 1) ∷ []) ∷ []), Some (sets (3, 1) ((1, 2) ∷ []) [] red)) }
 {}
 
 /// A set of a version that its author didn't see is refused.
 pub fn a_version_that_was_not_seen()
     ensures set { answer (full_room two_sets) 1
-        (Set 3 ((1, 2) ∷ (2, 1) ∷ []) (1, 1) [] (codes "x") (Number (pos 1)))
+        (Change 3 ((1, 2) ∷ (2, 1) ∷ []) (Set (1, 1) [] (codes "x") (Number (pos 1))))
         ≡ (No 5 NoSuchVersion, None) }
     ensures show { answer (full_room two_sets) 1 (Show (9, 9)) ≡ (No 5 NoSuchObject, None) }
 {}

@@ -5,7 +5,6 @@ mod agreement;
 pub mod examples;
 mod fault;
 mod log;
-mod object_pages;
 mod pages;
 mod planned;
 mod room;

@@ -24,7 +24,7 @@ fn page_from<T>(members: &[T], from: usize, page: usize) -> &[T]
 }
 
 /// A page of entries from a place on, each shared. Linear in the page.
-#[tactic(auto, using(crate::proofs::Fronts::page_seen))]
+#[tactic(auto, using(drawing::proofs::Fronts::page_seen))]
 pub(crate) fn entries_page(
     alloc: Global,
     entries: &[Arc<Entry>],

@@ -1,26 +1,23 @@
 //! A room.
 
-ghost use Rattle.std.specs.Prelude.{◌≡◌, ◌<◌, ◌≤◌, ◌-◌, nat_le, ◌++◌, ◌∷◌, [], length, map, true, Some, IfOk, OnOk, OnErr, slice_index};
+ghost use Rattle.std.specs.Prelude.{◌≡◌, ◌≤◌, ◌+◌, map, true, Some, IfOk, OnOk, OnErr, if◌then◌else◌};
 ghost use Rattle.std.specs.Arc.{arc_value};
-ghost use Rattle.rules.specs.declared.limits.TheConstants.Limits.{MAX_ENTRIES, MAX_JOINS};
-ghost use Rattle.rules.specs.Admission.{causal_refusal};
-ghost use Rattle.rules.specs.Records.{sites, objects, IsLegal};
+ghost use Rattle.rules.specs.declared.limits.TheConstants.Limits.{MAX_JOINS};
+ghost use Rattle.rules.specs.Records.{is_join, sites, IsLegal};
 ghost use Rattle.wire.specs.declared.reply.Reply.TheVariants.{No};
+ghost use Rattle.drawing.specs.Additions.{IsReady as CanBeAdded};
 ghost use Rattle.room_core.specs.Room.{with_entry, empty_room};
 ghost use Rattle.room_core.specs.Answers.{join_answer, answer, site_answer, has_site, room_after};
-ghost use Rattle.room_core.specs.Plans.{entry_added, spare_of, IsReady, Plans, CanJoin, CanCreate, CanSet};
+ghost use Rattle.room_core.specs.Plans.{entry_added, IsAdmitted, IsReady, Plans};
 
 mod accepted;
 mod calls;
 mod plans;
 
-use crate::planned::{Change, Planned};
-use causal::Past;
-use indexmap::IndexMap;
-use objects::{commit_at, insert_reserved, object_of};
-use op_names::{NoMemory, OpName};
-use rules::{Body, Entry, Limits, Refusal, SharedOp};
-use shape::{PlannedSet, Shape};
+use crate::planned::Planned;
+use drawing::{Addition, Drawing};
+use op_names::NoMemory;
+use rules::{Entry, Limits, Refusal};
 use std::alloc::Global;
 use std::marker::Model;
 use std::sync::Arc;
@@ -29,28 +26,19 @@ use wire::{Reply, Request};
 /// A room: its record of joins and operations, and what follows from it.
 #[derive(Drop)]
 pub struct RoomState {
-    limits: Limits,
+    drawing: Drawing,
     sites: u32,
-    entries: Vec<Arc<Entry>>,
-    past: Past,
-    objects: IndexMap<OpName, Shape>,
 }
 
 impl Model for RoomState {
-    ghost use Rattle.std.specs.Prelude.{map, ◌-◌, vec_len, vec_capacity};
-    ghost use Rattle.std.specs.Arc.{arc_value};
-    ghost use Rattle.indexmap.specs.IndexMap.{spare};
-    ghost use Rattle.room_core.specs.State.{State};
-    ghost use Rattle.room_core.specs.Replay.{IsReplay};
+    ghost use Rattle.drawing.specs.State.{State};
+    ghost use Rattle.room_core.specs.Kept.{IsRoom};
 
     ghost Value = { State };
 
-    ghost view = { λ s. record {
-      room = record { limits = s.limits; entries = map arc_value s.entries.items };
-      reserve = record { entries = vec_capacity s.entries - vec_len s.entries; operations = s.past.reserve; objects = spare s.objects; shapes = s.objects.entries };
-    } };
+    ghost view = { λ s. s.drawing };
 
-    ghost invariant = { λ s. IsReplay s.limits (map arc_value s.entries.items) s.sites s.objects.entries s.past.history };
+    ghost invariant = { λ s. IsRoom s.drawing.room s.sites };
 }
 
 impl RoomState {
@@ -58,14 +46,8 @@ impl RoomState {
     pub fn new(alloc: Global, limits: Limits) -> Result<RoomState, NoMemory>
         ensures { IfOk result (λ state. state.room ≡ empty_room limits) }
     {
-        let past = Past::new(alloc)?;
-        Ok(RoomState {
-            limits,
-            sites: 0,
-            entries: Vec::new(alloc),
-            past,
-            objects: IndexMap::new(alloc),
-        })
+        let drawing = Drawing::new(alloc, limits)?;
+        Ok(RoomState { drawing, sites: 0 })
     }
 
     /// Lets the next site in, where the limits allow it.
@@ -113,49 +95,39 @@ impl RoomState {
     {
         match request {
             Request::Join { .. } => Ok(Planned::of_reply(outside_refusal(Refusal::AlreadyJoined))),
-            Request::New {
-                seq,
-                seen,
-                kind,
-                attrs,
-            } => self.plan_operation(alloc, site, seq, seen, Body::New { kind, attrs }),
-            Request::Set {
-                seq,
-                seen,
-                object,
-                version,
-                key,
-                value,
-            } => {
-                let body = Body::Set {
-                    object,
-                    version,
-                    key,
-                    value,
-                };
+            Request::Change { seq, seen, body } => {
                 self.plan_operation(alloc, site, seq, seen, body)
             }
-            Request::Show { object } => self.plan_show(alloc, object),
+            Request::Show { object } => Ok(Planned::of_reply(self.drawing.show(alloc, object)?)),
             Request::List { from } => self.plan_list(alloc, from),
             Request::Pull { from } => self.plan_pull(alloc, from),
-            Request::Leave => Ok(Planned::of_reply(Reply::Left { at: self.at() })),
+            Request::Leave => Ok(Planned::of_reply(Reply::Left {
+                at: self.drawing.len(),
+            })),
         }
     }
 
     /// Makes what was planned for the room as it is, and gives the reply. Takes no memory.
     pub fn commit(&mut self, planned: Planned) -> Reply
-        requires { IsReady self.old planned.change }
+        requires { IsReady self.old planned.addition }
         ensures reply { result ≡ planned.reply }
-        ensures room { self.new.room ≡ with_entry self.old.room (entry_added planned.change) }
+        ensures room { self.new.room ≡ with_entry self.old.room (entry_added planned.addition) }
     {
-        let Planned { reply, change } = planned;
-        match change {
-            Change::Nothing => {}
-            Change::Joins(entry) => self.add_join(entry),
-            Change::Creates(entry, op, shape) => self.add_creation(entry, op, shape),
-            Change::Sets(entry, op, planned) => self.add_set(entry, op, planned),
+        let Planned { reply, addition } = planned;
+        if let Some(addition) = addition {
+            self.add(addition);
         }
         reply
+    }
+
+    /// Adds an entry that is admitted. Takes no memory.
+    fn add(&mut self, addition: Addition)
+        requires ready { CanBeAdded self.old addition }
+        requires admitted { IsAdmitted self.old.room addition.entry }
+        ensures { self.new.room ≡ with_entry self.old.room (Some addition.entry) }
+    {
+        self.sites = sites_with(self.sites(), &addition);
+        self.drawing.commit(addition);
     }
 
     /// How many sites have joined, at most 256.
@@ -163,7 +135,7 @@ impl RoomState {
         ensures sites { result ≡ sites self.now.room.entries }
         ensures range { sites self.now.room.entries ≤ MAX_JOINS }
     {
-        let _bound = self.limits.joins();
+        let _bound = self.drawing.limits().joins();
         self.sites
     }
 
@@ -171,7 +143,7 @@ impl RoomState {
     pub fn limits(&self) -> Limits
         ensures { result ≡ self.now.room.limits }
     {
-        self.limits
+        self.drawing.limits()
     }
 
     /// The record.
@@ -179,78 +151,16 @@ impl RoomState {
         ensures entries { map arc_value result.now ≡ self.now.room.entries }
         ensures legal { IsLegal self.now.room.limits self.now.room.entries }
     {
-        self.entries.as_slice()
+        self.drawing.entries()
     }
 }
 
-impl RoomState {
-    /// The number of entries.
-    fn at(&self) -> u32
-        ensures { result ≡ length self.now.room.entries }
-    {
-        let _bound = self.limits.entries();
-        self.entries.len() as u32
-    }
-
-    /// The number of objects.
-    fn count_objects(&self) -> u32
-        ensures { result ≡ length (objects self.now.room.entries) }
-    {
-        let _bound = self.limits.objects();
-        self.objects.len() as u32
-    }
-
-    /// Has the record as many entries as it may have?
-    fn is_full(&self) -> bool
-        ensures full { result ≡ nat_le self.now.room.limits.entries (length self.now.room.entries) }
-        ensures range { self.now.room.limits.entries ≤ MAX_ENTRIES }
-    {
-        self.at() >= self.limits.entries()
-    }
-
-    /// Adds a join that is admitted. Takes no memory.
-    fn add_join(&mut self, entry: Arc<Entry>)
-        requires { CanJoin self.old (arc_value entry) }
-        ensures { self.new.room ≡ with_entry self.old.room (Some (arc_value entry)) }
-    {
-        let _bound = self.limits.joins();
-        self.entries.push_reserved(entry);
-        self.sites += 1;
-    }
-
-    /// Adds a creation that is admitted. Takes no memory.
-    fn add_creation(&mut self, entry: Arc<Entry>, op: SharedOp, shape: Shape)
-        requires { CanCreate self.old (arc_value entry) op shape }
-        ensures { self.new.room ≡ with_entry self.old.room (Some (arc_value entry)) }
-    {
-        let name = op.name;
-        self.entries.push_reserved(entry);
-        add_reserved(&mut self.past, op);
-        insert_reserved(&mut self.objects, name, shape);
-    }
-
-    /// Adds a set that is admitted. Takes no memory.
-    fn add_set(&mut self, entry: Arc<Entry>, op: SharedOp, planned: PlannedSet)
-        requires { CanSet self.old (arc_value entry) op planned }
-        ensures { self.new.room ≡ with_entry self.old.room (Some (arc_value entry)) }
-    {
-        let object = object_of(&op);
-        self.entries.push_reserved(entry);
-        add_reserved(&mut self.past, op);
-        commit_at(&mut self.objects, object, planned);
-    }
-}
-
-/// Adds an operation where there is memory for it.
-fn add_reserved(past: &mut Past, op: SharedOp)
-    requires admitted { causal_refusal past.old.history op.name op.seen ≡ None }
-    requires memory { 0 < slice_index past.old.reserve (op.name.0 - 1) }
-    ensures { past.new.history ≡ past.old.history ++ op ∷ [] }
+/// The number of sites with this entry.
+fn sites_with(sites: u32, addition: &Addition) -> u32
+    requires { sites ≤ MAX_JOINS }
+    ensures { result ≡ sites + (if is_join addition.now.entry then 1 else 0) }
 {
-    match past.add(op) {
-        Ok(()) => {}
-        Err(_) => unreachable!(),
-    }
+    if addition.is_join() { sites + 1 } else { sites }
 }
 
 /// A refusal that looks into no room.

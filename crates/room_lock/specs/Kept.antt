@@ -8,6 +8,7 @@ use Rattle.rules.specs.Records.{sites}
 use Rattle.shared_history.specs.Beginnings.{Beginning}
 use Rattle.room_core.specs.Room.{Room}
 use Rattle.room_core.specs.Logs.{Seen}
+use Rattle.room_lock.specs.declared.room.TheConstants.{SPARE_PARTS}
 
 -- a room: its place among the rooms, and its record
 pub record Placed : Type 0 where
@@ -23,10 +24,6 @@ pub record Held : Type 0 where
 -- the beginning of the history of this place that has these entries
 abbrev pub IsBeginningAt : List Book → ℕ → Beginning → List Entry → Type 0
 IsBeginningAt books place front entries = (slice_get books place ≡ Some front.history) × (front.entries ≡ entries)
-
--- the most parts of a room: one for its share, and one for each site that may join
-abbrev pub SPARE_PARTS : ℕ
-SPARE_PARTS = 257
 
 -- The history of the room's place is its record; the room's share and the record are together as much as a record may have;
 -- each site that has joined has got a part.

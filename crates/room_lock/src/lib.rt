@@ -9,14 +9,15 @@ mod histories;
 mod joined;
 pub mod laws;
 mod ledger;
+mod making;
 mod pass;
 mod room;
 mod rooms;
 
 pub use fault::{CloseFault, RoomRecord};
-pub use histories::{Opened, open_histories};
 pub use joined::Joined;
 pub use ledger::RoomLedger;
+pub use making::NewRooms;
 pub use pass::Pass;
 pub use room_core::CallFault;
 pub use rooms::Rooms;

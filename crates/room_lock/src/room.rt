@@ -8,7 +8,6 @@ ghost use Rattle.room_core.specs.declared.fault.CallFault.TheVariants as call_fa
 ghost use Rattle.room_core.specs.Answers.{join_answer, answer, room_after};
 ghost use Rattle.room_core.specs.Logs.{first_difference};
 ghost use Rattle.room_lock.specs.Closing.{IsClosed, passes_of};
-ghost use Rattle.room_lock.specs.Kept.{SPARE_PARTS};
 ghost use Rattle.room_lock.specs.Told.{IsCallOver, IsJoinOver, IsRefusalOver, room_of};
 
 use crate::account::Account;
@@ -26,6 +25,9 @@ use std::marker::Model;
 use std::sync::Wait;
 use std::sync::ledger::Share;
 use wire::{Reply, Request};
+
+/// The most parts that passes of a room get: one for each site that may join.
+pub(crate) const SPARE_PARTS: u64 = 257;
 
 /// What lies under a room's lock: the room, its history with the room's share, and a spare part for
 /// each pass that may still come.
@@ -71,7 +73,7 @@ impl<P: RoomLedger> Room<P> {
     {
         let state = RoomState::new(alloc, limits)?;
         let share = rest.split_off(1, u64::from(Limits::MAX_ENTRIES));
-        let spare = rest.split_off(257, 0);
+        let spare = rest.split_off(SPARE_PARTS, 0);
         let Opened { history, front } = opened;
         Ok(Room {
             state,

@@ -1,31 +1,25 @@
 //! The rooms.
 
-ghost use Rattle.std.specs.Prelude.{◌≡◌, ◌+◌, ◌*◌, ◌++◌, ◌∷◌, [], ◌↔◌, ℕ, All, Contains, IfOk, IsErrOf, IsNone, OnErr, OnOk, None, Ok, Some, bytes_eq, length, map};
+ghost use Rattle.std.specs.Prelude.{◌≡◌, ◌↔◌, All, Contains, IfOk, IsNone, OnErr, Ok, map};
 ghost use Rattle.std.specs.Arc.{arc_value};
-ghost use Rattle.indexmap.specs.IndexMap.{get, keys};
-ghost use Rattle.op_names.specs.Repeats.{first_repeat};
 ghost use Rattle.rules.specs.declared.refusal.Refusal.TheVariants.{NoSuchRoom};
 ghost use Rattle.wire.specs.declared.reply.Reply.TheVariants.{No};
 ghost use Rattle.room_lock.specs.Closing.{IsClosed, passes_of};
-ghost use Rattle.room_lock.specs.Kept.{SPARE_PARTS};
 ghost use Rattle.room_lock.specs.Told.{IsCall, IsJoin, IsRefusal};
 
-use crate::account::whole_amount;
 use crate::closing::close_all;
 use crate::fault::{CloseFault, RoomRecord};
-use crate::histories::Opened;
 use crate::joined::Joined;
 use crate::ledger::RoomLedger;
 use crate::pass::Pass;
 use crate::room::Room;
 use crossbeam_utils::CachePadded;
 use indexmap::IndexMap;
-use op_names::{NoMemory, RoomName, repeated_name};
-use room_core::{CallFault, RoomState, RoomsFault};
-use rules::{Limits, Refusal};
+use op_names::{NoMemory, RoomName};
+use room_core::{CallFault, RoomState};
+use rules::Refusal;
 use std::alloc::Global;
 use std::marker::Model;
-use std::sync::ledger::Blank;
 use std::sync::{Mutex, MutexGuard, Wait};
 use std::thread::yield_now;
 use wire::{Reply, Request};
@@ -35,7 +29,7 @@ use wire::{Reply, Request};
 /// names, in order.
 #[derive(Drop)]
 pub struct Rooms<P: RoomLedger> {
-    rooms: IndexMap<RoomName, CachePadded<Mutex<Room<P>>>>,
+    pub(crate) rooms: IndexMap<RoomName, CachePadded<Mutex<Room<P>>>>,
 }
 
 impl<P: RoomLedger> Model for Rooms<P> {
@@ -157,65 +151,5 @@ impl<P: RoomLedger> Rooms<P> {
             });
         }
         close_all(alloc, self.rooms, &passes)
-    }
-}
-
-/// The most rooms: the amount of a ledger is enough for as many full records.
-const MAX_ROOMS: usize = 1 << 49;
-
-impl<P: RoomLedger> Rooms<P> {
-    /// Empty rooms of these names, in this order, each with one of the histories. `SameName` where a
-    /// name stands twice, with the first place, from 0, whose name stands at an earlier place too;
-    /// otherwise `NoMemory`, as for more than 2^49 names.
-    pub fn new(
-        alloc: Global,
-        blank: Blank,
-        histories: Vec<Opened>,
-        names: &[RoomName],
-        limits: Limits,
-    ) -> Result<Rooms<P>, RoomsFault>
-        // The blank, the limits and the histories are those that the ledger's type names.
-        requires name { blank.name ≡ P.name }
-        requires parts { (blank.parts ≡ P.parts)
-            × (blank.parts ≡ (SPARE_PARTS + 1) * length names.now + 1) }
-        requires limits { limits ≡ P.limits }
-        requires histories { (histories.items ≡ P.books)
-            × (length histories.items ≡ length names.now) }
-        // There is a room for each name, and no name stands twice.
-        ensures names { IfOk result (λ rooms. rooms ≡ names.now) }
-        ensures apart { OnOk result (first_repeat bytes_eq names.now ≡ None) }
-        ensures same_name { (place : ℕ) → IsErrOf result (RoomsFault.SameName place)
-            ↔ (first_repeat bytes_eq names.now ≡ Some place) }
-    {
-        if let Some(place) = repeated_name(names) {
-            return Err(RoomsFault::SameName(place));
-        }
-        if names.len() > MAX_ROOMS {
-            return Err(RoomsFault::NoMemory);
-        }
-        let mut rest = whole_amount::<P>(blank);
-        let mut rooms = IndexMap::new(alloc);
-        for opened in histories {
-            let place = rooms.len();
-            let name = names[place].copy(alloc)?;
-            let room = Room::new(alloc, limits, opened, place, &mut rest)?;
-            insert_new(&mut rooms, name, CachePadded::new(Mutex::new(room)))?;
-        }
-        Ok(Rooms { rooms })
-    }
-}
-
-/// Puts a room last under a new name.
-fn insert_new<V: Drop>(
-    rooms: &mut IndexMap<RoomName, V>,
-    name: RoomName,
-    room: V,
-) -> Result<(), NoMemory>
-    requires { get bytes_eq rooms.old name ≡ None }
-    ensures { OnOk result (keys rooms.new ≡ keys rooms.old ++ name ∷ []) }
-{
-    match rooms.insert(name, room) {
-        Ok(_) => Ok(()),
-        Err(_) => Err(NoMemory),
     }
 }

@@ -2,24 +2,21 @@
 use Rattle.std.proofs.Common.{◌≡◌, ℕ, ◌<◌, ◌≤◌, true, false, eqb, leb, List, [], ◌∷◌, map, refl, sym, ap, ◌∙◌, subst, arith, inl, inr, Option, Some, None}
 use Rattle.std.specs.Prelude.{Contains, is_some}
 use Rattle.std.specs.List.{range_with_len}
-use Rattle.std.proofs.lemmas.Bool.{cases_Bool, true≢false, and_parts, and_from, eqb-true, eq-eqb, ne_eqb, leb-true, le-leb, cases_eq}
+use Rattle.std.proofs.lemmas.Bool.{cases_Bool, true≢false, eqb-true, eq-eqb, ne_eqb, leb-true, le-leb, cases_eq}
 use Rattle.op_names.specs.Names.{Name, same_name}
 use Rattle.state_vector.specs.Vectors.{Vector, counts, count_of, covers, is_vector}
 use Rattle.state_vector.proofs.Vectors.{RisesAbove, rises}
 use Rattle.rules.specs.declared.history.Op.{Op}
+use Rattle.rules.specs.Equality.{same_name-Decides}
 use Rattle.rules.specs.Operations.{operation}
 use Rattle.rules.specs.Admission.{names_counted}
 use Rattle.rules.proofs.Lists.{In, Contains-from_In, In-map, In-map_back, In-flat_map, In-flat_map_back, In-range, In-range_back, all_from, all_back, find_is}
 
 pub same_name-true : (m n : Name) → same_name m n ≡ true → m ≡ n
-same_name-true m n t =
-    let c = and_parts (eqb m.0 n.0) (eqb m.1 n.1) t in
-    let p : m.0 ≡ n.0 = eqb-true m.0 n.0 c.0 in
-    let q : m.1 ≡ n.1 = eqb-true m.1 n.1 c.1 in
-    λ i. (p i, q i)
+same_name-true m n = (same_name-Decides m n).0
 
 pub same_name-refl : (m n : Name) → m ≡ n → same_name m n ≡ true
-same_name-refl m n e = and_from (eqb m.0 n.0) (eqb m.1 n.1) (eq-eqb m.0 n.0 (ap (λ (x : Name). x.0) e)) (eq-eqb m.1 n.1 (ap (λ (x : Name). x.1) e))
+same_name-refl m n = (same_name-Decides m n).1
 
 -- ---- vectors
 

@@ -1,9 +1,8 @@
 -- A legal record's operations are a history in causal order, and each of its sets has its object and its base.
 use Rattle.std.proofs.Common.{◌≡◌, true, false, not, List, [], ◌∷◌, ◌++◌, length, refl, sym, ap, ◌∙◌, subst, inl, inr, None, leb, cond, ◌&&◌}
-use Rattle.std.specs.Prelude.{IsTrue, is_none, is_some, Bool}
-use Rattle.std.proofs.lemmas.Bool.{and_parts, not-false, not_from_false, false_from_ne_true}
+use Rattle.std.specs.Prelude.{IsTrue, is_none, is_some, Bool, filter}
+use Rattle.std.proofs.lemmas.Bool.{and_parts, cases_Bool, not-false, not_from_false, false_from_ne_true}
 use Rattle.std.proofs.lemmas.List.Elements.{Contains-push_cases}
-use Rattle.std.proofs.lemmas.List.{append_assoc, append-nil}
 use Rattle.state_vector.specs.Vectors.{is_vector}
 use Rattle.rules.specs.declared.history.Op.{Op}
 use Rattle.rules.specs.declared.history.Entry.{Entry}
@@ -14,10 +13,10 @@ use Rattle.rules.specs.Bodies.{is_set_body}
 use Rattle.rules.specs.Operations.{IsHistory, IsCausallyOrdered, before, is_creation_of, object_of, sets_on}
 use Rattle.rules.specs.Admission.{first_that_applies}
 use Rattle.rules.specs.Conflicts.{base, has_object, IsFounded}
-use Rattle.rules.specs.Records.{operations, sites, admits, is_placed, refusal, order_conditions, set_conditions, creation_conditions, has_too_many_keys, has_too_many_versions, IsLegal, IsLegalAfter}
-use Rattle.rules.proofs.Lists.{In, In-from_Contains, Contains-from_In, In-append_left, any_from, any_back}
+use Rattle.rules.specs.Records.{operations, sites, admits, is_placed, refusal, order_conditions, set_conditions, creation_conditions, has_too_many_keys, has_too_many_versions, IsLegal}
+use Rattle.rules.proofs.Lists.{In, In-from_Contains, Contains-from_In, In-append_left, In-filter_back, any_from, any_back}
 use Rattle.rules.proofs.Histories.{IsNumbered, numbered_push, numbered_empty, not_counted}
-use Rattle.rules.proofs.Records.{operations-join, operations-push}
+use Rattle.rules.proofs.Records.{kept_by_admitted, operations-join, operations-push}
 use Rattle.rules.proofs.Conditions.{is_some-not_none, not_first, none_of_both, none_applies, room_for_operation}
 use Rattle.rules.proofs.Agreement.{base_in_part}
 use Rattle.rules.proofs.Parts.{part_of_grown, base_before_adding}
@@ -55,7 +54,16 @@ object_stays h o op e =
     let c = any_back test h e in
     any_from test c.0 (h ++ o ∷ []) (In-append_left c.0 h (o ∷ []) c.1) c.2
 
-ordered_push : (h : List Op) (o : Op) → IsCausallyOrdered h → ((x : Op) → In x h → before o x ≡ false) → IsCausallyOrdered (h ++ o ∷ [])
+-- what a test keeps of a list in causal order is in causal order
+pub ordered_filter : (p : Op → Bool) (h : List Op) → IsCausallyOrdered h → IsCausallyOrdered (filter p h)
+ordered_filter p [] c = tt
+ordered_filter p (x ∷ h) c = elim (cases_Bool (p x)) [
+  | inl e ↦ rw e ((λ y m. c.0 y (Contains-from_In y h (In-filter_back p y h (In-from_Contains y (filter p h) m)).0)), ordered_filter p h c.1)
+  | inr e ↦ rw e (ordered_filter p h c.1)
+]
+
+-- and so is such a list with one more that is before none of it
+pub ordered_push : (h : List Op) (o : Op) → IsCausallyOrdered h → ((x : Op) → In x h → before o x ≡ false) → IsCausallyOrdered (h ++ o ∷ [])
 ordered_push [] o c f = ((λ y m. absurd (In-from_Contains y [] m)), tt)
 ordered_push (x ∷ h) o c f = (
   (λ y m. elim (Contains-push_cases h o y m) [
@@ -89,14 +97,9 @@ sound_push b r o s a =
       founded = founded_push h o s.numbered.history s.founded n.history (ground_if_admitted b r o a);
     }
 
-sound_after : (b : LimitValues) (r rest : List Entry) → IsSound (operations r) → IsLegalAfter b r rest → IsSound (operations (r ++ rest))
-sound_after b r [] s g = subst (λ x. IsSound (operations x)) (sym (append-nil r)) s
-sound_after b r (Join site ∷ rest) s g =
-    subst (λ x. IsSound (operations x)) (append_assoc r (Join site ∷ []) rest)
-    (sound_after b (r ++ Join site ∷ []) rest (subst IsSound (sym (operations-join r site)) s) g.1)
-sound_after b r (Operation o ∷ rest) s g =
-    subst (λ x. IsSound (operations x)) (append_assoc r (Operation o ∷ []) rest)
-    (sound_after b (r ++ Operation o ∷ []) rest (subst IsSound (sym (operations-push r o)) (sound_push b r o s g.0)) g.1)
+sound_next : (b : LimitValues) (r : List Entry) (e : Entry) → IsSound (operations r) → admits b r e ≡ true → IsSound (operations (r ++ e ∷ []))
+sound_next b r (Join site) s a = subst IsSound (sym (operations-join r site)) s
+sound_next b r (Operation o) s a = subst IsSound (sym (operations-push r o)) (sound_push b r o s a)
 
 sound_empty : IsSound []
 sound_empty = record {
@@ -106,7 +109,7 @@ sound_empty = record {
 }
 
 sound : (b : LimitValues) (r : List Entry) → IsLegal b r → IsSound (operations r)
-sound b r g = sound_after b [] r sound_empty g
+sound b = kept_by_admitted b (λ r. IsSound (operations r)) (λ r e l. sound_next b r e) sound_empty
 
 -- a legal record's operations are a history
 pub history_if_legal : (b : LimitValues) (r : List Entry) → IsLegal b r → IsHistory (operations r)

@@ -1,15 +1,15 @@
 -- Different groups have different identifiers.
-use Rattle.std.proofs.Common.{◌≡◌, Bool, true, List, [], ◌∷◌, map, refl, sym, ap, ◌∙◌, subst, inl, inr, Some, ◌↔◌}
+use Rattle.std.proofs.Common.{◌≡◌, Bool, true, List, [], map, refl, sym, ap, ◌∙◌, subst, inl, inr, Some, ◌↔◌}
 use Rattle.std.specs.Prelude.{Contains, filter, find}
-use Rattle.std.proofs.lemmas.Bool.{cases_Bool, true≢false, and_parts, and_from}
-use Rattle.op_names.specs.Names.{Name, name_cmp, same_name}
+use Rattle.std.proofs.lemmas.Bool.{cases_Bool, true≢false}
+use Rattle.op_names.specs.Names.{Name, name_cmp}
 use Rattle.op_names.specs.VersionIds.{same_names}
+use Rattle.rules.specs.Equality.{same_names-Decides}
 use Rattle.rules.specs.Lists.{HasNoRepeats, sort_by}
 use Rattle.rules.specs.Groups.{in_conflict_with, groups_of, identifier, group_named, IsGroup}
 use Rattle.rules.proofs.Lists.{In, In-from_Contains, Contains-from_In, In-map, In-map_back, In-filter, In-filter_back, any_from, filter_agree, find_agree, find_is, find_some}
 use Rattle.rules.proofs.Once.{Once, Once-from_HasNoRepeats}
 use Rattle.rules.proofs.Sorting.{sort_in, sort_back}
-use Rattle.rules.proofs.Counted.{same_name-true, same_name-refl}
 use Rattle.rules.proofs.Groups.{sublist_in, sublist_same, group_is, group_in, group_within, in_conflict_agree, groups_agree}
 
 module _ {X : Type 0} (conflict : X → X → Bool) (name : X → Name) (s : List X) where
@@ -58,16 +58,10 @@ identifiers_apart conflict name s g h o apart i j e =
     one_identifier conflict name s (λ x y m n f. apart x y (Contains-from_In x s m) (Contains-from_In y s n) f) (Once-from_HasNoRepeats s o) g h i j e
 
 pub same_names-true : (xs ys : List Name) → same_names xs ys ≡ true → xs ≡ ys
-same_names-true [] [] e = refl
-same_names-true [] (y ∷ ys) e = absurd (true≢false (sym e))
-same_names-true (x ∷ xs) [] e = absurd (true≢false (sym e))
-same_names-true (x ∷ xs) (y ∷ ys) e =
-    let c = and_parts (same_name x y) (same_names xs ys) e in
-    λ i. same_name-true x y c.0 i ∷ same_names-true xs ys c.1 i
+same_names-true xs ys = (same_names-Decides xs ys).0
 
 pub same_names-refl : (xs : List Name) → same_names xs xs ≡ true
-same_names-refl [] = refl
-same_names-refl (x ∷ xs) = and_from (same_name x x) (same_names xs xs) (same_name-refl x x refl) (same_names-refl xs)
+same_names-refl xs = (same_names-Decides xs xs).1 refl
 
 module _ {X : Type 0} (conflict : X → X → Bool) (name : X → Name) (s : List X) (id : List Name) (g : List X) where
   abbrev has_id : List X → Bool

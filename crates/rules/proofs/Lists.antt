@@ -1,7 +1,7 @@
 -- Membership by recursion on the list, and what maps, tests and searches keep.
-use Rattle.std.proofs.Common.{◌≡◌, ℕ, zero, suc, ◌+◌, ◌<◌, ◌≤◌, Bool, true, false, List, [], ◌∷◌, ◌++◌, length, get_or, map, refl, sym, ap, ◌∙◌, arith, ◌⊎◌, inl, inr, Some, None}
+use Rattle.std.proofs.Common.{◌≡◌, ℕ, zero, suc, ◌+◌, ◌<◌, ◌≤◌, Bool, true, false, List, [], ◌∷◌, ◌++◌, length, get_or, map, refl, sym, ap, ◌∙◌, subst, arith, ◌⊎◌, inl, inr, Some, None}
 use Rattle.std.specs.Prelude.{Contains, filter, filter_map, flat_map, find, Option}
-use Rattle.std.specs.List.{list_any, list_all, range_with_len, cons_option}
+use Rattle.std.specs.List.{AllByRecursion, list_any, list_all, range_with_len, cons_option}
 use Rattle.std.proofs.lemmas.Bool.{cases_Bool, true≢false, or_cases, and_parts, and_from, or_left, or_right, cases_eq}
 
 abbrev pub In : {X : Type 0} → X → List X → Type 0
@@ -114,6 +114,11 @@ pub all_back : {X : Type 0} (p : X → Bool) (xs : List X) → list_all p xs ≡
 all_back p [] t x m = absurd m
 all_back p (z ∷ zs) t x m = let c = and_parts (p z) (list_all p zs) t in elim m [ inl e ↦ ap p e ∙ c.0 | inr r ↦ all_back p zs c.1 x r ]
 
+-- what holds of all members by recursion holds of each
+pub all_at : {X : Type 0} (P : X → Type 0) (xs : List X) → AllByRecursion P xs → (x : X) → In x xs → P x
+all_at P [] all x m = absurd m
+all_at P (y ∷ ys) all x m = elim m [ inl e ↦ subst P (sym e) all.0 | inr r ↦ all_at P ys all.1 x r ]
+
 -- tests that agree on the members
 pub any_agree : {X : Type 0} (p q : X → Bool) (xs : List X) → ((x : X) → In x xs → p x ≡ q x) → list_any p xs ≡ list_any q xs
 any_agree p q [] f = refl
@@ -126,6 +131,16 @@ all_agree p q (z ∷ zs) f = let e = f z (inl refl) in let r = all_agree p q zs 
 pub filter_agree : {X : Type 0} (p q : X → Bool) (xs : List X) → ((x : X) → In x xs → p x ≡ q x) → filter p xs ≡ filter q xs
 filter_agree p q [] f = refl
 filter_agree p q (z ∷ zs) f = let e = f z (inl refl) in let r = filter_agree p q zs (λ x m. f x (inr m)) in cc
+
+-- a test that keeps what another keeps
+pub filter_inner : {X : Type 0} (p q : X → Bool) (xs : List X) → ((x : X) → In x xs → p x ≡ true → q x ≡ true) → filter p (filter q xs) ≡ filter p xs
+filter_inner p q [] f = refl
+filter_inner p q (x ∷ xs) f =
+    let rest = filter_inner p q xs (λ y m. f y (inr m)) in
+    elim (cases_Bool (q x)) [
+      | inl t ↦ rw t (elim (cases_Bool (p x)) [ inl e ↦ rw e (ap (λ l. x ∷ l) rest) | inr e ↦ rw e rest ])
+      | inr t ↦ rw t (elim (cases_Bool (p x)) [ inl e ↦ absurd (true≢false (sym (f x (inl refl) e) ∙ t)) | inr e ↦ rw e rest ])
+    ]
 
 pub find_agree : {X : Type 0} (p q : X → Bool) (xs : List X) → ((x : X) → In x xs → p x ≡ q x) → find p xs ≡ find q xs
 find_agree p q [] f = refl

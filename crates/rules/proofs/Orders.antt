@@ -1,11 +1,11 @@
 -- Names and identifiers are totally ordered, and only equals tie.
 use Rattle.std.proofs.Common.{◌≡◌, ap, ◌∙◌}
 use Rattle.std.specs.declared.cmp.Ordering.TheVariants.{Equal}
-use Rattle.std.specs.Ordering.{nat_cmp, eq_by_cmp, is_eq}
-use Rattle.std.specs.Cmp.{IsTotalOrder, both_tied, unsigned_ties}
+use Rattle.std.specs.Ordering.{is_eq}
+use Rattle.std.specs.Cmp.{IsTotalOrder}
 use Rattle.std.proofs.lemmas.Cmp.{then_total, on_total, nat_cmp_total, lists_total}
-use Rattle.op_names.specs.Names.{Name, name_cmp, same_name}
-use Rattle.op_names.specs.VersionIds.{id_cmp, same_names-ties}
+use Rattle.op_names.specs.Names.{Name, name_cmp}
+use Rattle.op_names.specs.VersionIds.{id_cmp, same_name-ties, same_names-ties}
 use Rattle.rules.specs.declared.history.Op.{Op}
 use Rattle.rules.specs.declared.version.Version.{Version}
 use Rattle.rules.specs.Operations.{by_name, name_of}
@@ -26,10 +26,11 @@ id_cmp_total = lists_total name_cmp_total
 pub by_id_total : IsTotalOrder by_id
 by_id_total = on_total (λ (v : Version). v.id) id_cmp_total
 
+pub tied : (m n : Name) → name_cmp m n ≡ Equal → m ≡ n
+tied m n e = same_name-true m n (same_name-ties m n ∙ ap is_eq e)
+
 pub one_name : (a b : Op) → by_name a b ≡ Equal → a.name ≡ b.name
-one_name a b e =
-    let ties : same_name a.name b.name ≡ eq_by_cmp name_cmp a.name b.name = both_tied _ _ (nat_cmp a.name.0 b.name.0) (nat_cmp a.name.1 b.name.1) (unsigned_ties a.name.0 b.name.0) (unsigned_ties a.name.1 b.name.1) in
-    same_name-true a.name b.name (ties ∙ ap is_eq e)
+one_name a b = tied a.name b.name
 
 pub one_id : (ms ns : List Name) → id_cmp ms ns ≡ Equal → ms ≡ ns
 one_id ms ns e = same_names-true ms ns (same_names-ties ms ns ∙ ap is_eq e)

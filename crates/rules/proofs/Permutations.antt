@@ -30,7 +30,8 @@ in_middle_cases z x front back m = elim (In-append_cases z front (x ∷ back) m)
   | inr r ↦ elim r [ inl e ↦ inl e | inr k ↦ inr (In-append_right z front back k) ]
 ]
 
-once_middle : {X : Type 0} (x : X) (front back : List X) → Once (front ++ x ∷ back) → (In x (front ++ back) → ⊥) × Once (front ++ back)
+-- what stands beside a member of a list without repeats
+pub once_middle : {X : Type 0} (x : X) (front back : List X) → Once (front ++ x ∷ back) → (In x (front ++ back) → ⊥) × Once (front ++ back)
 once_middle x [] back o = o
 once_middle {X} x (y ∷ front) back o =
     let r = once_middle x front back o.1 in (

@@ -1,6 +1,6 @@
 -- What one more entry does to a record.
-use Rattle.std.proofs.Common.{◌≡◌, ℕ, ◌+◌, ◌≤◌, Bool, true, false, cond, not, List, [], ◌∷◌, ◌++◌, length, refl, sym, ap, ◌∙◌, filter, arith}
-use Rattle.std.proofs.lemmas.List.Elements.{filter_map-append}
+use Rattle.std.proofs.Common.{◌≡◌, ℕ, ◌+◌, ◌≤◌, Bool, true, false, cond, not, List, [], ◌∷◌, ◌++◌, length, sym, ap, ◌∙◌, subst, filter, arith}
+use Rattle.std.proofs.lemmas.List.Elements.{filter-append, filter_map-append}
 use Rattle.std.proofs.lemmas.List.{append-nil, append_assoc}
 use Rattle.std.proofs.lemmas.List.Sums.{sum_by_push, count_by-le-length}
 use Rattle.std.specs.Prelude.{◌==◌}
@@ -13,12 +13,7 @@ use Rattle.rules.specs.Admission.{count_at_site}
 use Rattle.rules.specs.Records.{operation_in, operations, sites, objects, is_join, admits, IsLegal, IsLegalAfter}
 
 pub filter-push : {X : Type 0} (p : X → Bool) (xs : List X) (x : X) → filter p (xs ++ x ∷ []) ≡ filter p xs ++ cond (p x) (x ∷ []) []
-filter-push p [] x = refl
-filter-push {X} p (y ∷ ys) x = step (p y) (filter-push p ys x)
-  where
-    step : (b : Bool) → filter p (ys ++ x ∷ []) ≡ filter p ys ++ cond (p x) (x ∷ []) [] → cond b (y ∷ filter p (ys ++ x ∷ [])) (filter p (ys ++ x ∷ [])) ≡ cond b (y ∷ filter p ys) (filter p ys) ++ cond (p x) (x ∷ []) []
-    step true e = ap (λ (zs : List X). y ∷ zs) e
-    step false e = e
+filter-push p xs x = filter-append p xs (x ∷ [])
 
 abbrev creates : Op → Bool
 creates op = not (is_set_body op.body)
@@ -51,6 +46,19 @@ legal_push_after b r (x ∷ rest) e g a = (g.0, legal_push_after b (r ++ x ∷ [
 -- an admitted entry keeps a record legal
 pub legal_push : (b : LimitValues) (r : List Entry) (e : Entry) → IsLegal b r → admits b r e ≡ true → IsLegal b (r ++ e ∷ [])
 legal_push b r e g a = legal_push_after b [] r e g a
+
+-- each entry of a legal record is admitted by those before it
+pub admitted_at : (b : LimitValues) (r before : List Entry) (e : Entry) (later : List Entry) → IsLegalAfter b r (before ++ e ∷ later) → admits b (r ++ before) e ≡ true
+admitted_at b r [] e later g = ap (λ x. admits b x e) (append-nil r) ∙ g.0
+admitted_at b r (x ∷ before) e later g = ap (λ y. admits b y e) (sym (append_assoc r (x ∷ []) before)) ∙ admitted_at b (r ++ x ∷ []) before e later g.1
+
+-- what each admitted entry keeps, a legal record has
+kept_after : (b : LimitValues) (P : List Entry → Type 0) → ((r : List Entry) (e : Entry) → IsLegal b r → P r → admits b r e ≡ true → P (r ++ e ∷ [])) → (r rest : List Entry) → IsLegal b r → P r → IsLegalAfter b r rest → P (r ++ rest)
+kept_after b P keeps r [] l p g = subst P (sym (append-nil r)) p
+kept_after b P keeps r (e ∷ rest) l p g = subst P (append_assoc r (e ∷ []) rest) (kept_after b P keeps (r ++ e ∷ []) rest (legal_push b r e l g.0) (keeps r e l p g.0) g.1)
+
+pub kept_by_admitted : (b : LimitValues) (P : List Entry → Type 0) → ((r : List Entry) (e : Entry) → IsLegal b r → P r → admits b r e ≡ true → P (r ++ e ∷ [])) → P [] → (r : List Entry) → IsLegal b r → P r
+kept_by_admitted b P keeps p r g = kept_after b P keeps [] r tt p g
 
 -- ---- counts
 

@@ -1,12 +1,12 @@
 -- Conflict goes both ways, and nothing that has a base conflicts with itself.
-use Rattle.std.proofs.Common.{◌≡◌, ℕ, Bool, true, false, List, ◌∷◌, refl, sym, ◌∙◌, subst, arith, inl, inr, Option, Some, ◌||◌, ◌&&◌, not}
+use Rattle.std.proofs.Common.{◌≡◌, Bool, true, false, List, ◌∷◌, refl, sym, ◌∙◌, subst, arith, inl, inr, Option, Some, ◌||◌, ◌&&◌, not}
 use Rattle.std.specs.Prelude.{Contains, bytes_eq}
 use Rattle.std.specs.List.{list_any}
 use Rattle.std.proofs.lemmas.Bool.{true≢false, false_from_ne_true, not_from_true, and_left, and_right, or_from, lt-leb}
-use Rattle.std.proofs.lemmas.Slice.Eq.{bytes_eq-Decides}
+use Rattle.std.proofs.lemmas.Bool.Decides.{same_from_decides}
+use Rattle.std.proofs.lemmas.Cmp.{nat_list_eq_equiv}
 use Rattle.state_vector.specs.Vectors.{count_of}
-use Rattle.op_names.specs.Values.{same_value, same_value-Decides}
-use Rattle.op_names.specs.declared.value.Value.{Value}
+use Rattle.op_names.specs.Values.{same_value, same_value-Decides, same_value-equivalence}
 use Rattle.rules.specs.declared.history.Op.{Op}
 use Rattle.rules.specs.declared.history.Body.{Body}
 use Rattle.rules.specs.declared.history.Body.TheVariants.{New, Set}
@@ -20,9 +20,7 @@ use Rattle.rules.proofs.Bases.{base_is_group}
 use Rattle.rules.proofs.Groups.{sublist_in}
 
 pub same_answer : (p q : Bool) → (p ≡ true → q ≡ true) → (q ≡ true → p ≡ true) → p ≡ q
-same_answer true q f g = sym (f refl)
-same_answer false true f g = g refl
-same_answer false false f g = refl
+same_answer p q f g = same_from_decides {P = q ≡ true} p q (f, g) (λ e. e, λ e. e)
 
 swap_or : (a b c : Bool) → (a || b || c) ≡ (a || c || b)
 swap_or true b c = refl
@@ -31,25 +29,17 @@ swap_or false true false = refl
 swap_or false false true = refl
 swap_or false false false = refl
 
-swap_and : (a b : Bool) → (a && b) ≡ (b && a)
+pub swap_and : (a b : Bool) → (a && b) ≡ (b && a)
 swap_and true true = refl
 swap_and true false = refl
 swap_and false true = refl
 swap_and false false = refl
 
-same_value_symmetric : (x y : Value) → same_value x y ≡ same_value y x
-same_value_symmetric x y = same_answer (same_value x y) (same_value y x)
-    (λ e. (same_value-Decides y x).1 (sym ((same_value-Decides x y).0 e)))
-    (λ e. (same_value-Decides x y).1 (sym ((same_value-Decides y x).0 e)))
-
-bytes_eq_symmetric : (k l : List ℕ) → bytes_eq k l ≡ bytes_eq l k
-bytes_eq_symmetric k l = same_answer (bytes_eq k l) (bytes_eq l k) (λ e. (bytes_eq-Decides l k).1 (sym ((bytes_eq-Decides k l).0 e))) (λ e. (bytes_eq-Decides k l).1 (sym ((bytes_eq-Decides l k).0 e)))
-
 differ_symmetric : (b c : Body) → differ_on_a_key b c ≡ differ_on_a_key c b
 differ_symmetric (New m a) (New n b) = refl
 differ_symmetric (New m a) (Set o v k x) = refl
 differ_symmetric (Set o v k x) (New m a) = refl
-differ_symmetric (Set o v k x) (Set p w l y) = λ i. bytes_eq_symmetric k l i && not (same_value_symmetric x y i)
+differ_symmetric (Set o v k x) (Set p w l y) = λ i. nat_list_eq_equiv.symm k l i && not (same_value-equivalence.symm x y i)
 
 differ_self : (b : Body) → differ_on_a_key b b ≡ false
 differ_self (New m a) = refl

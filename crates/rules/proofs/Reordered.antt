@@ -68,6 +68,13 @@ same_key_is x y e = (bytes_eq-Decides x y).0 e
 pub same_key_itself : (x : Bytes) → bytes_eq x x ≡ true
 same_key_itself x = (bytes_eq-Decides x x).1 refl
 
+-- the keys of operations are those of each of them
+pub in_keys : (g : List Op) (op : Op) (key : Bytes) → In op g → In key (keys_in op.body) → In key (keys_of g)
+in_keys g op key m n = In-each_once bytes_eq same_key_is same_key_itself key (flat_map (λ op. keys_in op.body) g) (In-flat_map (λ (op : Op). keys_in op.body) op key g m n)
+
+pub in_keys_back : (g : List Op) (key : Bytes) → In key (keys_of g) → (op : Op) × In op g × In key (keys_in op.body)
+in_keys_back g key m = In-flat_map_back (λ (op : Op). keys_in op.body) key g (In-each_once_back bytes_eq same_key_is same_key_itself key (flat_map (λ op. keys_in op.body) g) m)
+
 -- ---- attributes in order of key
 
 pub key_cmp_total : IsTotalOrder key_cmp
@@ -111,15 +118,9 @@ module _ (f g : List Op) (w : SameMembers f g) where
 
   pub keys_the_same : SameMembers (keys_of f) (keys_of g)
   keys_the_same = record {
-    to = λ k m. moved f g w.to k m;
-    back = λ k m. moved g f w.back k m;
+    to = λ k m. let c = in_keys_back f k m in in_keys g c.0 k (w.to c.0 c.1) c.2;
+    back = λ k m. let c = in_keys_back g k m in in_keys f c.0 k (w.back c.0 c.1) c.2;
   }
-    where
-      moved : (a b : List Op) → ((x : Op) → In x a → In x b) → (k : Bytes) → In k (keys_of a) → In k (keys_of b)
-      moved a b t k m =
-          let listed = In-each_once_back bytes_eq same_key_is same_key_itself k (flat_map (λ op. keys_in op.body) a) m in
-          let c = In-flat_map_back (λ (op : Op). keys_in op.body) k a listed in
-          In-each_once bytes_eq same_key_is same_key_itself k (flat_map (λ op. keys_in op.body) b) (In-flat_map (λ (op : Op). keys_in op.body) c.0 k b (t c.0 c.1) c.2)
 
   module _ (initial : List Attr) (one : (key : Bytes) (a b : Op) → In a f → In b f → decides key f a ≡ true → decides key f b ≡ true → value_in key a.body ≡ value_in key b.body) where
     value_the_same : (key : Bytes) → value_of_key initial f key ≡ value_of_key initial g key
@@ -141,8 +142,8 @@ module _ (f g : List Op) (w : SameMembers f g) where
     abbrev keys : List Op → List Bytes
     keys h = each_once bytes_eq (map (λ attr. attr.0) initial ++ keys_of h)
 
-    in_keys : (a b : List Op) → ((k : Bytes) → In k (keys_of a) → In k (keys_of b)) → (k : Bytes) → In k (keys a) → In k (keys b)
-    in_keys a b t k m =
+    keys_move : (a b : List Op) → ((k : Bytes) → In k (keys_of a) → In k (keys_of b)) → (k : Bytes) → In k (keys a) → In k (keys b)
+    keys_move a b t k m =
         let first = map (λ (attr : Attr). attr.0) initial in
         In-each_once bytes_eq same_key_is same_key_itself k (first ++ keys_of b) (elim (In-append_cases k first (keys_of a) (In-each_once_back bytes_eq same_key_is same_key_itself k (first ++ keys_of a) m)) [
           | inl l ↦ In-append_left k first (keys_of b) l
@@ -168,5 +169,5 @@ module _ (f g : List Op) (w : SameMembers f g) where
         ap (sort_by key_cmp) (filter_map_agree (λ key. option_map (λ v. (key, v)) (value_of_key initial f key)) (λ key. option_map (λ v. (key, v)) (value_of_key initial g key)) (keys f) (λ key m. ap (option_map (λ v. (key, v))) (value_the_same key)))
         ∙ sort_is key_cmp key_cmp_total (listed g) (sort_by key_cmp (listed f)) (untied g)
         (sort_rises key_cmp key_cmp_total (listed f) (untied f))
-        (λ p m. sort_in key_cmp p (listed f) (in_listed g f (in_keys g f keys_the_same.back) p m))
-        (λ p m. in_listed f g (in_keys f g keys_the_same.to) p (sort_back key_cmp p (listed f) m))
+        (λ p m. sort_in key_cmp p (listed f) (in_listed g f (keys_move g f keys_the_same.back) p m))
+        (λ p m. in_listed f g (keys_move f g keys_the_same.to) p (sort_back key_cmp p (listed f) m))

@@ -1,5 +1,5 @@
 -- The sets on an object, and what an operation knows of them: each in one list, in order of name.
-use Rattle.std.proofs.Common.{◌≡◌, Bool, true, List, [], ◌∷◌, refl, sym, subst, inl, inr, ◌↔◌}
+use Rattle.std.proofs.Common.{◌≡◌, Bool, true, List, [], ◌∷◌, inl, inr, ◌↔◌}
 use Rattle.std.specs.Prelude.{IsTrue, Contains, filter}
 use Rattle.std.proofs.lemmas.Bool.{cases_Bool}
 use Rattle.op_names.specs.Names.{Name}
@@ -8,7 +8,8 @@ use Rattle.rules.specs.Operations.{IsHistory, Before, before, by_name, object_of
 use Rattle.rules.proofs.Lists.{In, In-from_Contains, Contains-from_In, In-filter, In-filter_back}
 use Rattle.rules.proofs.Once.{Once, Once-filter, Once-from_HasNoRepeats}
 use Rattle.rules.proofs.Orders.{by_name_total, one_name}
-use Rattle.rules.proofs.Sorting.{Rises, never_below_itself, Untied, sort_in, sort_back, sort_rises, rises_same}
+use Rattle.rules.proofs.Sorted.{untied_if_once}
+use Rattle.rules.proofs.Sorting.{Rises, never_below_itself, sort_in, sort_back, sort_rises, rises_same}
 use Rattle.rules.proofs.Causal.{Before_is_counts}
 
 -- ---- what they hold
@@ -55,13 +56,6 @@ known_is h a b i mb = (
 
 -- ---- one list
 
-untied : (h : List Op) → ((a b : Op) → In a h → In b h → a.name ≡ b.name → a ≡ b) → Once h → Untied by_name by_name_total h
-untied [] d o = tt
-untied (x ∷ h) d o = (
-  (λ y m e. o.0 (subst (λ z. In z h) (d y x (inr m) (inl refl) (sym (one_name x y e))) m)),
-  untied h (λ a b m n e. d a b (inr m) (inr n) e) o.1,
-)
-
 rises_filter : (p : Op → Bool) (xs : List Op) → Rises by_name by_name_total xs → Rises by_name by_name_total (filter p xs)
 rises_filter p [] r = tt
 rises_filter p (x ∷ xs) r = elim (cases_Bool (p x)) [
@@ -75,9 +69,8 @@ module _ (k : List Op) (apart : (a b : Op) → In a k → In b k → a.name ≡ 
   unfolding sets_on
   sets_rise object =
       sort_rises by_name by_name_total (filter (is_set_on object) k)
-      (untied (filter (is_set_on object) k)
-      (λ a b m n e. apart a b (In-filter_back (is_set_on object) a k m).0 (In-filter_back (is_set_on object) b k n).0 e)
-      (Once-filter (is_set_on object) k once))
+      (untied_if_once by_name by_name_total (filter (is_set_on object) k) (Once-filter (is_set_on object) k once)
+      (λ a b m n e. apart a b (In-filter_back (is_set_on object) a k m).0 (In-filter_back (is_set_on object) b k n).0 (one_name a b e)))
 
   pub known_rises : (b : Op) → Rises by_name by_name_total (known k b)
   unfolding known

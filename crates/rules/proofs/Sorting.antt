@@ -1,5 +1,5 @@
 -- Where an insertion in order puts its element; what a sorted list has, and that there is one for each set of members.
-use Rattle.std.proofs.Common.{◌≡◌, ℕ, suc, ◌+◌, ◌≤◌, Bool, true, false, cond, List, [], ◌∷◌, ◌++◌, length, take, drop, Some, None, refl, sym, ap, ◌∙◌, ◌⊎◌, inl, inr, arith, ltb}
+use Rattle.std.proofs.Common.{◌≡◌, ℕ, suc, ◌+◌, ◌≤◌, Bool, true, false, List, [], ◌∷◌, ◌++◌, length, take, drop, None, refl, sym, ap, ◌∙◌, ◌⊎◌, inl, inr, arith, ltb}
 use Rattle.std.specs.declared.cmp.Ordering.{Ordering}
 use Rattle.std.specs.declared.cmp.Ordering.TheVariants.{Less, Equal, Greater}
 use Rattle.std.specs.Ordering.{is_lt, ordering_reverse}
@@ -7,6 +7,7 @@ use Rattle.std.specs.Cmp.{IsTotalOrder}
 use Rattle.std.specs.List.{position, position_or_len}
 use Rattle.std.proofs.lemmas.Bool.{cases_Bool, ltb-false, true≢false}
 use Rattle.std.proofs.lemmas.List.{take_all, drop_all}
+use Rattle.op_names.proofs.Choices.{not_first}
 use Rattle.rules.specs.Lists.{insert_by, sort_by}
 use Rattle.rules.proofs.Lists.{In}
 
@@ -23,13 +24,9 @@ module _ {X : Type 0} (cmp : X → X → Ordering) (x : X) where
         ap (λ zs. y ∷ zs) (at_place ys) ∙ sym (ap (λ n. take n (y ∷ ys) ++ x ∷ drop n (y ∷ ys)) one))
   ]
 
-  missing : (b : Bool) (k : ℕ) → cond b (Some k) None ≡ None → b ≡ false
-  missing true k e = absurd cc
-  missing false k e = refl
-
   pub inserted_last : (xs : List X) → position above xs ≡ None → insert_by cmp x xs ≡ xs ++ x ∷ []
   inserted_last xs e =
-      let past : length xs ≤ position_or_len above xs = ltb-false _ _ (missing (ltb (position_or_len above xs) (length xs)) (position_or_len above xs) e) in
+      let past : length xs ≤ position_or_len above xs = ltb-false _ _ (not_first (ltb (position_or_len above xs) (length xs)) (position_or_len above xs) None e).0 in
       at_place xs ∙ (λ i. take_all (position_or_len above xs) xs past i ++ x ∷ drop_all (position_or_len above xs) xs past i)
 
 -- ---- a sorted list has the members of the list

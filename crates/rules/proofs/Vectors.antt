@@ -3,7 +3,7 @@ use Rattle.std.proofs.Common.{◌≡◌, ℕ, ◌+◌, ◌<◌, ◌≤◌, true,
 use Rattle.std.specs.Prelude.{IsTrue, Contains}
 use Rattle.std.proofs.lemmas.Bool.{eq-eqb, ne_eqb, leb-true, le-leb, cases_eq, cases_order}
 use Rattle.state_vector.specs.Vectors.{Vector, count_of}
-use Rattle.state_vector.proofs.Vectors.{RisesAbove, rises}
+use Rattle.state_vector.proofs.Vectors.{RisesAbove, above_all, rises}
 use Rattle.rules.specs.declared.history.Op.{Op}
 use Rattle.rules.specs.Operations.{IsHistory, before}
 use Rattle.rules.specs.Conflicts.{total}
@@ -13,10 +13,6 @@ count_same q qs s e = let f : eqb q.0 s ≡ true = eq-eqb q.0 s e in rw f refl
 
 count_other : (q : ℕ × ℕ) (qs : Vector) (s : ℕ) → (q.0 ≡ s → ⊥) → count_of (q ∷ qs) s ≡ count_of qs s
 count_other q qs s d = let f : eqb q.0 s ≡ false = ne_eqb q.0 s d in rw f refl
-
-count_below : (last : ℕ) (v : Vector) (s : ℕ) → RisesAbove last v → s ≤ last → count_of v s ≡ 0
-count_below last [] s r l = refl
-count_below last (q ∷ qs) s r l = count_other q qs s (λ e. omega (arith, r.0)) ∙ count_below q.0 qs s r.2 (omega (arith, r.0))
 
 count-le-total : (v : Vector) (s : ℕ) → count_of v s ≤ total v
 count-le-total [] s = omega arith
@@ -31,26 +27,26 @@ total-grows a b (p ∷ ps) (q ∷ qs) s r k le =
       | inl e ↦
           (let tails : (t : ℕ) → count_of ps t ≤ count_of qs t =
           λ t. elim (cases_eq p.0 t) [
-            | inl f ↦ omega (arith, count_below p.0 ps t r.2 (omega arith))
+            | inl f ↦ omega (arith, above_all p.0 t ps r.2 (omega arith))
             | inr d ↦ omega (arith, le t, count_other p ps t d, count_other q qs t (λ f. d (e ∙ f)))
           ] in
           let h = total-grows p.0 q.0 ps qs s r.2 k.2 tails in
           elim (cases_eq p.0 s) [
-            | inl f ↦ omega (arith, h, count_same p ps s f, count_same q qs s (sym e ∙ f), count_below p.0 ps s r.2 (omega arith), count_below q.0 qs s k.2 (omega arith))
+            | inl f ↦ omega (arith, h, count_same p ps s f, count_same q qs s (sym e ∙ f), above_all p.0 s ps r.2 (omega arith), above_all q.0 s qs k.2 (omega arith))
             | inr d ↦ omega (arith, h, count_other p ps s d, count_other q qs s (λ f. d (e ∙ f)), le p.0, count_same p ps p.0 refl, count_same q qs p.0 (sym e))
           ])
       | inr l ↦ elim l [
-        | inl low ↦ absurd (omega (arith, le p.0, count_same p ps p.0 refl, r.1, count_below p.0 (q ∷ qs) p.0 (low, k.1, k.2) (omega arith)))
+        | inl low ↦ absurd (omega (arith, le p.0, count_same p ps p.0 refl, r.1, above_all p.0 p.0 (q ∷ qs) (low, k.1, k.2) (omega arith)))
         | inr high ↦
             (let from_q : RisesAbove q.0 (p ∷ ps) = (high, r.1, r.2) in
             let tails : (t : ℕ) → count_of (p ∷ ps) t ≤ count_of qs t =
             λ t. elim (cases_eq q.0 t) [
-              | inl f ↦ omega (arith, count_below q.0 (p ∷ ps) t from_q (omega arith))
+              | inl f ↦ omega (arith, above_all q.0 t (p ∷ ps) from_q (omega arith))
               | inr d ↦ omega (arith, le t, count_other q qs t d)
             ] in
             let h = total-grows q.0 q.0 (p ∷ ps) qs s from_q k.2 tails in
             elim (cases_eq q.0 s) [
-              | inl f ↦ omega (arith, h, count_same q qs s f, count_below q.0 (p ∷ ps) s from_q (omega arith), count_below q.0 qs s k.2 (omega arith))
+              | inl f ↦ omega (arith, h, count_same q qs s f, above_all q.0 s (p ∷ ps) from_q (omega arith), above_all q.0 s qs k.2 (omega arith))
               | inr d ↦ omega (arith, h, count_other q qs s d)
             ])
       ]

@@ -32,7 +32,7 @@ pub same_name-Decides : (a b : Name) → Decides (same_name a b) (a ≡ b)
 same_name-Decides a b =
     both_decide _ _ (unsigned_Decides a.0 b.0) (unsigned_Decides a.1 b.1) (pair_is a b) (λ e. (ap (λ p. p.0) e, ap (λ p. p.1) e))
 
-same_names-Decides : (a b : List Name) → Decides (same_names a b) (a ≡ b)
+pub same_names-Decides : (a b : List Name) → Decides (same_names a b) (a ≡ b)
 same_names-Decides a b = slice_eq-Decides same_name-Decides a b _ refl
 
 same_pairs-Decides : (a b : Vector) → Decides (same_pairs a b) (a ≡ b)

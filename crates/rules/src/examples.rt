@@ -3,6 +3,8 @@
 //! In each a room draws one rectangle, which the first site creates; `specs/Examples.antt` has the
 //! records.
 
+#![tactic(auto, unfolding(state_vector::specs::Vectors::vector_fault, crate::specs::Operations::known, crate::specs::Operations::sets_on, crate::specs::Groups::groups_of, crate::specs::Groups::group_named, crate::specs::Groups::identifier, crate::specs::Conflicts::base, crate::specs::Conflicts::conflict, crate::specs::Versions::attributes, crate::specs::Versions::groups, crate::specs::Versions::version_of, crate::specs::Versions::versions, crate::specs::Records::refusal))]
+
 ghost use Rattle.std.specs.Prelude.{◌≡◌, [], ◌∷◌, Some, None};
 ghost use Rattle.rules.specs.declared.refusal.Refusal.TheVariants.{WrongSeq, OwnCount, Ahead, NotClosed, NoSuchObject, NoSuchVersion, ObjectFull, TooManyKeys, TooManyVersions};
 ghost use Rattle.rules.specs.Limits.{full_limits};

@@ -22,12 +22,14 @@ ghost use Rattle.rules.specs.Records.{operations, version_conditions, HoldTheSam
 // ---- causal order
 
 /// On a history causal order is one count.
+#[tactic(auto, using(crate::proofs::Causal::Before_is_counts))]
 pub fn before_is_one_count()
     ensures { (h : List Op) (a b : Op) → IsHistory h → Contains h a → Contains h b
         → (IsTrue (before a b) ↔ Before h a b) }
 {}
 
 /// The operations of a history can be listed so that none stands before what it is after.
+#[tactic(auto, using(crate::proofs::Ordered::causal_listing))]
 pub fn histories_have_a_causal_order()
     ensures { (h : List Op) → IsHistory h
         → (k : List Op) × IsPermutation h k × IsCausallyOrdered k }
@@ -55,12 +57,14 @@ pub fn groups_are_the_maximal_parts<X>()
 {}
 
 /// No group is listed twice.
+#[tactic(auto, using(crate::proofs::Groups::groups_once))]
 pub fn groups_stand_once<X>()
     ensures { (conflict : X → X → Bool) (s : List X) → HasNoRepeats s
         → HasNoRepeats (groups_of conflict s) }
 {}
 
 /// Different groups of a list have different identifiers.
+#[tactic(auto, using(crate::proofs::Identifiers::identifiers_apart))]
 pub fn identifiers_differ<X>()
     ensures { (conflict : X → X → Bool) (name : X → Name) (s g h : List X) → HasNoRepeats s
         → ((x y : X) → Contains s x → Contains s y → name x ≡ name y → x ≡ y)
@@ -70,6 +74,7 @@ pub fn identifiers_differ<X>()
 
 /// The group with an identifier is found by one filter and one comparison: where there is one, it
 /// is all members that conflict with no member whose name the identifier has.
+#[tactic(auto, using(crate::proofs::Resolve::found_by_one_filter))]
 pub fn a_named_group_is_found_by_one_filter<X>()
     ensures { (conflict : X → X → Bool) (name : X → Name) (s : List X) (id : List Name)
         → HasNoRepeats s
@@ -81,6 +86,7 @@ pub fn a_named_group_is_found_by_one_filter<X>()
 {}
 
 /// The number of groups never falls when members are added.
+#[tactic(auto, using(crate::proofs::Growth::groups_of_part))]
 pub fn groups_never_get_fewer<X>()
     ensures { (conflict : X → X → Bool) (part whole : List X) → HasNoRepeats part
         → HasNoRepeats whole
@@ -101,6 +107,7 @@ pub fn base_is_the_named_group()
 {}
 
 /// Conflict goes both ways, and nothing that has a base conflicts with itself.
+#[tactic(auto, using(crate::proofs::Relation::conflict_symmetric, crate::proofs::Relation::conflict_self))]
 pub fn conflict_is_symmetric_and_never_with_itself()
     ensures symmetric { (h : List Op) (a b : Op) → conflict h a b ≡ conflict h b a }
     ensures never_with_itself { (h : List Op) (b : Op) (g : List Op) → IsHistory h → Contains h b
@@ -108,6 +115,7 @@ pub fn conflict_is_symmetric_and_never_with_itself()
 {}
 
 /// A part of a history agrees with the whole on bases and on conflicts.
+#[tactic(auto, using(crate::proofs::Agreement::base_in_part, crate::proofs::Agreement::conflict_in_part))]
 pub fn a_part_agrees_with_the_whole()
     ensures bases { (k h : List Op) (b : Op) → IsPartOf k h → Contains k b → base k b ≡ base h b }
     ensures conflicts { (k h : List Op) (a b : Op) → IsPartOf k h → Contains k a → Contains k b
@@ -115,6 +123,7 @@ pub fn a_part_agrees_with_the_whole()
 {}
 
 /// Two histories that agree on an operation and on all before it agree on its base.
+#[tactic(auto, using(crate::proofs::Parts::base_by_past))]
 pub fn base_is_decided_by_the_past()
     ensures { (h k : List Op) (b : Op) → IsHistory h → IsHistory k → Contains h b
         → ((x : Op) → Contains h x → IsTrue (is_past b x) → Contains k x)
@@ -123,6 +132,7 @@ pub fn base_is_decided_by_the_past()
 
 /// Two histories that agree on two operations and on all before these agree on whether the two
 /// conflict.
+#[tactic(auto, using(crate::proofs::Parts::conflict_by_past))]
 pub fn conflict_is_decided_by_the_past()
     ensures { (h k : List Op) (a b : Op) → IsHistory h → IsHistory k → Contains h a → Contains h b
         → ((x : Op) → Contains h x → IsTrue (is_past a x || is_past b x) → Contains k x)
@@ -139,6 +149,7 @@ pub fn groups_hold_their_bases()
 
 /// An operation conflicts with another exactly where it conflicts directly with that one or its
 /// base, or a member of its own base conflicts with it.
+#[tactic(auto, using(crate::proofs::Nested::conflict_from_base))]
 pub fn conflicts_follow_from_the_base()
     ensures { (h : List Op) (a b : Op) → IsHistory h → Contains h a
         → conflict h a b
@@ -149,6 +160,7 @@ pub fn conflicts_follow_from_the_base()
 // ---- versions
 
 /// In whatever order its operations are listed, a history has the same versions of each object.
+#[tactic(auto, using(crate::proofs::Shown::versions_same))]
 pub fn versions_in_any_order()
     ensures { (k h : List Op) (object : Name) → AreSame k h
         → versions k object ≡ versions h object }
@@ -182,6 +194,7 @@ pub fn attributes_in_any_order()
 
 /// Where two histories agree on the creation, on the operations of a group and on all before these,
 /// the group of the one and the group of the other with the same names have the same attributes.
+#[tactic(auto, using(crate::proofs::Attributes::same_attributes))]
 pub fn a_group_has_the_same_attributes_everywhere()
     ensures { (h k : List Op) (object : Name) (f g : List Op) → IsHistory h → IsHistory k
         → Contains (groups h object) f → Contains (groups k object) g
@@ -192,12 +205,14 @@ pub fn a_group_has_the_same_attributes_everywhere()
 {}
 
 /// The identifiers of an object's versions rise strictly.
+#[tactic(auto, using(crate::proofs::Shown::identifiers_rise))]
 pub fn identifiers_rise()
     ensures { (h : List Op) (object : Name) → IsHistory h
         → IsStrictlySortedBy id_cmp (map (λ version. version.id) (versions h object)) }
 {}
 
 /// Each group of all sets on an object is shown exactly once.
+#[tactic(auto, using(crate::proofs::Shown::groups_once, crate::proofs::Shown::each_shown))]
 pub fn each_group_is_shown_once()
     ensures groups { (h : List Op) (object : Name) → IsHistory h → HasNoRepeats (groups h object) }
     ensures shown { (h : List Op) (object : Name)
@@ -205,6 +220,7 @@ pub fn each_group_is_shown_once()
 {}
 
 /// An object never has fewer versions when operations are added.
+#[tactic(auto, using(crate::proofs::Shown::versions_of_part))]
 pub fn versions_never_get_fewer()
     ensures { (k h : List Op) (object : Name) → IsPartOf k h → IsFounded h
         → length (versions k object) ≤ length (versions h object) }
@@ -213,6 +229,7 @@ pub fn versions_never_get_fewer()
 /// What an operation knows, its base and its conflicts, the versions of its object, and whether a
 /// set fails for its base or for a limit on its object depend on the operations on that object
 /// alone.
+#[tactic(auto, using(crate::proofs::Objects::known_alone, crate::proofs::Objects::base_alone, crate::proofs::Objects::conflict_alone, crate::proofs::Objects::groups_alone, crate::proofs::Objects::versions_alone, crate::proofs::Objects::conditions_alone))]
 pub fn an_object_stands_alone()
     ensures known { (h : List Op) (object : Name) (b : Op) → IsTrue (is_on object b)
         → known (operations_on h object) b ≡ known h b }
@@ -232,6 +249,7 @@ pub fn an_object_stands_alone()
 // ---- records
 
 /// The operations of a legal record are a history, in causal order.
+#[tactic(auto, using(crate::proofs::Founded::history_if_legal, crate::proofs::Founded::ordered_if_legal))]
 pub fn legal_records_are_histories()
     ensures history { (b : LimitValues) (r : List Entry) → IsLegal b r → IsHistory (operations r) }
     ensures ordered { (b : LimitValues) (r : List Entry) → IsLegal b r
@@ -256,6 +274,7 @@ pub fn legal_records_with_the_same_operations_agree()
 {}
 
 /// Each set of a legal record has its object and its base.
+#[tactic(auto, using(crate::proofs::Founded::founded_if_legal))]
 pub fn sets_of_legal_records_are_founded()
     ensures { (b : LimitValues) (r : List Entry) → IsLegal b r → IsFounded (operations r) }
 {}

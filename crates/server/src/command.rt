@@ -1,6 +1,6 @@
 //! The command line.
 
-use crate::serve::{Service, serve_over};
+use crate::serve::Service;
 use clap::error::ErrorKind;
 use clap::{Arg, ArgAction, ArgMatches, Command, Error, value_parser};
 use commands::{Fault, check_at, script_over};
@@ -150,12 +150,19 @@ fn show<W: Write, E: Write>(alloc: Global, error: &Error, output: &mut W, errors
 }
 
 /// What `grace serve` is asked to do, where all words are there.
-fn service_of<'a>(words: &ArgMatches<'a>) -> Option<Service<'a>> {
+fn service_of<'a, 'w, R, W>(
+    rt: &'a R,
+    alloc: Global,
+    words: &ArgMatches<'w>,
+    output: &'a mut W,
+) -> Option<Service<'a, 'w, R, W>> {
     let address = words.get_str("ADDRESS")?;
     let sessions = words.get_one("SESSIONS")?;
     let workers = words.get_one("WORKERS")?;
     let idle = words.get_one("idle")?;
     Some(Service {
+        rt,
+        alloc,
         address,
         sessions,
         workers,
@@ -164,6 +171,7 @@ fn service_of<'a>(words: &ArgMatches<'a>) -> Option<Service<'a>> {
         } else {
             Some(Duration::from_secs(idle))
         },
+        output,
     })
 }
 
@@ -190,8 +198,8 @@ where
         }
         Some(("serve", words)) => {
             let names = words.get_strs("ROOM").unwrap_or(&[]);
-            match service_of(words) {
-                Some(service) => serve_over(rt, alloc, names, service, output, errors),
+            match service_of(rt, alloc, words, output) {
+                Some(service) => service.run(names, errors),
                 None => 2,
             }
         }

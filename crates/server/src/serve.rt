@@ -1,14 +1,13 @@
 //! `grace serve ADDRESS SESSIONS WORKERS ROOM..`: serves sessions over WebSocket.
 
-ghost use Rattle.std.specs.Prelude.{◌≡◌, ◌+◌, ◌*◌, length};
-ghost use Rattle.room_lock.specs.Kept.{SPARE_PARTS};
+ghost use Rattle.std.specs.Prelude.{◌≡◌};
+ghost use Rattle.room_lock.specs.Planned.{IsLedgerOf};
 ghost use Rattle.server.specs.Faults.{of_serving};
 
 use crate::accept::Accepted;
 use commands::{Fault, room_names};
 use log::Log;
-use op_names::RoomName;
-use room_lock::{Opened, RoomLedger, Rooms, open_histories};
+use room_lock::{NewRooms, RoomLedger, Rooms};
 use rules::Limits;
 use sessions::{Open, ServeFault, serve_streams};
 use std::alloc::{AllocError, Global};
@@ -17,7 +16,6 @@ use std::marker::Brand;
 use std::net::{Net, OpenListener, TcpListener};
 use std::sync::Wait;
 use std::sync::atomic::{AtomicBool, Ordering};
-use std::sync::ledger::Blank;
 use std::thread::Threads;
 use std::time::Duration;
 
@@ -33,21 +31,22 @@ fn fault_of(fault: ServeFault) -> Fault
     }
 }
 
-/// What `grace serve` is asked to do.
-#[derive(Clone, Copy, Debug)]
-pub(crate) struct Service<'a> {
+/// What `grace serve` is asked to do, and on what it runs.
+#[derive(Drop)]
+pub(crate) struct Service<'a, 'w, R, W> {
+    pub(crate) rt: &'a R,
+    pub(crate) alloc: Global,
     /// Where it listens, as std's `bind` reads it: a host and a port, which is 0 for any free one.
-    pub(crate) address: &'a str,
+    pub(crate) address: &'w str,
     /// How many connections it accepts, 1 to 100,000.
     pub(crate) sessions: u32,
     /// How many it serves at a time, 1 to 64.
     pub(crate) workers: u32,
     /// How long a connection may keep a worker waiting, if there is a bound.
     pub(crate) idle: Option<Duration>,
+    /// Where it tells that it listens, and writes the records.
+    pub(crate) output: &'a mut W,
 }
-
-/// The most rooms that can be asked for: a ledger has an amount for as many.
-const MAX_ROOMS: usize = 1 << 49;
 
 /// The line that tells where a listener listens: the host as it was asked for, and the port that the
 /// system gave, since port 0 asks for any free one.
@@ -62,26 +61,23 @@ fn listening_line<L: OpenListener>(
     }
 }
 
-/// Listens, tells so on the output, and serves what it accepts in these rooms.
-fn listen_and_serve<P, R, W>(
-    rt: &R,
-    alloc: Global,
-    rooms: Rooms<P>,
-    service: Service<'_>,
-    output: &mut W,
-) -> Result<(), Fault>
+/// Makes the rooms, listens, tells so on the output, and serves what it accepts in these rooms.
+fn serve_in<P, R, W>(service: Service<'_, '_, R, W>, planned: NewRooms) -> Result<(), Fault>
 where
     P: RoomLedger + Send + Sync,
     R: Threads + Wait + Log + Net + Sync,
     R::Stream: Send,
     W: Write,
+    requires { IsLedgerOf planned P.name P.parts P.limits P.books }
 {
+    let (rt, alloc) = (service.rt, service.alloc);
+    let rooms = Rooms::<P>::new(alloc, planned)?;
     let listener = match TcpListener::bind(rt, service.address) {
         Ok(listener) => listener,
         Err(why) => return Err(Fault::CannotListen(why)),
     };
     let line = listening_line(alloc, service.address, &listener)?;
-    if output.write_all(line.as_bytes()).is_err() || output.flush().is_err() {
+    if service.output.write_all(line.as_bytes()).is_err() || service.output.flush().is_err() {
         return Err(Fault::Output);
     }
     let failed = AtomicBool::new(false);
@@ -91,7 +87,8 @@ where
         idle: service.idle,
         failed: &failed,
     };
-    let served = serve_streams(rt, alloc, rooms, streams, service.workers, &Open, output);
+    let workers = service.workers;
+    let served = serve_streams(rt, alloc, rooms, streams, workers, &Open, service.output);
     if let Err(fault) = served {
         return Err(fault_of(fault));
     }
@@ -101,87 +98,30 @@ where
     Ok(())
 }
 
-/// Makes the rooms, and serves.
-fn serve_in<P, R, W>(
-    rt: &R,
-    alloc: Global,
-    blank: Blank,
-    histories: Vec<Opened>,
-    limits: Limits,
-    names: Vec<RoomName>,
-    service: Service<'_>,
-    output: &mut W,
-) -> Result<(), Fault>
-where
-    P: RoomLedger + Send + Sync,
-    R: Threads + Wait + Log + Net + Sync,
-    R::Stream: Send,
-    W: Write,
-    requires name { blank.name ≡ P.name }
-    requires parts { (blank.parts ≡ P.parts)
-        × (blank.parts ≡ (SPARE_PARTS + 1) * length names.items + 1) }
-    requires limits { limits ≡ P.limits }
-    requires histories { (histories.items ≡ P.books)
-        × (length histories.items ≡ length names.items) }
-{
-    let rooms = Rooms::<P>::new(alloc, blank, histories, &names, limits)?;
-    listen_and_serve(rt, alloc, rooms, service, output)
-}
-
-/// Serves in rooms of these names with full limits.
-fn serve<R, W>(
-    rt: &R,
-    alloc: Global,
-    names: &[&str],
-    service: Service<'_>,
-    output: &mut W,
-) -> Result<(), Fault>
+impl<R, W> Service<'_, '_, R, W>
 where
     R: Threads + Wait + Log + Net + Sync,
     R::Stream: Send,
     W: Write,
 {
-    let names = room_names(alloc, names)?;
-    if names.len() > MAX_ROOMS {
-        return Err(Fault::NoMemory);
+    /// Serves in rooms of these names with full limits.
+    fn serve(self, names: &[&str]) -> Result<(), Fault> {
+        let names = room_names(self.alloc, names)?;
+        let planned = NewRooms::plan(self.alloc, names, Limits::full())?;
+        serve_in::<Brand, R, W>(self, planned)
     }
-    let histories = open_histories(alloc, names.len())?;
-    let blank = Blank::new(258 * names.len() as u64 + 1);
-    serve_in::<Brand, R, W>(
-        rt,
-        alloc,
-        blank,
-        histories,
-        Limits::full(),
-        names,
-        service,
-        output,
-    )
-}
 
-/// Serves in rooms of these names with full limits, and gives the status: 0 where all sessions were
-/// served and the records written; 2 for a bad room name or, where all are good, a room named twice;
-/// 3 where it can't listen, accepting or the output failed, there is no worker or the rooms are torn;
-/// 4 for want of memory. All but 0 come with a line on `errors`.
-pub(crate) fn serve_over<R, W, E>(
-    rt: &R,
-    alloc: Global,
-    names: &[&str],
-    service: Service<'_>,
-    output: &mut W,
-    errors: &mut E,
-) -> u8
-where
-    R: Threads + Wait + Log + Net + Sync,
-    R::Stream: Send,
-    W: Write,
-    E: Write,
-{
-    match serve(rt, alloc, names, service, output) {
-        Ok(()) => 0,
-        Err(fault) => {
-            fault.write_line(errors);
-            fault.status()
+    /// Serves in rooms of these names with full limits, and gives the status: 0 where all sessions were
+    /// served and the records written; 2 for a bad room name or, where all are good, a room named twice;
+    /// 3 where it can't listen, accepting or the output failed, there is no worker or the rooms are torn;
+    /// 4 for want of memory. All but 0 come with a line on `errors`.
+    pub(crate) fn run<E: Write>(self, names: &[&str], errors: &mut E) -> u8 {
+        match self.serve(names) {
+            Ok(()) => 0,
+            Err(fault) => {
+                fault.write_line(errors);
+                fault.status()
+            }
         }
     }
 }

@@ -6,8 +6,9 @@ mod served;
 mod watched;
 
 use op_names::RoomName;
-use room_lock::{Pass, RoomLedger};
-use sessions::{Cause, Gate, PoolEnd};
+use room_lock::NewRooms;
+use rules::Limits;
+use sessions::{Cause, Gate};
 use std::process::Abort;
 use std::sync::atomic::{AtomicU64, Ordering};
 
@@ -44,6 +45,15 @@ const ENTRIES: usize = 3;
 
 fn room_name(rt: &(impl Abort + AllocGlobal), text: &str) -> RoomName {
     RoomName::parse(rt.alloc(), text.as_bytes()).expect(rt, "a name")
+}
+
+/// Rooms of these names that are to be made.
+fn planned(rt: &(impl Abort + AllocGlobal), names: &[&str]) -> NewRooms {
+    let mut parsed = Vec::new(rt.alloc());
+    for name in names {
+        parsed.push(room_name(rt, name)).expect(rt, "memory");
+    }
+    NewRooms::plan(rt.alloc(), parsed, Limits::full()).expect(rt, "rooms")
 }
 
 fn copied(rt: &(impl Abort + AllocGlobal), bytes: &[u8]) -> Vec<u8> {
@@ -88,11 +98,11 @@ fn frames_of(output: &[u8]) -> &[u8] {
     output
 }
 
-/// What the session sends: the head of its request, then a frame for each message, then a close.
-fn asked_parts(rt: &(impl Abort + AllocGlobal)) -> Vec<Vec<u8>> {
+/// What a session sends: the head of its request, then a frame for each line, then a close.
+fn asked_parts(rt: &(impl Abort + AllocGlobal), lines: &str) -> Vec<Vec<u8>> {
     let mut parts = Vec::new(rt.alloc());
     parts.push(copied(rt, HEAD.as_bytes())).expect(rt, "memory");
-    for words in ASKED.lines() {
+    for words in lines.lines() {
         parts.push(masked(rt, 2, words)).expect(rt, "memory");
     }
     parts.push(copied(rt, CLOSE)).expect(rt, "memory");
@@ -149,17 +159,4 @@ impl Gate for Counting {
     }
 
     fn after_session(&self, _session: u32, _cause: Cause) {}
-}
-
-/// All passes of the sessions that a pool served.
-fn passes_of<P: RoomLedger>(rt: &(impl Abort + AllocGlobal), end: PoolEnd<P>) -> Vec<Pass<P>> {
-    let mut passes = Vec::new(rt.alloc());
-    for list in end.ended {
-        for ended in list {
-            for pass in ended.passes {
-                passes.push(pass).expect(rt, "memory");
-            }
-        }
-    }
-    passes
 }

@@ -3,6 +3,7 @@
 
 mod cause;
 mod gate;
+mod host;
 mod pool;
 mod record;
 mod serve;
@@ -11,6 +12,7 @@ mod streams;
 
 pub use cause::Cause;
 pub use gate::{Gate, Open};
+pub use host::Host;
 pub use pool::{PoolEnd, PoolFault, run_pool};
 pub use serve::{Ended, serve_one};
 pub use session::Session;

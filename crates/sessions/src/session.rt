@@ -8,8 +8,9 @@ ghost use Rattle.sessions.specs.Turns.{is_left, IsAnswer, IsCallOfLast, IsJoinBy
 
 use crate::cause::Cause;
 use crate::gate::Gate;
+use crate::host::Host;
 use op_names::RoomName;
-use room_lock::{CallFault, Joined, Pass, RoomLedger, Rooms};
+use room_lock::{CallFault, Joined, Pass, RoomLedger};
 use std::alloc::Global;
 use std::marker::Model;
 use std::sync::Wait;
@@ -93,55 +94,46 @@ impl<P: RoomLedger> Session<P> {
     /// pass or by a join that gives a new one; that is the one call of the rooms. `NoMemory` where
     /// memory was refused, and then the call may stand, if only the text could not be made; `Torn`
     /// where the last pass is of other rooms. No pass is lost.
-    pub fn message<G: Gate>(
+    pub fn message<R: Wait, G: Gate>(
         &mut self,
-        rt: &impl Wait,
-        alloc: Global,
-        rooms: &Rooms<P>,
+        host: &Host<'_, P, R, G>,
         bytes: &[u8],
-        gate: &G,
     ) -> Result<String, Cause>
         ensures ok { IfOk result (λ text.
-            IsTextOfTurn P.limits rooms.now self.old self.new bytes.now (string_bytes text)) }
-        ensures err { OnErr result (MayStand P.limits rooms.now self.old self.new bytes.now) }
+            IsTextOfTurn P.limits host.now.rooms.now self.old self.new bytes.now (string_bytes text)) }
+        ensures err { OnErr result (MayStand P.limits host.now.rooms.now self.old self.new bytes.now) }
         ensures cause { IfErr result (λ why. (why ≡ cause.NoMemory)
             ⊎ ((why ≡ cause.Torn) × (self.new ≡ self.old))) }
     {
-        let reply = self.answer(rt, alloc, rooms, bytes, gate)?;
-        let text = write_reply(alloc, &reply)?;
+        let reply = self.answer(host, bytes)?;
+        let text = write_reply(host.alloc, &reply)?;
         Ok(text)
     }
 
     /// The reply to a message; on `Err` nothing is changed.
-    fn answer<G: Gate>(
+    fn answer<R: Wait, G: Gate>(
         &mut self,
-        rt: &impl Wait,
-        alloc: Global,
-        rooms: &Rooms<P>,
+        host: &Host<'_, P, R, G>,
         bytes: &[u8],
-        gate: &G,
     ) -> Result<Reply, Cause>
-        ensures ok { IfOk result (IsTurn P.limits rooms.now self.old self.new bytes.now) }
+        ensures ok { IfOk result (IsTurn P.limits host.now.rooms.now self.old self.new bytes.now) }
         ensures err { OnErr result (self.new ≡ self.old) }
         ensures cause { IfErr result (λ why. (why ≡ cause.NoMemory) ⊎ (why ≡ cause.Torn)) }
     {
-        match read_request(alloc, bytes) {
-            Ok(request) => self.ask(rt, alloc, rooms, request, gate),
+        match read_request(host.alloc, bytes) {
+            Ok(request) => self.ask(host, request),
             Err(ReadFault::Bad) => Ok(own_refusal(Refusal::BadMessage)),
             Err(ReadFault::NoMemory) => Err(Cause::NoMemory),
         }
     }
 
     /// The reply to a request; on `Err` nothing is changed.
-    fn ask<G: Gate>(
+    fn ask<R: Wait, G: Gate>(
         &mut self,
-        rt: &impl Wait,
-        alloc: Global,
-        rooms: &Rooms<P>,
+        host: &Host<'_, P, R, G>,
         request: Request,
-        gate: &G,
     ) -> Result<Reply, Cause>
-        ensures ok { IfOk result (IsAnswer P.limits rooms.now self.old self.new request) }
+        ensures ok { IfOk result (IsAnswer P.limits host.now.rooms.now self.old self.new request) }
         ensures err { OnErr result (self.new ≡ self.old) }
         ensures cause { IfErr result (λ why. (why ≡ cause.NoMemory) ⊎ (why ≡ cause.Torn)) }
     {
@@ -149,34 +141,31 @@ impl<P: RoomLedger> Session<P> {
             if request.joined_name().is_some() {
                 return Ok(own_refusal(Refusal::AlreadyJoined));
             }
-            return self.call(rt, alloc, rooms, request, gate);
+            return self.call(host, request);
         }
         match request.joined_name() {
-            Some(name) => self.join(rt, alloc, rooms, name, gate),
+            Some(name) => self.join(host, name),
             None => Ok(own_refusal(Refusal::NotJoined)),
         }
     }
 
     /// Joins the room of this name; on `Err` nothing is changed.
-    fn join<G: Gate>(
+    fn join<R: Wait, G: Gate>(
         &mut self,
-        rt: &impl Wait,
-        alloc: Global,
-        rooms: &Rooms<P>,
+        host: &Host<'_, P, R, G>,
         name: &RoomName,
-        gate: &G,
     ) -> Result<Reply, Cause>
         requires { self.old.inside ≡ false }
-        ensures ok { IfOk result (IsJoinBy P.limits rooms.now name.now self.old self.new) }
+        ensures ok { IfOk result (IsJoinBy P.limits host.now.rooms.now name.now self.old self.new) }
         ensures err { OnErr result (self.new ≡ self.old) }
         ensures cause { IfErr result (λ why. why ≡ cause.NoMemory) }
     {
         if self.passes.reserve(1).is_err() {
             return Err(Cause::NoMemory);
         }
-        gate.before_call(self.number);
-        let joined = rooms.join(rt, alloc, name);
-        gate.after_call(self.number);
+        host.gate.before_call(self.number);
+        let joined = host.rooms.join(host.rt, host.alloc, name);
+        host.gate.after_call(self.number);
         match joined? {
             Joined::Entered(pass, reply) => {
                 self.passes.push_reserved(pass);
@@ -188,13 +177,10 @@ impl<P: RoomLedger> Session<P> {
     }
 
     /// Asks the room by the last pass; on `Err` nothing is changed.
-    fn call<G: Gate>(
+    fn call<R: Wait, G: Gate>(
         &mut self,
-        rt: &impl Wait,
-        alloc: Global,
-        rooms: &Rooms<P>,
+        host: &Host<'_, P, R, G>,
         request: Request,
-        gate: &G,
     ) -> Result<Reply, Cause>
         requires { self.old.inside ≡ true }
         ensures ok { IfOk result (IsCallOfLast P.limits self.old self.new request) }
@@ -203,9 +189,9 @@ impl<P: RoomLedger> Session<P> {
     {
         let last = self.passes.len() - 1;
         let pass = &mut self.passes[last];
-        gate.before_call(self.number);
-        let reply = rooms.call(rt, alloc, pass, request);
-        gate.after_call(self.number);
+        host.gate.before_call(self.number);
+        let reply = host.rooms.call(host.rt, host.alloc, pass, request);
+        host.gate.after_call(self.number);
         match reply {
             Ok(reply) => {
                 self.inside = !is_left(&reply);

@@ -9,14 +9,14 @@ use Rattle.std.specs.declared.cmp.Ordering.{Ordering}
 use Rattle.std.specs.declared.cmp.Ordering.TheVariants.{Less, Equal, Greater}
 use Rattle.std.proofs.lemmas.Bool.{true≢false, false_from_ne_true, and_parts, cases_lt, eqb-true}
 use Rattle.std.proofs.lemmas.Cmp.{tied_itself}
+use Rattle.std.proofs.lemmas.List.{nil_from_length}
 use Rattle.std.proofs.lemmas.List.Sorted.{searchable_from_sorted}
 use Rattle.op_names.specs.Names.{Name, name_cmp, same_name}
 use Rattle.op_names.specs.VersionIds.{names_rise}
 use Rattle.rules.specs.Groups.{is_named}
 use Rattle.rules.proofs.Counted.{same_name-true, same_name-refl}
 use Rattle.rules.proofs.Lists.{In, In-from_Contains, Contains-from_In, any_from, any_back}
-use Rattle.rules.proofs.Orders.{name_cmp_total}
-use Rattle.rules.proofs.Names.{tied}
+use Rattle.rules.proofs.Orders.{name_cmp_total, tied}
 
 turned : (o : Ordering) → is_lt o ≡ true → is_lt (ordering_reverse o) ≡ false
 turned Less e = refl
@@ -53,8 +53,7 @@ named xs x (Err i) up within h = sym (false_from_ne_true (list_any (same_name x)
     ]))
 
 pub empty_if : (xs : List Name) → eqb (length xs) 0 ≡ true → xs ≡ []
-empty_if [] e = refl
-empty_if (x ∷ xs) e = let l : length (x ∷ xs) ≡ 0 = eqb-true (length (x ∷ xs)) 0 e in absurd (omega (arith, l))
+empty_if xs e = nil_from_length xs (eqb-true (length xs) 0 e)
 
 -- no place has one of no names
 pub none_named : (name : ℕ → Name) (id : List Name) (s made : List ℕ) → made ≡ [] → id ≡ [] → made ≡ filter (is_named name id) s

@@ -9,7 +9,7 @@ use Rattle.serde_json.specs.Find.{as_str, of_integer}
 use Rattle.serde_json.specs.View.{items_of}
 use Rattle.wire.specs.Form.{list_form, whole_form, IsNumber}
 use Rattle.std.proofs.lemmas.Slice.Eq.{bytes_eq-Decides}
-use Rattle.wire.specs.Reading.{◌>>=◌, listed, items_in, passing, all_in, list_in, two_at, two_in, natural_in, whole_in, integer_at, integer_in, end_at, field_at, worded_at, worded_in, Words, by_word, message_in}
+use Rattle.wire.specs.Reading.{◌>>=◌, listed, items_in, passing, all_in, list_in, two_at, two_in, natural_in, whole_in, integer_at, integer_in, end_at, field_at, worded_at, worded_in, Words, WordReader, no_others, by_word, message_in}
 
 pub record IsExact (X : Type 0) (read : Data → Option X) (form : X → Data) (Fits : X → Type 0) : Type 0 where
   pub takes : (d : Data) (x : X) → read d ≡ Some x → Fits x × (d ≡ form x)
@@ -238,10 +238,15 @@ first_word true word first others ds x same h k e =
     (a.0, ap (λ (w : List ℕ). list_form (string w ∷ ds)) ((bytes_eq-Decides word first.0).0 same) ∙ a.1)
 first_word false word first others ds x same h k e = k e
 
-words_take : {X : Type 0} (form : X → Data) (Fits : X → Type 0) (words : Words X) → AllByRecursion (IsWordOf form Fits) words → (word : List ℕ) (ds : List Data) (x : X) → by_word words word ds ≡ Some x → Fits x × (list_form (string word ∷ ds) ≡ form x)
-words_take form Fits [] h word ds x e = absurd cc
-words_take form Fits (first ∷ others) h word ds x e =
-    first_word (bytes_eq word first.0) word first (by_word others word ds) ds x refl h.0 (words_take form Fits others h.1 word ds x) e
+-- the words that are listed, and then the others
+pub words_take : {X : Type 0} (form : X → Data) (Fits : X → Type 0) (words : Words X) (others : WordReader X) → AllByRecursion (IsWordOf form Fits) words → ((word : List ℕ) → IsWordOf form Fits (word, others word))
+    → (word : List ℕ) (ds : List Data) (x : X) → by_word words others word ds ≡ Some x → Fits x × (list_form (string word ∷ ds) ≡ form x)
+words_take form Fits [] others h k word ds x e = (k word).takes ds x e
+words_take form Fits (first ∷ words) others h k word ds x e =
+    first_word (bytes_eq word first.0) word first (by_word words others word ds) ds x refl h.0 (words_take form Fits words others h.1 k word ds x) e
+
+pub no_other_word : {X : Type 0} {form : X → Data} {Fits : X → Type 0} (word : List ℕ) → IsWordOf form Fits (word, no_others word)
+no_other_word word = record { takes = λ ds x e. absurd cc }
 
 worded_take : (ds : List Data) (p : List ℕ × List Data) → worded_at ds ≡ Some p → list_form ds ≡ list_form (string p.0 ∷ p.1)
 worded_take [] p e = absurd cc
@@ -250,17 +255,24 @@ worded_take (d ∷ ds) p e =
     subst (λ (q : List ℕ × List Data). list_form (d ∷ ds) ≡ list_form (string q.0 ∷ q.1)) (some_is (a.0, ds) p a.2)
     (ap (λ (x : Data). list_form (x ∷ ds)) (exact_text.takes d a.0 a.1).1)
 
-pub message_takes : {X : Type 0} (form : X → Data) (Fits : X → Type 0) (words : Words X) → AllByRecursion (IsWordOf form Fits) words → (d : Data) (x : X) → message_in words d ≡ Some x → Fits x × (d ≡ form x)
+pub message_takes : {X : Type 0} (form : X → Data) (Fits : X → Type 0) (words : Words X) (others : WordReader X) → AllByRecursion (IsWordOf form Fits) words → ((word : List ℕ) → IsWordOf form Fits (word, others word))
+    → (d : Data) (x : X) → message_in words others d ≡ Some x → Fits x × (d ≡ form x)
 unfolding worded_in
-message_takes form Fits words h d x e =
-    let a = bind_some (items_in d >>= worded_at) (λ p. by_word words p.0 p.1) x e in
+message_takes form Fits words others h k d x e =
+    let a = bind_some (items_in d >>= worded_at) (λ p. by_word words others p.0 p.1) x e in
     let b = bind_some (items_in d) worded_at a.0 a.1 in
-    let c = words_take form Fits words h a.0.0 a.0.1 x a.2 in
+    let c = words_take form Fits words others h k a.0.0 a.0.1 x a.2 in
     (c.0, items_take d b.0 b.1 ∙ worded_take b.0 a.0 b.2 ∙ c.1)
 
-pub message_again : {X : Type 0} (words : Words X) (word : List ℕ) (ds : List Data) → message_in words (list_form (string word ∷ ds)) ≡ by_word words word ds
+pub message_again : {X : Type 0} (words : Words X) (others : WordReader X) (word : List ℕ) (ds : List Data) → message_in words others (list_form (string word ∷ ds)) ≡ by_word words others word ds
 unfolding worded_in
-message_again words word ds = rw (items_again (string word ∷ ds)) refl
+message_again words others word ds = rw (items_again (string word ∷ ds)) refl
+
+-- one message has one word and the same fields
+pub same_message : (v w : List ℕ) (ds es : List Data) → list_form (string v ∷ ds) ≡ list_form (string w ∷ es) → (v ≡ w) × (ds ≡ es)
+same_message v w ds es e =
+    let same : items_of ds ≡ items_of es = cc in
+    (cc, sym (listed-items_of ds) ∙ ap listed same ∙ listed-items_of es)
 
 -- fields that are read exactly, and the value made of them
 pub word_of_fields : {X Y : Type 0} {form : X → Data} {Fits : X → Type 0} {read : List Data → Option Y} {forms : Y → List Data} {Gits : Y → Type 0} → AreExact Y read forms Gits

@@ -12,16 +12,6 @@ refused (Err NoMemory) e part whole is fails none = tt
 refused (Err Bad) Bad part whole is fails none = none fails
 refused (Err Bad) NoMemory part whole is fails none = absurd cc
 
-pub six_items : {X : Type 0} (xs : List X) (a b c d e f : X) → 6 ≤ length xs → length xs < 7 → a ≡ get_or xs 0 a → b ≡ get_or xs 1 b → c ≡ get_or xs 2 c → d ≡ get_or xs 3 d → e ≡ get_or xs 4 e → f ≡ get_or xs 5 f → xs ≡ a ∷ b ∷ c ∷ d ∷ e ∷ f ∷ []
-six_items [] a b c d e f least below p q r s t u = absurd (omega arith)
-six_items (_ ∷ []) a b c d e f least below p q r s t u = absurd (omega arith)
-six_items (_ ∷ _ ∷ []) a b c d e f least below p q r s t u = absurd (omega arith)
-six_items (_ ∷ _ ∷ _ ∷ []) a b c d e f least below p q r s t u = absurd (omega arith)
-six_items (_ ∷ _ ∷ _ ∷ _ ∷ []) a b c d e f least below p q r s t u = absurd (omega arith)
-six_items (_ ∷ _ ∷ _ ∷ _ ∷ _ ∷ []) a b c d e f least below p q r s t u = absurd (omega arith)
-six_items (g ∷ h ∷ i ∷ j ∷ k ∷ l ∷ []) a b c d e f least below p q r s t u = cc
-six_items (_ ∷ _ ∷ _ ∷ _ ∷ _ ∷ _ ∷ _ ∷ xs) a b c d e f least below p q r s t u = absurd (omega arith)
-
 pub four_items : {X : Type 0} (xs : List X) (a b c d : X) → 4 ≤ length xs → length xs < 5 → a ≡ get_or xs 0 a → b ≡ get_or xs 1 b → c ≡ get_or xs 2 c → d ≡ get_or xs 3 d → xs ≡ a ∷ b ∷ c ∷ d ∷ []
 four_items [] a b c d least below p q r s = absurd (omega arith)
 four_items (_ ∷ []) a b c d least below p q r s = absurd (omega arith)

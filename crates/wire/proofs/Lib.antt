@@ -3,6 +3,7 @@ pub mod Maps
 pub mod Fields
 pub mod Exact
 pub mod PartForms
+pub mod Bodies
 pub mod Requests
 pub mod Entries
 pub mod Replies

@@ -17,10 +17,10 @@ use Rattle.wire.specs.declared.reply.Reply.{Reply}
 use Rattle.wire.specs.declared.reply.Reply.TheVariants.{Joined, Made, Taken, Versions, Objects, Entries, Left, No}
 use Rattle.wire.specs.Rising.{rise, attr_before, id_before, version_before}
 use Rattle.wire.specs.Form.{list_form, whole_form, name_form, names_form, attrs_form, version_form, object_form, entry_form, reply_form, AreIds, AreShown, IsVersion, AreVersions, IsObject, IsEntry, IsReply}
-use Rattle.wire.specs.Reading.{field_at, end_at, whole_in, natural_in, list_in, by_word}
+use Rattle.wire.specs.Reading.{field_at, end_at, whole_in, natural_in, list_in, no_others, by_word}
 use Rattle.wire.specs.Entries.{entry_of}
 use Rattle.wire.specs.Replies.{ids_in, shown_in, version_in, versions_in, object_in, joined_at, made_at, taken_at, versions_at, objects_at, entries_at, left_at, refusal_with, refusal_fields, no_at, reply_words, reply_of}
-use Rattle.wire.proofs.Exact.{IsExact, AreExact, bind_some, some_is, exact_list, exact_passing, exact_two, exact_made, exact_text, exact_whole, exact_end, exact_field, IsWordOf, word_of_fields, message_takes, message_again}
+use Rattle.wire.proofs.Exact.{IsExact, AreExact, bind_some, some_is, exact_list, exact_passing, exact_two, exact_made, exact_text, exact_whole, exact_end, exact_field, IsWordOf, word_of_fields, no_other_word, message_takes, message_again}
 use Rattle.wire.proofs.PartForms.{exact_site, exact_from, exact_at, exact_name, exact_id, exact_kind, exact_attr}
 use Rattle.wire.proofs.Entries.{exact_entry}
 
@@ -150,9 +150,9 @@ no_word = word_of_fields (exact_field exact_at exact_refusal) (codes "no") (λ p
 -- ---- back
 
 -- the fields of a word, read again
-again_by : (word : List ℕ) (ds : List Data) (r : Reply) → by_word reply_words word ds ≡ Some r → reply_of (list_form (string word ∷ ds)) ≡ Some r
+again_by : (word : List ℕ) (ds : List Data) (r : Reply) → by_word reply_words no_others word ds ≡ Some r → reply_of (list_form (string word ∷ ds)) ≡ Some r
 unfolding reply_of
-again_by word ds r e = message_again reply_words word ds ∙ e
+again_by word ds r e = message_again reply_words no_others word ds ∙ e
 
 reply_again : (r : Reply) → IsReply r → reply_of (reply_form r) ≡ Some r
 unfolding joined_at made_at taken_at versions_at objects_at entries_at left_at no_at
@@ -176,6 +176,6 @@ reply_again (No at refusal) fit =
 pub exact_reply : IsExact Reply reply_of reply_form IsReply
 unfolding reply_of
 exact_reply = record {
-  takes = message_takes reply_form IsReply reply_words (joined_word, (made_word, (taken_word, (versions_word, (objects_word, (entries_word, (left_word, (no_word, tt))))))));
+  takes = message_takes reply_form IsReply reply_words no_others (joined_word, (made_word, (taken_word, (versions_word, (objects_word, (entries_word, (left_word, (no_word, tt)))))))) no_other_word;
   again = reply_again;
 }

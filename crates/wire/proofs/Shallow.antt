@@ -6,18 +6,18 @@ use Rattle.serde_json.specs.Find.{of_integer}
 use Rattle.serde_json.specs.View.{items_of}
 use Rattle.op_names.specs.declared.value.Value.{Value}
 use Rattle.op_names.specs.declared.value.Value.TheVariants.{Number, Text}
+use Rattle.state_vector.specs.Vectors.{Vector}
 use Rattle.rules.specs.AttrLists.{Attr}
 use Rattle.wire.specs.declared.request.Request.{Request}
-use Rattle.wire.specs.declared.request.Request.TheVariants.{Join, New, Set, Show, Pull, Leave, List as ListObjects}
+use Rattle.wire.specs.declared.request.Request.TheVariants.{Join, Change, Show, Pull, Leave, List as ListObjects}
 use Rattle.rules.specs.declared.history.Entry.{Entry}
 use Rattle.rules.specs.declared.history.Entry.TheVariants.{Operation, Join as JoinOf}
-use Rattle.rules.specs.declared.history.Op.{Op}
 use Rattle.rules.specs.declared.history.Body.{Body}
-use Rattle.rules.specs.declared.history.Body.TheVariants as entry
+use Rattle.rules.specs.declared.history.Body.TheVariants.{New, Set}
 use Rattle.rules.specs.declared.version.Version.{Version}
 use Rattle.wire.specs.declared.reply.Reply.{Reply}
 use Rattle.wire.specs.declared.reply.Reply.TheVariants.{Joined, Made, Taken, Versions, Objects, Entries, Left, No}
-use Rattle.wire.specs.Form.{list_form, whole_form, name_form, names_form, value_form, attr_form, attrs_form, version_form, object_form, operation_form, entry_form, request_form, reply_form}
+use Rattle.wire.specs.Form.{list_form, whole_form, name_form, names_form, value_form, attr_form, attrs_form, version_form, object_form, body_word, body_fields, operation_form, entry_form, request_form, reply_form}
 use Rattle.rules.specs.Refusals.{code_of, word_of}
 
 abbrev IsShallow : ℕ → Data → Type 0
@@ -69,24 +69,20 @@ shallow_object o = shallow_list 2 (name_form o.0 ∷ string o.1 ∷ []) (shallow
 shallow_fields : (n : ℕ) (s : List ℕ) (ds : List Data) → AllByRecursion (IsShallow n) ds → IsShallow (suc n) (list_form (string s ∷ ds))
 shallow_fields n s ds h = shallow_list n (string s ∷ ds) (shallow_text n s, h)
 
-shallow_operation : (o : Op) (b : Body) → IsShallow 3 (operation_form o b)
-shallow_operation o (entry.New kind attrs) =
-    shallow_fields 2 (codes "new") (name_form o.name ∷ names_form o.seen ∷ string kind ∷ attrs_form attrs ∷ [])
-    (shallow_name 1 o.name, (shallow_names 0 o.seen, (shallow_text 2 kind, (shallow_attrs 0 attrs, tt))))
-shallow_operation o (entry.Set name version key value) =
-    shallow_fields 2 (codes "set") (name_form o.name ∷ names_form o.seen ∷ name_form name ∷ names_form version ∷ string key ∷ value_form value ∷ [])
-    (shallow_name 1 o.name, (shallow_names 0 o.seen, (shallow_name 1 name, (shallow_names 0 version, (shallow_text 2 key, (shallow_value 2 value, tt))))))
+shallow_body : (b : Body) → AllByRecursion (IsShallow 2) (body_fields b)
+shallow_body (New kind attrs) = (shallow_text 2 kind, (shallow_attrs 0 attrs, tt))
+shallow_body (Set name version key value) = (shallow_name 1 name, (shallow_names 0 version, (shallow_text 2 key, (shallow_value 2 value, tt))))
+
+shallow_operation : (head : Data) (seen : Vector) (b : Body) → IsShallow 2 head → IsShallow 3 (operation_form head seen b)
+shallow_operation head seen b low = shallow_fields 2 (body_word b) (head ∷ names_form seen ∷ body_fields b) (low, (shallow_names 0 seen, shallow_body b))
 
 pub shallow_entry : (e : Entry) → IsShallow 3 (entry_form e)
 shallow_entry (JoinOf site) = shallow_fields 2 (codes "join") (whole_form site ∷ []) (shallow_whole 2 site, tt)
-shallow_entry (Operation o) = shallow_operation o o.body
+shallow_entry (Operation o) = shallow_operation (name_form o.name) o.seen o.body (shallow_name 1 o.name)
 
 pub shallow_request : (q : Request) → IsShallow 3 (request_form q)
 shallow_request (Join room) = shallow_fields 2 (codes "join") (string room ∷ []) (shallow_text 2 room, tt)
-shallow_request (New seq seen kind attrs) = shallow_fields 2 (codes "new") (whole_form seq ∷ names_form seen ∷ string kind ∷ attrs_form attrs ∷ []) (shallow_whole 2 seq, (shallow_names 0 seen, (shallow_text 2 kind, (shallow_attrs 0 attrs, tt))))
-shallow_request (Set seq seen name version key value) =
-    shallow_fields 2 (codes "set") (whole_form seq ∷ names_form seen ∷ name_form name ∷ names_form version ∷ string key ∷ value_form value ∷ [])
-    (shallow_whole 2 seq, (shallow_names 0 seen, (shallow_name 1 name, (shallow_names 0 version, (shallow_text 2 key, (shallow_value 2 value, tt))))))
+shallow_request (Change seq seen body) = shallow_operation (whole_form seq) seen body (shallow_whole 2 seq)
 shallow_request (ListObjects from) = shallow_fields 2 (codes "list") (whole_form from ∷ []) (shallow_whole 2 from, tt)
 shallow_request (Pull from) = shallow_fields 2 (codes "pull") (whole_form from ∷ []) (shallow_whole 2 from, tt)
 shallow_request (Show name) = shallow_fields 2 (codes "show") (name_form name ∷ []) (shallow_name 1 name, tt)

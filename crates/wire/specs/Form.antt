@@ -10,17 +10,16 @@ use Rattle.op_names.specs.VersionIds.{names_rise}
 use Rattle.op_names.specs.Texts.{is_room_name, is_key, is_kind, is_value_text}
 use Rattle.op_names.specs.declared.value.Value.{Value}
 use Rattle.op_names.specs.declared.value.Value.TheVariants.{Number, Text}
-use Rattle.state_vector.specs.Vectors.{is_vector}
+use Rattle.state_vector.specs.Vectors.{Vector, is_vector}
 use Rattle.rules.specs.AttrLists.{Attr, are_attrs}
 use Rattle.rules.specs.declared.limits.TheConstants.Limits.{MAX_ENTRIES}
 use Rattle.wire.specs.declared.request.TheConstants.{MAX_FROM, MAX_REQUEST_LEN}
 use Rattle.wire.specs.declared.request.Request.{Request}
-use Rattle.wire.specs.declared.request.Request.TheVariants.{Join, New, Set, Show, Pull, Leave, List as ListObjects}
+use Rattle.wire.specs.declared.request.Request.TheVariants.{Join, Change, Show, Pull, Leave, List as ListObjects}
 use Rattle.rules.specs.declared.history.Entry.{Entry}
 use Rattle.rules.specs.declared.history.Entry.TheVariants.{Operation, Join as JoinOf}
-use Rattle.rules.specs.declared.history.Op.{Op}
 use Rattle.rules.specs.declared.history.Body.{Body}
-use Rattle.rules.specs.declared.history.Body.TheVariants as entry
+use Rattle.rules.specs.declared.history.Body.TheVariants.{New, Set}
 use Rattle.rules.specs.declared.version.Version.{Version}
 use Rattle.rules.specs.Refusals.{code_of, word_of}
 use Rattle.wire.specs.Rising.{rise, attr_before, id_before, version_before}
@@ -82,40 +81,41 @@ IsAttr p = (is_key p.0 ≡ true) × IsValue p.1
 abbrev pub AreAttrs : List Attr → Type 0
 AreAttrs attrs = AllByRecursion IsAttr attrs × (are_attrs attrs ≡ true)
 
--- the word that a request begins with
-abbrev pub request_word : Request → List ℕ
-request_word (Join room) = codes "join"
-request_word (New seq seen kind attrs) = codes "new"
-request_word (Set seq seen name version key value) = codes "set"
-request_word (ListObjects from) = codes "list"
-request_word (Pull from) = codes "pull"
-request_word (Show name) = codes "show"
-request_word Leave = codes "leave"
+-- the word that an operation begins with
+abbrev pub body_word : Body → List ℕ
+body_word (New kind attrs) = codes "new"
+body_word (Set name version key value) = codes "set"
 
--- what follows the word
-abbrev pub request_fields : Request → List Data
-request_fields (Join room) = string room ∷ []
-request_fields (New seq seen kind attrs) =
-    whole_form seq ∷ names_form seen ∷ string kind ∷ attrs_form attrs ∷ []
-request_fields (Set seq seen name version key value) =
-    whole_form seq ∷ names_form seen ∷ name_form name ∷ names_form version ∷ string key ∷ value_form value ∷ []
-request_fields (ListObjects from) = whole_form from ∷ []
-request_fields (Pull from) = whole_form from ∷ []
-request_fields (Show name) = name_form name ∷ []
-request_fields Leave = []
+-- what an operation does
+abbrev pub body_fields : Body → List Data
+body_fields (New kind attrs) = string kind ∷ attrs_form attrs ∷ []
+body_fields (Set name version key value) =
+    name_form name ∷ names_form version ∷ string key ∷ value_form value ∷ []
+
+-- what an operation that is read keeps to
+abbrev pub IsBody : Body → Type 0
+IsBody (New kind attrs) = (is_kind kind ≡ true) × AreAttrs attrs
+IsBody (Set name version key value) =
+    (is_op_name name ≡ true) × IsId version × (is_key key ≡ true) × IsValue value
+
+-- an operation: its name or its number, what its author had seen, and what it does
+abbrev pub operation_form : Data → Vector → Body → Data
+operation_form head seen body =
+    list_form (string (body_word body) ∷ head ∷ names_form seen ∷ body_fields body)
 
 -- the form of a request: a list of its word and its fields
 abbrev pub request_form : Request → Data
-request_form q = list_form (string (request_word q) ∷ request_fields q)
+request_form (Join room) = list_form (string (codes "join") ∷ string room ∷ [])
+request_form (Change seq seen body) = operation_form (whole_form seq) seen body
+request_form (Show name) = list_form (string (codes "show") ∷ name_form name ∷ [])
+request_form (ListObjects from) = list_form (string (codes "list") ∷ whole_form from ∷ [])
+request_form (Pull from) = list_form (string (codes "pull") ∷ whole_form from ∷ [])
+request_form Leave = list_form (string (codes "leave") ∷ [])
 
 -- what a request that is read keeps to
 abbrev pub IsRequest : Request → Type 0
 IsRequest (Join room) = is_room_name room ≡ true
-IsRequest (New seq seen kind attrs) =
-    (is_seq seq ≡ true) × (is_vector seen ≡ true) × (is_kind kind ≡ true) × AreAttrs attrs
-IsRequest (Set seq seen name version key value) =
-    (is_seq seq ≡ true) × (is_vector seen ≡ true) × (is_op_name name ≡ true) × IsId version
-    × (is_key key ≡ true) × IsValue value
+IsRequest (Change seq seen body) = (is_seq seq ≡ true) × (is_vector seen ≡ true) × IsBody body
 IsRequest (Show name) = is_op_name name ≡ true
 IsRequest (ListObjects from) = is_from from ≡ true
 IsRequest (Pull from) = is_from from ≡ true
@@ -149,24 +149,10 @@ version_form v = list_form (names_form v.id ∷ attrs_form v.attrs ∷ [])
 abbrev pub object_form : (ℕ × ℕ) × List ℕ → Data
 object_form o = list_form (name_form o.0 ∷ string o.1 ∷ [])
 
--- an operation: its name, what its author had seen, and what it does
-abbrev pub operation_form : Op → Body → Data
-operation_form o (entry.New kind attrs) =
-    list_form (string (codes "new") ∷ name_form o.name ∷ names_form o.seen ∷ string kind ∷ attrs_form attrs ∷ [])
-operation_form o (entry.Set name version key value) =
-    list_form (string (codes "set") ∷ name_form o.name ∷ names_form o.seen
-    ∷ name_form name ∷ names_form version ∷ string key ∷ value_form value ∷ [])
-
 -- the form of a record's entry
 abbrev pub entry_form : Entry → Data
 entry_form (JoinOf site) = list_form (string (codes "join") ∷ whole_form site ∷ [])
-entry_form (Operation o) = operation_form o o.body
-
--- what an operation that is read keeps to
-abbrev pub IsBody : Body → Type 0
-IsBody (entry.New kind attrs) = (is_kind kind ≡ true) × AreAttrs attrs
-IsBody (entry.Set name version key value) =
-    (is_op_name name ≡ true) × IsId version × (is_key key ≡ true) × IsValue value
+entry_form (Operation o) = operation_form (name_form o.name) o.seen o.body
 
 -- an entry in range
 abbrev pub IsEntry : Entry → Type 0

@@ -2,6 +2,7 @@ pub mod Lines
 pub mod Form
 pub mod Rising
 pub mod Reading
+pub mod Bodies
 pub mod Requests
 pub mod Joining
 pub mod Entries

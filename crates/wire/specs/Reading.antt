@@ -155,15 +155,24 @@ worded_at (first ∷ rest) = do
 unfoldable pub worded_in : Data → Option (List ℕ × List Data)
 worded_in d = items_in d >>= worded_at
 
+-- by a word, what is read of what follows it
+abbrev pub WordReader : Type 0 → Type 0
+WordReader X = List ℕ → List Data → Option X
+
 -- words, each with the reader of what follows it
 abbrev pub Words : Type 0 → Type 0
 Words X = List (List ℕ × (List Data → Option X))
 
--- by the word, what follows it
-abbrev pub by_word : {X : Type 0} → Words X → List ℕ → List Data → Option X
-by_word [] word rest = None
-by_word (first ∷ others) word rest = if bytes_eq word first.0 then first.1 rest else by_word others word rest
+-- nothing is read after a word
+abbrev pub no_others : {X : Type 0} → WordReader X
+no_others word rest = None
 
--- a list of one of the words and what follows it
-abbrev pub message_in : {X : Type 0} → Words X → Data → Option X
-message_in words d = worded_in d >>= λ p. by_word words p.0 p.1
+-- by the word, what follows it; after another word it is read as others say
+abbrev pub by_word : {X : Type 0} → Words X → WordReader X → WordReader X
+by_word [] others word rest = others word rest
+by_word (first ∷ words) others word rest =
+    if bytes_eq word first.0 then first.1 rest else by_word words others word rest
+
+-- a list of a word and what follows it, by the word
+abbrev pub message_in : {X : Type 0} → Words X → WordReader X → Data → Option X
+message_in words others d = worded_in d >>= λ p. by_word words others p.0 p.1

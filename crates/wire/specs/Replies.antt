@@ -12,7 +12,7 @@ use Rattle.wire.specs.declared.request.TheConstants.{MAX_FROM}
 use Rattle.wire.specs.declared.reply.Reply.{Reply}
 use Rattle.wire.specs.declared.reply.Reply.TheVariants.{Joined, Made, Taken, Versions, Objects, Entries, Left, No}
 use Rattle.wire.specs.Rising.{rise, attr_before, id_before, version_before}
-use Rattle.wire.specs.Reading.{◌>>=◌, passing, list_in, two_in, end_at, field_at, whole_in, name_in, id_in, kind_in, attr_in, Words, message_in}
+use Rattle.wire.specs.Reading.{◌>>=◌, passing, list_in, two_in, end_at, field_at, whole_in, name_in, id_in, kind_in, attr_in, Words, no_others, message_in}
 use Rattle.wire.specs.Entries.{entry_of}
 
 -- a place in the record, or a number of entries or objects
@@ -92,4 +92,4 @@ reply_words =
 
 -- the reply whose form a JSON value is
 unfoldable pub reply_of : Data → Option Reply
-reply_of = message_in reply_words
+reply_of = message_in reply_words no_others

@@ -4,24 +4,17 @@ use Rattle.serde_json.specs.Data.{Data}
 use Rattle.op_names.specs.declared.op_name.TheConstants.{MAX_SEQ}
 use Rattle.wire.specs.declared.request.TheConstants.{MAX_FROM}
 use Rattle.wire.specs.declared.request.Request.{Request}
-use Rattle.wire.specs.declared.request.Request.TheVariants.{Join, New, Set, Show, Pull, Leave, List as ListObjects}
-use Rattle.wire.specs.Reading.{◌>>=◌, end_at, field_at, whole_in, room_in, seen_in, kind_in, attrs_in, name_in, id_in, key_in, value_in, Words, message_in}
+use Rattle.wire.specs.declared.request.Request.TheVariants.{Join, Change, Show, Pull, Leave, List as ListObjects}
+use Rattle.wire.specs.Reading.{◌>>=◌, end_at, field_at, whole_in, room_in, name_in, Words, WordReader, message_in}
+use Rattle.wire.specs.Bodies.{operation_at}
 
 -- what follows "join"
 unfoldable pub join_at : List Data → Option Request
 join_at ds = field_at room_in end_at ds >>= λ p. Some (Join p.0)
 
--- what follows "new"
-unfoldable pub new_at : List Data → Option Request
-new_at ds =
-    field_at (whole_in 1 MAX_SEQ) (field_at seen_in (field_at kind_in (field_at attrs_in end_at))) ds
-    >>= λ p. Some (New p.0 p.1.0 p.1.1.0 p.1.1.1.0)
-
--- what follows "set"
-unfoldable pub set_at : List Data → Option Request
-set_at ds =
-    field_at (whole_in 1 MAX_SEQ) (field_at seen_in (field_at name_in (field_at id_in (field_at key_in (field_at value_in end_at))))) ds
-    >>= λ p. Some (Set p.0 p.1.0 p.1.1.0 p.1.1.1.0 p.1.1.1.1.0 p.1.1.1.1.1.0)
+-- what follows the word of an operation
+unfoldable pub change_at : WordReader Request
+change_at word ds = operation_at (whole_in 1 MAX_SEQ) word ds >>= λ p. Some (Change p.0 p.1.0 p.1.1)
 
 -- what follows "show"
 unfoldable pub show_at : List Data → Option Request
@@ -41,9 +34,9 @@ leave_at ds = end_at ds >>= λ _. Some Leave
 
 abbrev pub request_words : Words Request
 request_words =
-    (codes "join", join_at) ∷ (codes "new", new_at) ∷ (codes "set", set_at) ∷ (codes "show", show_at)
-    ∷ (codes "list", list_at) ∷ (codes "pull", pull_at) ∷ (codes "leave", leave_at) ∷ []
+    (codes "join", join_at) ∷ (codes "show", show_at) ∷ (codes "list", list_at) ∷ (codes "pull", pull_at)
+    ∷ (codes "leave", leave_at) ∷ []
 
 -- the request whose form a JSON value is
 unfoldable pub request_of : Data → Option Request
-request_of = message_in request_words
+request_of = message_in request_words change_at

@@ -1,5 +1,6 @@
 //! Requests, replies and entries from JSON.
 
+mod body;
 mod entry;
 mod part;
 mod reply;

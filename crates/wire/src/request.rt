@@ -2,8 +2,8 @@
 
 ghost use Rattle.std.specs.Prelude.{◌≡◌, option_map, IfOk};
 
-use op_names::{Key, Kind, NoMemory, OpName, RoomName, Value, VersionId};
-use rules::Attrs;
+use op_names::{NoMemory, OpName, RoomName};
+use rules::Body;
 use state_vector::StateVector;
 use std::alloc::Global;
 
@@ -20,21 +20,11 @@ pub enum Request {
     Join {
         room: RoomName,
     },
-    /// To create an object, as the site's operation of this number.
-    New {
+    /// To add an operation, as the site's of this number.
+    Change {
         seq: u32,
         seen: StateVector,
-        kind: Kind,
-        attrs: Attrs,
-    },
-    /// To give a key of an object a value, from a version that the site has seen.
-    Set {
-        seq: u32,
-        seen: StateVector,
-        object: OpName,
-        version: VersionId,
-        key: Key,
-        value: Value,
+        body: Body,
     },
     /// The versions of an object.
     Show {
@@ -61,8 +51,7 @@ impl Request {
     {
         match self {
             Request::Join { room } => Some(room),
-            Request::New { .. } => None,
-            Request::Set { .. } => None,
+            Request::Change { .. } => None,
             Request::Show { .. } => None,
             Request::List { .. } => None,
             Request::Pull { .. } => None,
@@ -77,31 +66,10 @@ impl Request {
             Request::Join { room } => Ok(Request::Join {
                 room: room.copy(alloc)?,
             }),
-            Request::New {
-                seq,
-                seen,
-                kind,
-                attrs,
-            } => Ok(Request::New {
+            Request::Change { seq, seen, body } => Ok(Request::Change {
                 seq: *seq,
                 seen: seen.copy(alloc)?,
-                kind: kind.copy(alloc)?,
-                attrs: attrs.copy(alloc)?,
-            }),
-            Request::Set {
-                seq,
-                seen,
-                object,
-                version,
-                key,
-                value,
-            } => Ok(Request::Set {
-                seq: *seq,
-                seen: seen.copy(alloc)?,
-                object: *object,
-                version: version.copy(alloc)?,
-                key: key.copy(alloc)?,
-                value: value.copy(alloc)?,
+                body: body.copy(alloc)?,
             }),
             Request::Show { object } => Ok(Request::Show { object: *object }),
             Request::List { from } => Ok(Request::List { from: *from }),

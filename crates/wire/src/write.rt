@@ -1,6 +1,7 @@
 //! Requests, replies and entries as text.
 
 mod entry;
+mod operation;
 mod part;
 mod reply;
 mod request;

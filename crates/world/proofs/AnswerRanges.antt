@@ -1,5 +1,5 @@
 -- A room whose entries are in range answers requests in range with replies in range, and stays so.
-use Rattle.std.proofs.Common.{◌≡◌, ◌+◌, ◌≤◌, ℕ, Bool, true, false, not, cond, eqb, leb, ltb, List, [], ◌∷◌, ◌++◌, append_assoc, append-nil, length, map, Option, Some, None, IfSome, Result, Ok, Err, OnOk, OnErr, refl, sym, ap, ◌∙◌, subst, ◌&&◌, arith}
+use Rattle.std.proofs.Common.{◌≡◌, ◌+◌, ◌≤◌, ℕ, Bool, true, false, not, cond, eqb, leb, ltb, List, [], ◌∷◌, ◌++◌, length, Option, Some, None, IfSome, Result, Ok, Err, OnOk, OnErr, refl, sym, ap, ◌∙◌, subst, ◌&&◌, arith}
 use Rattle.std.specs.Prelude.{is_none}
 use Rattle.std.specs.List.{AllByRecursion}
 use Rattle.std.proofs.lemmas.Bool.{and_from, and_parts, eq-eqb, le-leb, leb-true}
@@ -10,17 +10,14 @@ use Rattle.op_names.specs.Texts.{Bytes}
 use Rattle.rules.specs.declared.history.Op.{Op}
 use Rattle.rules.specs.declared.history.Entry.{Entry}
 use Rattle.rules.specs.declared.history.Entry.TheVariants.{Join, Operation}
-use Rattle.rules.specs.declared.history.Body.TheVariants as body
 use Rattle.rules.specs.declared.refusal.Refusal.{Refusal}
 use Rattle.rules.specs.declared.refusal.Refusal.TheVariants.{NotJoined, TooFar}
-use Rattle.rules.specs.declared.version.Version.{Version}
 use Rattle.rules.specs.declared.limits.LimitValues.{LimitValues}
 use Rattle.rules.specs.Bodies.{is_set_body, kind_in}
 use Rattle.rules.specs.Operations.{IsHistory, creation_of, is_creation_of, object_of}
-use Rattle.rules.specs.Records.{admits, objects, operations, refusal, sites, IsLegal, IsLegalAfter}
-use Rattle.rules.specs.Versions.{versions}
+use Rattle.rules.specs.Records.{admits, objects, operations, refusal, sites, IsLegal}
 use Rattle.rules.proofs.Lists.{In, In-filter_back, In-map_back, find_is}
-use Rattle.rules.proofs.Records.{legal_push, length-operations, operations-push, sites-join, sites-operation}
+use Rattle.rules.proofs.Records.{kept_by_admitted, legal_push, length-operations, operations-push, sites-join, sites-operation}
 use Rattle.rules.proofs.Conditions.{room_for_join, room_for_operation}
 use Rattle.rules.proofs.Founded.{history_if_legal}
 use Rattle.wire.specs.declared.request.Request.{Request}
@@ -29,7 +26,8 @@ use Rattle.wire.specs.declared.reply.Reply.{Reply}
 use Rattle.wire.specs.declared.reply.Reply.TheVariants.{Joined, Made, Taken, Objects, Entries, No}
 use Rattle.wire.specs.Form.{IsEntry, IsObject, IsReply, IsRequest, is_at, is_from}
 use Rattle.room_core.specs.Room.{Room, all_objects, with_entry}
-use Rattle.room_core.specs.Answers.{Outcome, answer, entry_or_refusal, has_site, join_answer, page, versions_reply, site_answer, reply_alone}
+use Rattle.drawing.specs.Shown.{ids_with, shown_by}
+use Rattle.room_core.specs.Answers.{Outcome, answer, entry_or_refusal, has_site, join_answer, operation_answer, operation_reply, page, site_answer, reply_alone}
 use Rattle.world.specs.Steps.{asker_answer}
 use Rattle.world.proofs.Ranges.{IsOp, all_if, all_take, all_drop, all_push, ops_in_range, kind_in_range, versions_in_range, ids_in_range}
 
@@ -55,12 +53,8 @@ within_push b r (Operation op) w a =
     let place = room.0 in
     record { joins = omega (arith, same, few); short = omega (arith, more, place) }
 
-within_after : (b : LimitValues) (r rest : List Entry) → IsWithin b r → IsLegalAfter b r rest → IsWithin b (r ++ rest)
-within_after b r [] w legal = subst (IsWithin b) (sym (append-nil r)) w
-within_after b r (e ∷ rest) w legal = subst (IsWithin b) (append_assoc r (e ∷ []) rest) (within_after b (r ++ e ∷ []) rest (within_push b r e w legal.0) legal.1)
-
 within : (b : LimitValues) (r : List Entry) → IsLegal b r → IsWithin b r
-within b r legal = within_after b [] r (record { joins = omega arith; short = omega arith }) legal
+within b = kept_by_admitted b (IsWithin b) (λ r e l. within_push b r e) (record { joins = omega arith; short = omega arith })
 
 -- ---- answers
 
@@ -132,10 +126,6 @@ module _ (room : Room) (sound : IsSound room) where
         let most = site_at_most in
         and_from (leb 1 site) (leb site 256) low (le-leb site 256 (omega (arith, high, most)))
 
-    creation_in_range : (op : Op) → op.name.0 ≡ site → IsOp op → InRange (entry_or_refusal room (refusal room.limits room.entries (Operation op)) (Operation op) (Made (length room.entries) op.name))
-    creation_in_range op e range =
-        decided_in_range (refusal room.limits room.entries (Operation op)) (Operation op) (Made (length room.entries) op.name) refl (λ none. ((at_in_range, range.0), range))
-
     history_with : (op : Op) → op.name.0 ≡ site → IsOp op → refusal room.limits room.entries (Operation op) ≡ None → IsHistory (operations room.entries ++ op ∷ [])
     history_with op e range none =
         let joined : leb 1 op.name.0 && leb op.name.0 (sites room.entries) ≡ true = ap (λ s. leb 1 s && leb s (sites room.entries)) e ∙ has in
@@ -145,13 +135,16 @@ module _ (room : Room) (sound : IsSound room) where
     ops_with : (op : Op) → IsOp op → (x : Op) → In x (operations room.entries ++ op ∷ []) → IsOp x
     ops_with op range = subst (λ (h : List Op). (x : Op) → In x h → IsOp x) (operations-push room.entries op) (ops_in_range (room.entries ++ Operation op ∷ []) (all_push IsEntry room.entries (Operation op) sound.entries range))
 
-    set_in_range : (op : Op) → op.name.0 ≡ site → IsOp op
-        → InRange (entry_or_refusal room (refusal room.limits room.entries (Operation op)) (Operation op) (Taken (length room.entries) (map (λ (v : Version). v.id) (versions (operations room.entries ++ op ∷ []) (object_of op)))))
-    set_in_range op e range =
-        decided_in_range (refusal room.limits room.entries (Operation op)) (Operation op) (Taken (length room.entries) (map (λ (v : Version). v.id) (versions (operations room.entries ++ op ∷ []) (object_of op)))) refl
-        (λ none. ((at_in_range, ids_in_range (operations room.entries ++ op ∷ []) (history_with op e range none) (ops_with op range) (object_of op)), range))
+    reply_in_range : (op : Op) (b : Bool) → op.name.0 ≡ site → IsOp op → refusal room.limits room.entries (Operation op) ≡ None → IsReply (cond b (Taken (length room.entries) (ids_with room op)) (Made (length room.entries) op.name))
+    reply_in_range op true e range none = (at_in_range, ids_in_range (operations room.entries ++ op ∷ []) (history_with op e range none) (ops_with op range) (object_of op))
+    reply_in_range op false e range none = (at_in_range, range.0)
 
-  shown_in_range : (name : Name) (o : Option Op) → is_op_name name ≡ true → creation_of (operations room.entries) name ≡ o → InRange (reply_alone (versions_reply room name o))
+    operation_in_range : (op : Op) → op.name.0 ≡ site → IsOp op → InRange (operation_answer room op)
+    operation_in_range op e range =
+        decided_in_range (refusal room.limits room.entries (Operation op)) (Operation op) (operation_reply room op) refl
+        (λ none. (reply_in_range op (is_set_body op.body) e range none, range))
+
+  shown_in_range : (name : Name) (o : Option Op) → is_op_name name ≡ true → creation_of (operations room.entries) name ≡ o → InRange (reply_alone (shown_by room.entries name o))
   shown_in_range name None range e = refused_in_range _
   shown_in_range name (Some op) range e =
       let c = find_is (is_creation_of name) op (operations room.entries) e in
@@ -185,12 +178,9 @@ module _ (room : Room) (sound : IsSound room) where
 
   answer_of_site : (site : ℕ) → has_site room site ≡ true → (asks : Request) → IsRequest asks → InRange (site_answer room site asks)
   answer_of_site site has (request.Join name) range = lone_in_range _
-  answer_of_site site has (request.New seq seen kind attrs) range =
-      creation_in_range site has (record { name = (site, seq); seen = seen; body = body.New kind attrs }) refl
-      (and_from (is_site site) (is_seq seq) (site_in_range site has) range.0, range.1, (range.2, range.3))
-  answer_of_site site has (request.Set seq seen object version key value) range =
-      set_in_range site has (record { name = (site, seq); seen = seen; body = body.Set object version key value }) refl
-      (and_from (is_site site) (is_seq seq) (site_in_range site has) range.0, range.1, (range.2, range.3, range.4, range.5))
+  answer_of_site site has (request.Change seq seen body) range =
+      operation_in_range site has (record { name = (site, seq); seen = seen; body = body }) refl
+      (and_from (is_site site) (is_seq seq) (site_in_range site has) range.0, range.1, range.2)
   answer_of_site site has (request.Show name) range = shown_in_range name (creation_of (operations room.entries) name) range refl
   answer_of_site site has (request.List from) range = list_in_range from (ltb (length (objects room.entries)) from) range
   answer_of_site site has (request.Pull from) range = pull_in_range from (ltb (length room.entries) from) range

@@ -1,5 +1,5 @@
 -- Lines, and what goes out for them.
-use Rattle.std.proofs.Common.{◌≡◌, ◌≢◌, ℕ, ◌+◌, ◌-◌, ◌*◌, ◌^◌, ◌<◌, ◌≤◌, ◌&&◌, ltb, eqb, List, [], ◌∷◌, ◌++◌, append-nil, length, get_or, take, drop, Option, Some, None, false, cond, zero, suc, refl, sym, ap, subst, ◌∙◌, arith}
+use Rattle.std.proofs.Common.{◌≡◌, ◌≢◌, ℕ, ◌+◌, ◌-◌, ◌*◌, ◌^◌, ◌<◌, ◌&&◌, ltb, eqb, List, [], ◌∷◌, ◌++◌, append-nil, length, get_or, take, drop, Some, None, false, cond, zero, suc, refl, sym, ap, subst, ◌∙◌, arith}
 use Rattle.std.specs.Char.{is_ascii_digit}
 use Rattle.std.proofs.lemmas.List.{drop_more, take_all, take-append-drop}
 use Rattle.std.proofs.lemmas.Bool.{ne_eqb, eqb-true, eq-eqb}

@@ -25,16 +25,16 @@ use Rattle.rules.specs.Conflicts.{conflict}
 use Rattle.rules.specs.Operations.{IsHistory, creation_of, is_creation_of, name_of, sets_on}
 use Rattle.rules.specs.Records.{operation_in, operations}
 use Rattle.rules.specs.Versions.{attributes, by_id, decides, groups, initial_of, key_cmp, keys_of, value_by, value_of_key, version_of, versions}
-use Rattle.rules.proofs.Lists.{In, In-append_cases, In-filter_back, In-filter_map_back, In-flat_map_back, In-map_back, find_is}
+use Rattle.rules.proofs.Lists.{In, In-append_cases, In-filter_back, In-filter_map_back, In-map_back, all_at, find_is}
 use Rattle.rules.proofs.Once.{Once, Once-filter, Once-map}
-use Rattle.rules.proofs.Names.{names_rise_if, tied}
-use Rattle.rules.proofs.Orders.{name_cmp_total}
+use Rattle.rules.proofs.Names.{names_rise_if}
+use Rattle.rules.proofs.Orders.{name_cmp_total, tied}
 use Rattle.rules.proofs.Sorting.{Rises, sort_back, sort_rises}
 use Rattle.rules.proofs.Sorted.{untied_if_once}
 use Rattle.rules.proofs.Sets.{Once-sets_on, in_sets_on_back, one_op}
 use Rattle.rules.proofs.Groups.{sublist_in, group_is, group_within}
 use Rattle.rules.proofs.Identifiers.{in_identifier_back}
-use Rattle.rules.proofs.Reordered.{In-each_once_back, Once-each_once, key_cmp_total, same_key_is, same_key_itself, untied_with_values, with_values}
+use Rattle.rules.proofs.Reordered.{In-each_once_back, Once-each_once, in_keys_back, key_cmp_total, same_key_is, same_key_itself, untied_with_values, with_values}
 use Rattle.rules.proofs.Shown.{identifiers_rise}
 use Rattle.wire.specs.Form.{AreIds, AreShown, AreVersions, IsAttr, IsBody, IsEntry, IsId, IsValue, IsVersion}
 use Rattle.wire.specs.Rising.{rise, id_before, version_before}
@@ -42,10 +42,6 @@ use Rattle.wire.specs.Rising.{rise, id_before, version_before}
 -- ---- all members of a list
 
 module _ {X : Type 0} (P : X → Type 0) where
-  pub all_at : (xs : List X) → AllByRecursion P xs → (x : X) → In x xs → P x
-  all_at [] all x m = absurd m
-  all_at (y ∷ ys) all x m = elim m [ inl e ↦ subst P (sym e) all.0 | inr r ↦ all_at ys all.1 x r ]
-
   pub all_if : (xs : List X) → ((x : X) → In x xs → P x) → AllByRecursion P xs
   all_if [] each = tt
   all_if (x ∷ xs) each = (each x (inl refl), all_if xs (λ y m. each y (inr m)))
@@ -128,10 +124,7 @@ module _ (initial : List Attr) (g : List Op) (initials : AllByRecursion IsAttr i
   key_in_range : (key : Bytes) → In key all_keys → is_key key ≡ true
   key_in_range key m = elim (In-append_cases key (map (λ (attr : Attr). attr.0) initial) (keys_of g) (In-each_once_back bytes_eq same_key_is same_key_itself key (map (λ (attr : Attr). attr.0) initial ++ keys_of g) m)) [
     | inl first ↦ (let c = In-map_back (λ (attr : Attr). attr.0) key initial first in ap is_key c.2 ∙ (all_at IsAttr initial initials c.0 c.1).0)
-    | inr later ↦
-        (let listed = In-each_once_back bytes_eq same_key_is same_key_itself key (flat_map (λ (op : Op). keys_in op.body) g) later in
-        let c = In-flat_map_back (λ (op : Op). keys_in op.body) key g listed in
-        keys_in_range c.0.body (ops c.0 c.1).2 key c.2)
+    | inr later ↦ (let c = in_keys_back g key later in keys_in_range c.0.body (ops c.0 c.1).2 key c.2)
   ]
 
   initial_value : (key : Bytes) (v : Value) (o : Option Attr) → find (λ (attr : Attr). bytes_eq attr.0 key) initial ≡ o → option_map (λ (attr : Attr). attr.1) o ≡ Some v → IsValue v

@@ -104,12 +104,12 @@ fn put_in_place(
     asker: Asker,
     planned: Planned,
 ) -> Result<String, NoMemory>
-    requires ready { IsReady room.old planned.change }
+    requires ready { IsReady room.old planned.addition }
     requires range { IsReply planned.reply }
     ensures ok { IfOk result (λ text.
         RepliesTo asker planned.reply (string_bytes text) seats.old.entries seats.new.entries) }
     ensures room { OnOk result
-        (room.new.room ≡ with_entry room.old.room (entry_added planned.change)) }
+        (room.new.room ≡ with_entry room.old.room (entry_added planned.addition)) }
     ensures err { OnErr result ((room.new ≡ room.old) × (seats.new.entries ≡ seats.old.entries)) }
 {
     match answer_text(alloc, seats, asker, &planned) {

@@ -1,14 +1,12 @@
 //! Each room has a lock of its own.
 
-ghost use Rattle.std.specs.Prelude.{◌≡◌, length};
+ghost use Rattle.room_lock.specs.Planned.{IsLedgerOf};
 
-use super::{CREATION, asked, entered, room_name};
-use op_names::RoomName;
-use room_lock::{Opened, Pass, RoomLedger, Rooms, open_histories};
+use super::{CREATION, asked, entered, planned, room_name};
+use room_lock::{NewRooms, Pass, RoomLedger, Rooms};
 use rules::Limits;
 use std::marker::Brand;
 use std::process::Abort;
-use std::sync::ledger::Blank;
 use std::sync::{Mutex, Wait};
 use std::thread;
 use std::thread::Threads;
@@ -27,13 +25,13 @@ fn is_said(rt: &(impl Wait + Clock), said: &Mutex<bool>) -> bool {
 
 /// Holds a room's lock, which it says, until a call in another room was answered.
 fn holds<P: RoomLedger>(
-    rt: &(impl Wait + Clock + Abort),
+    rt: &(impl Wait + Clock + Abort + AllocGlobal),
     rooms: &Rooms<P>,
-    name: &RoomName,
+    name: &str,
     held: &Mutex<bool>,
     answered: &Mutex<bool>,
 ) -> bool {
-    let seen = rooms.with(rt, name, |_room| {
+    let seen = rooms.with(rt, &room_name(rt, name), |_room| {
         *held.lock(rt) = true;
         is_said(rt, answered)
     });
@@ -56,23 +54,19 @@ fn calls<P: RoomLedger>(
     reply.as_str() == r#"["made",1,[1,1]]"#
 }
 
-fn rooms_have_locks_of_their_own_in<
+fn locks_are_apart<
     P: RoomLedger + Send + Sync,
     R: Threads + Wait + Clock + Sync + Abort + AllocGlobal,
->(rt: &R, blank: Blank, histories: Vec<Opened>, limits: Limits)
-    requires name { blank.name ≡ P.name }
-    requires parts { (blank.parts ≡ P.parts) × (blank.parts ≡ 517) }
-    requires limits { limits ≡ P.limits }
-    requires histories { (histories.items ≡ P.books) × (length histories.items ≡ 2) }
+>(rt: &R, planned: NewRooms)
+    requires { IsLedgerOf planned P.name P.parts P.limits P.books }
 {
-    let names = [room_name(rt, "a"), room_name(rt, "b")];
-    let rooms = Rooms::<P>::new(rt.alloc(), blank, histories, &names, limits).expect(rt, "rooms");
-    let pass = entered(rt, &rooms, &names[1]);
+    let rooms = Rooms::<P>::new(rt.alloc(), planned).expect(rt, "rooms");
+    let pass = entered(rt, &rooms, "b");
     let (held, answered) = (Mutex::new(false), Mutex::new(false));
-    let (rooms, name, held, answered) = (&rooms, &names[0], &held, &answered);
+    let (rooms, held, answered) = (&rooms, &held, &answered);
     let (waited, called) = thread::join(
         rt,
-        move || holds(rt, rooms, name, held, answered),
+        move || holds(rt, rooms, "a", held, answered),
         move || calls(rt, rooms, pass, held, answered),
     );
     assert!(rt; waited && called);
@@ -80,6 +74,5 @@ fn rooms_have_locks_of_their_own_in<
 
 #[test]
 fn rooms_have_locks_of_their_own(rt: HostRuntime) {
-    let histories = open_histories(rt.alloc(), 2).expect(&rt, "memory");
-    rooms_have_locks_of_their_own_in::<Brand, _>(&rt, Blank::new(517), histories, Limits::full());
+    locks_are_apart::<Brand, _>(&rt, planned(&rt, &["a", "b"], Limits::full()));
 }

@@ -1,20 +1,22 @@
 //! Eight threads that ask four rooms, and what the rooms have when they are closed.
 
-ghost use Rattle.std.specs.Prelude.{◌≡◌, length};
+ghost use Rattle.room_lock.specs.Planned.{IsLedgerOf};
 
-use super::{CREATION, asked, entered, request_of, room_name};
-use op_names::{Key, OpName, RoomName, Value, VersionId};
+use super::{CREATION, asked, entered, planned, request_of};
+use op_names::{Key, OpName, Value, VersionId};
 use room_core::RoomState;
-use room_lock::{Opened, Pass, RoomLedger, RoomRecord, Rooms, open_histories};
-use rules::{Body, Entry, Limits, Op};
+use room_lock::{NewRooms, Pass, RoomLedger, RoomRecord, Rooms};
+use rules::{Body, Entry, Limits};
 use state_vector::StateVector;
 use std::marker::Brand;
 use std::process::Abort;
-use std::sync::ledger::Blank;
 use std::sync::{Arc, Wait};
 use std::thread;
 use std::thread::Threads;
 use wire::{Reply, Request};
+
+/// The rooms.
+const NAMES: [&str; 4] = ["a", "b", "c", "d"];
 
 /// How many operations of each of three sites a pass has seen, and among how many entries.
 #[derive(Drop)]
@@ -83,13 +85,15 @@ fn shows_and_sets<P: RoomLedger>(
     let shown = rooms.call(rt, rt.alloc(), pass, request_of(rt, r#"["show",[1,1]]"#));
     let version = first_version(rt, &shown.expect(rt, "an answer"));
     counted.go_on(pass.seen());
-    let set = Request::Set {
+    let set = Request::Change {
         seq: turn.saturating_add(1),
         seen: counted.vector(rt),
-        object: OpName::new(1, 1).expect(rt, "a name"),
-        version,
-        key: key_of(rt, pass.site(), turn),
-        value: Value::Number(i64::from(turn)),
+        body: Body::Set {
+            object: OpName::new(1, 1).expect(rt, "a name"),
+            version,
+            key: key_of(rt, pass.site(), turn),
+            value: Value::Number(i64::from(turn)),
+        },
     };
     match rooms
         .call(rt, rt.alloc(), pass, set)
@@ -104,7 +108,7 @@ fn shows_and_sets<P: RoomLedger>(
 fn session<P: RoomLedger>(
     rt: &(impl Wait + Abort + AllocGlobal),
     rooms: &Rooms<P>,
-    name: &RoomName,
+    name: &str,
 ) -> Pass<P> {
     let mut pass = entered(rt, rooms, name);
     let mut counted = Counted {
@@ -117,54 +121,12 @@ fn session<P: RoomLedger>(
     pass
 }
 
-/// The request that an operation was.
-fn request_that_was(rt: &(impl Abort + AllocGlobal), op: &Op) -> Request {
-    let alloc = rt.alloc();
-    let seq = op.name.seq();
-    let seen = op.seen.copy(alloc).expect(rt, "memory");
-    match &op.body {
-        Body::New { kind, attrs } => Request::New {
-            seq,
-            seen,
-            kind: kind.copy(alloc).expect(rt, "memory"),
-            attrs: attrs.copy(alloc).expect(rt, "memory"),
-        },
-        Body::Set {
-            object,
-            version,
-            key,
-            value,
-        } => Request::Set {
-            seq,
-            seen,
-            object: *object,
-            version: version.copy(alloc).expect(rt, "memory"),
-            key: key.copy(alloc).expect(rt, "memory"),
-            value: value.copy(alloc).expect(rt, "memory"),
-        },
-    }
-}
-
-/// Does the room take the entry as its next one?
-fn takes(rt: &(impl Abort + AllocGlobal), room: &mut RoomState, entry: &Entry) -> bool {
-    let reply = match entry {
-        Entry::Join(_) => room.join(rt.alloc()),
-        Entry::Operation(op) => {
-            room.answer(rt.alloc(), op.name.site(), request_that_was(rt, op))
-        }
-    };
-    match reply.expect(rt, "memory") {
-        Reply::Joined { .. } | Reply::Made { .. } | Reply::Taken { .. } => true,
-        _ => false,
-    }
-}
-
 /// Does a new room take the whole record, of three joins, a creation and 200 sets?
 fn is_taken_whole(rt: &(impl Abort + AllocGlobal), record: &RoomRecord) -> bool {
     let entries = record.entries.as_slice();
     let mut room = RoomState::new(rt.alloc(), Limits::full()).expect(rt, "memory");
     for entry in entries {
-        if !takes(rt, &mut room, entry) {
+        if !room.accept(rt.alloc(), entry).expect(rt, "memory") {
             return false;
         }
     }
@@ -175,17 +137,14 @@ fn is_taken_whole(rt: &(impl Abort + AllocGlobal), record: &RoomRecord) -> bool 
 fn passes_of<P: RoomLedger + Send + Sync, R: Threads + Wait + Sync + Abort + AllocGlobal>(
     rt: &R,
     rooms: &Rooms<P>,
-    names: &[RoomName],
-) -> Vec<Pass<P>>
-    requires { length names.now ≡ 4 }
-{
+) -> Vec<Pass<P>> {
     let mut firsts = Vec::new(rt.alloc());
-    for name in names {
+    for name in NAMES {
         let mut pass = entered(rt, rooms, name);
         let _reply = asked(rt, rooms, &mut pass, CREATION);
         firsts.push(pass).expect(rt, "memory");
     }
-    let ask = |place: usize| session(rt, rooms, &names[place % 4]);
+    let ask = |place: usize| session(rt, rooms, NAMES[place % 4]);
     let mut passes = thread::map_indices(rt, rt.alloc(), 8, &ask).expect(rt, "memory");
     passes.append(&mut firsts).expect(rt, "memory");
     passes
@@ -193,23 +152,12 @@ fn passes_of<P: RoomLedger + Send + Sync, R: Threads + Wait + Sync + Abort + All
 
 fn many_threads_in<P: RoomLedger + Send + Sync, R: Threads + Wait + Sync + Abort + AllocGlobal>(
     rt: &R,
-    blank: Blank,
-    histories: Vec<Opened>,
-    limits: Limits,
+    planned: NewRooms,
 )
-    requires name { blank.name ≡ P.name }
-    requires parts { (blank.parts ≡ P.parts) × (blank.parts ≡ 1033) }
-    requires limits { limits ≡ P.limits }
-    requires histories { (histories.items ≡ P.books) × (length histories.items ≡ 4) }
+    requires { IsLedgerOf planned P.name P.parts P.limits P.books }
 {
-    let names = [
-        room_name(rt, "a"),
-        room_name(rt, "b"),
-        room_name(rt, "c"),
-        room_name(rt, "d"),
-    ];
-    let rooms = Rooms::<P>::new(rt.alloc(), blank, histories, &names, limits).expect(rt, "rooms");
-    let passes = passes_of(rt, &rooms, &names);
+    let rooms = Rooms::<P>::new(rt.alloc(), planned).expect(rt, "rooms");
+    let passes = passes_of(rt, &rooms);
     let records = rooms.close(rt.alloc(), passes).expect(rt, "records");
     assert_eq!(rt; records.len(), 4);
     for record in &records {
@@ -219,6 +167,5 @@ fn many_threads_in<P: RoomLedger + Send + Sync, R: Threads + Wait + Sync + Abort
 
 #[test]
 fn many_threads(rt: HostRuntime) {
-    let histories = open_histories(rt.alloc(), 4).expect(&rt, "memory");
-    many_threads_in::<Brand, _>(&rt, Blank::new(1033), histories, Limits::full());
+    many_threads_in::<Brand, _>(&rt, planned(&rt, &NAMES, Limits::full()));
 }

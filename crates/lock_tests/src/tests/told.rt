@@ -1,13 +1,12 @@
 //! A site that was told of another's operation is shown it.
 
-ghost use Rattle.std.specs.Prelude.{◌≡◌, length};
+ghost use Rattle.room_lock.specs.Planned.{IsLedgerOf};
 
-use super::{CREATION, asked, entered, room_name};
-use room_lock::{Opened, Pass, RoomLedger, Rooms, open_histories};
+use super::{CREATION, asked, entered, planned};
+use room_lock::{NewRooms, Pass, RoomLedger, Rooms};
 use rules::Limits;
 use std::marker::Brand;
 use std::process::Abort;
-use std::sync::ledger::Blank;
 use std::sync::{Condvar, Mutex, Wait};
 use std::thread;
 use std::thread::Threads;
@@ -40,19 +39,15 @@ fn shows<P: RoomLedger>(
     reply.as_str() == r#"["versions",3,[1,1],"rect",[[[],[["x",0]]]]]"#
 }
 
-fn told_write_is_shown_in<
-    P: RoomLedger + Send + Sync,
-    R: Threads + Wait + Sync + Abort + AllocGlobal,
->(rt: &R, blank: Blank, histories: Vec<Opened>, limits: Limits)
-    requires name { blank.name ≡ P.name }
-    requires parts { (blank.parts ≡ P.parts) × (blank.parts ≡ 259) }
-    requires limits { limits ≡ P.limits }
-    requires histories { (histories.items ≡ P.books) × (length histories.items ≡ 1) }
+fn write_is_shown<P: RoomLedger + Send + Sync, R: Threads + Wait + Sync + Abort + AllocGlobal>(
+    rt: &R,
+    planned: NewRooms,
+)
+    requires { IsLedgerOf planned P.name P.parts P.limits P.books }
 {
-    let names = [room_name(rt, "r")];
-    let rooms = Rooms::<P>::new(rt.alloc(), blank, histories, &names, limits).expect(rt, "rooms");
-    let first = entered(rt, &rooms, &names[0]);
-    let second = entered(rt, &rooms, &names[0]);
+    let rooms = Rooms::<P>::new(rt.alloc(), planned).expect(rt, "rooms");
+    let first = entered(rt, &rooms, "r");
+    let second = entered(rt, &rooms, "r");
     let (done, changed) = (Mutex::new(false), Condvar::new());
     let (rooms, done, changed) = (&rooms, &done, &changed);
     let (made, shown) = thread::join(
@@ -65,6 +60,5 @@ fn told_write_is_shown_in<
 
 #[test]
 fn told_write_is_shown(rt: HostRuntime) {
-    let histories = open_histories(rt.alloc(), 1).expect(&rt, "memory");
-    told_write_is_shown_in::<Brand, _>(&rt, Blank::new(259), histories, Limits::full());
+    write_is_shown::<Brand, _>(&rt, planned(&rt, &["r"], Limits::full()));
 }

@@ -39,14 +39,14 @@ impl RoomState {
 
     /// The log of the next site, where a join is planned that lets it in.
     fn log_of(&self, alloc: Global, planned: &Planned) -> Result<Option<Log>, NoMemory>
-        requires { entry_added planned.now.change ≡ (join_answer self.now.room).1 }
+        requires { entry_added planned.now.addition ≡ (join_answer self.now.room).1 }
         ensures { IfOk result (λ log. option_map (λ log. log.log) log ≡ log_of_join self.now.room) }
     {
         match planned.entry() {
             None => Ok(None),
             Some(join) => {
-                let _bound = self.limits.joins();
-                Ok(Some(Log::of_join(alloc, self.sites + 1, self.entries(), join)?))
+                let site = self.sites() + 1;
+                Ok(Some(Log::of_join(alloc, site, self.entries(), join)?))
             }
         }
     }
@@ -121,12 +121,12 @@ impl RoomState {
     {
         let mut added: u128 = 0;
         for (place, log) in logs.iter().enumerate() {
-            if !agrees(&self.entries, log) {
+            if !agrees(self.entries(), log) {
                 return Err(LogFault::Torn(place));
             }
             added += log.added().len() as u128;
         }
-        if added == self.entries.len() as u128 {
+        if added == self.entries().len() as u128 {
             Ok(())
         } else {
             Err(LogFault::Missing)
@@ -138,6 +138,6 @@ impl RoomState {
         ensures entries { map arc_value result.items ≡ self.room.entries }
         ensures legal { IsLegal self.room.limits self.room.entries }
     {
-        self.entries
+        self.drawing.into_entries()
     }
 }

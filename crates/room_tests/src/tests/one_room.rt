@@ -4,7 +4,7 @@ mod logs;
 
 use op_names::Kind;
 use room_core::{Limits, RoomState};
-use rules::{Attrs, LimitValues};
+use rules::{Attrs, Body, LimitValues};
 use state_vector::StateVector;
 use std::process::Abort;
 use wire::{Reply, Request, read_request, write_reply};
@@ -71,11 +71,10 @@ fn sites_that_have_not_joined(rt: HostRuntime) {
 fn creation_of_number(rt: &(impl Abort + AllocGlobal), seq: u32) -> Request {
     let kind = Kind::parse(rt.alloc(), b"rect").expect(rt, "a kind");
     let attrs = Attrs::from_pairs(Vec::new(rt.alloc())).expect(rt, "attributes");
-    Request::New {
+    Request::Change {
         seq,
         seen: StateVector::empty(rt.alloc()),
-        kind,
-        attrs,
+        body: Body::New { kind, attrs },
     }
 }
 

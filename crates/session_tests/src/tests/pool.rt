@@ -1,21 +1,22 @@
 //! Sessions by workers.
 
-ghost use Rattle.std.specs.Prelude.{◌≡◌, length};
+ghost use Rattle.room_lock.specs.Planned.{IsLedgerOf};
 
 use super::faults::{Calls, Parts};
-use super::{CLOSE, HEAD, copied, masked, passes_of, room_name};
-use room_lock::{Opened, RoomLedger, Rooms, open_histories};
-use rules::Limits;
-use sessions::{Cause, Gate, Open, PoolEnd, PoolFault, run_pool};
+use super::{HEAD, asked_parts, planned};
+use room_lock::{NewRooms, RoomLedger, Rooms};
+use sessions::{Cause, Gate, Host, Open, PoolEnd, PoolFault, run_pool};
 use std::marker::Brand;
 use std::process::Abort;
 use std::sync::Wait;
 use std::sync::atomic::{AtomicU64, Ordering};
-use std::sync::ledger::Blank;
 use std::thread;
 use std::thread::Threads;
 use std::time::{Clock, Duration};
 use tungstenite::Duplex;
+
+/// The rooms of the pool under failure.
+const NAMES: [&str; 3] = ["a", "b", "c"];
 
 /// Holds session 1's first call until session 2's first was answered, and session 2's second until
 /// session 1's first was answered.
@@ -93,24 +94,24 @@ fn look_at<P: RoomLedger>(rt: &impl Abort, end: &PoolEnd<P>, failing: u32, sessi
 
 fn no_worker_in<P: RoomLedger + Send + Sync, R: Threads + Wait + Sync + Abort + AllocGlobal>(
     rt: &R,
-    blank: Blank,
-    histories: Vec<Opened>,
-    limits: Limits,
+    planned: NewRooms,
 )
-    requires name { blank.name ≡ P.name }
-    requires parts { (blank.parts ≡ P.parts) × (blank.parts ≡ 259) }
-    requires limits { limits ≡ P.limits }
-    requires histories { (histories.items ≡ P.books) × (length histories.items ≡ 1) }
+    requires { IsLedgerOf planned P.name P.parts P.limits P.books }
 {
-    let names = [room_name(rt, "r")];
-    let rooms = Rooms::<P>::new(rt.alloc(), blank, histories, &names, limits).expect(rt, "rooms");
+    let rooms = Rooms::<P>::new(rt.alloc(), planned).expect(rt, "rooms");
     let mut streams = Vec::new(rt.alloc());
     let stream = Duplex {
         reader: HEAD.as_bytes(),
         writer: Vec::new(rt.alloc()),
     };
     streams.push(stream).expect(rt, "memory");
-    match run_pool(rt, rt.alloc(), &rooms, streams.into_iter(), 0, &Open) {
+    let host = Host {
+        rt,
+        alloc: rt.alloc(),
+        rooms: &rooms,
+        gate: &Open,
+    };
+    match run_pool(&host, streams.into_iter(), 0) {
         Ok(_) => assert!(rt; false, "a pool without workers"),
         Err(fault) => assert_eq!(rt; fault, PoolFault::NoWorker),
     }
@@ -118,26 +119,15 @@ fn no_worker_in<P: RoomLedger + Send + Sync, R: Threads + Wait + Sync + Abort + 
 
 #[test]
 fn no_worker(rt: HostRuntime) {
-    let histories = open_histories(rt.alloc(), 1).expect(&rt, "memory");
-    no_worker_in::<Brand, _>(&rt, Blank::new(259), histories, Limits::full());
+    no_worker_in::<Brand, _>(&rt, planned(&rt, &["r"]));
 }
 
-/// What a session of the pool sends: the head of its request, then a frame for each message, then a
-/// close.
-fn asked_parts(rt: &(impl Abort + AllocGlobal), room: &str) -> Vec<Vec<u8>> {
-    let join = format!(in rt.alloc(); "[\"join\",\"{room}\"]").expect(rt, "memory");
-    let mut parts = Vec::new(rt.alloc());
-    parts.push(copied(rt, HEAD.as_bytes())).expect(rt, "memory");
-    parts.push(masked(rt, 2, &join)).expect(rt, "memory");
-    for words in [
-        r#"["new",1,[],"rect",[["x",0]]]"#,
-        r#"["list",0]"#,
-        r#"["leave"]"#,
-    ] {
-        parts.push(masked(rt, 2, words)).expect(rt, "memory");
-    }
-    parts.push(copied(rt, CLOSE)).expect(rt, "memory");
-    parts
+/// What a session of the pool asks.
+fn asked_in(rt: &(impl Abort + AllocGlobal), room: &str) -> String {
+    let lines = r#"["new",1,[],"rect",[["x",0]]]
+["list",0]
+["leave"]"#;
+    format!(in rt.alloc(); "[\"join\",\"{room}\"]\n{lines}").expect(rt, "memory")
 }
 
 /// The calls of twelve streams, of which each third one fails at its fifth read.
@@ -153,19 +143,16 @@ fn calls_of(rt: &(impl Abort + AllocGlobal)) -> Vec<Calls> {
 fn pool_under_failure_in<
     P: RoomLedger + Send + Sync,
     R: Threads + Wait + Clock + Copy + Sync + Abort + AllocGlobal,
->(rt: &R, blank: Blank, histories: Vec<Opened>, limits: Limits)
-    requires name { blank.name ≡ P.name }
-    requires parts { (blank.parts ≡ P.parts) × (blank.parts ≡ 775) }
-    requires limits { limits ≡ P.limits }
-    requires histories { (histories.items ≡ P.books) × (length histories.items ≡ 3) }
+>(rt: &R, planned: NewRooms)
+    requires { IsLedgerOf planned P.name P.parts P.limits P.books }
 {
-    let names = [room_name(rt, "a"), room_name(rt, "b"), room_name(rt, "c")];
-    let rooms = Rooms::<P>::new(rt.alloc(), blank, histories, &names, limits).expect(rt, "rooms");
+    let rooms = Rooms::<P>::new(rt.alloc(), planned).expect(rt, "rooms");
     let calls = calls_of(rt);
     let mut parts = Vec::new(rt.alloc());
-    for name in &names {
+    for name in NAMES {
+        let asked = asked_in(rt, name);
         parts
-            .push(asked_parts(rt, name.text()))
+            .push(asked_parts(rt, asked.as_str()))
             .expect(rt, "memory");
     }
     let mut streams = Vec::new(rt.alloc());
@@ -178,12 +165,17 @@ fn pool_under_failure_in<
         streams.push(stream).expect(rt, "memory");
     }
     let gate = Crossed::new(*rt);
-    let end = run_pool(rt, rt.alloc(), &rooms, streams.into_iter(), 4, &gate).expect(rt, "a pool");
+    let host = Host {
+        rt,
+        alloc: rt.alloc(),
+        rooms: &rooms,
+        gate: &gate,
+    };
+    let end = run_pool(&host, streams.into_iter(), 4).expect(rt, "a pool");
     assert_eq!(rt; gate.timed_out.load(Ordering::SeqCst), 0);
     look_at(rt, &end, 3, 12);
-    let records = rooms
-        .close(rt.alloc(), passes_of(rt, end))
-        .expect(rt, "all passes");
+    let passes = end.into_passes(rt.alloc()).expect(rt, "memory");
+    let records = rooms.close(rt.alloc(), passes).expect(rt, "all passes");
     assert_eq!(rt; records.len(), 3);
     for record in &records {
         // Each of its four sessions has joined and created an object.
@@ -193,6 +185,5 @@ fn pool_under_failure_in<
 
 #[test]
 fn pool_under_failure(rt: HostRuntime) {
-    let histories = open_histories(rt.alloc(), 3).expect(&rt, "memory");
-    pool_under_failure_in::<Brand, _>(&rt, Blank::new(775), histories, Limits::full());
+    pool_under_failure_in::<Brand, _>(&rt, planned(&rt, &NAMES));
 }

@@ -1,51 +1,43 @@
 //! Sessions whose stream fails once, or gives and takes single bytes: `serve_one` and `serve_streams`.
 
-ghost use Rattle.std.specs.Prelude.{◌≡◌, length};
+ghost use Rattle.room_lock.specs.Planned.{IsLedgerOf};
 
 use super::faults::{Calls, Parts, Sparing};
 use super::{
-    ANSWERED, Counting, ENTRIES, RECORD, answer_frames, asked_parts, bytewise, copied, frames_of,
-    room_name, text_frame,
+    ANSWERED, ASKED, Counting, ENTRIES, RECORD, answer_frames, asked_parts, bytewise, copied,
+    frames_of, planned, text_frame,
 };
 use log::sink::Locked;
 use log::{LevelFilter, Log, Logged};
-use room_lock::{Opened, RoomLedger, Rooms, open_histories};
-use rules::Limits;
-use sessions::{Cause, ServeFault, serve_one, serve_streams};
+use room_lock::{NewRooms, RoomLedger, Rooms};
+use sessions::{Cause, Host, ServeFault, serve_one, serve_streams};
 use std::marker::Brand;
 use std::process::Abort;
 use std::sync::Wait;
-use std::sync::ledger::Blank;
 use std::thread::Threads;
 use tungstenite::Duplex;
 
 /// What came of a session, and of its room.
 #[derive(Drop)]
-pub(super) struct Outcome {
-    pub(super) cause: Cause,
-    pub(super) passes: usize,
+struct Outcome {
+    cause: Cause,
+    passes: usize,
     /// How many calls the room has answered.
     answered: usize,
     entries: usize,
-    pub(super) output: Vec<u8>,
+    output: Vec<u8>,
 }
 
 fn run_session_in<P: RoomLedger>(
     rt: &(impl Wait + Abort + AllocGlobal),
-    blank: Blank,
-    histories: Vec<Opened>,
-    limits: Limits,
+    planned: NewRooms,
     parts: &[Vec<u8>],
     most: usize,
     calls: &Calls,
 ) -> Outcome
-    requires name { blank.name ≡ P.name }
-    requires parts { (blank.parts ≡ P.parts) × (blank.parts ≡ 259) }
-    requires limits { limits ≡ P.limits }
-    requires histories { (histories.items ≡ P.books) × (length histories.items ≡ 1) }
+    requires { IsLedgerOf planned P.name P.parts P.limits P.books }
 {
-    let names = [room_name(rt, "r")];
-    let rooms = Rooms::<P>::new(rt.alloc(), blank, histories, &names, limits).expect(rt, "rooms");
+    let rooms = Rooms::<P>::new(rt.alloc(), planned).expect(rt, "rooms");
     let gate = Counting::new();
     let mut output = Vec::new(rt.alloc());
     let stream = Duplex {
@@ -56,7 +48,13 @@ fn run_session_in<P: RoomLedger>(
             calls,
         },
     };
-    let ended = serve_one(rt, rt.alloc(), &rooms, 1, stream, &gate);
+    let host = Host {
+        rt,
+        alloc: rt.alloc(),
+        rooms: &rooms,
+        gate: &gate,
+    };
+    let ended = serve_one(&host, 1, stream);
     let passes = ended.passes.len();
     let records = rooms
         .close(rt.alloc(), ended.passes)
@@ -73,22 +71,13 @@ fn run_session_in<P: RoomLedger>(
 
 /// What comes of a session by a stream that takes so many bytes at a write. The room is `r`, and it is
 /// closed with the passes that came back.
-pub(super) fn run_session(
+fn run_session(
     rt: &(impl Wait + Abort + AllocGlobal),
     parts: &[Vec<u8>],
     most: usize,
     calls: &Calls,
 ) -> Outcome {
-    let histories = open_histories(rt.alloc(), 1).expect(rt, "memory");
-    run_session_in::<Brand>(
-        rt,
-        Blank::new(259),
-        histories,
-        Limits::full(),
-        parts,
-        most,
-        calls,
-    )
+    run_session_in::<Brand>(rt, planned(rt, &["r"]), parts, most, calls)
 }
 
 /// Did the session end well, with all that it was to be answered?
@@ -154,7 +143,7 @@ fn fails_at(
 
 #[test]
 fn a_session_fails_at_each_call(rt: HostRuntime) {
-    let parts = asked_parts(&rt);
+    let parts = asked_parts(&rt, ASKED);
     let whole = run_session(&rt, &parts, usize::MAX, &Calls::failing(0));
     assert!(rt; is_whole(&rt, &whole));
     let mut failed = 0;
@@ -171,11 +160,11 @@ fn a_session_fails_at_each_call(rt: HostRuntime) {
 /// A head that comes in single bytes is not answered; behind one that comes whole, single bytes are.
 #[test]
 fn a_session_in_single_bytes(rt: HostRuntime) {
-    let parts = bytewise(&rt, &asked_parts(&rt), 0);
+    let parts = bytewise(&rt, &asked_parts(&rt, ASKED), 0);
     let run = run_session(&rt, &parts, 1, &Calls::failing(0));
     assert_eq!(rt; run.cause, Cause::HandshakeFailed);
     assert!(rt; run.passes == 0 && run.output.is_empty());
-    let parts = bytewise(&rt, &asked_parts(&rt), 1);
+    let parts = bytewise(&rt, &asked_parts(&rt, ASKED), 1);
     let run = run_session(&rt, &parts, 1, &Calls::failing(0));
     assert!(rt; is_whole(&rt, &run));
 }
@@ -194,21 +183,15 @@ fn run_streams_in<
     R: Threads + Wait + Log + Sync + Abort + AllocGlobal,
 >(
     rt: &R,
-    blank: Blank,
-    histories: Vec<Opened>,
-    limits: Limits,
+    planned: NewRooms,
     parts: &[Vec<u8>],
     most: usize,
     stream_calls: &Calls,
     output_calls: &Calls,
 ) -> Served
-    requires name { blank.name ≡ P.name }
-    requires parts { (blank.parts ≡ P.parts) × (blank.parts ≡ 259) }
-    requires limits { limits ≡ P.limits }
-    requires histories { (histories.items ≡ P.books) × (length histories.items ≡ 1) }
+    requires { IsLedgerOf planned P.name P.parts P.limits P.books }
 {
-    let names = [room_name(rt, "r")];
-    let rooms = Rooms::<P>::new(rt.alloc(), blank, histories, &names, limits).expect(rt, "rooms");
+    let rooms = Rooms::<P>::new(rt.alloc(), planned).expect(rt, "rooms");
     let gate = Counting::new();
     let stream = Duplex {
         reader: Parts::new(parts, stream_calls),
@@ -220,13 +203,13 @@ fn run_streams_in<
     };
     let mut streams = Vec::new(rt.alloc());
     streams.push(stream).expect(rt, "memory");
+    let streams = streams.into_iter();
     let mut output = Vec::new(rt.alloc());
     let mut writer = Sparing {
         inner: &mut output,
         most,
         calls: output_calls,
     };
-    let streams = streams.into_iter();
     let end = serve_streams(rt, rt.alloc(), rooms, streams, 1, &gate, &mut writer);
     Served {
         end,
@@ -235,6 +218,7 @@ fn run_streams_in<
     }
 }
 
+/// What comes of serving a stream and writing the record, which take so many bytes at a write.
 fn run_streams<R: Threads + Wait + Log + Sync + Abort + AllocGlobal>(
     rt: &R,
     parts: &[Vec<u8>],
@@ -242,17 +226,8 @@ fn run_streams<R: Threads + Wait + Log + Sync + Abort + AllocGlobal>(
     stream_calls: &Calls,
     output_calls: &Calls,
 ) -> Served {
-    let histories = open_histories(rt.alloc(), 1).expect(rt, "memory");
-    run_streams_in::<Brand, R>(
-        rt,
-        Blank::new(259),
-        histories,
-        Limits::full(),
-        parts,
-        most,
-        stream_calls,
-        output_calls,
-    )
+    let planned = planned(rt, &["r"]);
+    run_streams_in::<Brand, R>(rt, planned, parts, most, stream_calls, output_calls)
 }
 
 /// The lines that tell a record of so many of the entries.
@@ -284,7 +259,7 @@ fn tells_after<R: Threads + Wait + Log + Sync + Abort + AllocGlobal>(
 fn records_after_a_stream_that_fails_at_each_call(rt: HostRuntime) {
     let sink = Locked::new(rt, Vec::new(rt.alloc()));
     let logged = Logged::new(rt, LevelFilter::Warn, &sink);
-    let parts = asked_parts(&rt);
+    let parts = asked_parts(&rt, ASKED);
     let mut failed = 0;
     for fails in 1..1_000 {
         if !tells_after(&logged, &parts, fails) {
@@ -338,7 +313,7 @@ fn tells_front<R: Threads + Wait + Log + Sync + Abort + AllocGlobal>(
 
 #[test]
 fn records_on_an_output_that_fails_at_each_call(rt: HostRuntime) {
-    let parts = asked_parts(&rt);
+    let parts = asked_parts(&rt, ASKED);
     let whole = record_of(&rt, ENTRIES);
     let mut failed = 0;
     for fails in 1..1_000 {
@@ -353,7 +328,7 @@ fn records_on_an_output_that_fails_at_each_call(rt: HostRuntime) {
 
 #[test]
 fn records_in_single_bytes(rt: HostRuntime) {
-    let parts = bytewise(&rt, &asked_parts(&rt), 1);
+    let parts = bytewise(&rt, &asked_parts(&rt, ASKED), 1);
     let run = run_streams(&rt, &parts, 1, &Calls::failing(0), &Calls::failing(0));
     assert!(rt; run.end.is_ok());
     assert_eq!(rt; run.output.as_slice(), record_of(&rt, ENTRIES).as_bytes());

@@ -6,16 +6,14 @@ ghost use Rattle.serde_json.specs.View.{view};
 ghost use Rattle.rules.specs.declared.history.Entry.{Entry as AnyEntry};
 ghost use Rattle.wire.specs.Form.{IsEntryText};
 ghost use Rattle.wire.specs.Reading.{Gives};
-ghost use Rattle.wire.specs.Entries.{join_at, new_at, set_at, entry_of};
+ghost use Rattle.wire.specs.Entries.{join_at, change_at, entry_of};
 ghost use Rattle.wire.specs.Texts.{entry_read};
 
-use super::part::{
-    Part, attrs_of, id_of, key_of, kind_of, name_of, read_text, seen_of, value_of, whole_of,
-    worded_of,
-};
+use super::body::body_of;
+use super::part::{Part, name_of, read_text, seen_of, whole_of, worded_of};
 use crate::fault::ReadFault;
 use op_names::MAX_SITE;
-use rules::{Body, Entry, Op};
+use rules::{Entry, Op};
 use serde_json::Value;
 use std::alloc::Global;
 use std::sync::Arc;
@@ -31,40 +29,16 @@ fn join_of(fields: &[Value]) -> Result<Entry, ReadFault>
     Ok(Entry::Join(site))
 }
 
-#[tactic(auto, unfolding(crate::specs::Entries::new_at))]
-fn new_of(alloc: Global, fields: &[Value]) -> Result<Entry, ReadFault>
-    ensures { Gives (λ entry. entry) result (new_at (map view fields.now)) }
+#[tactic(auto, unfolding(crate::specs::Entries::change_at))]
+fn change_of(alloc: Global, word: &str, fields: &[Value]) -> Result<Entry, ReadFault>
+    ensures { Gives (λ entry. entry) result (change_at word.now (map view fields.now)) }
 {
-    let [name, seen, kind, attrs] = fields else {
+    let [name, seen, rest @ ..] = fields else {
         return Err(ReadFault::Bad);
     };
     let name = name_of(name)?;
     let seen = seen_of(alloc, seen)?;
-    let kind = kind_of(alloc, kind)?;
-    let attrs = attrs_of(alloc, attrs)?;
-    let body = Body::New { kind, attrs };
-    Ok(Entry::Operation(Op { name, seen, body }))
-}
-
-#[tactic(auto, unfolding(crate::specs::Entries::set_at))]
-fn set_of(alloc: Global, fields: &[Value]) -> Result<Entry, ReadFault>
-    ensures { Gives (λ entry. entry) result (set_at (map view fields.now)) }
-{
-    let [name, seen, object, version, key, value] = fields else {
-        return Err(ReadFault::Bad);
-    };
-    let name = name_of(name)?;
-    let seen = seen_of(alloc, seen)?;
-    let object = name_of(object)?;
-    let version = id_of(alloc, version)?;
-    let key = key_of(alloc, key)?;
-    let value = value_of(alloc, value)?;
-    let body = Body::Set {
-        object,
-        version,
-        key,
-        value,
-    };
+    let body = body_of(alloc, word, rest)?;
     Ok(Entry::Operation(Op { name, seen, body }))
 }
 
@@ -80,9 +54,7 @@ impl Part for Entry {
         let (word, fields) = worded_of(value)?;
         match word {
             "join" => join_of(fields),
-            "new" => new_of(alloc, fields),
-            "set" => set_of(alloc, fields),
-            _ => Err(ReadFault::Bad),
+            _ => change_of(alloc, word, fields),
         }
     }
 }

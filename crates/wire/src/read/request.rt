@@ -5,13 +5,11 @@ ghost use Rattle.serde_json.specs.View.{view};
 ghost use Rattle.wire.specs.declared.request.Request.{Request as AnyRequest};
 ghost use Rattle.wire.specs.Form.{IsRequestText, IsRequestValue};
 ghost use Rattle.wire.specs.Reading.{Gives};
-ghost use Rattle.wire.specs.Requests.{join_at, new_at, set_at, show_at, list_at, pull_at, leave_at, request_of};
+ghost use Rattle.wire.specs.Requests.{join_at, change_at, show_at, list_at, pull_at, leave_at, request_of};
 ghost use Rattle.wire.specs.Texts.{request_read};
 
-use super::part::{
-    Part, attrs_of, id_of, key_of, kind_of, name_of, read_text, room_of, seen_of, value_of,
-    whole_of, worded_of,
-};
+use super::body::body_of;
+use super::part::{Part, name_of, read_text, room_of, seen_of, whole_of, worded_of};
 use crate::fault::ReadFault;
 use crate::request::{MAX_FROM, MAX_REQUEST_LEN, Request};
 use op_names::MAX_SEQ;
@@ -29,46 +27,17 @@ fn join_of(alloc: Global, fields: &[Value]) -> Result<Request, ReadFault>
     Ok(Request::Join { room })
 }
 
-#[tactic(auto, unfolding(crate::specs::Requests::new_at))]
-fn new_of(alloc: Global, fields: &[Value]) -> Result<Request, ReadFault>
-    ensures { Gives (λ request. request) result (new_at (map view fields.now)) }
+#[tactic(auto, unfolding(crate::specs::Requests::change_at))]
+fn change_of(alloc: Global, word: &str, fields: &[Value]) -> Result<Request, ReadFault>
+    ensures { Gives (λ request. request) result (change_at word.now (map view fields.now)) }
 {
-    let [seq, seen, kind, attrs] = fields else {
+    let [seq, seen, rest @ ..] = fields else {
         return Err(ReadFault::Bad);
     };
     let seq = whole_of(seq, 1, MAX_SEQ)?;
     let seen = seen_of(alloc, seen)?;
-    let kind = kind_of(alloc, kind)?;
-    let attrs = attrs_of(alloc, attrs)?;
-    Ok(Request::New {
-        seq,
-        seen,
-        kind,
-        attrs,
-    })
-}
-
-#[tactic(auto, unfolding(crate::specs::Requests::set_at))]
-fn set_of(alloc: Global, fields: &[Value]) -> Result<Request, ReadFault>
-    ensures { Gives (λ request. request) result (set_at (map view fields.now)) }
-{
-    let [seq, seen, object, version, key, value] = fields else {
-        return Err(ReadFault::Bad);
-    };
-    let seq = whole_of(seq, 1, MAX_SEQ)?;
-    let seen = seen_of(alloc, seen)?;
-    let object = name_of(object)?;
-    let version = id_of(alloc, version)?;
-    let key = key_of(alloc, key)?;
-    let value = value_of(alloc, value)?;
-    Ok(Request::Set {
-        seq,
-        seen,
-        object,
-        version,
-        key,
-        value,
-    })
+    let body = body_of(alloc, word, rest)?;
+    Ok(Request::Change { seq, seen, body })
 }
 
 #[tactic(auto, unfolding(crate::specs::Requests::show_at))]
@@ -126,13 +95,11 @@ impl Part for Request {
         let (word, fields) = worded_of(value)?;
         match word {
             "join" => join_of(alloc, fields),
-            "new" => new_of(alloc, fields),
-            "set" => set_of(alloc, fields),
             "show" => show_of(fields),
             "list" => list_of(fields),
             "pull" => pull_of(fields),
             "leave" => leave_of(fields),
-            _ => Err(ReadFault::Bad),
+            _ => change_of(alloc, word, fields),
         }
     }
 }

@@ -3,31 +3,15 @@
 ghost use Rattle.std.specs.Prelude.{◌≡◌, IfOk, string_bytes};
 ghost use Rattle.std.specs.Arc.{arc_value};
 ghost use Rattle.serde_json.specs.Written.{compact_text};
-ghost use Rattle.wire.specs.Form.{entry_form, operation_form, IsEntry, IsEntryText};
+ghost use Rattle.wire.specs.Form.{entry_form, IsEntry, IsEntryText};
 
+use super::operation::send_operation;
 use super::part::{Written, compact};
 use op_names::NoMemory;
-use rules::{Body, Entry, Op};
+use rules::Entry;
 use serde::Serializer;
 use std::alloc::Global;
 use std::sync::Arc;
-
-impl Written for Op {
-    ghost form = { λ op. operation_form op op.body };
-
-    fn send<S: Serializer>(&self, out: &mut S) -> Result<(), S::Error> {
-        let (name, seen) = (self.name, self.seen.pairs());
-        match &self.body {
-            Body::New { kind, attrs } => ("new", name, seen, kind, attrs.pairs()).send(out),
-            Body::Set {
-                object,
-                version,
-                key,
-                value,
-            } => ("set", name, seen, *object, version, key, value).send(out),
-        }
-    }
-}
 
 impl Written for Entry {
     ghost form = { entry_form };
@@ -35,7 +19,7 @@ impl Written for Entry {
     fn send<S: Serializer>(&self, out: &mut S) -> Result<(), S::Error> {
         match self {
             Entry::Join(site) => ("join", *site).send(out),
-            Entry::Operation(op) => op.send(out),
+            Entry::Operation(op) => send_operation(&op.name, &op.seen, &op.body, out),
         }
     }
 }

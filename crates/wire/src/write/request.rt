@@ -5,6 +5,7 @@ ghost use Rattle.serde_json.specs.Written.{compact_text};
 ghost use Rattle.wire.specs.declared.request.TheConstants.{MAX_REQUEST_LEN};
 ghost use Rattle.wire.specs.Form.{request_form, IsRequest, IsRequestText};
 
+use super::operation::send_operation;
 use super::part::{Written, compact};
 use crate::request::Request;
 use op_names::NoMemory;
@@ -17,20 +18,7 @@ impl Written for Request {
     fn send<S: Serializer>(&self, out: &mut S) -> Result<(), S::Error> {
         match self {
             Request::Join { room } => ("join", room.text()).send(out),
-            Request::New {
-                seq,
-                seen,
-                kind,
-                attrs,
-            } => ("new", *seq, seen.pairs(), kind, attrs.pairs()).send(out),
-            Request::Set {
-                seq,
-                seen,
-                object,
-                version,
-                key,
-                value,
-            } => ("set", *seq, seen.pairs(), *object, version, key, value).send(out),
+            Request::Change { seq, seen, body } => send_operation(seq, seen, body, out),
             Request::Show { object } => ("show", *object).send(out),
             Request::List { from } => ("list", *from).send(out),
             Request::Pull { from } => ("pull", *from).send(out),

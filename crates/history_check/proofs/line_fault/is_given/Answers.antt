@@ -21,7 +21,7 @@ pub returns-else-not-adds : goal.returns-else-not-adds
 returns-else-not-adds c =
     let r = map arc_value c.args.entries.now in
     let same : same_reply c.args.planned.now.reply c.args.line.now.reply ≡ true = search rules in
-    let stands : IsTrue c.has_at.result ↔ (slice_get r (at_of c.args.line.now.reply) ≡ entry_added c.args.planned.now.change) =
-    subst (λ place. IsTrue c.has_at.result ↔ (slice_get r place ≡ entry_added c.args.planned.now.change)) c.at_of-place.ensures
+    let stands : IsTrue c.has_at.result ↔ (slice_get r (at_of c.args.line.now.reply) ≡ entry_added c.args.planned.now.addition) =
+    subst (λ place. IsTrue c.has_at.result ↔ (slice_get r place ≡ entry_added c.args.planned.now.addition)) c.at_of-place.ensures
     (subst (λ entry. IsTrue c.has_at.result ↔ (slice_get r c.at_of-place.result ≡ entry)) c.entry.ensures c.has_at.ensures) in
     given_with r (outcome c.args.planned.now) c.args.line.now c.has_at.result same (sym c.adds.ensures ∙ c.if-not-adds.false) stands

@@ -1,6 +1,6 @@
 use Rattle.std.proofs.Common.{rules}
 use Rattle.std.specs.Arc.{arc_value}
-use Rattle.room_core.proofs.Fronts.{front_more}
+use Rattle.drawing.proofs.Fronts.{front_more}
 use Rattle.room_core.proofs.pages.share.Goals as goal
 
 pub loop-entry-preserved : goal.loop-entry-preserved

@@ -1,16 +1,23 @@
-use Rattle.std.proofs.Common.{map, ap, ◌∙◌, refl}
-use Rattle.std.specs.Arc.{arc_value}
+use Rattle.std.proofs.Common.{[], ◌∷◌, ◌++◌, Some, subst, sym, ap, ◌∙◌, refl}
 use Rattle.rules.specs.declared.history.Entry.TheVariants.{Join}
+use Rattle.drawing.specs.Room.{Room, with_entry}
+use Rattle.late_join.specs.Kept.{IsReplica}
 use Rattle.late_join.specs.Replica.{State}
 use Rattle.late_join.specs.Taking.{take_fault}
-use Rattle.late_join.proofs.Replay.{may_take_if, pushed, replay_join}
+use Rattle.late_join.proofs.Replay.{may_take_if, replica_joined, room_for_join}
 use Rattle.late_join.proofs.replica.Replica.add_join.Goals as goal
+
+pub plan_join-requires : goal.plan_join-requires
+plan_join-requires c =
+    let room = c.self.inside.drawing.room in
+    let none = ap (λ (s : State). take_fault s.limits s.taken (Join c.args.site)) c.self.view_is ∙ c.requires in
+    room_for_join room.limits room.entries c.args.site (may_take_if room.limits room.entries (Join c.args.site) refl none)
 
 pub invariant_of-self-2 : goal.invariant_of-self-2
 invariant_of-self-2 c =
-    let i = c.self.inside in
-    let t = map arc_value i.entries.items in
+    let room = c.self.inside.drawing.room in
     let none = ap (λ (s : State). take_fault s.limits s.taken (Join c.args.site)) c.self.view_is ∙ c.requires in
-    rw (c.push_reserved-2.ensures.items, c.reserve-2.ensures.items, c.push_reserved.ensures.items, c.reserve.ensures.items)
-    (pushed arc_value i.limits i.entries.items c.in_ok-entry.entry _ _ _ (Join c.args.site) c.in_ok-entry.ensures.ok
-    (replay_join i.limits t i.sites.items i.objects.entries i.past.history c.self.invariant c.args.site (may_take_if i.limits t (Join c.args.site) refl none)))
+    let grown = c.commit.ensures ∙ (λ i. with_entry (c.plan_join.ensures.room i) (Some (c.in_ok-addition.ensures.entry i))) in
+    rw (c.push_reserved.ensures.items, c.reserve.ensures.items)
+    (subst (λ (r : Room). IsReplica r.limits r.entries (c.self.inside.sites.items ++ c.args.site ∷ [])) (sym grown)
+    (replica_joined room.limits room.entries c.self.inside.sites.items c.self.invariant c.args.site (may_take_if room.limits room.entries (Join c.args.site) refl none)))

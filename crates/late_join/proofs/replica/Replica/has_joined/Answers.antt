@@ -1,5 +1,4 @@
-use Rattle.std.proofs.Common.{map, ap, ◌∙◌, eqb}
-use Rattle.std.specs.Arc.{arc_value}
+use Rattle.std.proofs.Common.{ap, ◌∙◌, eqb}
 use Rattle.std.specs.List.{list_any}
 use Rattle.late_join.specs.Replica.{State}
 use Rattle.late_join.specs.Taking.{has_joined}
@@ -10,5 +9,5 @@ pub returns : goal.returns
 returns c =
     c.holds.ensures
     ∙ ap (list_any (λ joined. eqb joined c.args.site)) (c.deref.ensures.value ∙ c.self.invariant.joins)
-    ∙ joined_is (map arc_value c.self.inside.entries.items) c.args.site
+    ∙ joined_is c.self.inside.drawing.room.entries c.args.site
     ∙ ap (λ (s : State). has_joined s.taken c.args.site) c.self.view_is

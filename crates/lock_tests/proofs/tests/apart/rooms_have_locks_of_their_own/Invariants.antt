@@ -1,8 +1,8 @@
 use Rattle.lock_tests.proofs.tests.apart.rooms_have_locks_of_their_own.Given as goal
 
--- the ledger is the one of this blank, these limits and these histories
-abbrev pub ghosts-rooms_have_locks_of_their_own_in-P-Ledger : goal.ghosts-rooms_have_locks_of_their_own_in-P-Ledger
-ghosts-rooms_have_locks_of_their_own_in-P-Ledger g a = record { name = a.blank.name; parts = a.blank.parts }
+-- the ledger is that of the planned rooms
+abbrev pub ghosts-locks_are_apart-P-Ledger : goal.ghosts-locks_are_apart-P-Ledger
+ghosts-locks_are_apart-P-Ledger g a = record { name = a.planned.name; parts = a.planned.parts }
 
-abbrev pub ghosts-rooms_have_locks_of_their_own_in-P-RoomLedger : goal.ghosts-rooms_have_locks_of_their_own_in-P-RoomLedger
-ghosts-rooms_have_locks_of_their_own_in-P-RoomLedger g a = record { limits = a.limits; books = a.histories.items }
+abbrev pub ghosts-locks_are_apart-P-RoomLedger : goal.ghosts-locks_are_apart-P-RoomLedger
+ghosts-locks_are_apart-P-RoomLedger g a = record { limits = a.planned.limits; books = a.planned.books }

@@ -1,8 +1,8 @@
 use Rattle.lock_tests.proofs.tests.refused.a_full_room_lets_nobody_in.Given as goal
 
--- the ledger is the one of this blank, these limits and these histories
-abbrev pub ghosts-joins_are_refused_in-P-Ledger : goal.ghosts-joins_are_refused_in-P-Ledger
-ghosts-joins_are_refused_in-P-Ledger g a = record { name = a.blank.name; parts = a.blank.parts }
+-- the ledger is that of the planned rooms
+abbrev pub ghosts-second_reply-P-Ledger : goal.ghosts-second_reply-P-Ledger
+ghosts-second_reply-P-Ledger g a = record { name = a.planned.name; parts = a.planned.parts }
 
-abbrev pub ghosts-joins_are_refused_in-P-RoomLedger : goal.ghosts-joins_are_refused_in-P-RoomLedger
-ghosts-joins_are_refused_in-P-RoomLedger g a = record { limits = a.limits; books = a.histories.items }
+abbrev pub ghosts-second_reply-P-RoomLedger : goal.ghosts-second_reply-P-RoomLedger
+ghosts-second_reply-P-RoomLedger g a = record { limits = a.planned.limits; books = a.planned.books }

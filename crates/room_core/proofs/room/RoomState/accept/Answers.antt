@@ -7,7 +7,7 @@ use Rattle.room_core.specs.Plans.{entry_added}
 use Rattle.room_core.proofs.Accepted.{answer_adds, mapped_some, some_if_admitted}
 use Rattle.room_core.proofs.room.RoomState.accept.Goals as goal
 
-abbrev adds : (c : goal.Joined-commit) → entry_added c.in_ok-planned.planned.change ≡ admitted c.args.self.now.room c.args.entry.now
+abbrev adds : (c : goal.Joined-commit) → entry_added c.in_ok-planned.planned.addition ≡ admitted c.args.self.now.room c.args.entry.now
 adds c =
     let placed : is_placed c.args.self.now.room.entries c.args.entry.now ≡ true = sym c.is_placed.ensures ∙ c.if-not-is_placed.false in
     ap (λ (o : Outcome). o.1) c.in_ok-planned.ensures.0.0 ∙ answer_adds c.args.self.now.room c.args.entry.now placed

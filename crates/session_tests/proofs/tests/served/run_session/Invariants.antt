@@ -1,8 +1,8 @@
 use Rattle.session_tests.proofs.tests.served.run_session.Given as goal
 
--- the ledger is the one of this blank, these limits and these histories
+-- the ledger is that of the planned rooms
 abbrev pub ghosts-run_session_in-P-Ledger : goal.ghosts-run_session_in-P-Ledger
-ghosts-run_session_in-P-Ledger g a = record { name = a.blank.name; parts = a.blank.parts }
+ghosts-run_session_in-P-Ledger g a = record { name = a.planned.name; parts = a.planned.parts }
 
 abbrev pub ghosts-run_session_in-P-RoomLedger : goal.ghosts-run_session_in-P-RoomLedger
-ghosts-run_session_in-P-RoomLedger g a = record { limits = a.limits; books = a.histories.items }
+ghosts-run_session_in-P-RoomLedger g a = record { limits = a.planned.limits; books = a.planned.books }

@@ -16,5 +16,5 @@ invariant_of-self-2 c =
     let room = c.self.inside.state.room in
     let sound = sound_room room c.limits-limits.result c.limits-limits.ensures c.joins-joins.ensures.range c.entries-entries.ensures.range c.entries-record.ensures.legal c.self.invariant in
     let range : InRange (outcome c.in_ok-planned.planned) = subst InRange (sym c.in_ok-planned.ensures.0.0) (answer_in_range room sound c.args.asker.site c.args.request c.requires) in
-    in_range_after c.put_in_place.result room c.plan.new.room.room c.put_in_place.new.room.room (entry_added c.in_ok-planned.planned.change) sound range.added c.plan.ensures.1 c.put_in_place.ensures.room
+    in_range_after c.put_in_place.result room c.plan.new.room.room c.put_in_place.new.room.room (entry_added c.in_ok-planned.planned.addition) sound range.added c.plan.ensures.1 c.put_in_place.ensures.room
     (on_err_weaker c.put_in_place.result (λ kept. ap (λ (state : State). state.room) kept.0) c.put_in_place.ensures.err)

@@ -1,0 +1,10 @@
+pub mod Fronts
+pub mod WithSets
+pub mod Lookup
+pub mod NewNames
+pub mod OneMore
+pub mod AtObject
+pub mod Shown
+pub mod ObjectKinds
+pub mod Replay
+pub mod Refused

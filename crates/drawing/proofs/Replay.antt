@@ -1,0 +1,131 @@
+-- A drawing with one more entry is the replay of its record with that entry.
+use Rattle.std.proofs.Common.{◌≡◌, ℕ, ◌+◌, ◌<◌, Bool, true, false, List, [], ◌∷◌, ◌++◌, length, map, sym, ap, ◌∙◌, subst, arith, Some, None, leb, cond}
+use Rattle.std.specs.List.{IsDistinct}
+use Rattle.std.specs.Map.{keys_of, lookup, set_value}
+use Rattle.std.proofs.lemmas.Bool.{leb-false}
+use Rattle.std.proofs.lemmas.List.{length_push, map-append}
+use Rattle.op_names.specs.Names.{Name, same_name}
+use Rattle.rules.specs.declared.history.Op.{Op}
+use Rattle.rules.specs.declared.history.Entry.{Entry}
+use Rattle.rules.specs.declared.history.Entry.TheVariants.{Join, Operation}
+use Rattle.rules.specs.declared.refusal.Refusal.TheVariants.{TooManyObjects}
+use Rattle.rules.specs.declared.limits.LimitValues.{LimitValues}
+use Rattle.rules.specs.Admission.{count_at_site, first_that_applies}
+use Rattle.rules.specs.Bodies.{is_set_body}
+use Rattle.rules.specs.Operations.{object_of}
+use Rattle.rules.specs.Records.{operations, objects, creation_conditions, set_conditions}
+use Rattle.rules.proofs.Conditions.{not_first}
+use Rattle.rules.proofs.Founded.{HasGround, founded_push, ground_if}
+use Rattle.rules.proofs.Histories.{IsNumbered, follows_if}
+use Rattle.rules.proofs.Records.{operations-join, operations-push, objects-join}
+use Rattle.shape.specs.Objects.{Stored, with_set}
+use Rattle.shape.proofs.Next.{next_history, next_ordered, numbered_if}
+use Rattle.drawing.specs.Additions.{IsNext, body_refusal}
+use Rattle.drawing.specs.Drawing.{IsReplay, IsSound}
+use Rattle.drawing.specs.Room.{Room}
+use Rattle.drawing.proofs.Lookup.{none_there}
+use Rattle.drawing.proofs.NewNames.{no_set_yet, not_created}
+use Rattle.drawing.proofs.OneMore.{length-objects-creation, objects-set, with_creation, with_join, with_set_on}
+use Rattle.drawing.proofs.WithSets.{objects_with_sets_same}
+
+-- the room with one more entry
+abbrev pub more : Room → Entry → Room
+more room entry = record { limits = room.limits; entries = room.entries ++ entry ∷ [] }
+
+-- ---- why what an operation does is refused, by its body
+
+module _ (room : Room) (o : Op) where
+  abbrev of_body : Bool → Type 0
+  of_body b = first_that_applies (cond b (set_conditions room.limits (operations room.entries) o) (creation_conditions room.limits room.entries)) ≡ None
+
+  -- a set that isn't refused has its object and its base
+  pub ground : body_refusal room o ≡ None → is_set_body o.body ≡ true → HasGround (operations room.entries) o
+  ground allowed set = ground_if room.limits (operations room.entries) o (subst of_body set allowed)
+
+  -- a creation that isn't finds room for an object
+  pub fits_one_more : body_refusal room o ≡ None → is_set_body o.body ≡ false → length (objects room.entries) < room.limits.objects
+  fits_one_more allowed creates =
+      leb-false _ _ (not_first (leb room.limits.objects (length (objects room.entries)), TooManyObjects) [] (subst of_body creates allowed)).0
+
+-- ---- one more entry
+
+module _ (room : Room) (shapes : List (Name × Stored)) (history : List Op) (replay : IsReplay room shapes history) where
+  abbrev r : List Entry
+  r = room.entries
+
+  abbrev h : List Op
+  h = operations r
+
+  pub replay_join : (site : ℕ) → length r < room.limits.entries → IsReplay (more room (Join site)) shapes history
+  replay_join site room_for = record {
+    sound = subst IsSound (sym (operations-join r site)) replay.sound;
+    shapes_are = with_join room.limits r shapes replay.shapes_are site;
+    past = replay.past ∙ sym (operations-join r site);
+    short = (let e = length_push r (Join site) in omega (arith, e, room_for));
+    fits = (let e = ap length (objects-join r site) in omega (arith, e, replay.fits));
+  }
+
+  module _ (o : Op) (next : IsNext room o) where
+    numbered : IsNumbered h
+    numbered = numbered_if replay.sound.history
+
+    next_seq : o.name.1 ≡ count_at_site h o.name.0 + 1
+    next_seq = (follows_if h o next.ready next.vector).seq
+
+    -- an operation that is next creates no object that is there
+    pub new_name : lookup (same_name o.name) shapes ≡ None
+    new_name = none_there room.limits r shapes replay.shapes_are o.name (not_created h numbered o next_seq)
+
+    module _ (allowed : body_refusal room o ≡ None) where
+      sound_after : IsSound (operations (r ++ Operation o ∷ []))
+      sound_after =
+          let s = replay.sound in
+          let history_after = next_history h o s.history s.ordered next.ready next.vector in
+          subst IsSound (sym (operations-push r o)) (record {
+            history = history_after;
+            ordered = next_ordered h o s.history s.ordered next.ready next.vector;
+            founded = founded_push h o s.history s.founded history_after (ground room o allowed);
+          })
+
+      past_after : history ++ o ∷ [] ≡ operations (r ++ Operation o ∷ [])
+      past_after = ap (λ (k : List Op). k ++ o ∷ []) replay.past ∙ sym (operations-push r o)
+
+      pub replay_creation : (d : Stored) → is_set_body o.body ≡ false → d.object ≡ record { limits = room.limits; creation = o; sets = [] }
+          → IsReplay (more room (Operation o)) (shapes ++ (o.name, d) ∷ []) (history ++ o ∷ [])
+      replay_creation d creates made = record {
+        sound = sound_after;
+        shapes_are = with_creation room.limits r shapes replay.shapes_are o d creates (no_set_yet h numbered o next_seq replay.sound.founded) made;
+        past = past_after;
+        short = (let e = length_push r (Operation o) in let s = next.short in omega (arith, e, s));
+        fits = (let e = length-objects-creation r o creates in let f = fits_one_more room o allowed creates in omega (arith, e, f));
+      }
+
+      pub replay_set : (d w : Stored) → is_set_body o.body ≡ true → IsDistinct same_name (keys_of shapes)
+          → lookup (same_name (object_of o)) shapes ≡ Some d → w.object ≡ with_set d.object o
+          → IsReplay (more room (Operation o)) (set_value (same_name (object_of o)) shapes w) (history ++ o ∷ [])
+      replay_set d w sets unique there taken = record {
+        sound = sound_after;
+        shapes_are = with_set_on room.limits r shapes replay.shapes_are o d w sets unique there taken;
+        past = past_after;
+        short = (let e = length_push r (Operation o) in let s = next.short in omega (arith, e, s));
+        fits = (let e = ap length (objects-set r o sets) in omega (arith, e, replay.fits));
+      }
+
+  -- an object that stays, in another's place
+  pub replay_same : (t : Name → Bool) (d w : Stored) → lookup t shapes ≡ Some d → w.object ≡ d.object → IsReplay room (set_value t shapes w) history
+  replay_same t d w there same = record {
+    sound = replay.sound;
+    shapes_are = objects_with_sets_same t d w shapes there same ∙ replay.shapes_are;
+    past = replay.past;
+    short = replay.short;
+    fits = replay.fits;
+  }
+
+-- ---- of a list that gives the entries
+
+module _ {X : Type 0} (f : X → Entry) (l : LimitValues) (xs : List X) (x : X) (shapes : List (Name × Stored)) (history : List Op) where
+  abbrev pub room_of : List X → Room
+  room_of ys = record { limits = l; entries = map f ys }
+
+  pub pushed : (e : Entry) → f x ≡ e → IsReplay (more (room_of xs) e) shapes history → IsReplay (room_of (xs ++ x ∷ [])) shapes history
+  pushed e is replay = subst (λ t. IsReplay (record { limits = l; entries = t }) shapes history) (ap (λ (y : Entry). map f xs ++ y ∷ []) (sym is) ∙ sym (map-append f xs (x ∷ []))) replay

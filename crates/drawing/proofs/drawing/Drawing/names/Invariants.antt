@@ -1,0 +1,7 @@
+use Rattle.std.proofs.Common.{◌≡◌, map, take}
+use Rattle.op_names.specs.Names.{Name}
+use Rattle.shape.specs.Objects.{Stored}
+use Rattle.drawing.proofs.drawing.Drawing.names.Given as goal
+
+abbrev pub invariant-loop-place : goal.invariant-loop-place
+invariant-loop-place l = l.names.items ≡ take l.place (map (λ (s : Name × Stored). s.0) l.shapes)

@@ -1,0 +1,73 @@
+//! An entry that a drawing can add, with all that it takes memory for.
+
+ghost use Rattle.std.specs.Prelude.{◌≡◌, option_map};
+ghost use Rattle.std.specs.Arc.{arc_value};
+ghost use Rattle.rules.specs.Records.{is_join};
+ghost use Rattle.drawing.specs.State.{State};
+ghost use Rattle.drawing.specs.Additions.{IsReady, ids_of};
+
+use op_names::VersionId;
+use rules::{Entry, SharedOp};
+use shape::{PlannedSet, Shape};
+use std::alloc::Global;
+use std::marker::Model;
+use std::sync::Arc;
+
+/// What an entry adds to a drawing beside itself.
+#[derive(Drop)]
+pub(crate) enum Part {
+    /// A join adds nothing.
+    Join,
+    /// A creation adds the operation and its object.
+    Creation(SharedOp, Shape),
+    /// A set adds the operation, and what is planned for its object.
+    Set(SharedOp, PlannedSet),
+}
+
+/// An entry that a drawing can add without an allocation. Only the plans of `Drawing` make one.
+#[derive(Drop)]
+pub struct Addition {
+    pub(crate) entry: Arc<Entry>,
+    pub(crate) part: Part,
+}
+
+impl Model for Addition {
+    ghost use Rattle.std.specs.Arc.{arc_value};
+    ghost use Rattle.drawing.specs.Additions.{Added};
+
+    ghost Value = { Added };
+
+    ghost view = { λ addition. record { entry = arc_value addition.entry; part = addition.part } };
+}
+
+impl Addition {
+    /// The entry that will be added.
+    pub fn entry(&self) -> &Arc<Entry>
+        ensures { arc_value result.now ≡ self.now.entry }
+    {
+        &self.entry
+    }
+
+    /// Is the entry a join?
+    pub fn is_join(&self) -> bool
+        ensures { result ≡ is_join self.now.entry }
+    {
+        match &*self.entry {
+            Entry::Join(_) => true,
+            Entry::Operation(_) => false,
+        }
+    }
+
+    /// Takes out the identifiers of the versions of a set's object, with the set. Of a creation and a
+    /// join there are none. What is planned stays.
+    pub fn take_ids(&mut self, alloc: Global) -> Option<Vec<VersionId>>
+        ensures ids { option_map (λ ids. ids.items) result ≡ ids_of self.old.part }
+        ensures entry { self.new.entry ≡ self.old.entry }
+        ensures ready { (s : State) → IsReady s self.old → IsReady s self.new }
+    {
+        match &mut self.part {
+            Part::Join | Part::Creation(..) => None,
+            Part::Set(_, planned) => Some(planned.take_ids(alloc)),
+        }
+    }
+}

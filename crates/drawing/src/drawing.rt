@@ -1,0 +1,260 @@
+//! A drawing.
+
+ghost use Rattle.std.specs.Prelude.{◌≡◌, ◌<◌, ◌≤◌, ◌-◌, ◌++◌, ◌∷◌, [], None, Some, IfOk, drop, length, map, nat_le, slice_index, take};
+ghost use Rattle.std.specs.Arc.{arc_value};
+ghost use Rattle.std.specs.Map.{lookup};
+ghost use Rattle.indexmap.specs.IndexMap.{spare};
+ghost use Rattle.op_names.specs.Names.{same_name};
+ghost use Rattle.rules.specs.declared.history.Entry.TheVariants.{Join};
+ghost use Rattle.rules.specs.declared.limits.TheConstants.Limits.{MAX_ENTRIES};
+ghost use Rattle.rules.specs.Admission.{causal_refusal};
+ghost use Rattle.rules.specs.Operations.{name_of, object_of};
+ghost use Rattle.rules.specs.Records.{objects, operations};
+ghost use Rattle.drawing.specs.Additions.{CanAdd, CanCreate, CanJoin, CanSet, IsReady};
+ghost use Rattle.drawing.specs.Room.{all_objects, empty_room, with_entry};
+ghost use Rattle.drawing.specs.Shown.{shown};
+
+mod plans;
+
+use crate::addition::{Addition, Part};
+use crate::pages::objects_page;
+use causal::Past;
+use indexmap::IndexMap;
+use op_names::{NoMemory, OpName};
+use rules::{Body, Entry, Limits, Op, Refusal, SharedOp};
+use shape::{PlannedSet, Shape};
+use std::alloc::Global;
+use std::marker::Model;
+use std::sync::Arc;
+use wire::{ObjectList, Reply, VersionList};
+
+/// The entries of a room so far, and what follows from them: the operations, which name is next, and
+/// the objects in order of creation. Whoever owns one decides which entry comes next.
+#[derive(Drop)]
+pub struct Drawing {
+    limits: Limits,
+    entries: Vec<Arc<Entry>>,
+    past: Past,
+    objects: IndexMap<OpName, Shape>,
+}
+
+impl Model for Drawing {
+    ghost use Rattle.std.specs.Prelude.{map, ◌-◌, vec_len, vec_capacity};
+    ghost use Rattle.std.specs.Arc.{arc_value};
+    ghost use Rattle.indexmap.specs.IndexMap.{spare};
+    ghost use Rattle.drawing.specs.Room.{room_of};
+    ghost use Rattle.drawing.specs.State.{State};
+    ghost use Rattle.drawing.specs.Drawing.{IsReplay};
+
+    ghost Value = { State };
+
+    ghost view = { λ d. record {
+      room = record { limits = d.limits; entries = map arc_value d.entries.items };
+      reserve = record {
+        entries = vec_capacity d.entries - vec_len d.entries;
+        operations = d.past.reserve;
+        objects = spare d.objects;
+        shapes = d.objects.entries;
+      };
+    } };
+
+    ghost invariant = { λ d.
+        IsReplay (room_of d.limits (map arc_value d.entries.items)) d.objects.entries d.past.history };
+}
+
+/// The object that an operation creates or changes.
+fn object_of(op: &Op) -> OpName
+    ensures { result ≡ object_of op.now }
+{
+    match &op.body {
+        Body::New { .. } => op.name,
+        Body::Set { object, .. } => *object,
+    }
+}
+
+impl Drawing {
+    /// A drawing of a room of these limits with no entry yet. Otherwise `NoMemory`.
+    pub fn new(alloc: Global, limits: Limits) -> Result<Drawing, NoMemory>
+        ensures { IfOk result (λ drawing. drawing.room ≡ empty_room limits) }
+    {
+        let past = Past::new(alloc)?;
+        Ok(Drawing {
+            limits,
+            entries: Vec::new(alloc),
+            past,
+            objects: IndexMap::new(alloc),
+        })
+    }
+
+    /// The limits of the room.
+    pub fn limits(&self) -> Limits
+        ensures { result ≡ self.now.room.limits }
+    {
+        self.limits
+    }
+
+    /// The entries, in the order in which they were added.
+    pub fn entries(&self) -> &[Arc<Entry>]
+        ensures { map arc_value result.now ≡ self.now.room.entries }
+    {
+        self.entries.as_slice()
+    }
+
+    /// The entries, of a drawing that is given up.
+    pub fn into_entries(self) -> Vec<Arc<Entry>>
+        ensures { map arc_value result.items ≡ self.room.entries }
+    {
+        self.entries
+    }
+
+    /// The number of entries.
+    pub fn len(&self) -> u32
+        ensures len { result ≡ length self.now.room.entries }
+        ensures range { length self.now.room.entries ≤ self.now.room.limits.entries }
+    {
+        let _bound = self.limits.entries();
+        self.entries.len() as u32
+    }
+
+    /// Are there as many entries as there may be?
+    pub fn is_full(&self) -> bool
+        ensures full { result ≡ nat_le self.now.room.limits.entries (length self.now.room.entries) }
+        ensures range { self.now.room.limits.entries ≤ MAX_ENTRIES }
+    {
+        self.len() >= self.limits.entries()
+    }
+
+    /// The operations so far.
+    pub fn past(&self) -> &Past
+        ensures { result.now.history ≡ operations self.now.room.entries }
+    {
+        &self.past
+    }
+
+    /// The number of objects.
+    pub fn count_objects(&self) -> u32
+        ensures { result ≡ length (objects self.now.room.entries) }
+    {
+        let _bound = self.limits.objects();
+        self.objects.len() as u32
+    }
+
+    /// The names of the objects, in the order in which their creations were added. Linear in their
+    /// number.
+    pub fn names(&self, alloc: Global) -> Result<Vec<OpName>, NoMemory>
+        ensures { IfOk result (λ names. names.items ≡ map name_of (objects self.now.room.entries)) }
+    {
+        let count = self.objects.len();
+        let shapes = self.objects.as_slice();
+        let mut names = Vec::with_capacity(alloc, count)?;
+        for place in 0..count {
+            let Some((name, _)) = shapes.get_index(place) else {
+                unreachable!()
+            };
+            names.push(*name)?;
+        }
+        Ok(names)
+    }
+
+    /// A page of the objects with their kinds from a place on. Linear in the page.
+    pub fn page(&self, alloc: Global, from: u32) -> Result<ObjectList, NoMemory>
+        requires { from ≤ length (objects self.now.room.entries) }
+        ensures { IfOk result (λ list. list
+            ≡ take self.now.room.limits.page (drop from (all_objects self.now.room.entries))) }
+    {
+        let page = self.limits.page() as usize;
+        objects_page(alloc, &self.objects, from as usize, page)
+    }
+
+    /// The versions of an object. A refusal, `NoSuchObject`, where no object of the name was created.
+    pub fn show(&self, alloc: Global, object: OpName) -> Result<Reply, NoMemory>
+        ensures { IfOk result (λ reply. reply ≡ shown self.now.room.entries object) }
+    {
+        let Some(shape) = self.objects.get(&object) else {
+            return Ok(Reply::No {
+                at: self.len(),
+                refusal: Refusal::NoSuchObject,
+            });
+        };
+        Ok(Reply::Versions {
+            at: self.len(),
+            object,
+            kind: shape.kind().copy(alloc)?,
+            versions: VersionList::from_vec(shape.show(alloc)?),
+        })
+    }
+}
+
+impl Drawing {
+    /// Adds what was planned for the drawing as it is. Takes no memory.
+    pub fn commit(&mut self, addition: Addition)
+        requires { IsReady self.old addition }
+        ensures { self.new.room ≡ with_entry self.old.room (Some addition.entry) }
+    {
+        let Addition { entry, part } = addition;
+        match part {
+            Part::Join => self.add_join(entry),
+            Part::Creation(op, shape) => self.add_creation(entry, op, shape),
+            Part::Set(op, planned) => self.add_set(entry, op, planned),
+        }
+    }
+
+    /// Adds a join.
+    fn add_join(&mut self, entry: Arc<Entry>)
+        requires { CanJoin self.old (arc_value entry) }
+        ensures { self.new.room ≡ with_entry self.old.room (Some (arc_value entry)) }
+    {
+        self.entries.push_reserved(entry);
+    }
+
+    /// Adds a creation and its object.
+    fn add_creation(&mut self, entry: Arc<Entry>, op: SharedOp, shape: Shape)
+        requires operation { CanAdd self.old (arc_value entry) op }
+        requires creation { CanCreate self.old op shape }
+        ensures { self.new.room ≡ with_entry self.old.room (Some (arc_value entry)) }
+    {
+        let name = op.name;
+        self.entries.push_reserved(entry);
+        add_reserved(&mut self.past, op);
+        insert_reserved(&mut self.objects, name, shape);
+    }
+
+    /// Adds a set, and changes its object as planned.
+    fn add_set(&mut self, entry: Arc<Entry>, op: SharedOp, planned: PlannedSet)
+        requires operation { CanAdd self.old (arc_value entry) op }
+        requires set { CanSet self.old op planned }
+        ensures { self.new.room ≡ with_entry self.old.room (Some (arc_value entry)) }
+    {
+        let object = object_of(&op);
+        self.entries.push_reserved(entry);
+        add_reserved(&mut self.past, op);
+        match self.objects.get_mut(&object) {
+            Some(shape) => shape.commit(planned),
+            None => unreachable!(),
+        }
+    }
+}
+
+/// Adds an operation where there is memory for it.
+fn add_reserved(past: &mut Past, op: SharedOp)
+    requires admitted { causal_refusal past.old.history op.name op.seen ≡ None }
+    requires memory { 0 < slice_index past.old.reserve (op.name.0 - 1) }
+    ensures { past.new.history ≡ past.old.history ++ op ∷ [] }
+{
+    match past.add(op) {
+        Ok(()) => {}
+        Err(_) => unreachable!(),
+    }
+}
+
+/// Adds an object under a new name where there is memory for it.
+fn insert_reserved(objects: &mut IndexMap<OpName, Shape>, name: OpName, shape: Shape)
+    requires absent { lookup (same_name name) objects.old.entries ≡ None }
+    requires memory { 0 < spare objects.old }
+    ensures { objects.new.entries ≡ objects.old.entries ++ (name, shape) ∷ [] }
+{
+    match objects.insert(name, shape) {
+        Ok(_) => {}
+        Err(_) => unreachable!(),
+    }
+}

@@ -1,0 +1,149 @@
+//! What is planned to be added: joins, creations and sets.
+
+ghost use Rattle.std.specs.Prelude.{◌≡◌, ◌<◌, false, length, true, IfErr, IfOk, None, OnOk, Some};
+ghost use Rattle.op_names.specs.Names.{is_site};
+ghost use Rattle.rules.specs.declared.history.Entry.TheVariants.{Join};
+ghost use Rattle.rules.specs.Bodies.{is_set_body};
+ghost use Rattle.rules.specs.Operations.{object_of};
+ghost use Rattle.state_vector.specs.Vectors.{counts};
+ghost use Rattle.shape.specs.Planned.{IsPlanned};
+ghost use Rattle.drawing.specs.Additions.{HasShape, IsNext, IsPlanFor, IsReady, body_refusal};
+ghost use Rattle.drawing.specs.Shown.{ids_with};
+ghost use Rattle.drawing.specs.Faults.{IsRefusal};
+ghost use Rattle.drawing.specs.State.{spare_of};
+
+use super::{Drawing, object_of};
+use crate::addition::{Addition, Part};
+use crate::fault::AddFault;
+use op_names::{NoMemory, OpName};
+use rules::{Body, Entry, Op, Refusal, SharedOp};
+use shape::{PlannedSet, Shape};
+use std::alloc::Global;
+use std::sync::Arc;
+
+impl Drawing {
+    /// Plans to add a join where there is room for an entry. The drawing stays as it is. Otherwise
+    /// `NoMemory`.
+    pub fn plan_join(&mut self, alloc: Global, site: u32) -> Result<Addition, NoMemory>
+        requires { length self.old.room.entries < self.old.room.limits.entries }
+        ensures entry { IfOk result (λ added. added.entry ≡ Join site) }
+        ensures ready { IfOk result (IsReady self.new) }
+        ensures room { self.new.room ≡ self.old.room }
+    {
+        self.entries.reserve(1)?;
+        let entry = Arc::new(alloc, Entry::Join(site))?;
+        Ok(Addition {
+            entry,
+            part: Part::Join,
+        })
+    }
+
+    /// Plans to add an operation that may come next, whatever it does. The drawing stays as it is.
+    /// `Refused` where what it does is not allowed, with the first cause that applies: of a creation
+    /// `TooManyObjects`; of a set `NoSuchObject`, `NoSuchVersion`, `ObjectFull`, `TooManyKeys` or
+    /// `TooManyVersions`. `NoMemory` if an allocation failed.
+    pub fn plan(&mut self, alloc: Global, op: Op) -> Result<Addition, AddFault>
+        requires { IsNext self.old.room op }
+        ensures planned { IfOk result (IsPlanFor self.old.room op self.new) }
+        ensures allowed { OnOk result (body_refusal self.old.room op ≡ None) }
+        ensures refused { IfErr result (IsRefusal (body_refusal self.old.room op)) }
+        ensures room { self.new.room ≡ self.old.room }
+    {
+        match &op.body {
+            Body::New { .. } => self.plan_creation(alloc, op),
+            Body::Set { .. } => self.plan_set(alloc, op),
+        }
+    }
+
+    /// Plans to add a creation that may come next.
+    fn plan_creation(&mut self, alloc: Global, op: Op) -> Result<Addition, AddFault>
+        requires next { IsNext self.old.room op }
+        requires creation { is_set_body op.body ≡ false }
+        ensures planned { IfOk result (IsPlanFor self.old.room op self.new) }
+        ensures allowed { OnOk result (body_refusal self.old.room op ≡ None) }
+        ensures refused { IfErr result (IsRefusal (body_refusal self.old.room op)) }
+        ensures room { self.new.room ≡ self.old.room }
+    {
+        if self.count_objects() >= self.limits.objects() {
+            return Err(AddFault::Refused(Refusal::TooManyObjects));
+        }
+        let op = SharedOp::new(alloc, op)?;
+        Ok(self.plan_object(alloc, op)?)
+    }
+
+    /// Plans to add a creation that is allowed.
+    fn plan_object(&mut self, alloc: Global, op: SharedOp) -> Result<Addition, NoMemory>
+        requires next { IsNext self.old.room op }
+        requires creation { is_set_body op.body ≡ false }
+        requires allowed { body_refusal self.old.room op ≡ None }
+        ensures planned { IfOk result (IsPlanFor self.old.room op self.new) }
+        ensures room { self.new.room ≡ self.old.room }
+    {
+        self.reserve_operation(op.name.site())?;
+        self.objects.reserve(1)?;
+        let entry = op.entry()?;
+        let shape = Shape::create(alloc, op.share()?, self.limits)?;
+        Ok(Addition {
+            entry,
+            part: Part::Creation(op, shape),
+        })
+    }
+
+    /// Plans to add a set that may come next.
+    fn plan_set(&mut self, alloc: Global, op: Op) -> Result<Addition, AddFault>
+        requires next { IsNext self.old.room op }
+        requires set { is_set_body op.body ≡ true }
+        ensures planned { IfOk result (IsPlanFor self.old.room op self.new) }
+        ensures allowed { OnOk result (body_refusal self.old.room op ≡ None) }
+        ensures refused { IfErr result (IsRefusal (body_refusal self.old.room op)) }
+        ensures room { self.new.room ≡ self.old.room }
+    {
+        if !op.seen.has(object_of(&op)) {
+            return Err(AddFault::Refused(Refusal::NoSuchObject));
+        }
+        let op = SharedOp::new(alloc, op)?;
+        self.reserve_operation(op.name.site())?;
+        let planned = self.plan_at_object(alloc, op.share()?)?;
+        let entry = op.entry()?;
+        Ok(Addition {
+            entry,
+            part: Part::Set(op, planned),
+        })
+    }
+
+    /// Takes memory for one more operation of this site.
+    fn reserve_operation(&mut self, site: u32) -> Result<(), NoMemory>
+        ensures entry { OnOk result (0 < self.new.reserve.entries) }
+        ensures past { OnOk result (is_site site ≡ true → 0 < spare_of self.new site) }
+        ensures shapes { self.new.reserve.shapes ≡ self.old.reserve.shapes }
+        ensures room { self.new.room ≡ self.old.room }
+    {
+        self.entries.reserve(1)?;
+        self.past.reserve(site)?;
+        Ok(())
+    }
+
+    /// Plans a set that counts the name of its object, on that object.
+    fn plan_at_object(&mut self, alloc: Global, op: SharedOp) -> Result<PlannedSet, AddFault>
+        requires next { IsNext self.old.room op }
+        requires set { is_set_body op.body ≡ true }
+        requires counted { counts op.seen (object_of op) ≡ true }
+        // The plan for the object as it then is.
+        ensures shape { IfOk result
+            (λ p. HasShape self.new.reserve.shapes (object_of op) (λ d. IsPlanned d p)) }
+        ensures added { IfOk result (λ p. p.addition.op ≡ op) }
+        ensures ids { IfOk result (λ p. p.ids ≡ ids_with self.old.room op) }
+        // Whether there is one.
+        ensures allowed { OnOk result (body_refusal self.old.room op ≡ None) }
+        ensures refused { IfErr result (IsRefusal (body_refusal self.old.room op)) }
+        // The memory for the operation stays.
+        ensures entries { self.new.reserve.entries ≡ self.old.reserve.entries }
+        ensures operations { self.new.reserve.operations ≡ self.old.reserve.operations }
+        ensures room { self.new.room ≡ self.old.room }
+    {
+        let Some(shape) = self.objects.get_mut(&object_of(&op)) else {
+            return Err(AddFault::Refused(Refusal::NoSuchObject));
+        };
+        Ok(shape.plan_set(alloc, op)?)
+    }
+}

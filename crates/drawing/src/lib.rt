@@ -1,0 +1,12 @@
+//! What the entries of a room draw: its operations so far and its objects, by the entries that were
+//! added in a causal order.
+#![tactic(auto)]
+
+mod addition;
+mod drawing;
+mod fault;
+mod pages;
+
+pub use addition::Addition;
+pub use drawing::Drawing;
+pub use fault::AddFault;

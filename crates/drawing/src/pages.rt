@@ -1,0 +1,32 @@
+//! Pages of a drawing's objects.
+
+ghost use Rattle.std.specs.Prelude.{◌≡◌, ◌≤◌, IfOk, drop, length, take};
+ghost use Rattle.drawing.specs.State.{kinds_of};
+
+use indexmap::IndexMap;
+use op_names::{NoMemory, OpName};
+use shape::Shape;
+use std::alloc::Global;
+use wire::ObjectList;
+
+/// A page of the objects with their kinds from a place on. Linear in the page.
+pub(crate) fn objects_page(
+    alloc: Global,
+    objects: &IndexMap<OpName, Shape>,
+    from: usize,
+    page: usize,
+) -> Result<ObjectList, NoMemory>
+    requires { from ≤ length objects.now.entries }
+    ensures { IfOk result (λ list. list ≡ take page (drop from (kinds_of objects.now.entries))) }
+{
+    let (_, rest) = objects.as_slice().split_at(from);
+    let count = page.min(rest.len());
+    let mut listed = Vec::with_capacity(alloc, count)?;
+    for place in 0..count {
+        let Some((name, shape)) = rest.get_index(place) else {
+            unreachable!()
+        };
+        listed.push((*name, shape.kind().copy(alloc)?))?;
+    }
+    Ok(ObjectList::from_vec(listed))
+}

@@ -1,7 +1,0 @@
-use Rattle.std.proofs.Common.{◌≡◌, map, take}
-use Rattle.op_names.specs.Names.{Name}
-use Rattle.shape.specs.Objects.{Stored}
-use Rattle.late_join.proofs.replica.Replica.objects.Given as goal
-
-abbrev pub invariant-loop-place : goal.invariant-loop-place
-invariant-loop-place l = l.names.items ≡ take l.place (map (λ (s : Name × Stored). s.0) l.shapes)

@@ -1,0 +1,19 @@
+-- What a replica's type keeps.
+use Rattle.std.specs.Prelude.{◌≡◌, ℕ, List, Option, Some, None, filter_map}
+use Rattle.rules.specs.declared.history.Entry.{Entry}
+use Rattle.rules.specs.declared.history.Entry.TheVariants.{Join, Operation}
+use Rattle.rules.specs.declared.limits.LimitValues.{LimitValues}
+use Rattle.late_join.specs.Taking.{IsTakeable}
+
+abbrev pub site_in : Entry → Option ℕ
+site_in (Join site) = Some site
+site_in (Operation op) = None
+
+-- the sites whose joins were taken, in that order
+abbrev pub sites_in : List Entry → List ℕ
+sites_in t = filter_map site_in t
+
+-- the list t is takeable, and these are the sites that joined
+pub record IsReplica (limits : LimitValues) (t : List Entry) (joined : List ℕ) : Type 0 where
+  pub takeable : IsTakeable limits t
+  pub joins : joined ≡ sites_in t

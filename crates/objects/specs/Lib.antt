@@ -1,3 +1,0 @@
-pub mod Objects
-pub mod Changes
-pub mod Shown

@@ -1,6 +1,0 @@
-use Rattle.std.proofs.Common.{◌≡◌, take}
-use Rattle.room_core.specs.State.{kinds_of}
-use Rattle.room_core.proofs.object_pages.objects_page.Given as goal
-
-abbrev pub invariant-loop-place : goal.invariant-loop-place
-invariant-loop-place l = l.listed.items ≡ take l.place (kinds_of l.rest)

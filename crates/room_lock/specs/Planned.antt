@@ -1,0 +1,29 @@
+-- Rooms that are to be made.
+use Rattle.std.specs.Prelude.{◌≡◌, ℕ, ◌+◌, ◌*◌, ◌≤◌, ◌^◌, List, None, bytes_eq, length}
+use Rattle.logbook.specs.Pages.{Book}
+use Rattle.op_names.specs.Repeats.{first_repeat}
+use Rattle.op_names.specs.Texts.{Bytes}
+use Rattle.rules.specs.declared.limits.LimitValues.{LimitValues}
+use Rattle.room_lock.specs.declared.room.TheConstants.{SPARE_PARTS}
+
+-- their names and limits, with the name and the parts of their ledger, and their histories
+pub record Planned : Type 0 where
+  pub name : ℕ
+  pub parts : ℕ
+  pub limits : LimitValues
+  pub books : List Book
+  pub names : List Bytes
+
+-- The parts are enough for each room, and there is a history for each; the amount is enough for full records, and no name stands twice.
+pub record CanBeMade (planned : Planned) : Type 0 where
+  pub parts : planned.parts ≡ (SPARE_PARTS + 1) * length planned.names + 1
+  pub books : length planned.books ≡ length planned.names
+  pub few : length planned.names ≤ 2 ^ 49
+  pub apart : first_repeat bytes_eq planned.names ≡ None
+
+-- the ledger of this name has so many parts, and these limits and histories
+pub record IsLedgerOf (planned : Planned) (name parts : ℕ) (limits : LimitValues) (books : List Book) : Type 0 where
+  pub name_is : planned.name ≡ name
+  pub parts_are : planned.parts ≡ parts
+  pub limits_are : planned.limits ≡ limits
+  pub books_are : planned.books ≡ books

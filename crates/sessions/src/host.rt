@@ -1,0 +1,13 @@
+//! What all sessions of one server share.
+
+use room_lock::{RoomLedger, Rooms};
+use std::alloc::Global;
+
+/// What sessions are served with: the rooms that they ask, and the gate that is told of it.
+#[derive(Drop)]
+pub struct Host<'a, P: RoomLedger, R, G> {
+    pub rt: &'a R,
+    pub alloc: Global,
+    pub rooms: &'a Rooms<P>,
+    pub gate: &'a G,
+}

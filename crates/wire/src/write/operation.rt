@@ -1,0 +1,32 @@
+//! Operations as text.
+
+ghost use Rattle.std.specs.Prelude.{OnOk};
+ghost use Rattle.wire.specs.Form.{operation_form};
+ghost use Rattle.wire.specs.Sending.{Sends};
+
+use super::part::Written;
+use rules::Body;
+use serde::Serializer;
+use state_vector::StateVector;
+
+/// Sends an operation: its name or its number, what its author had seen, and what it does.
+pub(super) fn send_operation<H: Written, S: Serializer>(
+    head: &H,
+    seen: &StateVector,
+    body: &Body,
+    out: &mut S,
+) -> Result<(), S::Error>
+    ensures { OnOk result (Sends (operation_form (H.form head.now) seen.now body.now)
+        (S.written out.old) (S.written out.new)) }
+{
+    let seen = seen.pairs();
+    match body {
+        Body::New { kind, attrs } => ("new", head, seen, kind, attrs.pairs()).send(out),
+        Body::Set {
+            object,
+            version,
+            key,
+            value,
+        } => ("set", head, seen, *object, version, key, value).send(out),
+    }
+}

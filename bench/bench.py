@@ -2,8 +2,10 @@
 """Times `grace script` on scripts that are made here, and prints a table in Markdown: microseconds of
 processor time a message, without what starting the program takes, and the peak memory. With
 `--against PROGRAM` a second build runs the same scripts in turn with the first, must give the same
-bytes, and stands beside it. Each figure is the least of the runs. Run it from anywhere; the program
-is built first where it isn't."""
+bytes, and stands beside it. Each figure is the least of the runs. With `--old-form` puts of one key are
+written as `set`, for a build that knows no puts: scripts with more than that are left out, and the
+answers are compared by their number alone. Run it from anywhere; the program is built first where it
+isn't."""
 
 import argparse
 import json
@@ -33,8 +35,15 @@ print(usage[1], usage[2].ru_utime + usage[2].ru_stime, usage[2].ru_maxrss)
 # ---- what scripts are made of
 
 
+class NotInOldForm(Exception):
+    """A script has changes that no old form says."""
+
+
 class Script:
     """The rooms and the lines of a script, and how many of these are refused."""
+
+    # Whether puts of one key are written in their old form.
+    in_old_form = False
 
     def __init__(self):
         self.rooms = []
@@ -95,26 +104,41 @@ class Room:
         """The site creates an object; the name of it."""
         return self.operation(site, "new", seen, "rect", attrs)
 
+    def put(self, site, seen, target, pairs, version=()):
+        """The site gives an object these pairs of a key and a value, starting from a version; the name of the
+        operation."""
+        if not Script.in_old_form:
+            return self.operation(site, "put", seen, target, version, pairs)
+        if len(pairs) > 1:
+            raise NotInOldForm
+        return self.operation(site, "set", seen, target, version, *pairs[0])
+
     def set(self, site, seen, target, key, value, version=()):
-        """The site sets a key of an object, starting from a version; the name of the operation."""
-        return self.operation(site, "set", seen, target, version, key, value)
+        """A put of one pair."""
+        return self.put(site, seen, target, [[key, value]], version)
+
+    def drop(self, site, seen, target, version=()):
+        """The site deletes a version of an object; the name of the operation."""
+        if Script.in_old_form:
+            raise NotInOldForm
+        return self.operation(site, "drop", seen, target, version)
 
 
 def five_pairs(room):
     """Site 1 creates an object, and ten sites that have seen that much alone give five keys two
     values each, which makes 32 versions. The object, how many operations of site 1 had been done
-    when it was created, and the sets: two for each key."""
+    when it was created, and the puts: two for each key."""
     target = room.new(1, room.own(1, 0))
     created = room.done[1]
-    sets = [room.set(site, room.own(site, created), target, f"key{(site - 1) // 2}", site) for site in range(1, 11)]
-    return target, created, [sets[place : place + 2] for place in range(0, 10, 2)]
+    puts = [room.set(site, room.own(site, created), target, f"key{(site - 1) // 2}", site) for site in range(1, 11)]
+    return target, created, [puts[place : place + 2] for place in range(0, 10, 2)]
 
 
 # ---- scripts
 
 
 def one_site(size):
-    """One site creates 500 objects and sets a key of one after the other; all is in order."""
+    """One site creates 500 objects and puts one after the other; all is in order."""
     script = Script()
     room = script.room(1)
     objects = []
@@ -127,7 +151,7 @@ def one_site(size):
 
 
 def disjoint_keys(size):
-    """Eight sites each set a key of their own on 500 objects, in turn; all sets of different sites
+    """Eight sites each put a value to a key of their own of 500 objects, in turn; all puts of different sites
     are concurrent, and none conflict."""
     script = Script()
     room = script.room(8)
@@ -153,7 +177,7 @@ def full_vectors(size):
 
 
 def chains(size):
-    """An object in each of 16 rooms, and a chain of sets on it by one site; the rooms in step."""
+    """An object in each of 16 rooms, and a chain of puts on it by one site; the rooms in step."""
     script = Script()
     rooms = [script.room(1) for _ in range(16)]
     objects = [room.new(1, {}) for room in rooms]
@@ -166,7 +190,7 @@ def chains(size):
 
 def compatible(size, lag):
     """An object in each of eight rooms, on which eight sites set a key of their own. Each has seen its
-    own sets and those of the others up to `lag` turns before; with a lag of `size` it sees none."""
+    own puts and those of the others up to `lag` turns before; with a lag of `size` it sees none."""
     script = Script()
     rooms = [script.room(8) for _ in range(8)]
     objects = [room.new(1, {}) for room in rooms]
@@ -192,7 +216,7 @@ def fans(size):
 
 
 def pairs(size):
-    """Each object gets 32 versions by five pairs, and then 40 sets of an eleventh site that has seen
+    """Each object gets 32 versions by five pairs, and then 40 puts of an eleventh site that has seen
     none of these: each is in every version."""
     script = Script()
     room = script.room(11)
@@ -206,12 +230,12 @@ def pairs(size):
 def built_on_pairs(size):
     """Each object gets 32 versions by five pairs. Then an eleventh site, which has seen all, builds on
     each version twice. What is built on a version is in that one alone, so each identifier is the
-    names of one set of each pair and of what was built on them, in order."""
+    names of one put of each pair and of what was built on them, in order."""
     script = Script()
     room = script.room(11)
     for _ in range(size):
-        target, _, sets = five_pairs(room)
-        versions = [[pair[number >> place & 1] for place, pair in enumerate(sets)] for number in range(32)]
+        target, _, puts = five_pairs(room)
+        versions = [[pair[number >> place & 1] for place, pair in enumerate(puts)] for number in range(32)]
         for turn in range(64):
             version = versions[turn * 13 % 32]
             version.append(room.set(11, room.everything(), target, "more", turn, sorted(version)))
@@ -219,7 +243,7 @@ def built_on_pairs(size):
 
 
 def many_rooms(size):
-    """So many rooms, each with one site that creates two objects and sets four keys of each."""
+    """So many rooms, each with one site that creates two objects and gives four keys of each a value."""
     script = Script()
     rooms = [script.room(1) for _ in range(size)]
     objects = [[room.new(1, room.everything(), [["x", 1], ["y", 2]]) for _ in range(2)] for room in rooms]
@@ -268,20 +292,53 @@ def long_messages(size):
     return script
 
 
+def puts_of(size, count):
+    """One site puts values to so many keys, the same in each put, of 500 objects in turn."""
+    script = Script()
+    room = script.room(1)
+    objects = [room.new(1, room.everything()) for _ in range(500)]
+    for turn in range(size):
+        pairs = [[f"key{key}", turn] for key in range(count)]
+        room.put(1, room.everything(), objects[turn % 500], pairs)
+    return script
+
+
+def one_each(size, change):
+    """A change of each of 500 objects in each of some rooms, by a site that has seen them all."""
+    script = Script()
+    for room in [script.room(1) for _ in range(size)]:
+        objects = [room.new(1, room.everything()) for _ in range(500)]
+        for target in objects:
+            change(room, target)
+    return script
+
+
+def put_one(room, target):
+    room.set(1, room.everything(), target, "x", 1)
+
+
+def drop_one(room, target):
+    room.drop(1, room.everything(), target)
+
+
 CASES = [
-    ("one site creates and sets", one_site, 16000),
+    ("one site creates and puts", one_site, 16000),
     ("eight sites, 500 objects, a key each", disjoint_keys, 12000),
     ("vectors of 256 sites", full_vectors, 3000),
-    ("a chain of 1,024 sets, 16 rooms", chains, 1024),
-    ("compatible sets, unseen, 1,024 an object", lambda size: compatible(size, size), 1024),
-    ("compatible sets, seen late, 1,024 an object", lambda size: compatible(size, 8), 1024),
+    ("a chain of 1,024 puts, 16 rooms", chains, 1024),
+    ("compatible puts, unseen, 1,024 an object", lambda size: compatible(size, size), 1024),
+    ("compatible puts, seen late, 1,024 an object", lambda size: compatible(size, 8), 1024),
     ("32 versions by a fan", fans, 200),
-    ("32 versions by five pairs, sets in all", pairs, 200),
-    ("32 versions by five pairs, sets on one", built_on_pairs, 100),
+    ("32 versions by five pairs, puts in all", pairs, 200),
+    ("32 versions by five pairs, puts on one", built_on_pairs, 100),
     ("500 rooms", many_rooms, 500),
     ("shows and pages", shows_and_pulls, 3000),
     ("refusals", refusals, 100000),
     ("messages of 10,000 bytes", long_messages, 2000),
+    ("puts of one key", lambda size: puts_of(size, 1), 15000),
+    ("puts of 16 keys", lambda size: puts_of(size, 16), 15000),
+    ("a put to each of 500 objects, 16 rooms", lambda size: one_each(size, put_one), 16),
+    ("a drop of each of 500 objects, 16 rooms", lambda size: one_each(size, drop_one), 16),
 ]
 
 
@@ -340,10 +397,9 @@ def measure(name, script, programs, runs):
                     data = script.front(part) if part else b""
                     seconds, peak, answers = run(program, script.rooms, pathlib.Path(folder), data)
                     figure.add(part, seconds, peak)
-                if first is None:
-                    check(script, name, answers)
-                    first = answers
-                if answers != first:
+                check(script, name, answers)
+                first = first or answers
+                if answers != first and not Script.in_old_form:
                     sys.exit(f"bench: {name}: {program} gives other bytes")
     return figures
 
@@ -373,7 +429,9 @@ def main():
     parser.add_argument("--runs", type=int, default=9)
     parser.add_argument("--against", type=pathlib.Path, metavar="PROGRAM")
     parser.add_argument("--only", default="", metavar="WORD", help="the scripts with this in their names")
+    parser.add_argument("--old-form", action="store_true", help="puts of one key as `set`")
     options = parser.parse_args()
+    Script.in_old_form = options.old_form
     subprocess.run([ROOT / "grace", "script", "r"], input=b"", check=True)
     programs = [PROGRAM] + ([options.against.resolve()] if options.against else [])
     row(heads(len(programs)))
@@ -382,7 +440,10 @@ def main():
     for name, make, size in CASES:
         if options.only not in name:
             continue
-        script = make(size)
+        try:
+            script = make(size)
+        except NotInOldForm:
+            continue
         figures = measure(name, script, programs, options.runs)
         count = len(script.lines)
         times = beside([figure.a_message(count) for figure in figures], 2)

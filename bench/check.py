@@ -29,7 +29,7 @@ print(usage[1], usage[2].ru_utime + usage[2].ru_stime, usage[2].ru_maxrss)
 
 SITES = 8
 PAGE = 64
-SETS_AN_OBJECT = 1000
+PUTS_AN_OBJECT = 1000
 
 
 def compact(value):
@@ -41,19 +41,19 @@ class Room:
 
     def __init__(self, entries, seed):
         self.random = random.Random(seed)
-        self.objects = entries // SETS_AN_OBJECT + 1
+        self.objects = entries // PUTS_AN_OBJECT + 1
         self.operations = [0] * (SITES + 1)
         self.messages = [(site, ["join", "r"]) for site in range(1, SITES + 1)]
         for _ in range(self.objects):
             self.add(1, "new", "rect", [["x", 0]])
         for place in range(entries - SITES - self.objects):
             site = self.random.randint(1, SITES)
-            self.add(site, "set", [1, place % self.objects + 1], [], f"key-{site}", place)
+            self.add(site, "put", [1, place % self.objects + 1], [], [[f"key-{site}", place]])
 
     def add(self, site, word, *rest):
         """An operation that counts the creations and the site's own ones."""
         before = self.operations[site]
-        counts = {1: self.objects} if word == "set" else {}
+        counts = {1: self.objects} if word == "put" else {}
         if before > 0:
             counts[site] = before
         self.operations[site] += 1

@@ -1,9 +1,9 @@
-//! Clients that set and set again, over WebSocket: bench/serve.py compiles this and runs it.
+//! Clients that put and put again, over WebSocket: bench/serve.py compiles this and runs it.
 //!
 //!     load ADDRESS CLIENTS SETS IN_FLIGHT ROOM..
 //!
-//! Each client joins a room, the rooms in turn, and makes an object for each 1,000 of its sets. Then `ready`
-//! is printed and a line of input awaited. Each client sends its sets, on its own objects by a key of its
+//! Each client joins a room, the rooms in turn, and makes an object for each 1,000 of its puts. Then `ready`
+//! is printed and a line of input awaited. Each client sends its puts, on its own objects by a key of its
 //! own, with so many in flight. Then nanoseconds are printed (of all, the median and the 99th percentile of
 //! a reply's time), and a line of input awaited before the clients close.
 
@@ -14,7 +14,7 @@ use std::sync::{Arc, Barrier};
 use std::time::{Duration, Instant};
 use std::{env, process, thread};
 
-const SETS_AN_OBJECT: usize = 1000;
+const PUTS_AN_OBJECT: usize = 1000;
 const WAIT: Duration = Duration::from_secs(60);
 const HEAD_END: &[u8] = b"\r\n\r\n";
 
@@ -22,7 +22,7 @@ const HEAD_END: &[u8] = b"\r\n\r\n";
 struct Load {
     address: String,
     clients: usize,
-    sets: usize,
+    puts: usize,
     in_flight: usize,
     rooms: Vec<String>,
 }
@@ -41,17 +41,17 @@ fn fail(text: &str) -> ! {
 }
 
 fn load_of(words: &[String]) -> Option<Load> {
-    let [_, address, clients, sets, in_flight, rooms @ ..] = words else {
+    let [_, address, clients, puts, in_flight, rooms @ ..] = words else {
         return None;
     };
     let load = Load {
         address: address.clone(),
         clients: clients.parse().ok()?,
-        sets: sets.parse().ok()?,
+        puts: puts.parse().ok()?,
         in_flight: in_flight.parse().ok()?,
         rooms: rooms.to_vec(),
     };
-    let is_some = load.clients > 0 && load.sets > 0 && load.in_flight > 0;
+    let is_some = load.clients > 0 && load.puts > 0 && load.in_flight > 0;
     (is_some && !load.rooms.is_empty()).then_some(load)
 }
 
@@ -180,7 +180,7 @@ impl Client {
         let Some(site) = site.filter(|_| joined.starts_with("[\"joined\"")) else {
             fail(&joined);
         };
-        let objects = load.sets.div_ceil(SETS_AN_OBJECT);
+        let objects = load.puts.div_ceil(PUTS_AN_OBJECT);
         for seq in 1..=objects {
             let seen = if seq > 1 {
                 format!("[[{site},{}]]", seq - 1)
@@ -201,21 +201,21 @@ impl Client {
 
     fn send_set(&mut self, turn: usize) -> io::Result<()> {
         let (site, seq) = (self.site, self.objects + turn + 1);
-        let object = turn / SETS_AN_OBJECT + 1;
+        let object = turn / PUTS_AN_OBJECT + 1;
         let request = format!(
-            "[\"set\",{seq},[[{site},{}]],[{site},{object}],[],\"key-{site}\",{turn}]",
+            "[\"put\",{seq},[[{site},{}]],[{site},{object}],[],[[\"key-{site}\",{turn}]]]",
             seq - 1
         );
         self.socket.send(1, request.as_bytes())
     }
 
-    /// Sends all sets, so many in flight: how long each reply took.
-    fn set_all(&mut self, sets: usize, in_flight: usize) -> io::Result<Vec<u64>> {
-        let mut times = Vec::with_capacity(sets);
+    /// Sends all puts, so many in flight: how long each reply took.
+    fn put_all(&mut self, puts: usize, in_flight: usize) -> io::Result<Vec<u64>> {
+        let mut times = Vec::with_capacity(puts);
         let mut waiting = VecDeque::with_capacity(in_flight);
         let mut sent = 0;
-        while times.len() < sets {
-            while sent < sets && waiting.len() < in_flight {
+        while times.len() < puts {
+            while sent < puts && waiting.len() < in_flight {
                 waiting.push_back(Instant::now());
                 self.send_set(sent)?;
                 sent += 1;
@@ -233,13 +233,13 @@ impl Client {
     }
 }
 
-/// One client from its join to its close. All clients and the main thread meet before the sets, after them
+/// One client from its join to its close. All clients and the main thread meet before the puts, after them
 /// and before the close.
 fn run_client(load: &Load, number: usize, meeting: &Barrier) -> io::Result<Vec<u64>> {
     let mut client = Client::enter(load, number)?;
     meeting.wait();
     meeting.wait();
-    let times = client.set_all(load.sets, load.in_flight)?;
+    let times = client.put_all(load.puts, load.in_flight)?;
     meeting.wait();
     meeting.wait();
     client.socket.send(8, &1000_u16.to_be_bytes())?;

@@ -8,17 +8,17 @@ BAD_MESSAGE = '["no",0,1,"bad-message"]'
 NO_SUCH_ROOM = '["no",0,4,"no-such-room"]'
 
 REPLIES = {
-    "join": "joined", "new": "made", "set": "taken", "show": "versions", "list": "objects", "pull": "entries",
-    "leave": "left",
+    "join": "joined", "new": "made", "put": "taken", "drop": "taken", "set": "taken", "show": "versions",
+    "list": "objects", "pull": "entries", "leave": "left",
 }
 WORDS = dict(enumerate((
     "bad-message", "not-joined", "already-joined", "no-such-room", "room-full", "record-full", "wrong-seq",
     "own-count", "ahead", "not-closed", "no-such-object", "no-such-version", "object-full", "too-many-keys",
-    "too-many-versions", "too-many-objects", "too-far",
+    "too-many-versions", "too-many-objects", "too-far", "gone",
 ), start=1))
 INSIDE = {
-    "join": {3}, "new": {6, 7, 8, 9, 10, 16}, "set": set(range(6, 16)), "show": {11}, "list": {17}, "pull": {17},
-    "leave": set(),
+    "join": {3}, "new": {6, 7, 8, 9, 10, 16}, "put": {*range(6, 16), 18}, "drop": {*range(6, 14), 15, 18},
+    "set": {*range(6, 16), 18}, "show": {11}, "list": {17}, "pull": {17}, "leave": set(),
 }
 
 

@@ -11,15 +11,15 @@ RECORD = [
     '["join",1]',
     '["new",[1,1],[],"rect",[["x",0]]]',
     '["join",2]',
-    '["set",[1,2],[[1,1]],[1,1],[],"x",5]',
-    '["set",[2,1],[[1,1]],[1,1],[],"x",9]',
+    '["put",[1,2],[[1,1]],[1,1],[],[["x",5]]]',
+    '["put",[2,1],[[1,1]],[1,1],[],[["x",9]]]',
 ]
 TRANSCRIPT = [
     '[1,["join","r"],["joined",0,1]]',
     '[1,["new",1,[],"rect",[["x",0]]],["made",1,[1,1]]]',
     '[2,["join","r"],["joined",2,2]]',
-    '[1,["set",2,[[1,1]],[1,1],[],"x",5],["taken",3,[[]]]]',
-    '[2,["set",1,[[1,1]],[1,1],[],"x",9],["taken",4,[[[1,2]],[[2,1]]]]]',
+    '[1,["put",2,[[1,1]],[1,1],[],[["x",5]]],["taken",3,[[]]]]',
+    '[2,["put",1,[[1,1]],[1,1],[],[["x",9]]],["taken",4,[[[1,2]],[[2,1]]]]]',
     '[1,["show",[1,1]],["versions",5,[1,1],"rect",[[[[1,2]],[["x",5]]],[[[2,1]],[["x",9]]]]]]',
 ]
 
@@ -35,7 +35,7 @@ OTHER_LINES = [
      '[1,["show",[1,1]],["versions",5,[1,1],"rect",[[[[1,2]],[["x",5]]],[[[2,1]],[["x",8]]]]]]',
      "wrong reply line 6"),
     ("a place beyond the record", 5,
-     '[2,["set",1,[[1,1]],[1,1],[],"x",9],["taken",9,[[[1,2]],[[2,1]]]]]', "bad transcript line 5"),
+     '[2,["put",1,[[1,1]],[1,1],[],[["x",9]]],["taken",9,[[[1,2]],[[2,1]]]]]', "bad transcript line 5"),
     ("a time before the last one", 6,
      '[1,["show",[1,1]],["versions",2,[1,1],"rect",[[[[1,2]],[["x",5]]],[[[2,1]],[["x",9]]]]]]',
      "bad transcript line 6"),
@@ -45,10 +45,10 @@ OTHER_LINES = [
     ("a site that joined later", 3, '[2,["leave"],["left",2]]', "bad transcript line 3"),
     ("no further than the entry that the site added", 3, '[1,["leave"],["left",1]]', "bad transcript line 3"),
     ("a place that was claimed before", 6,
-     '[1,["set",3,[[1,2]],[1,1],[],"y",1],["taken",4,[[]]]]', "bad transcript line 6"),
+     '[1,["put",3,[[1,2]],[1,1],[],[["y",1]]],["taken",4,[[]]]]', "bad transcript line 6"),
     ("a join by another site", 3, '[3,["join","r"],["joined",2,2]]', "wrong reply line 3"),
     ("another request than the entry's", 4,
-     '[1,["set",2,[[1,1]],[1,1],[],"x",6],["taken",3,[[]]]]', "wrong reply line 4"),
+     '[1,["put",2,[[1,1]],[1,1],[],[["x",6]]],["taken",3,[[]]]]', "wrong reply line 4"),
     ("the time of another page", 6, '[1,["list",0],["objects",4,0,1,[[[1,1],"rect"]]]]', "holds"),
     ("a page that lacks an object", 6, '[1,["list",0],["objects",4,0,1,[]]]', "wrong reply line 6"),
 ]
@@ -169,14 +169,14 @@ def joins(sites):
 # What a site asks, and the code of its refusal, 0 where it isn't refused.
 REQUESTS = [
     (1, '["new",1,[],"rect",[["x",0]]]', 0),
-    (2, '["set",1,[[1,1]],[1,1],[],"x",9]', 0),
-    (1, '["set",3,[[1,1]],[1,1],[],"x",5]', 7),
-    (1, '["set",2,[[1,2]],[1,1],[],"x",5]', 8),
-    (1, '["set",2,[[1,1],[2,2]],[1,1],[],"x",5]', 9),
-    (3, '["set",1,[[2,1]],[1,1],[],"x",5]', 10),
-    (1, '["set",2,[[1,1]],[2,9],[],"x",5]', 11),
-    (1, '["set",2,[[1,1]],[1,1],[[2,1]],"x",5]', 12),
-    (1, '["set",2,[[1,1]],[1,1],[],"x","five"]', 0),
+    (2, '["put",1,[[1,1]],[1,1],[],[["x",9]]]', 0),
+    (1, '["put",3,[[1,1]],[1,1],[],[["x",5]]]', 7),
+    (1, '["put",2,[[1,2]],[1,1],[],[["x",5]]]', 8),
+    (1, '["put",2,[[1,1],[2,2]],[1,1],[],[["x",5]]]', 9),
+    (3, '["put",1,[[2,1]],[1,1],[],[["x",5]]]', 10),
+    (1, '["put",2,[[1,1]],[2,9],[],[["x",5]]]', 11),
+    (1, '["put",2,[[1,1]],[1,1],[[2,1]],[["x",5]]]', 12),
+    (1, '["put",2,[[1,1]],[1,1],[],[["x","five"]]]', 0),
     (3, '["new",1,[[1,2],[2,1]],"line",[]]', 0),
     (3, '["show",[1,1]]', 0),
     (3, '["show",[2,9]]', 11),
@@ -184,6 +184,11 @@ REQUESTS = [
     (3, '["list",3]', 17),
     (3, '["pull",2]', 0),
     (3, '["pull",99]', 17),
+    (3, '["put",2,[[1,2],[2,1],[3,1]],[1,1],[[2,1]],[["x",3],["y",4]]]', 0),
+    (3, '["drop",3,[[1,2],[2,1],[3,2]],[1,1],[[1,2]]]', 0),
+    (3, '["put",4,[[1,2],[2,1],[3,3]],[1,1],[[1,2],[3,3]],[["x",1]]]', 18),
+    (3, '["set",4,[[1,2],[2,1],[3,3]],[1,1],[[2,1],[3,2]],"x",1]', 0),
+    (3, '["show",[1,1]]', 0),
     (3, '["leave"]', 0),
 ]
 
@@ -200,30 +205,30 @@ def own(word, seq, rest):
 
 
 def many_versions():
-    """The most versions of an object, and a set that would make more."""
-    sets = [(site, f'["set",{2 if site == 1 else 1},[[1,1]],[1,1],[],"{key}",{1 + (site - 1) % 2}]')
+    """The most versions of an object, and a change that would make more."""
+    changes = [(site, f'["put",{2 if site == 1 else 1},[[1,1]],[1,1],[],[["{key}",{1 + (site - 1) % 2}]]]')
             for site, key in enumerate("aabbccddeeff", 1)]
-    holds([*joins(12), own("new", 1, '"rect",[]'), *sets, (12, '["show",[1,1]]')], 13 * [0] + 11 * [0] + [15, 0])
+    holds([*joins(12), own("new", 1, '"rect",[]'), *changes, (12, '["show",[1,1]]')], 13 * [0] + 11 * [0] + [15, 0])
 
 
 def many_keys():
     """The most keys of an object, and one more."""
-    sets = [own("set", key + 1, f'[1,1],[],"k{key}",1') for key in range(1, 66)]
-    holds([*joins(1), own("new", 1, '"rect",[]'), *sets], 66 * [0] + [14])
+    changes = [own("put", key + 1, f'[1,1],[],[["k{key}",1]]') for key in range(1, 66)]
+    holds([*joins(1), own("new", 1, '"rect",[]'), *changes], 66 * [0] + [14])
 
 
 def many_objects():
-    """The most objects of a room and the most sets of an object, and one more of each."""
+    """The most objects of a room and the most changes of an object, and one more of each."""
     creations = [own("new", seq, '"rect",[]') for seq in range(1, 514)]
-    sets = [own("set", 512 + number, '[1,1],[],"x",1') for number in range(1, 1026)]
-    holds([*joins(1), *creations, *sets], 513 * [0] + [16] + 1024 * [0] + [13])
+    changes = [own("put", 512 + number, '[1,1],[],[["x",1]]') for number in range(1, 1026)]
+    holds([*joins(1), *creations, *changes], 513 * [0] + [16] + 1024 * [0] + [13])
 
 
 def many_entries():
     """The most entries of a record, and one more."""
     creations = [own("new", seq, '"rect",[]') for seq in range(1, 33)]
-    sets = [own("set", seq, f'[1,{1 + seq % 32}],[],"x",{seq}') for seq in range(33, 16_385)]
-    holds([*joins(1), *creations, *sets], 16_384 * [0] + [6])
+    changes = [own("put", seq, f'[1,{1 + seq % 32}],[],[["x",{seq}]]') for seq in range(33, 16_385)]
+    holds([*joins(1), *creations, *changes], 16_384 * [0] + [6])
 
 
 TESTS = [

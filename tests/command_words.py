@@ -24,6 +24,7 @@ MISTAKES = [
     (["serve", "127.0.0.1:0", "1", "1", "R"], "grace: bad room name"),
     (["serve", "127.0.0.1:0", "1", "1", "r", "r"], "grace: room named twice"),
     (["check", "record"], "error: the following required arguments were not provided:"),
+    (["migrate"], "error: the following required arguments were not provided:"),
     (["watch", "127.0.0.1:0"], "error: the following required arguments were not provided:"),
     (["watch", "127.0.0.1:1", "R"], "grace: bad room name"),
 ]
@@ -37,7 +38,10 @@ SHOWN = [
      "Checks a room's record and a transcript of it\n\nUsage: grace check <RECORD> <TRANSCRIPT>\n\nArguments:\n"
      "  <RECORD>      A file of the record's entries, one a line\n"
      "  <TRANSCRIPT>  A file of requests and replies, one a line\n"),
-    (["--version"], "grace 0.1.0\n"),
+    (["migrate", "--help"],
+     "Prints a room's record in today's forms\n\nUsage: grace migrate <RECORD>\n\nArguments:\n"
+     "  <RECORD>  A file of the record's entries, one a line\n"),
+    (["--version"], "grace 0.2.0\n"),
 ]
 
 

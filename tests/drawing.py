@@ -49,24 +49,27 @@ class Drawer:
         return self.counts.get(self.site, 0) + 1
 
     def versions(self, target):
-        """The identifiers of an object's versions among what was pulled."""
+        """The identifiers of an object's versions among what was pulled, but for those that are gone."""
         while True:
             reply = self.told(["show", target])
             if reply[1] == self.held:
-                return [name for name, _ in reply[4]]
+                return [name for name, shown in reply[4] if shown != "gone"]
             self.catch_up()
 
     def next_operation(self, among=0):
-        """An operation that counts all that was pulled: a creation now and then, or a set on one of so many of the
-        newest objects, or of all."""
+        """An operation that counts all that was pulled: a creation now and then, or a change of one of so many of
+        the newest objects, or of all. Now and then it deletes a version."""
         self.catch_up()
-        if not self.objects or self.source.random() < 0.07:
-            return ["new", self.seq(), sorted(map(list, self.counts.items())), "rect", [["x", 0]]]
-        target = self.source.choice(self.objects[-among:])
-        version = self.source.choice(self.versions(target))
+        target = self.source.choice(self.objects[-among:]) if self.objects else None
+        versions = self.versions(target) if self.objects else []
         seen = sorted(map(list, self.counts.items()))
-        change = [self.source.choice(KEYS), self.source.choice(VALUES)]
-        return ["set", self.seq(), seen, target, version, *change]
+        if not versions or self.source.random() < 0.07:
+            return ["new", self.seq(), seen, "rect", [["x", 0]]]
+        version = self.source.choice(versions)
+        if self.source.random() < 0.05:
+            return ["drop", self.seq(), seen, target, version]
+        keys = self.source.sample(KEYS, self.source.randrange(1, len(KEYS) + 1))
+        return ["put", self.seq(), seen, target, version, [[key, self.source.choice(VALUES)] for key in keys]]
 
     def does(self, operation):
         """Whether the operation was accepted."""

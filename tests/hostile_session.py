@@ -30,7 +30,7 @@ FIELD = re.compile(rb"(?m)^([!-9;-~]+):[ \t]*([^\r\n]*?)[ \t]*\r?$")
 def may_add(request):
     """Whether the bytes may be a request that adds an entry."""
     value = request_of(request)
-    return value is not None and len(value) > 1 and value[0] in ("join", "new", "set")
+    return value is not None and len(value) > 1 and value[0] in ("join", "new", "put", "drop")
 
 
 class HostileTold(Told):
@@ -103,7 +103,7 @@ class HostileSession:
         site = self.client.told.site or 1
         if count < 2:
             return ["new", 1, [], "rect", [["x", 0]]]
-        return ["set", count, [[site, count - 1]], [site, 1], [], "x", self.source.randrange(9)]
+        return ["put", count, [[site, count - 1]], [site, 1], [], [["x", self.source.randrange(9)]]]
 
     def frame(self, request, opcode=None):
         """The frame of a request, a value or bytes."""

@@ -17,7 +17,11 @@ def entry_of(site, request):
     """The entry that the request adds."""
     if request[0] == "join":
         return ["join", site]
-    return [request[0], [site, request[1]], *request[2:]]
+    word, seq, *rest = request
+    if word == "set":
+        *rest, key, value = rest
+        word, rest = "put", [*rest, [[key, value]]]
+    return [word, [site, seq], *rest]
 
 
 class Told:
@@ -63,7 +67,7 @@ class Told:
         for request in map(json.loads, self.waiting):
             if request[0] == "join" and request[1] == room and not sites:
                 sites = range(1, 257)
-            if request[0] in ("join", "new", "set"):
+            if request[0] in ("join", "new", "put", "drop", "set"):
                 yield [compact(entry_of(site, request)) for site in sites]
 
 

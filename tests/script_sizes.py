@@ -10,18 +10,18 @@ ONE_OBJECT = ['1 ["join","r"]', '1 ["new",1,[],"rect",[]]']
 ONE_OBJECT_MADE = ['1 ["joined",0,1]', '1 ["made",1,[1,1]]']
 
 
-def chain(sets):
+def chain(puts):
     """Sets of x by the site that created the object, each on the one before, and their answers."""
-    lines = [f'1 ["set",{seen + 1},[[1,{seen}]],[1,1],[],"x",{seen}]' for seen in range(1, sets + 1)]
-    return lines, [f'1 ["taken",{seen + 1},[[]]]' for seen in range(1, sets + 1)]
+    lines = [f'1 ["put",{seen + 1},[[1,{seen}]],[1,1],[],[["x",{seen}]]]' for seen in range(1, puts + 1)]
+    return lines, [f'1 ["taken",{seen + 1},[[]]]' for seen in range(1, puts + 1)]
 
 
 def full_object():
-    """An object has 1,024 sets at most, and is shown then."""
-    sets, taken = chain(1024)
+    """An object has 1,024 puts at most, and is shown then."""
+    puts, taken = chain(1024)
     script(
         ["r"],
-        [*ONE_OBJECT, *sets, '1 ["set",1026,[[1,1025]],[1,1],[],"x",0]', '1 ["show",[1,1]]'],
+        [*ONE_OBJECT, *puts, '1 ["put",1026,[[1,1025]],[1,1],[],[["x",0]]]', '1 ["show",[1,1]]'],
         [*ONE_OBJECT_MADE, *taken, '1 ["no",1026,13,"object-full"]',
          '1 ["versions",1026,[1,1],"rect",[[[],[["x",1024]]]]]'],
     )
@@ -33,13 +33,13 @@ def names_to(last):
 
 
 def longest_identifier():
-    """A thousand sets of one author against one of another: an identifier of 1,000 names."""
-    sets, taken = chain(1000)
+    """A thousand puts of one author against one of another: an identifier of 1,000 names."""
+    puts, taken = chain(1000)
     names, longer = names_to(1001), names_to(1002)
     script(
         ["r"],
-        [*ONE_OBJECT, *sets, '2 ["join","r"]', '2 ["set",1,[[1,1]],[1,1],[],"x",0]',
-         f'1 ["set",1002,[[1,1001],[2,1]],[1,1],[{names}],"y",1]'],
+        [*ONE_OBJECT, *puts, '2 ["join","r"]', '2 ["put",1,[[1,1]],[1,1],[],[["x",0]]]',
+         f'1 ["put",1002,[[1,1001],[2,1]],[1,1],[{names}],[["y",1]]]'],
         [*ONE_OBJECT_MADE, *taken, '2 ["joined",1002,2]', f'2 ["taken",1003,[[{names}],[[2,1]]]]',
          f'1 ["taken",1004,[[{longer}],[[2,1]]]]'],
     )
@@ -53,19 +53,19 @@ def replies_to(lines):
 
 
 def pair(site, key, value):
-    """A set by an author who has seen the creation alone."""
+    """A put by an author who has seen the creation alone."""
     seq = 2 if site == 1 else 1
-    return f'{site} ["set",{seq},[[1,1]],[1,1],[],"{key}",{value}]'
+    return f'{site} ["put",{seq},[[1,1]],[1,1],[],[["{key}",{value}]]]'
 
 
-# Twelve sites; eleven sets, of which each two that give a key two values make twice as many versions.
+# Twelve sites; eleven puts, of which each two that give a key two values make twice as many versions.
 TWELVE_SITES = [*ONE_OBJECT, *[f'{site} ["join","r"]' for site in range(2, 13)]]
 PAIRS = [pair(site, "aabbccddeef"[site - 1], 1 + (site - 1) % 2) for site in range(1, 12)]
 VERSIONS = [1, 2, 2, 4, 4, 8, 8, 16, 16, 32, 32]
 
 
 def most_versions():
-    """An object has 32 versions at most; a set that would make more is refused."""
+    """An object has 32 versions at most; a put that would make more is refused."""
     replies = replies_to([*TWELVE_SITES, *PAIRS, pair(12, "f", 2), '12 ["show",[1,1]]'])
     made = replies[len(TWELVE_SITES) :]
     same("how many versions", [len(reply[2]) for reply in made[:11]], VERSIONS)
@@ -74,11 +74,11 @@ def most_versions():
 
 
 def most_versions_and_sets():
-    """32 versions and 1,024 sets at once."""
-    sets = ['12 ["set",1,[[1,1]],[1,1],[],"z",1]']
-    sets += [f'12 ["set",{seq},[[1,1],[12,{seq - 1}]],[1,1],[],"z",{seq}]' for seq in range(2, 1014)]
-    last = '12 ["set",1014,[[1,1],[12,1013]],[1,1],[],"z",0]'
-    replies = replies_to([*TWELVE_SITES, *PAIRS, *sets, '12 ["show",[1,1]]', last])
+    """32 versions and 1,024 puts at once."""
+    puts = ['12 ["put",1,[[1,1]],[1,1],[],[["z",1]]]']
+    puts += [f'12 ["put",{seq},[[1,1],[12,{seq - 1}]],[1,1],[],[["z",{seq}]]]' for seq in range(2, 1014)]
+    last = '12 ["put",1014,[[1,1],[12,1013]],[1,1],[],[["z",0]]]'
+    replies = replies_to([*TWELVE_SITES, *PAIRS, *puts, '12 ["show",[1,1]]', last])
     same("the refusal", replies[-1], ["no", 1037, 13, "object-full"])
     word, at, *_, versions = replies[-2]
     same("what is shown", (word, at, len(versions)), ("versions", 1037, 32))
@@ -89,7 +89,7 @@ def longest_vector():
     """A vector of 256 sites, as many as a room has."""
     lines = [line for site in range(1, 257) for line in (f'{site} ["join","r"]', f'{site} ["new",1,[],"rect",[]]')]
     seen = ",".join(f"[{site},1]" for site in range(1, 257))
-    replies = replies_to([*lines, f'256 ["set",2,[{seen}],[1,1],[],"x",1]', '257 ["join","r"]'])
+    replies = replies_to([*lines, f'256 ["put",2,[{seen}],[1,1],[],[["x",1]]]', '257 ["join","r"]'])
     same("the last replies", replies[-2:], [["taken", 512, [[]]], ["no", 513, 5, "room-full"]])
 
 
@@ -112,8 +112,8 @@ def longest_attributes():
 
 def most_keys():
     """An object has 64 keys at most."""
-    sets = [f'1 ["set",{key + 1},[[1,{key}]],[1,1],[],"k{key}",1]' for key in range(1, 66)]
-    replies = replies_to([*ONE_OBJECT, *sets])
+    puts = [f'1 ["put",{key + 1},[[1,{key}]],[1,1],[],[["k{key}",1]]]' for key in range(1, 66)]
+    replies = replies_to([*ONE_OBJECT, *puts])
     same("the last replies", replies[-2:], [["taken", 65, [[]]], ["no", 66, 14, "too-many-keys"]])
 
 
@@ -121,9 +121,9 @@ def full_room():
     """A room of 16,384 entries takes no more, and shows them and its 512 objects, 64 a page."""
     lines = ['1 ["join","r"]', '1 ["new",1,[],"rect",[]]']
     lines += [f'1 ["new",{seq},[[1,{seq - 1}]],"rect",[]]' for seq in range(2, 514)]
-    lines += [f'1 ["set",{seq},[[1,{seq - 1}]],[1,{seq % 512 + 1}],[],"x",{seq}]' for seq in range(513, 16384)]
+    lines += [f'1 ["put",{seq},[[1,{seq - 1}]],[1,{seq % 512 + 1}],[],[["x",{seq}]]]' for seq in range(513, 16384)]
     asked = [
-        '2 ["join","r"]', '1 ["new",16384,[[1,16383]],"rect",[]]', '1 ["set",16384,[[1,16383]],[1,1],[],"x",1]',
+        '2 ["join","r"]', '1 ["new",16384,[[1,16383]],"rect",[]]', '1 ["put",16384,[[1,16383]],[1,1],[],[["x",1]]]',
         '1 ["show",[1,1]]', '1 ["list",511]', '1 ["pull",16384]', '1 ["list",100]', '1 ["pull",16000]',
     ]
     replies = replies_to([*lines, *asked])
@@ -137,10 +137,10 @@ def full_room():
 
 
 TESTS = [
-    ("an object of 1,024 sets", full_object),
+    ("an object of 1,024 puts", full_object),
     ("an identifier of 1,000 names", longest_identifier),
     ("32 versions", most_versions),
-    ("32 versions and 1,024 sets", most_versions_and_sets),
+    ("32 versions and 1,024 puts", most_versions_and_sets),
     ("a vector of 256 sites", longest_vector),
     ("the longest attributes", longest_attributes),
     ("64 keys", most_keys),

@@ -9,7 +9,7 @@ from records import compact
 from serving import ROOT, Server, Wrong, free_address, same
 
 CLIENT = ROOT / "clients/python/grace_client.py"
-COMMANDS = "the commands are show, new KIND [KEY VALUE].. and set OBJECT VERSION KEY VALUE"
+COMMANDS = "the commands are show, new KIND [KEY VALUE].., put OBJECT VERSION KEY VALUE.. and drop OBJECT VERSION"
 
 
 class Terminal:
@@ -41,43 +41,47 @@ class Terminal:
 
 
 def two_terminals():
-    """Two people set one key at once: both are shown both versions, and the second goes on with the own one."""
+    """Two people put one key at once: both are shown both versions, and the second goes on with the own one."""
     with Server(2) as server:
         first = Terminal(server)
         first.types("new rect x 0")
         first.types("show", "1 rect version 1 x=0")
         second = Terminal(server)
         second.types("show", "1 rect version 1 x=0")
-        first.types("set 1 1 x 5")
+        first.types("put 1 1 x 5")
         first.types("show", "1 rect version 1 x=5")
-        second.types("set 1 1 x 9")
+        second.types("put 1 1 x 9")
         second.types("show", "1 rect version 1 x=5", "1 rect version 2 x=9")
-        second.types("set 1 2 fill red")
-        second.types("set 1 2 name große")
-        second.types("set 2 1 x 1", "there is no object 2")
-        second.types("set 0 1 x 1", "there is no object 0")
-        second.types("set 1 3 x 1", "there is no version 3")
-        second.types("set lake 1 x 1", "lake is no number")
-        second.types("set 1 1 x", COMMANDS)
-        second.types("new rect x", COMMANDS)
+        second.types("put 1 2 fill red name große")
+        second.types("put 2 1 x 1", "there is no object 2")
+        second.types("put 0 1 x 1", "there is no object 0")
+        second.types("put 1 3 x 1", "there is no version 3")
+        second.types("put lake 1 x 1", "lake is no number")
+        second.types("put 1 1", COMMANDS)
+        second.types("put 1 1 x", "x has no value")
+        second.types("new rect x", "x has no value")
+        second.types("put 1 1 x 1 x 2", "a key stands twice")
         second.types("new rect x 1 x 2", "a key stands twice")
-        second.types("set 1 1 X 1", "refused: 1 bad-message")
+        second.types("put 1 1 X 1", "refused: 1 bad-message")
         shown = "1 rect version 1 x=5", "1 rect version 2 fill=red name=große x=9"
         second.types("show", *shown)
         first.types("show", *shown)
+        first.types("drop 1 1")
+        first.types("show", "1 rect version 1 gone", shown[1])
+        first.types("put 1 1 x 1", "refused: 18 gone")
         first.ends()
         second.ends()
         first.was_told(["join", "r"], ["joined", 0, 1])
         first.was_told(["new", 1, [], "rect", [["x", 0]]], ["made", 1, [1, 1]])
         second.was_told(["join", "r"], ["joined", 2, 2])
-        first.was_told(["set", 2, [[1, 1]], [1, 1], [], "x", 5], ["taken", 3, [[]]])
+        first.was_told(["put", 2, [[1, 1]], [1, 1], [], [["x", 5]]], ["taken", 3, [[]]])
         own, both = [[2, 1]], [[1, 2], [2, 1]]
-        second.was_told(["set", 1, [[1, 1]], [1, 1], [], "x", 9], ["taken", 4, [[[1, 2]], own]])
-        second.was_told(["set", 2, both, [1, 1], own, "fill", "red"], ["taken", 5, [[[1, 2]], [*own, [2, 2]]]])
+        second.was_told(["put", 1, [[1, 1]], [1, 1], [], [["x", 9]]], ["taken", 4, [[[1, 2]], own]])
         second.was_told(
-            ["set", 3, [[1, 2], [2, 2]], [1, 1], [*own, [2, 2]], "name", "große"],
-            ["taken", 6, [[[1, 2]], [*own, [2, 2], [2, 3]]]],
+            ["put", 2, both, [1, 1], own, [["fill", "red"], ["name", "große"]]],
+            ["taken", 5, [[[1, 2]], [*own, [2, 2]]]],
         )
+        first.was_told(["drop", 3, [[1, 2], [2, 2]], [1, 1], [[1, 2]]], ["taken", 6, [[[1, 2], [1, 3]], [*own, [2, 2]]]])
         server.finish()
 
 
@@ -115,11 +119,11 @@ def as_module():
         room = client.Room(client.Connection(*server.address), "r")
         room.new("rect", {"x": 0, "name": "7"})
         room.look()
-        room.set(1, 1, "x", -5)
+        room.put(1, 1, {"x": -5})
         room.look()
         same("what it shows", room.objects, [[[1, 1], "rect", [[[], [["name", "7"], ["x", -5]]]]]])
         try:
-            room.set(1, 0, "x", 5)
+            room.put(1, 0, {"x": 5})
             raise Wrong("there is a version 0")
         except client.Mistake:
             pass
@@ -127,7 +131,7 @@ def as_module():
         for request, reply in [
             (["join", "r"], ["joined", 0, 1]),
             (["new", 1, [], "rect", [["x", 0], ["name", "7"]]], ["made", 1, [1, 1]]),
-            (["set", 2, [[1, 1]], [1, 1], [], "x", -5], ["taken", 2, [[]]]),
+            (["put", 2, [[1, 1]], [1, 1], [], [["x", -5]]], ["taken", 2, [[]]]),
         ]:
             told.asked(compact(request))
             told.answered(compact(reply))

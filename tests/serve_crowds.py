@@ -22,12 +22,12 @@ BEFORE, AFTER, LEFT = 1000, 3000, 64
 
 
 def requests_of_one(count):
-    """What one client asks, and is told: a set, a page and a refusal in turn."""
+    """What one client asks, and is told: a put, a page and a refusal in turn."""
     yield JOIN, '["joined",0,1]'
     yield '["new",1,[],"rect",[]]', '["made",1,[1,1]]'
     for turn in range(count):
         at = turn + 2
-        yield f'["set",{at},[[1,{at - 1}]],[1,1],[],"x",{turn}]', f'["taken",{at},[[]]]'
+        yield f'["put",{at},[[1,{at - 1}]],[1,1],[],[["x",{turn}]]]', f'["taken",{at},[[]]]'
         yield f'["pull",{turn + 1000}]', f'["no",{at + 1},17,"too-far"]'
         yield f'["pull",{at + 1}]', f'["entries",{at + 1},{at + 1},[]]'
         yield f'["sit",{turn}]', '["no",0,1,"bad-message"]'
@@ -100,8 +100,8 @@ class Crowd:
 
 
 def draws(client, room, others):
-    """A client joins, and waits until the first of its room has made an object. It makes its own, sets it ten
-    times, and sets that of the first ten times, each by a key of its own."""
+    """A client joins, and waits until the first of its room has made an object. It makes its own, changes it ten
+    times, and that of the first ten times, each by a key of its own."""
     client.ask(["join", room])
     site = client.told.site
     if site != 1:
@@ -114,13 +114,13 @@ def draws(client, room, others):
             others[room].set()
             continue
         on_own = seq % 2 == 0 or site == 1
-        reply = client.ask(["set", seq, seen, [site if on_own else 1, 1], [], f"key-{site}", seq])
+        reply = client.ask(["put", seq, seen, [site if on_own else 1, 1], [], [[f"key-{site}", seq]]])
         if not reply.startswith('["taken",') or not reply.endswith(",[[]]]"):
-            raise Wrong(f"a set is answered {reply}")
+            raise Wrong(f"a put is answered {reply}")
 
 
 def many_at_once():
-    """64 clients at once, half in one room and half in another, each with an object and 20 sets."""
+    """64 clients at once, half in one room and half in another, each with an object and 20 puts."""
     with Server(CLIENTS, CLIENTS, ["a", "b"]) as server:
         clients = [server.client() for _ in range(CLIENTS)]
         made = {"a": threading.Event(), "b": threading.Event()}

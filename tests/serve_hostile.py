@@ -106,7 +106,7 @@ class Honest:
         fill the room and its objects; and the questions that are made to be refused."""
         if request[1:2] in ([9999], [[256, 1]]):
             return {7, 11, 17}
-        return {"new": {16}, "set": {13, 15}}.get(request[0], set())
+        return {"new": {16}, "put": {13, 15}, "drop": {13, 15}}.get(request[0], set())
 
     def look_at_page(self, start, reply):
         """The page begins where it was asked to, and has the own changes and no others of the own site."""

@@ -118,12 +118,12 @@ def hang_up_after(data):
 
 
 def hang_up_before_reading():
-    """A client asks for a creation and ten sets, and is gone before it reads. What was carried out stays."""
+    """A client asks for a creation and ten puts, and is gone before it reads. What was carried out stays."""
     with Server(2, 1) as server:
         client = server.client()
         client.asks(JOIN, '["joined",0,1]')
-        sets = [["set", seq, [[1, seq - 1]], [1, 1], [], "x", seq] for seq in range(2, 12)]
-        requests = [["new", 1, [], "rect", []], *sets]
+        puts = [["put", seq, [[1, seq - 1]], [1, 1], [], [["x", seq]]] for seq in range(2, 12)]
+        requests = [["new", 1, [], "rect", []], *puts]
         client.send(b"".join(map(client.frame_of, requests)))
         client.hang_up()
         other = server.client()

@@ -16,34 +16,45 @@ export class Version {
   #codes
 
   /** For a drawing alone. */
-  constructor(id, attributes, codes) {
-    /** What a set names to build on this version. @type {VersionId} */
+  constructor(id, attributes, codes, outlived) {
+    /** What a change names to build on this version. @type {VersionId} */
     this.id = id
-    /** The keys in order, each with its value. @type {Map<string, Value>} */
-    this.attributes = attributes
+    /** Whether a drop deleted it. Who has seen the drop can't build on it. @type {boolean} */
+    this.isGone = attributes === null
+    /** The keys in order, each with its value; none where the version is gone. @type {Map<string, Value>} */
+    this.attributes = attributes ?? new Map()
+    /**
+     * The drops that it outlived: who made them deleted it as far as he had seen it, and others had changed it in the
+     * meantime. A drop whose author chose another version to delete isn't one of them. None where the version is gone.
+     * @type {Name[]}
+     */
+    this.outlived = outlived.map(nameOf)
     this.#codes = new Set(codes)
   }
 
-  /** The names of all sets in it, in the order in which they were added. @returns {Name[]} */
+  /** The names of all changes in it, in the order in which they were added. @returns {Name[]} */
   get members() {
     return [...this.#codes].map(nameOf)
   }
 
-  /** @param {Name} name @returns {boolean} whether it has this set in it */
+  /** @param {Name} name @returns {boolean} whether it has this change in it */
   has(name) {
     return this.#codes.has(codeOf(name))
   }
 }
 
-/** An object and the sets on it. The places of sets are their order of being added. */
+/** An object and the changes of it. The places of changes are their order of being added. */
 class DrawnObject {
   #places = new Map()
   #codes = []
-  // By place: the base with the set itself, the direct conflicts, and the conflicts.
+  // By place: the base with the change itself, the direct conflicts, and the conflicts.
   #built = []
   #direct = []
   #conflicts = []
   #disputed = new Members()
+  #drops = new Members()
+  // What the author of each drop knew, by the drop's place.
+  #knownByDrops = new Map()
   #groups = [new Members()]
   #versions = null
 
@@ -51,32 +62,47 @@ class DrawnObject {
   constructor(creation) {
     this.creation = creation
     /** @type {Operation[]} in the order of being added */
-    this.sets = []
+    this.changes = []
     this.keys = new Set()
   }
 
   /**
-   * Adds a set whose known sets are all here.
-   * @param {Operation} set
-   * @throws {Refused} `no-such-version`: what it knows has no version that it names. Nothing was added.
+   * Adds a change whose known changes are all here.
+   * @param {Operation} change
+   * @throws {Refused} `no-such-version`: what it knows has no version that it names. `gone`: there is a drop in that
+   *   version. Nothing was added.
    */
-  add(set) {
-    const { known, unknown } = this.#known(set.seen)
-    const base = this.#groupNamed(known, set.version)
-    if (base === null) throw new Refused("no-such-version")
-    const place = this.sets.length
-    this.sets.push(set)
-    this.keys.add(set.key)
-    this.#places.set(codeOf(set.name), place)
-    this.#codes.push(codeOf(set.name))
+  add(change) {
+    const { known, unknown, base } = this.check(change)
+    const place = this.changes.length
+    this.changes.push(change)
+    if (change.word === "drop") {
+      this.#drops.insert(place)
+      this.#knownByDrops.set(place, known)
+    } else for (const [key] of change.attributes) this.keys.add(key)
+    this.#places.set(codeOf(change.name), place)
+    this.#codes.push(codeOf(change.name))
     this.#built.push(base.with(place))
-    this.#direct.push(this.#meet(this.#direct, place, this.#directWith(set, known, unknown, base)))
+    this.#direct.push(this.#meet(this.#direct, place, this.#directWith(change, known, unknown, base)))
     const conflicts = this.#conflictsWith(place, known, unknown, base)
     this.#conflicts.push(this.#meet(this.#conflicts, place, conflicts))
     this.#disputed.insertAll(conflicts)
     if (conflicts.places().length > 0) this.#disputed.insert(place)
     this.#groups = grown(this.#groups, place, conflicts)
     this.#versions = null
+  }
+
+  /**
+   * The places of the changes that a change knows, of the others, and of its base.
+   * @param {Operation} change
+   * @throws {Refused} as `add`
+   */
+  check(change) {
+    const { known, unknown } = this.#known(change.seen)
+    const base = this.#groupNamed(known, change.version)
+    if (base === null) throw new Refused("no-such-version")
+    if (base.meets(this.#drops)) throw new Refused("gone")
+    return { known, unknown, base }
   }
 
   /** @returns {Version[]} in order of identifier */
@@ -87,12 +113,12 @@ class DrawnObject {
     return this.#versions
   }
 
-  /** The places of the sets that a vector counts, and of the others. */
+  /** The places of the changes that a vector counts, and of the others. */
   #known(seen) {
     const counts = new Map(seen)
     const known = new Members()
     const unknown = []
-    this.sets.forEach(({ name: [site, number] }, place) => {
+    this.changes.forEach(({ name: [site, number] }, place) => {
       if (number <= (counts.get(site) ?? 0)) known.insert(place)
       else unknown.push(place)
     })
@@ -100,7 +126,7 @@ class DrawnObject {
   }
 
   /**
-   * The group of the known sets that has the identifier, or null. All that is in dispute with nothing is in every
+   * The group of the known changes that has the identifier, or null. All that is in dispute with nothing is in every
    * group; of the rest a group has just what it names, and each other one conflicts with something named.
    */
   #groupNamed(known, id) {
@@ -122,17 +148,14 @@ class DrawnObject {
     return group
   }
 
-  /** The earlier places that a set conflicts directly with. */
-  #directWith({ key, value }, known, unknown, base) {
+  /** The earlier places that a change conflicts directly with. */
+  #directWith(change, known, unknown, base) {
     const direct = known.without(base)
-    for (const place of unknown) {
-      const other = this.sets[place]
-      if (other.key === key && other.value !== value) direct.insert(place)
-    }
+    for (const place of unknown) if (areAtOdds(change, this.changes[place])) direct.insert(place)
     return direct
   }
 
-  /** The earlier places that the set at this place, whose direct conflicts are entered, conflicts with. */
+  /** The earlier places that the change at this place, whose direct conflicts are entered, conflicts with. */
   #conflictsWith(place, known, unknown, base) {
     const conflicts = known.without(base)
     if (unknown.length === 0) return conflicts
@@ -150,12 +173,30 @@ class DrawnObject {
 
   #shown(group) {
     const places = group.places()
-    const id = idOf(places.filter((place) => this.#disputed.has(place)).map((place) => this.#codes[place]))
-    const values = new Map(this.creation.attributes)
-    for (const place of places) values.set(this.sets[place].key, this.sets[place].value)
-    const attributes = new Map([...values].sort(([one], [other]) => (one < other ? -1 : 1)))
-    return new Version(id, attributes, places.map((place) => this.#codes[place]))
+    const codes = (some) => some.map((place) => this.#codes[place])
+    const id = idOf(codes(places.filter((place) => this.#disputed.has(place))))
+    const isGone = group.meets(this.#drops)
+    const outlived = isGone ? [] : this.#drops.places().filter((drop) => this.#outlives(group, drop))
+    return new Version(id, isGone ? null : this.#attributes(places), codes(places), codes(outlived))
   }
+
+  /** Whether all that a drop's author knew of a group is in the drop's base: he had set nothing of the group apart. */
+  #outlives(group, drop) {
+    return !group.without(this.#built[drop]).meets(this.#knownByDrops.get(drop))
+  }
+
+  #attributes(places) {
+    const values = new Map(this.creation.attributes)
+    for (const place of places) for (const [key, value] of this.changes[place].attributes) values.set(key, value)
+    return new Map([...values].sort(([one], [other]) => (one < other ? -1 : 1)))
+  }
+}
+
+/** Are two changes puts that give some key different values, or is exactly one of them a drop? */
+function areAtOdds(one, other) {
+  if (one.word === "drop" || other.word === "drop") return one.word !== other.word
+  return one.attributes.some(([key, value]) =>
+    other.attributes.some(([otherKey, otherValue]) => otherKey === key && otherValue !== value))
 }
 
 /** The groups with one more place, which conflicts with these. */
@@ -192,7 +233,7 @@ export class Drawing {
    * Adds an operation.
    * @param {Operation} operation it may be one of another record: then what comes is of no meaning
    * @throws {ProtocolFault} its number isn't the next of its site, or it counts something that isn't here
-   * @throws {Refused} `no-such-object`, `no-such-version`. Nothing was added.
+   * @throws {Refused} `no-such-object`, `no-such-version`, `gone`. Nothing was added.
    */
   add(operation) {
     const [site, number] = operation.name
@@ -200,6 +241,16 @@ export class Drawing {
     if (operation.word === "new") this.#objects.set(codeOf(operation.name), new DrawnObject(operation))
     else this.#find(operation.object).add(operation)
     this.#counts.set(site, number)
+  }
+
+  /**
+   * Would `add` take this change? Adds nothing.
+   * @param {Operation} change a put or a drop
+   * @throws {ProtocolFault | Refused} as `add`
+   */
+  check(change) {
+    this.#admit(change, ...change.name)
+    this.#find(change.object).check(change)
   }
 
   #admit({ seen }, site, number) {
@@ -217,7 +268,7 @@ export class Drawing {
     const isOut = ({ name }) => name[0] === site && name[1] >= first
     for (const [code, object] of this.#objects) {
       if (isOut(object.creation)) this.#objects.delete(code)
-      else if (object.sets.some(isOut)) this.#objects.set(code, rebuilt(object, isOut))
+      else if (object.changes.some(isOut)) this.#objects.set(code, rebuilt(object, isOut))
     }
     if (first > 1) this.#counts.set(site, first - 1)
     else this.#counts.delete(site)
@@ -248,11 +299,11 @@ export class Drawing {
 
   /**
    * How much of its limits an object has used.
-   * @param {Name} name @returns {{ sets: number, keys: Set<string> }} @throws {Refused} `no-such-object`
+   * @param {Name} name @returns {{ changes: number, keys: Set<string> }} @throws {Refused} `no-such-object`
    */
   used(name) {
-    const { sets, keys } = this.#find(name)
-    return { sets: sets.length, keys }
+    const { changes, keys } = this.#find(name)
+    return { changes: changes.length, keys }
   }
 
   #find(name) {
@@ -264,6 +315,6 @@ export class Drawing {
 
 function rebuilt(object, isOut) {
   const anew = new DrawnObject(object.creation)
-  for (const set of object.sets) if (!isOut(set)) anew.add(set)
+  for (const change of object.changes) if (!isOut(change)) anew.add(change)
   return anew
 }

@@ -6,13 +6,14 @@ import { exact, writeText } from "./json_text.js"
  * @typedef {[number, number]} Name of an operation, or of the object that it made: site and number
  * @typedef {Name[]} VersionId rising
  * @typedef {number | bigint | string} Value a whole number of 64 bits, a `Number` where that is exact; or a text
- * @typedef {{ word: "new" | "set", name: Name, seen: [number, number][], kind?: string, attributes?: [string, Value][],
- *   object: Name, version?: VersionId, key?: string, value?: Value }} Operation
+ * @typedef {{ word: "new" | "put" | "drop", name: Name, seen: [number, number][], object: Name, kind?: string,
+ *   version?: VersionId, attributes?: [string, Value][] }} Operation `kind` is of a creation, `version` of a put or a
+ *   drop, `attributes` of a creation or a put
  */
 
 /** What a room or an object takes at most. */
 export const LIMITS = Object.freeze({
-  entries: 16384, objects: 512, sets: 1024, keys: 64, versions: 32, attributes: 16, messageBytes: 16384,
+  entries: 16384, objects: 512, changes: 1024, keys: 64, versions: 32, attributes: 16, messageBytes: 16384,
 })
 
 const LEAST = -(2n ** 63n)
@@ -39,12 +40,13 @@ const WORDS = {
   "too-many-versions": "With this change the object would have more versions than it may have.",
   "too-many-objects": "The room has as many objects as it may have.",
   "too-far": "The room has less in it than this client has seen. It is a new one.",
+  "gone": "Somebody deleted this version. Choose another one.",
   "closed": "The room was closed before the server had the change.",
   "withdrawn": "The change was built on one that the server refused.",
   "another-room": "The server was started anew, and the room is empty or another one. The change is lost.",
   "too-long": "The change is too long for one message.",
 }
-const CODES = Object.keys(WORDS).slice(0, 17)
+const CODES = Object.keys(WORDS).slice(0, 18)
 
 /** A change or a join that the server or this library refused. It changed nothing. */
 export class Refused extends Error {
@@ -122,7 +124,7 @@ export function asWord(word) {
 }
 
 /**
- * The attributes of a new object.
+ * The attributes of a new object, or those that a put gives.
  * @param {object | Iterable<[string, unknown]>} attributes @returns {[string, Value][]}
  * @throws {TypeError | RangeError} a key or a value is none, a key stands twice, or there are more than 16
  */
@@ -135,7 +137,19 @@ export function asAttributes(attributes) {
 }
 
 /**
- * The operation of an entry of a record, or null where the entry is a join.
+ * What a put gives: at least one attribute.
+ * @param {object | Iterable<[string, unknown]>} attributes @returns {[string, Value][]}
+ * @throws {TypeError | RangeError} as `asAttributes`, and where there is none
+ */
+export function asPairs(attributes) {
+  const read = asAttributes(attributes)
+  if (read.length === 0) throw new RangeError("a put gives at least one attribute")
+  return read
+}
+
+/**
+ * The operation of an entry of a record, or null where the entry is a join. The old form of one attribute, whose word
+ * is `set`, is a put.
  * @param {any[]} entry @returns {Operation | null}
  * @throws {ProtocolFault} it is no entry
  */
@@ -145,15 +159,17 @@ export function operationOf(entry) {
   if (word === "new" && entry.length === 5) {
     return { word, name, seen, kind: entry[3], attributes: entry[4], object: name }
   }
-  if (word === "set" && entry.length === 7) {
-    return { word, name, seen, object: entry[3], version: entry[4], key: entry[5], value: entry[6] }
-  }
+  const [, , , object, version, ...rest] = entry
+  if (word === "put" && rest.length === 1) return { word, name, seen, object, version, attributes: rest[0] }
+  if (word === "set" && rest.length === 2) return { word: "put", name, seen, object, version, attributes: [rest] }
+  if (word === "drop" && entry.length === 5) return { word, name, seen, object, version }
   throw new ProtocolFault(`no entry: ${writeText(entry).slice(0, 200)}`)
 }
 
 /** The entry that an operation adds to a record. @param {Operation} operation */
-export function entryOf({ word, name, seen, kind, attributes, object, version, key, value }) {
-  return word === "new" ? [word, name, seen, kind, attributes] : [word, name, seen, object, version, key, value]
+export function entryOf({ word, name, seen, object, kind, version, attributes }) {
+  if (word === "new") return [word, name, seen, kind, attributes]
+  return word === "put" ? [word, name, seen, object, version, attributes] : [word, name, seen, object, version]
 }
 
 /**

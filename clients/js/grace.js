@@ -9,18 +9,18 @@
  *     room.on("state", ({ state, words }) => {
  *       if (state !== "open") return console.log(words)
  *       const { object, version } = room.create("rect", { x: 0 })
- *       room.set(object, version, "x", 5)
+ *       room.put(object, version, { x: 5, y: 7 })
  *     })
  *
  * Values are texts, and whole numbers of 64 bits: a `Number` where that is exact (up to 2^53 - 1 either way), else a
- * `BigInt`. An object takes 1,024 sets with 64 keys, and has at most 32 versions; `LIMITS` has these and the others.
+ * `BigInt`. An object takes 1,024 changes with 64 keys, and has at most 32 versions; `LIMITS` has these and the others.
  * Each connection uses up one of the 256 sites of a room for good, also when the library comes back after a lost one.
  */
 
 import { Connection, Lost } from "./connection.js"
 import { Drawing, Version } from "./drawing.js"
 import {
-  LIMITS, ProtocolFault, Refused, asAttributes, asValue, asWord, codeOf, entryOf, idOf, isSameId, nameOf, operationOf,
+  LIMITS, ProtocolFault, Refused, asAttributes, asPairs, asWord, codeOf, entryOf, idOf, isSameId, nameOf, operationOf,
   requestOf,
 } from "./forms.js"
 import { readText, writeText } from "./json_text.js"
@@ -60,7 +60,7 @@ const NO_WEB_SOCKET = "There is no global WebSocket here. Hand in the option con
 // uses up a site of the room, so one that breaks again and again must not be tried too often.
 const STEADY_MILLISECONDS = 5000
 
-/** A change of this client: a new object, or a set. */
+/** A change of this client: a new object, a put, or a drop. */
 export class Change {
   #operation
   #version = null
@@ -93,7 +93,7 @@ export class Change {
     return this.#operation.object
   }
 
-  /** Of a set: the version that has it, as it was at once after it. Of a new object: its only version. */
+  /** Of a put or a drop: the version that has it, as it was at once after it. Of a new object: its only version. */
   get version() {
     return this.#version
   }
@@ -214,8 +214,9 @@ export class Room {
   }
 
   /**
-   * What became of a version: the versions that now have all sets that it had. There are several where later changes
-   * conflict with each other and not with it. None is left where the room was begun anew.
+   * What became of a version: the versions that now have all changes that it had. There are several where later changes
+   * conflict with each other and not with it. Where it was deleted, one of them is gone. None is left where the room was
+   * begun anew.
    * @param {Name} object @param {Version} version @returns {Version[]}
    */
   successors(object, version) {
@@ -246,25 +247,41 @@ export class Room {
   create(kind, attributes = {}) {
     const rest = { kind: asWord(kind), attributes: asAttributes(attributes) }
     if (this.#drawing.names().length >= LIMITS.objects) throw new Refused("too-many-objects")
-    return this.#change("new", rest)
+    return this.#change(this.#next("new", rest))
   }
 
   /**
-   * Sets a key of one version of an object. It is shown at once, and sent as soon as it can be.
+   * Gives one version of an object some attributes, all in one step. It is shown at once, and sent as soon as it can be.
    * @param {Name} object @param {VersionId | Version} version the one to build on, as it is shown now
-   * @param {string} key @param {Value} value
+   * @param {Record<string, Value> | Iterable<[string, Value]>} attributes 1 to 16
    * @returns {Change}
-   * @throws {Refused} `not-joined`, `closed`, `record-full`, `no-such-object`, `no-such-version`, `object-full`,
+   * @throws {Refused} `not-joined`, `closed`, `record-full`, `no-such-object`, `no-such-version`, `gone`, `object-full`,
    *   `too-many-keys`, `too-long`. Nothing was changed.
-   * @throws {TypeError | RangeError} the key or the value is none
+   * @throws {TypeError | RangeError} the attributes are none
+   */
+  put(object, version, attributes) {
+    return this.#changeVersion("put", object, version, { attributes: asPairs(attributes) })
+  }
+
+  /**
+   * Gives one version of an object one attribute: a put of one.
+   * @param {Name} object @param {VersionId | Version} version @param {string} key @param {Value} value
+   * @returns {Change}
+   * @throws as `put`
    */
   set(object, version, key, value) {
-    const id = idOf((version.id ?? version).map(codeOf))
-    const rest = { object: [...object], version: id, key: asWord(key), value: asValue(value) }
-    const { sets, keys } = this.#drawing.used(object)
-    if (sets >= LIMITS.sets) throw new Refused("object-full")
-    if (!keys.has(key) && keys.size >= LIMITS.keys) throw new Refused("too-many-keys")
-    return this.#change("set", rest)
+    return this.put(object, version, [[key, value]])
+  }
+
+  /**
+   * Deletes one version of an object. It is then shown as gone, and who has seen that can't build on it. Changes of it
+   * that others made in the meantime stay, in a version of their own, which says so by `outlived`.
+   * @param {Name} object @param {VersionId | Version} version the one to delete, as it is shown now
+   * @returns {Change}
+   * @throws {Refused} as `put`, but for `too-many-keys`. Nothing was changed.
+   */
+  drop(object, version) {
+    return this.#changeVersion("drop", object, version, {})
   }
 
   /**
@@ -300,12 +317,28 @@ export class Room {
     return later === undefined ? name : this.#nowOf(later)
   }
 
-  #change(word, rest) {
+  /** The next operation of this client. */
+  #next(word, rest) {
     if (this.#state === "closed") throw new Refused("closed")
     if (this.#site === null) throw new Refused("not-joined")
     if (this.#record.length + this.#pending.length >= LIMITS.entries) throw new Refused("record-full")
     const name = [this.#site, this.#drawing.count(this.#site) + 1]
-    const operation = { word, name, seen: this.#drawing.seen(), object: name, ...rest }
+    return { word, name, seen: this.#drawing.seen(), object: name, ...rest }
+  }
+
+  /** A put or a drop, where the server would take it. Its refusals come in the order of the server's. */
+  #changeVersion(word, object, version, rest) {
+    const id = idOf((version.id ?? version).map(codeOf))
+    const operation = this.#next(word, { object: [...object], version: id, ...rest })
+    this.#drawing.check(operation)
+    const { changes, keys } = this.#drawing.used(object)
+    if (changes >= LIMITS.changes) throw new Refused("object-full")
+    const given = (operation.attributes ?? []).map(([key]) => key)
+    if (given.length > 0 && new Set([...keys, ...given]).size > LIMITS.keys) throw new Refused("too-many-keys")
+    return this.#change(operation)
+  }
+
+  #change(operation) {
     requestOf(operation)
     const change = new Change(operation)
     this.#draw(change, operation)

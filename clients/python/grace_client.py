@@ -1,11 +1,12 @@
 #!/usr/bin/env python3
 """Draws in a room from a terminal: grace_client.py ADDRESS ROOM. Lines of standard input:
 
-    show                           looks at the room, and prints each version of each object
-    new KIND [KEY VALUE]..         creates an object
-    set OBJECT VERSION KEY VALUE   sets a key of a version of an object, by their numbers in the last show
+    show                             looks at the room, and prints each version of each object
+    new KIND [KEY VALUE]..           creates an object
+    put OBJECT VERSION KEY VALUE..   gives a version of an object these attributes, in one step
+    drop OBJECT VERSION              deletes a version of an object
 
-OBJECT and VERSION count from 1. A VALUE is a whole number where it reads as one, otherwise a text. At the end of its
+OBJECT and VERSION count from 1, as the last show did. A VALUE is a whole number where it reads as one, otherwise a text. At the end of its
 input it closes the session; it ends with status 1 where the server or the room can't be had. As a module it offers
 `Connection` and `Room`. Needs Python's standard library alone."""
 
@@ -121,21 +122,33 @@ class Room:
         self.ask(["new", self.seq + 1, self.seen(), kind, [*attributes.items()]])
         self.seq += 1
 
-    def set(self, number, version, key, value):
-        """Sets a key of a version, by the numbers of the object and the version in the last look. Of versions with
-        names in their identifiers, that one then has one name more."""
+    def put(self, number, version, attributes):
+        """Gives a version these attributes, a dictionary, by the numbers of the object and the version in the last
+        look."""
+        self.change("put", number, version, [*attributes.items()])
+
+    def drop(self, number, version):
+        """Deletes a version, by the numbers of the object and the version in the last look."""
+        shown = self.change("drop", number, version)
+        shown[1] = "gone"
+
+    def change(self, word, number, version, *given):
+        """Changes a version, and gives it as it was looked at. Of versions with names in their identifiers, that one
+        then has one name more."""
         name, _, versions = member(self.objects, number, "object")
         shown = member(versions, version, "version")
-        self.ask(["set", self.seq + 1, self.seen(), name, shown[0], key, value])
+        self.ask([word, self.seq + 1, self.seen(), name, shown[0], *given])
         self.seq += 1
         shown[0] = shown[0] and sorted([*shown[0], [self.site, self.seq]])
+        return shown
 
     def show(self):
         """Looks, and prints each version of each object."""
         self.look()
         for number, (_, kind, versions) in enumerate(self.objects, 1):
-            for version, (_, attributes) in enumerate(versions, 1):
-                print(number, kind, "version", version, *(f"{key}={value}" for key, value in attributes))
+            for version, (_, shown) in enumerate(versions, 1):
+                words = [shown] if shown == "gone" else [f"{key}={value}" for key, value in shown]
+                print(number, kind, "version", version, *words)
 
 
 def member(members, number, what):
@@ -158,20 +171,29 @@ def value_of(word):
     return int(word) if word.removeprefix("-").isdecimal() else word
 
 
+def attributes_of(words):
+    """The attributes that words say: keys, each with its value."""
+    keys = words[::2]
+    if len(words) % 2 != 0:
+        raise Mistake(f"{keys[-1]} has no value")
+    if len({*keys}) < len(keys):
+        raise Mistake("a key stands twice")
+    return dict(zip(keys, map(value_of, words[1::2])))
+
+
 def carry_out(room, words):
     """Carries out a line of the input."""
     match words:
         case ["show"]:
             room.show()
-        case ["new", kind, *pairs] if len(pairs) % 2 == 0:
-            keys = pairs[::2]
-            if len({*keys}) < len(keys):
-                raise Mistake("a key stands twice")
-            room.new(kind, dict(zip(keys, map(value_of, pairs[1::2]))))
-        case ["set", number, version, key, value]:
-            room.set(number_of(number), number_of(version), key, value_of(value))
+        case ["new", kind, *pairs]:
+            room.new(kind, attributes_of(pairs))
+        case ["put", number, version, _, *_]:
+            room.put(number_of(number), number_of(version), attributes_of(words[3:]))
+        case ["drop", number, version]:
+            room.drop(number_of(number), number_of(version))
         case _:
-            raise Mistake("the commands are show, new KIND [KEY VALUE].. and set OBJECT VERSION KEY VALUE")
+            raise Mistake("the commands are show, new KIND [KEY VALUE].., put OBJECT VERSION KEY VALUE.. and drop OBJECT VERSION")
 
 
 def draw(room):

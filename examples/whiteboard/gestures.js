@@ -4,12 +4,13 @@
  */
 
 import { keyOf } from "./board.js"
-import { boundsOf, bodyOf, letterOf, pairText, shapeOf } from "./shapes.js"
+import { attributesOf, bodyOf, boundsOf, letterOf, placeOf, shapeOf, sizeOf } from "./shapes.js"
 
 const LEAST = 6
 const STEP = 10
 const USUAL = { rect: [180, 120], ellipse: [160, 120], line: [180, 90] }
 const ARROWS = { ArrowLeft: [-1, 0], ArrowRight: [1, 0], ArrowUp: [0, -1], ArrowDown: [0, 1] }
+const DELETING = ["Delete", "Backspace"]
 // So long after the last arrow a move by keys is done.
 const REST_MILLISECONDS = 500
 
@@ -21,7 +22,8 @@ export class Gestures {
    * @param {import("./board.js").Board} board
    * @param {{ tool: () => string, colour: () => string, select: (name: any, version?: any) => void,
    *   create: (kind: string, attributes: object) => void,
-   *   set: (name: any, version: any, key: string, value: string) => void, drawn: () => void }} page
+   *   put: (name: any, version: any, attributes: object) => void,
+   *   drop: (name: any, versions: any[]) => void, drawn: () => void }} page
    */
   constructor(board, page) {
     this.board = board
@@ -47,8 +49,8 @@ export class Gestures {
   #under(target) {
     const element = target.closest?.(".version")
     if (!element) return null
-    const name = this.board.room.objects().find((one) => keyOf(one) === element.dataset.object)
-    const version = this.board.room.versions(name).find((_, place) => letterOf(place) === element.dataset.letter)
+    const name = this.board.objects().find((one) => keyOf(one) === element.dataset.object)
+    const version = this.board.shown(name).find((_, place) => letterOf(place) === element.dataset.letter)
     return { name, version }
   }
 
@@ -70,7 +72,7 @@ export class Gestures {
     const release = this.board.room.hold()
     this.page.select(name, version)
     const shape = shapeOf(this.board.room.kind(name), version.attributes)
-    const place = this.board.room.versions(name).indexOf(version)
+    const place = this.board.shown(name).indexOf(version)
     const element = this.board.find(keyOf(name), letterOf(place))
     element.focus({ preventScroll: true })
     this.#drag = { shape, start, end: start, isResize, release, element }
@@ -116,13 +118,11 @@ export class Gestures {
     const { selected } = this.board
     const version = selected === null ? null : this.board.picked(selected)
     if (version === null) return
-    const { width, height } = resized(shape, x, y)
-    if (isResize) this.page.set(selected, version, "size", pairText(width, height))
-    else this.page.set(selected, version, "at", pairText(shape.x + x, shape.y + y))
+    this.page.put(selected, version, isResize ? sizeAnew(shape, x, y) : placeAnew(shape, x, y))
   }
 
-  #create({ kind, x, y, width, height, fill }) {
-    this.page.create(kind, { at: pairText(x, y), size: pairText(width, height), fill })
+  #create(shape) {
+    this.page.create(shape.kind, attributesOf(shape))
   }
 
   #key(event) {
@@ -136,8 +136,9 @@ export class Gestures {
       return
     }
     const under = this.#under(event.target)
-    if (under === null) return
+    if (under === null || this.#drag !== null) return
     if (event.key === "Enter" || event.key === " ") this.page.select(under.name, under.version)
+    else if (DELETING.includes(event.key)) this.#delete(under)
     else if (event.key in ARROWS) this.#push(under, ARROWS[event.key], event.shiftKey)
     else return
     event.preventDefault()
@@ -147,7 +148,13 @@ export class Gestures {
   #createInTheMiddle(kind) {
     const [width, height] = USUAL[kind]
     const shift = (this.board.room.objects().length % 10) * 24
-    this.#create({ kind, x: 420 + shift, y: 240 + shift, width, height, fill: this.page.colour() })
+    this.#create({ kind, x: 420 + shift, y: 240 + shift, width, height, fill: this.page.colour(), name: "" })
+  }
+
+  /** Deletes a version, and with it a move by keys that isn't done. The focus then goes to no other version. */
+  #delete({ name, version }) {
+    this.page.drop(name, [version])
+    this.#endNudge(false)
   }
 
   /** An arrow moves a version, or with the shift key changes its size. It is sent once no more arrows come. */
@@ -161,7 +168,7 @@ export class Gestures {
     const { sum, shape } = this.#nudge
     sum[0] += x * STEP
     sum[1] += y * STEP
-    const letter = letterOf(this.board.room.versions(name).indexOf(version))
+    const letter = letterOf(this.board.shown(name).indexOf(version))
     const element = this.board.find(keyOf(name), letter)
     if (isResize) this.#sketch(resized(shape, ...sum))
     else element.setAttribute("transform", `translate(${sum.join(" ")})`)
@@ -169,13 +176,14 @@ export class Gestures {
     this.#nudge.timer = setTimeout(() => this.#endNudge(), REST_MILLISECONDS)
   }
 
-  #endNudge() {
+  /** The end of a move by keys: what it did is done in the room, unless it was broken off. */
+  #endNudge(isWhole = true) {
     if (this.#nudge === null) return
     const { shape, isResize, sum, release, timer } = this.#nudge
     this.#nudge = null
     clearTimeout(timer)
     this.board.element.querySelector(".sketch")?.remove()
-    if (sum[0] !== 0 || sum[1] !== 0) this.#change({ shape, isResize }, ...sum)
+    if (isWhole && (sum[0] !== 0 || sum[1] !== 0)) this.#change({ shape, isResize }, ...sum)
     release()
     this.page.drawn()
   }
@@ -187,9 +195,22 @@ function shapeBetween({ kind, start, end }, fill) {
   return kind === "line" ? shape : { ...shape, ...boundsOf(shape) }
 }
 
-/** The shape with its lower right end elsewhere; only a line may turn round. */
+/** The shape with its end or its lower right corner elsewhere; only a line may turn round. */
 function resized(shape, x, y) {
-  const [width, height] = [shape.width + x, shape.height + y]
-  if (shape.kind === "line") return { ...shape, width, height }
-  return { ...shape, width: Math.max(LEAST, width), height: Math.max(LEAST, height) }
+  if (shape.kind === "line") return { ...shape, width: shape.width + x, height: shape.height + y }
+  const box = boundsOf(shape)
+  return { ...shape, ...box, width: Math.max(LEAST, box.width + x), height: Math.max(LEAST, box.height + y) }
+}
+
+/**
+ * What a move puts: x and y in one step, also where one of them stays. So half of a move never stands alone in a
+ * version, and no version has one half of each of two moves.
+ */
+const placeAnew = (shape, x, y) => placeOf({ x: shape.x + x, y: shape.y + y })
+
+/** What a change of the size puts in one step: both sides, and the place where it is another one then. */
+function sizeAnew(shape, x, y) {
+  const anew = resized(shape, x, y)
+  const isMoved = anew.x !== shape.x || anew.y !== shape.y
+  return { ...(isMoved ? placeOf(anew) : {}), ...sizeOf(anew) }
 }

@@ -2,12 +2,12 @@
 
 import { keyOf } from "./board.js"
 import {
-  NAME_LENGTH, attributeWords, bodyOf, boundsOfAll, differingKeys, html, letterOf, svg, wordsOf,
+  NAME_LENGTH, bodyOf, boundsOfAll, differingKeys, html, isColour, keysOf, letterOf, linesOf, outlineOf, svg, wordsOf,
 } from "./shapes.js"
 
 const HELP =
   "Drag it to move it, its corner to change its size; choose a colour above. " +
-  "Arrow keys move it, with Shift they change its size."
+  "Arrow keys move it, with Shift they change its size; the Delete key deletes it."
 
 export class Panel {
   #release = null
@@ -15,7 +15,8 @@ export class Panel {
   /**
    * @param {import("./board.js").Board} board @param {HTMLElement} element
    * @param {{ select: (name: any, version?: any) => void,
-   *   set: (name: any, version: any, key: string, value: string) => void }} page
+   *   put: (name: any, version: any, attributes: object) => void,
+   *   drop: (name: any, versions: any[]) => void, keep: (name: any, versions: any[]) => void }} page
    */
   constructor(board, element, page) {
     this.board = board
@@ -29,12 +30,13 @@ export class Panel {
     const focused = document.activeElement?.dataset?.focus
     const { selected } = this.board
     this.element.replaceChildren(...(selected === null ? this.#objects() : this.#object(selected)))
-    if (focused !== undefined) this.element.querySelector(`[data-focus="${focused}"]`)?.focus({ preventScroll: true })
+    if (focused === undefined) return
+    const next = this.element.querySelector(`[data-focus="${focused}"]`) ?? this.element
+    next.focus({ preventScroll: true })
   }
 
   #objects() {
-    const { room } = this.board
-    const names = room.objects()
+    const names = this.board.objects()
     if (names.length === 0) {
       return [html("h2", { textContent: "Nothing is drawn yet" }),
         html("p", { textContent: "Choose a rectangle, an ellipse or a line above, and drag on the drawing." })]
@@ -47,21 +49,51 @@ export class Panel {
     const [shape, ...others] = this.board.shapes(name)
     const button = this.#button("", keyOf(name), () => this.page.select(name))
     button.append(html("span", { textContent: wordsOf(shape.kind, shape) }))
-    const count = `${others.length + 1} versions`
-    if (others.length > 0) button.append(html("span", { className: "count", textContent: count }))
+    const marks = this.board.survivors(name).length > 0 ? ["deleted, and changed"] : []
+    if (others.length > 0) marks.push(`${others.length + 1} versions`)
+    button.append(...marks.map((textContent) => html("span", { className: "count", textContent })))
     return button
   }
 
   #object(name) {
-    const versions = this.board.room.versions(name)
+    const versions = this.board.shown(name)
     const picked = this.board.picked(name)
     const shape = this.board.shapes(name)[Math.max(0, versions.indexOf(picked))]
     const all = this.#button("All objects", "all", () => this.page.select(null))
-    all.className = "all"
-    const parts = [html("h2", { textContent: wordsOf(shape.kind, shape) }), this.#nameField(name, picked)]
+    const parts = [html("h2", { textContent: wordsOf(shape.kind, shape) }), ...this.#notice(name, versions)]
+    parts.push(this.#nameField(name, picked))
     if (versions.length > 1) parts.push(...this.#versions(name, versions, picked))
     else parts.push(html("p", { textContent: HELP }))
-    return [...parts, all]
+    const ends = picked === null ? [] : this.#ends(name, versions, picked)
+    return [...parts, html("div", { className: "actions" }, ...ends, all)]
+  }
+
+  /** That somebody deleted what others changed, with both ways on. */
+  #notice(name, versions) {
+    const survivors = this.board.survivors(name)
+    if (survivors.length === 0) return []
+    const which = versions.length === 1 ? "it" : versionWords(survivors.map((one) => versions.indexOf(one)))
+    const words = versions.length === 1
+      ? "Somebody deleted this while others changed it. You see it as they changed it."
+      : `Somebody deleted a version while others changed it. What they made of it: ${which}.`
+    const keep = this.#button(`Keep ${which}`, "keep", () => this.page.keep(name, survivors))
+    const drop = this.#button(`Delete ${which} too`, "delete-too", () => this.page.drop(name, survivors))
+    drop.className = "delete"
+    return [html("section", { className: "notice" }, html("p", { textContent: words }),
+      html("div", { className: "actions" }, keep, drop))]
+  }
+
+  /** What ends versions: the picked one, or all others. A key that is held down presses no other version's button. */
+  #ends(name, versions, picked) {
+    const letter = letterOf(versions.indexOf(picked))
+    const isOneOfSeveral = versions.length > 1
+    const [words, focus] = isOneOfSeveral ? [`Delete version ${letter}`, `delete-${letter}`] : ["Delete", "delete"]
+    const drop = this.#button(words, focus, () => this.page.drop(name, [picked]))
+    drop.className = "delete"
+    const others = versions.filter((version) => version !== picked)
+    const keep = this.#button("Keep only this", "keep-only", () => this.page.drop(name, others))
+    keep.title = `Keep version ${letter}, and delete the others`
+    return isOneOfSeveral ? [keep, drop] : [drop]
   }
 
   /** What is written in the field is done when it is left. What others do comes after that. */
@@ -73,7 +105,7 @@ export class Panel {
       if (this.#release === null) return
       const release = this.#release
       this.#release = null
-      if (isWhole && input.value !== before) this.page.set(name, picked, "name", input.value)
+      if (isWhole && input.value !== before) this.page.put(name, picked, { name: input.value })
       release()
       this.draw()
     }
@@ -90,19 +122,20 @@ export class Panel {
     const words = letter === null
       ? "People changed this at the same time. Pick the version to go on with; the others stay as they are."
       : `You go on with version ${letter}. The others stay as they are.`
-    const differing = differingKeys(versions)
-    const cards = versions.map((version, place) => this.#card(name, version, place, version === picked, differing))
+    const cards = versions.map((version, place) => this.#card(name, versions, place, version === picked))
     return [html("h3", { textContent: `${versions.length} versions` }), html("p", { textContent: words }),
       html("div", { className: "cards" }, ...cards)]
   }
 
-  #card(name, version, place, isPicked, differing) {
+  #card(name, versions, place, isPicked) {
+    const version = versions[place]
     const letter = letterOf(place)
     const words = isPicked ? `Going on with ${letter}` : `Go on with ${letter}`
     const button = this.#button(words, `pick-${letter}`, () => this.page.select(name, version))
     button.setAttribute("aria-pressed", isPicked)
-    const rows = [...version.attributes].flatMap(([key, value]) => row(key, value, differing.has(key)))
-    for (const key of differing) if (!version.attributes.has(key)) rows.push(...row(key, "", true))
+    const differing = differingKeys(versions)
+    const rows = linesOf(version.attributes, keysOf(versions)).flatMap((line) =>
+      row(line, line.keys.some((key) => differing.has(key)), version.attributes))
     const card = html("section", { className: isPicked ? "card picked" : "card" },
       html("strong", { textContent: `Version ${letter}` }), this.#picture(name, place), html("dl", {}, ...rows), button)
     card.setAttribute("aria-label", `Version ${letter}`)
@@ -122,22 +155,29 @@ export class Panel {
     const viewBox = [x - edge, y - edge, width + 2 * edge, height + 2 * edge].join(" ")
     const picture = svg("svg", { viewBox, "aria-hidden": "true" })
     shapes.forEach((shape, other) => {
-      if (other !== place) picture.append(bodyOf({ ...shape, fill: "none" }, "other"))
+      if (other !== place) picture.append(outlineOf(shape, "other"))
     })
     picture.append(bodyOf(shapes[place]))
     return picture
   }
 }
 
+/** Versions by their letters. */
+function versionWords(places) {
+  const letters = places.map(letterOf)
+  const last = letters.pop()
+  return letters.length === 0 ? `version\u00a0${last}` : `versions\u00a0${letters.join(", ")} and\u00a0${last}`
+}
+
 /** A line of a card; what differs between versions is marked. */
-function row(key, value, isDiffering) {
-  const [name, words] = attributeWords(key, value)
+function row({ word, words, keys }, isDiffering, attributes) {
   const shown = html(isDiffering ? "mark" : "span")
-  if (key === "fill" && /^#[0-9a-f]{6}$/.test(value)) {
+  const fill = keys.includes("fill") ? attributes.get("fill") : undefined
+  if (isColour(fill)) {
     const dot = html("span", { className: "dot" })
-    dot.style.background = value
+    dot.style.background = fill
     shown.append(dot)
   }
   shown.append(words)
-  return [html("dt", { textContent: name }), html("dd", {}, shown)]
+  return [html("dt", { textContent: word }), html("dd", {}, shown)]
 }

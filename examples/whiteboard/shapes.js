@@ -1,6 +1,7 @@
 /**
  * What the whiteboard makes of an object's attributes, and how it draws that. The server knows nothing of this: that
- * `at` is the place, `size` the width and height, `fill` the colour and `name` the name is agreed among the pages.
+ * `x` and `y` are the place and `width` and `height` the size, all whole numbers, `fill` the colour and `name` the name
+ * is agreed among the pages.
  */
 
 const SVG = "http://www.w3.org/2000/svg"
@@ -17,16 +18,31 @@ export const COLOURS = new Map([
 ])
 const PLAIN = "#c9d1d9"
 
+// What people are told of a version in one line: what it is called, its keys, and what stands between their values.
+const LINES = [
+  ["place", ["x", "y"], ", "], ["size", ["width", "height"], " × "], ["colour", ["fill"], ""], ["name", ["name"], ""],
+]
+const TOLD = LINES.flatMap(([, keys]) => keys)
+
 /** The letter by which people speak of a version. @param {number} place */
 export const letterOf = (place) => (place < 26 ? String.fromCharCode(65 + place) : `${place + 1}`)
 
-/** The text of two whole numbers, as attributes have it. */
-export const pairText = (one, other) => `${Math.round(one)},${Math.round(other)}`
+/** The place of a shape, as attributes have it. */
+export const placeOf = ({ x, y }) => ({ x: Math.round(x), y: Math.round(y) })
 
-function pairOf(text, otherwise) {
-  const found = /^(-?\d{1,6}),(-?\d{1,6})$/.exec(text)
-  if (found === null) return otherwise
-  return found.slice(1).map((digits) => Math.max(-FAR, Math.min(FAR, Number(digits))))
+/** The size of a shape, as attributes have it. */
+export const sizeOf = ({ width, height }) => ({ width: Math.round(width), height: Math.round(height) })
+
+/** All attributes of a shape: what a new object gets. */
+export const attributesOf = (shape) => ({ ...placeOf(shape), ...sizeOf(shape), fill: shape.fill, name: shape.name })
+
+/** Whether a value is a colour that can be drawn. */
+export const isColour = (value) => /^#[0-9a-f]{6}$/.test(value)
+
+/** The number that a value is, not farther off than can be drawn; of what is no number the usual one. */
+function wholeOf(value, usual) {
+  if (typeof value !== "number" && typeof value !== "bigint") return usual
+  return Math.max(-FAR, Math.min(FAR, Number(value)))
 }
 
 /**
@@ -34,12 +50,11 @@ function pairOf(text, otherwise) {
  * @param {string} kind @param {Map<string, unknown>} attributes
  */
 export function shapeOf(kind, attributes) {
-  const [x, y] = pairOf(attributes.get("at"), [0, 0])
-  const [width, height] = pairOf(attributes.get("size"), [120, 80])
+  const whole = (key, usual) => wholeOf(attributes.get(key), usual)
   const fill = attributes.get("fill")
   return {
-    kind, x, y, width, height,
-    fill: /^#[0-9a-f]{6}$/.test(fill) ? fill : PLAIN,
+    kind, x: whole("x", 0), y: whole("y", 0), width: whole("width", 120), height: whole("height", 80),
+    fill: isColour(fill) ? fill : PLAIN,
     name: String(attributes.get("name") ?? "").slice(0, NAME_LENGTH),
   }
 }
@@ -47,6 +62,12 @@ export function shapeOf(kind, attributes) {
 /** The least upright rectangle round a shape. */
 export function boundsOf({ x, y, width, height }) {
   return { x: Math.min(x, x + width), y: Math.min(y, y + height), width: Math.abs(width), height: Math.abs(height) }
+}
+
+/** Where a shape is dragged to change its size: the end of a line, or the lower right corner. */
+export function cornerOf(shape) {
+  const { x, y, width, height } = shape.kind === "line" ? shape : boundsOf(shape)
+  return [x + width, y + height]
 }
 
 /** The least upright rectangle round all of these shapes. */
@@ -91,24 +112,41 @@ export function bodyOf(shape, name = "body") {
   return svg("rect", { class: name, ...box, rx: 6, fill })
 }
 
+/** The element that draws a shape without its colour. */
+export function outlineOf(shape, name) {
+  const outline = bodyOf({ ...shape, fill: "none" }, name)
+  outline.removeAttribute("style")
+  return outline
+}
+
 /** What a shape is in a few words. */
 export function wordsOf(kind, { name }) {
   const word = KINDS[kind] ?? kind
   return name === "" ? word : `${word} “${name}”`
 }
 
-/** What an attribute is called, and its value, for people. @returns {[string, string]} */
-export function attributeWords(key, value) {
-  if (key === "fill") return ["colour", COLOURS.get(value) ?? String(value)]
-  if (key === "at") return ["place", String(value).replace(",", ", ")]
-  if (key === "size") return ["size", String(value).replace(",", " × ")]
-  return [key, value === "" ? "none" : String(value)]
+/**
+ * What people are told of a version, line by line: what it is called, its value in words, and the keys that it is of.
+ * @param {Map<string, unknown>} attributes @param {Iterable<string>} keys those that any version of the object has
+ * @returns {{ word: string, words: string, keys: string[] }[]}
+ */
+export function linesOf(attributes, keys) {
+  const others = [...keys].filter((key) => !TOLD.includes(key)).map((key) => [key, [key], ""])
+  return [...LINES, ...others].map(([word, own, between]) =>
+    ({ word, keys: own, words: own.map((key) => valueWords(key, attributes.get(key))).join(between) }))
 }
+
+function valueWords(key, value) {
+  if (value === undefined || value === "") return "none"
+  return (key === "fill" && COLOURS.get(value)) || String(value)
+}
+
+/** The keys that some version has. @param {{ attributes: Map<string, unknown> }[]} versions */
+export const keysOf = (versions) => new Set(versions.flatMap(({ attributes }) => [...attributes.keys()]))
 
 /** The keys that not all versions give the same value. @param {{ attributes: Map<string, unknown> }[]} versions */
 export function differingKeys(versions) {
-  const keys = new Set(versions.flatMap(({ attributes }) => [...attributes.keys()]))
   const [first] = versions
   const isOther = (key) => versions.some((one) => one.attributes.get(key) !== first.attributes.get(key))
-  return new Set([...keys].filter(isOther))
+  return new Set([...keysOf(versions)].filter(isOther))
 }

@@ -11,7 +11,8 @@ import { COLOURS, html } from "./shapes.js"
 
 const WORDS_MILLISECONDS = 10000
 const HINTS = {
-  select: "Click an object to select it, drag to move it. With keys: Tab goes from one to the next, arrows move it.",
+  select: "Click an object to select it, drag to move it. With keys: Tab goes from one to the next, arrows move it, " +
+    "Delete deletes it.",
   rect: "Drag on the drawing, or press Enter on it, to draw a rectangle.",
   ellipse: "Drag on the drawing, or press Enter on it, to draw an ellipse.",
   line: "Drag on the drawing, or press Enter on it, to draw a line.",
@@ -58,7 +59,7 @@ function pageOf(room, board) {
     select(name, version) {
       const before = board.selected
       board.selected = name
-      if (version !== undefined && room.versions(name).length > 1) board.pick(name, version)
+      if (version !== undefined && board.shown(name).length > 1) board.pick(name, version)
       page.drawn(before)
     },
     /** Draws what is selected anew. */
@@ -72,21 +73,30 @@ function pageOf(room, board) {
       useTool("select")
       page.select(change.object)
     },
-    /** Sets a key of a version, and goes on with what that makes of it. */
-    set(name, version, key, value) {
-      const change = attempt(() => room.set(name, version, key, value))
+    /** Gives a version attributes, all in one step, and goes on with what that makes of it. */
+    put(name, version, attributes) {
+      const change = attempt(() => room.put(name, version, attributes))
       if (change === null) return
       board.pick(name, change.version)
       page.drawn()
     },
-    /** Sets the colour of the version that is picked. */
+    /** Deletes versions, one after the other, as long as none is refused. The others keep their identifiers. */
+    drop(name, versions) {
+      for (const version of versions) if (attempt(() => room.drop(name, version)) === null) return
+    },
+    /** Keeps versions that somebody deleted while others changed them. */
+    keep(name, versions) {
+      board.keep(name, versions)
+      page.panel.draw()
+    },
+    /** Gives the version that is picked another colour. */
     paint(value) {
       if (board.selected === null) return
       const picked = board.picked(board.selected)
       if (picked === null) say("Pick a version of this object first: your change goes to one of them.")
-      else if (picked.attributes.get("fill") !== value) page.set(board.selected, picked, "fill", value)
+      else if (picked.attributes.get("fill") !== value) page.put(board.selected, picked, { fill: value })
     },
-    tellState: () => tellState(room),
+    tellState: () => tellState(room, board),
   }
   return page
 }
@@ -102,16 +112,17 @@ function attempt(call) {
   }
 }
 
-function tellState(room) {
+function tellState(room, board) {
   const state = part("state")
   const waiting = room.pending.length
-  const several = room.objects().filter((name) => room.versions(name).length > 1).length
-  const count = room.objects().length
+  const objects = board.objects()
+  const several = objects.filter((name) => board.shown(name).length > 1).length
   const isOpen = room.state === "open"
   let words = room.words
-  if (isOpen && several > 0) words += ` ${several} of ${count} objects in several versions.`
+  if (isOpen && several > 0) words += ` ${several} of ${objects.length} objects in several versions.`
   if (!isOpen && waiting > 0) words += ` ${waiting} of your changes ${waiting > 1 ? "are" : "is"} still to be sent.`
-  if (count >= LIMITS.objects) words += " The room takes no more objects."
+  // Those that are gone count, too.
+  if (room.objects().length >= LIMITS.objects) words += " The room takes no more objects."
   if (state.dataset.state === room.state && state.dataset.words === words) return
   Object.assign(state.dataset, { state: room.state, words })
   state.replaceChildren(words)

@@ -28,6 +28,9 @@ export function fails(what, call, name, word) {
   throw new Wrong(`${what}: it didn't fail`)
 }
 
+/** A version as a reply has it. */
+export const shownVersion = ({ id, isGone, attributes }) => [id, isGone ? "gone" : [...attributes]]
+
 /** Awaits what comes to be so, for a minute. */
 export async function comes(what, isSo) {
   for (const end = Date.now() + 60000; Date.now() < end; ) {

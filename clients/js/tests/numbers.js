@@ -51,8 +51,8 @@ function values() {
 async function apart() {
   const replies = await script(["r"], [
     '1 ["join","r"]', '2 ["join","r"]', `1 ${writeText(["new", 1, [], "n", [["x", -(2n ** 63n)]]])}`,
-    `1 ${writeText(["set", 2, [[1, 1]], [1, 1], [], "x", EXACT + 1n])}`,
-    `2 ${writeText(["set", 1, [[1, 1]], [1, 1], [], "x", EXACT + 2n])}`, '1 ["pull",0]', '1 ["show",[1,1]]',
+    `1 ${writeText(["put", 2, [[1, 1]], [1, 1], [], [["x", EXACT + 1n]]])}`,
+    `2 ${writeText(["put", 1, [[1, 1]], [1, 1], [], [["x", EXACT + 2n]]])}`, '1 ["pull",0]', '1 ["show",[1,1]]',
   ])
   const [, , , entries] = readText(replies[5].slice(2))
   const drawing = new Drawing()

@@ -5,7 +5,7 @@
  */
 
 import { Drawing, LIMITS, entryOf, operationOf, writeText } from "../grace.js"
-import { holds, numbersFrom, same } from "./checks.js"
+import { holds, numbersFrom, same, shownVersion } from "./checks.js"
 import { script } from "./program.js"
 
 const HISTORIES = Number(process.env.HISTORIES ?? 2000)
@@ -56,8 +56,17 @@ class History {
       return operationOf(["new", name, known.seen(), "rect", this.draw(2) === 0 ? [] : [["x", this.pick(VALUES)]]])
     }
     const object = this.pick(objects)
-    const { id } = this.pick(known.versions(object))
-    return operationOf(["set", name, known.seen(), object, id, this.pick(this.keys), this.pick(VALUES)])
+    const alive = known.versions(object).filter(({ isGone }) => !isGone)
+    if (alive.length === 0) return operationOf(["new", name, known.seen(), "rect", []])
+    const { id } = this.pick(alive)
+    if (this.draw(8) === 0) return operationOf(["drop", name, known.seen(), object, id])
+    return operationOf(["put", name, known.seen(), object, id, this.pairs()])
+  }
+
+  /** Values of some of the keys, each once. */
+  pairs() {
+    const keys = this.keys.filter(() => this.draw(2) === 0)
+    return (keys.length > 0 ? keys : [this.pick(this.keys)]).map((key) => [key, this.pick(VALUES)])
   }
 
   pick(list) {
@@ -73,12 +82,12 @@ class History {
     this.whole.add(operation)
     this.operations.push(operation)
     const [word, [, number], ...rest] = entryOf(operation)
-    const ids = word === "set" && this.whole.versions(operation.object).map(({ id }) => id)
+    const ids = word !== "new" && this.whole.versions(operation.object).map(({ id }) => id)
     const reply = word === "new" ? ["made", this.at, operation.name] : ["taken", this.at, ids]
     this.say(site, [word, number, ...rest], reply)
     this.at += 1
     for (const object of this.whole.names()) {
-      const versions = this.whole.versions(object).map(({ id, attributes }) => [id, [...attributes]])
+      const versions = this.whole.versions(object).map(shownVersion)
       this.say(this.draw(this.sites.length), ["show", object], ["versions", this.at, object, "rect", versions])
     }
   }
@@ -107,8 +116,8 @@ class History {
 const isReady = (drawing, { name: [author, number], seen }) =>
   number === drawing.count(author) + 1 && seen.every(([site, count]) => count <= drawing.count(site))
 
-const shown = (drawing, object) => drawing.versions(object).map(({ id, attributes, members }) =>
-  [id, [...attributes], members.map(writeText).sort()])
+const shown = (drawing, object) => drawing.versions(object).map((version) =>
+  [...shownVersion(version), version.members.map(writeText).sort()])
 
 function historyOf(room, draw) {
   const history = new History(room, draw)
@@ -135,35 +144,38 @@ async function histories() {
   for (let room = 0; room < HISTORIES; room += ROOMS) await compare(all.slice(room, room + ROOMS))
   const counts = all.map(({ whole }) => Math.max(0, ...whole.names().map((object) => whole.versions(object).length)))
   const several = counts.filter((count) => count > 1).length
+  const isGone = ({ isGone }) => isGone
+  const gone = all.filter(({ whole }) => whole.names().some((object) => whole.versions(object).some(isGone))).length
   holds("too few histories have several versions", several > HISTORIES / 4)
+  holds("too few histories have a version that is gone", gone > HISTORIES / 8)
   const total = (numberOf) => all.reduce((sum, history) => sum + numberOf(history).length, 0)
   const sums = `${total(({ operations }) => operations)} operations, ${total(({ lines }) => lines)} replies`
-  return `${HISTORIES} histories, ${sums}, ${several} with several versions, up to ${Math.max(...counts)}`
+  return `${HISTORIES} histories, ${sums}, ${several} with several versions, up to ${Math.max(...counts)}, ${gone} with one that is gone`
 }
 
-/** An object with as many sets as it may have, and what one more costs, in time of the processor. */
+/** An object with as many changes as it may have, and what one more costs, in time of the processor. */
 function largeObjects() {
   const told = []
   for (const sites of [1, 4]) {
     const drawing = new Drawing()
     drawing.add(operationOf(["new", [1, 1], [], "rect", []]))
     const start = process.cpuUsage()
-    for (let set = 0; set < LIMITS.sets; set++) {
-      const site = 1 + (set % sites)
+    for (let change = 0; change < LIMITS.changes; change++) {
+      const site = 1 + (change % sites)
       const number = drawing.count(site) + 1
       const seen = site === 1 ? [[1, number - 1]] : [[1, 1], ...(number > 1 ? [[site, number - 1]] : [])]
-      drawing.add(operationOf(["set", [site, number], seen, [1, 1], [], "x", set]))
-      same("the versions", drawing.versions([1, 1]).length, Math.min(set + 1, sites))
+      drawing.add(operationOf(["put", [site, number], seen, [1, 1], [], [["x", change]]]))
+      same("the versions", drawing.versions([1, 1]).length, Math.min(change + 1, sites))
     }
     const { user, system } = process.cpuUsage(start)
-    const mean = (user + system) / 1000 / LIMITS.sets
-    holds(`${mean} ms a set with ${sites} versions`, mean < 5)
-    told.push(`${mean.toFixed(2)} ms a set with ${sites} version${sites > 1 ? "s" : ""}`)
+    const mean = (user + system) / 1000 / LIMITS.changes
+    holds(`${mean} ms a put with ${sites} versions`, mean < 5)
+    told.push(`${mean.toFixed(2)} ms a put with ${sites} version${sites > 1 ? "s" : ""}`)
   }
-  return `${LIMITS.sets} sets: ${told.join(", ")}`
+  return `${LIMITS.changes} puts: ${told.join(", ")}`
 }
 
 export const TESTS = [
   ["random histories", histories],
-  ["objects of many sets", largeObjects],
+  ["objects of many changes", largeObjects],
 ]

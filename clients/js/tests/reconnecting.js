@@ -34,25 +34,32 @@ const cutOnce = (what) => async (proxy, room, other) => {
   await comes("it is back", () => room.state === "open")
   same("the site", room.site, 3)
   same("the object's name", made.name, [what === CUT_AFTER ? 1 : 3, 1])
-  proxy.cutOnce('["set"', what)
-  const set = room.set(made.name, [], "x", 5)
-  const behind = room.set(made.name, set.version, "fill", "red")
-  await Promise.all([set.done, behind.done])
+  proxy.cutOnce('["put"', what)
+  const put = room.put(made.name, [], { x: 5, y: 7 })
+  const behind = room.set(made.name, put.version, "fill", "red")
+  await Promise.all([put.done, behind.done])
+  const line = room.create("line")
+  await line.done
+  proxy.cutOnce('["drop"', what)
+  const drop = room.drop(line.name, [])
+  await drop.done
+  same("the dropped one", room.versions(line.name).map(({ isGone }) => isGone), [true])
   proxy.cutOnce('["pull"', what)
-  await comes("a pull was cut", () => proxy.cuts === 3)
+  await comes("a pull was cut", () => proxy.cuts === 4)
   proxy.cutOnce('["join"', what)
   proxy.cut()
-  await comes("a join was cut", () => proxy.cuts === 4)
+  await comes("a join was cut", () => proxy.cuts === 5)
   await comes("it is back", () => room.state === "open")
   room.set(made.name, [], "x", 6)
   await agree(room, other)
-  same("the changes", operations(other).map(([word, , , ...rest]) => [word, ...rest.slice(-2)]), [
-    ["new", "rect", [["x", 0]]], ["set", "x", 5], ["set", "fill", "red"], ["set", "x", 6],
+  same("the changes", operations(other).map(([word, , , ...rest]) => [word, rest.at(-1)]), [
+    ["new", [["x", 0]]], ["put", [["x", 5], ["y", 7]]], ["put", [["fill", "red"]]], ["new", []], ["drop", []],
+    ["put", [["x", 6]]],
   ])
-  const one = [[[], [["fill", "red"], ["x", 6]]]]
+  const one = [[[], [["fill", "red"], ["x", 6], ["y", 7]]]]
   same("what both show", [shown(room, made.name), shown(other, made.name)], [one, one])
   same("the refusals", room.refused, [])
-  return `the record: ${other.record.length} entries, 4 cuts`
+  return `the record: ${other.record.length} entries, 5 cuts`
 }
 
 /** A change that was still on its way when its connection was lost is waited for. */
@@ -72,7 +79,7 @@ async function drawnApart(proxy, room, other) {
   proxy.whatToDo = () => CUT_BEFORE
   proxy.cut()
   await comes("it is lost", () => room.state !== "open")
-  const set = room.set(made.name, [], "x", 5)
+  const put = room.set(made.name, [], "x", 5)
   const second = room.create("line")
   room.set(second.name, [], "y", 1)
   await other.set(made.name, [], "x", 9).done
@@ -84,9 +91,9 @@ async function drawnApart(proxy, room, other) {
   await agree(room, other)
   const site = room.site
   same("the new names", [...renamed], [["1,2", `${site},1`], ["1,3", `${site},2`], ["1,4", `${site},3`]])
-  const two = [[[[2, 1]], [["x", 9]]], [[set.name], [["x", 5]]]]
+  const two = [[[[2, 1]], [["x", 9]]], [[put.name], [["x", 5]]]]
   same("what both show", [shown(room, made.name), shown(other, made.name)], [two, two])
-  same("what became of the version", room.successors(made.name, looked).map(({ id }) => id), [[set.name]])
+  same("what became of the version", room.successors(made.name, looked).map(({ id }) => id), [[put.name]])
   same("the objects", [room.objects(), other.objects()], Array(2).fill([[1, 1], [site, 2]]))
   same("the second", shown(other, second.name), [[[], [["y", 1]]]])
 }
@@ -100,6 +107,7 @@ async function byChance(proxy, room, other, server) {
   await agree(room, other)
   proxy.whatToDo = () => (proxy.cuts < 60 ? [CUT_BEFORE, CUT_AFTER, PASS, PASS, PASS, PASS][draw(6)] : PASS)
   const wanted = []
+  let drops = 0
   const releases = []
   for (let value = 0; value < 120; value++) {
     const author = draw(3) > 0 ? room : other
@@ -107,16 +115,23 @@ async function byChance(proxy, room, other, server) {
     if (draw(5) === 0) releases.push(author.hold())
     const objects = author.objects()
     const object = objects[draw(objects.length)]
-    const versions = author.versions(object)
-    if (draw(6) === 0) author.create("rect", { value })
-    else author.set(object, versions[draw(versions.length)], ["x", "y"][draw(2)], value)
-    wanted.push(value)
+    const versions = author.versions(object).filter(({ isGone }) => !isGone)
+    const version = versions[draw(Math.max(1, versions.length))]
+    const what = version === undefined ? 0 : draw(8)
+    if (what === 0) author.create("rect", { value })
+    else if (what === 1) author.drop(object, version)
+    else author.set(object, version, ["x", "y"][draw(2)], value)
+    if (what === 1) drops += 1
+    else wanted.push(value)
     if (draw(3) === 0) await new Promise((resolve) => setTimeout(resolve, draw(30)))
   }
   releases.forEach((release) => release())
   await agree(room, other)
-  const values = operations(other).slice(1).map((entry) => (entry[0] === "new" ? entry[4][0][1] : entry[6]))
+  const [, ...changes] = operations(other)
+  const dropped = changes.filter(([word]) => word === "drop")
+  const values = changes.filter(([word]) => word !== "drop").map((entry) => entry.at(-1)[0][1])
   same("the values, each once", [...values].sort((one, next) => one - next), wanted)
+  same("the drops", dropped.length, drops)
   const late = await enter(server.address)
   for (const object of other.objects()) {
     same(`object ${object}`, [shown(room, object), shown(late, object)], Array(2).fill(shown(other, object)))
@@ -124,7 +139,7 @@ async function byChance(proxy, room, other, server) {
   late.close()
   same("the refusals", [room.refused, other.refused], [[], []])
   holds("the connection was cut", proxy.cuts > 5)
-  return `${wanted.length} changes, ${proxy.cuts} cuts, ${other.record.length} entries`
+  return `${wanted.length} values, ${drops} drops, ${proxy.cuts} cuts, ${other.record.length} entries`
 }
 
 /** A server that was started anew has another room: what is held of the old one is dropped, and that is told. */

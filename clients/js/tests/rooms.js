@@ -1,7 +1,7 @@
 /** Clients in one room of `grace serve`: what they see of each other, and of refusals. */
 
 import { LIMITS, Room } from "../grace.js"
-import { comes, fails, holds, same } from "./checks.js"
+import { comes, fails, holds, same, shownVersion } from "./checks.js"
 import { Server } from "./program.js"
 import { WebSocket } from "./websocket.js"
 
@@ -19,8 +19,8 @@ export async function enter(address, options = {}) {
   return room
 }
 
-/** What is shown of an object: each version's identifier with its attributes. */
-export const shown = (room, object) => room.versions(object).map(({ id, attributes }) => [id, [...attributes]])
+/** What is shown of an object: each version's identifier with its attributes, or that it is gone. */
+export const shown = (room, object) => room.versions(object).map(shownVersion)
 
 /** Runs a test with a server and its clients, and ends them whatever comes. */
 export function served(test) {
@@ -66,7 +66,7 @@ async function twoVersions(client) {
   const change = second.set(made.name, [], "x", 9)
   same("the version that a change made", change.version.id, [])
   await change.done
-  same("the vector", second.record.at(-1), ["set", [2, 1], [[1, 1]], [1, 1], [], "x", 9])
+  same("the vector", second.record.at(-1), ["put", [2, 1], [[1, 1]], [1, 1], [], [["x", 9]]])
   release()
   await agree(first, second)
   const two = [[[[1, 2]], [["x", 5]]], [[[2, 1]], [["x", 9]]]]
@@ -126,12 +126,38 @@ async function refusedHere(client) {
   fails("no version", () => room.set(name, [[1, 1]], "x", 1), "Refused", "no-such-version")
   fails("no key", () => room.set(name, [], "X", 1), "TypeError")
   fails("no value", () => room.set(name, [], "x", 0.5), "RangeError")
+  fails("no attribute", () => room.put(name, [], {}), "RangeError")
+  fails("a key twice", () => room.put(name, [], [["x", 1], ["x", 2]]), "TypeError")
   fails("no kind", () => room.create("a b"), "TypeError")
   for (let key = 0; key < LIMITS.keys; key++) room.set(name, [], `k${key}`, key)
-  const refusal = fails("the 65th key", () => room.set(name, [], "k64", 1), "Refused", "too-many-keys")
+  const refusal = fails("the 65th key", () => room.put(name, [], { k0: 1, k64: 1 }), "Refused", "too-many-keys")
   same("its words", refusal.message, "This object has as many kinds of attribute as it may have.")
+  const { version } = room.drop(name, [])
+  fails("one that is gone", () => room.set(name, version, "x", 1), "Refused", "gone")
   await room.settled()
-  same("the record", [room.record.length, room.refused], [2 + LIMITS.keys, []])
+  same("the record", [room.record.length, room.refused], [3 + LIMITS.keys, []])
+}
+
+/** A version is dropped while another client, who hasn't seen that, goes on with it. */
+async function dropped(client) {
+  const [first, second] = [await client(), await client()]
+  const made = first.create("rect", { x: 0, y: 0 })
+  await agree(first, second)
+  const release = second.hold()
+  const drop = first.drop(made.name, [])
+  same("the dropped version", [drop.version.isGone, [...drop.version.attributes]], [true, []])
+  await drop.done
+  const put = second.put(made.name, [], { x: 5, y: 7 })
+  await put.done
+  release()
+  await agree(first, second)
+  const both = [[[drop.name], "gone"], [[put.name], [["x", 5], ["y", 7]]]]
+  same("what both show", [shown(first, made.name), shown(second, made.name)], [both, both])
+  same("what became of the put", second.successors(made.name, put.version).map(({ isGone }) => isGone), [false])
+  same("what it outlived", second.versions(made.name).map(({ outlived }) => outlived), [[], [drop.name]])
+  first.drop(made.name, [put.name])
+  await agree(first, second)
+  same("all are gone", second.versions(made.name).map(({ isGone }) => isGone), [true, true])
 }
 
 /** A refusal of the server takes back what it refused and what was built on that, and nothing else. */
@@ -182,6 +208,7 @@ export const TESTS = [
   ["many changes in one go", served(inOneGo)],
   ["listeners", served(listening)],
   ["refused before it is sent", served(refusedHere)],
+  ["a version is dropped", served(dropped)],
   ["a refusal of the server", served(takenBack)],
   ["no such room", served(noSuchRoom)],
   ["no WebSocket", noWebSocket],

@@ -1,38 +1,40 @@
-/** Worked rows: sets on one object, and the versions that it then has, by the library and by the program. */
+/** Worked rows: changes of one object, and the versions that it then has, by the library and by the program. */
 
-import { Drawing, operationOf, writeText } from "../grace.js"
-import { fails, same } from "./checks.js"
+import { Drawing, entryOf, operationOf, writeText } from "../grace.js"
+import { requestOf } from "../forms.js"
+import { fails, same, shownVersion } from "./checks.js"
 import { script } from "./program.js"
 
 const MADE = [[1, 1]]
-const X5 = [[1, 2], MADE, [], "x", 5]
-const X9 = [[2, 1], MADE, [], "x", 9]
+const X5 = [[1, 2], MADE, [], { x: 5 }]
+const X9 = [[2, 1], MADE, [], { x: 9 }]
 const BOTH = [[1, 2], [2, 1]]
+const DROP = null
 const FIVE = [
-  [[1, 2], MADE, [], "x", 1], [[2, 1], MADE, [], "y", 2], [[3, 1], MADE, [], "x", 7], [[4, 1], MADE, [], "y", 8],
-  [[5, 1], MADE, [], "x", 9],
+  [[1, 2], MADE, [], { x: 1 }], [[2, 1], MADE, [], { y: 2 }], [[3, 1], MADE, [], { x: 7 }], [[4, 1], MADE, [], { y: 8 }],
+  [[5, 1], MADE, [], { x: 9 }],
 ]
 
-// A name; the attributes of object (1,1); the sets on it, each its name, what it has seen, the version, key and value;
-// the versions after them, each an identifier and the attributes.
+// A name; the attributes of object (1,1); the changes of it, each its name, what it has seen, the version, and what it
+// gives, or DROP; the versions after them, each an identifier and the attributes, or "gone".
 const ROWS = [
   ["a new object", [["x", 0]], [], [[[], { x: 0 }]]],
-  ["one set", [["x", 0]], [X5], [[[], { x: 5 }]]],
+  ["one put", [["x", 0]], [X5], [[[], { x: 5 }]]],
   ["two that conflict", [["x", 0]], [X5, X9], [[[[1, 2]], { x: 5 }], [[[2, 1]], { x: 9 }]]],
-  ["one in both versions", [["x", 0]], [X5, X9, [[3, 1], MADE, [], "fill", "red"]],
+  ["one in both versions", [["x", 0]], [X5, X9, [[3, 1], MADE, [], { fill: "red" }]],
     [[[[1, 2]], { fill: "red", x: 5 }], [[[2, 1]], { fill: "red", x: 9 }]]],
   ["a conflict is inherited", [["x", 0]],
-    [X5, X9, [[1, 3], BOTH, [[1, 2]], "fill", "red"], [[2, 2], BOTH, [[2, 1]], "line", 3]],
+    [X5, X9, [[1, 3], BOTH, [[1, 2]], { fill: "red" }], [[2, 2], BOTH, [[2, 1]], { line: 3 }]],
     [[[[1, 2], [1, 3]], { fill: "red", x: 5 }], [[[2, 1], [2, 2]], { line: 3, x: 9 }]]],
-  ["the same value", [["x", 0]], [X5, [[2, 1], MADE, [], "x", 5]], [[[], { x: 5 }]]],
-  ["a number and a text", [], [X5, [[2, 1], MADE, [], "x", "5"]], [[[[1, 2]], { x: 5 }], [[[2, 1]], { x: "5" }]]],
-  ["a value that was replaced", [["x", 0]], [X5, [[1, 3], [[1, 2]], [], "x", 6], [[2, 1], MADE, [], "x", 5]],
+  ["the same value", [["x", 0]], [X5, [[2, 1], MADE, [], { x: 5 }]], [[[], { x: 5 }]]],
+  ["a number and a text", [], [X5, [[2, 1], MADE, [], { x: "5" }]], [[[[1, 2]], { x: 5 }], [[[2, 1]], { x: "5" }]]],
+  ["a value that was replaced", [["x", 0]], [X5, [[1, 3], [[1, 2]], [], { x: 6 }], [[2, 1], MADE, [], { x: 5 }]],
     [[[[1, 3]], { x: 6 }], [[[2, 1]], { x: 5 }]]],
-  ["a base in one version", [["x", 0]], [X5, X9, [[3, 1], [[1, 2]], [], "fill", "red"]],
+  ["a base in one version", [["x", 0]], [X5, X9, [[3, 1], [[1, 2]], [], { fill: "red" }]],
     [[[[1, 2], [3, 1]], { fill: "red", x: 5 }], [[[2, 1]], { x: 9 }]]],
-  ["a conflict with a base", [["x", 0]], [X5, [[1, 3], [[1, 2]], [], "fill", "red"], X9],
+  ["a conflict with a base", [["x", 0]], [X5, [[1, 3], [[1, 2]], [], { fill: "red" }], X9],
     [[[[1, 2], [1, 3]], { fill: "red", x: 5 }], [[[2, 1]], { x: 9 }]]],
-  ["one that goes on", [["x", 0]], [X5, X9, [[2, 2], [[1, 1], [2, 1]], [], "line", 3]],
+  ["one that goes on", [["x", 0]], [X5, X9, [[2, 2], [[1, 1], [2, 1]], [], { line: 3 }]],
     [[[[1, 2]], { x: 5 }], [[[2, 1], [2, 2]], { line: 3, x: 9 }]]],
   ["three of five", [], FIVE.slice(0, 3), [[[[1, 2]], { x: 1, y: 2 }], [[[3, 1]], { x: 7, y: 2 }]]],
   ["four of five", [], FIVE.slice(0, 4), [
@@ -43,32 +45,42 @@ const ROWS = [
     [[[1, 2], [2, 1]], { x: 1, y: 2 }], [[[1, 2], [4, 1]], { x: 1, y: 8 }], [[[2, 1], [3, 1]], { x: 7, y: 2 }],
     [[[2, 1], [5, 1]], { x: 9, y: 2 }], [[[3, 1], [4, 1]], { x: 7, y: 8 }], [[[4, 1], [5, 1]], { x: 9, y: 8 }],
   ]],
+  ["two keys beside the same value", [["x", 0]], [X5, [[2, 1], MADE, [], { x: 5, fill: "red" }]], [[[], { fill: "red", x: 5 }]]],
+  ["two keys, one of them another value", [["x", 0]], [X5, [[2, 1], MADE, [], { fill: "red", x: 9 }]],
+    [[[[1, 2]], { x: 5 }], [[[2, 1]], { fill: "red", x: 9 }]]],
+  ["a dropped version", [["x", 0]], [X5, [[2, 1], [[1, 2]], [], DROP]], [[[], "gone"]]],
+  ["a put beside a drop", [["x", 0]], [X5, [[2, 1], [[1, 2]], [], DROP], [[1, 3], [[1, 2]], [], { x: 6 }]],
+    [[[[1, 3]], { x: 6 }], [[[2, 1]], "gone"]]],
+  ["two drops of one version", [["x", 0]], [X5, [[2, 1], [[1, 2]], [], DROP], [[3, 1], [[1, 2]], [], DROP]], [[[], "gone"]]],
+  ["one of two dropped", [["x", 0]], [X5, X9, [[1, 3], BOTH, [[2, 1]], DROP]],
+    [[[[1, 2]], { x: 5 }], [[[1, 3], [2, 1]], "gone"]]],
 ]
 
 const creationOf = (attributes) => operationOf(["new", [1, 1], [], "rect", attributes])
-const setOf = ([name, seen, version, key, value]) => operationOf(["set", name, seen, [1, 1], version, key, value])
-const shownBy = (drawing) => drawing.versions([1, 1]).map(({ id, attributes }) => [id, [...attributes]])
-const shownOf = (versions) => versions.map(([id, attributes]) => [id, Object.entries(attributes)])
+const changeOf = ([name, seen, version, given]) =>
+  operationOf(given === DROP
+    ? ["drop", name, seen, [1, 1], version]
+    : ["put", name, seen, [1, 1], version, Object.entries(given)])
+const shownBy = (drawing) => drawing.versions([1, 1]).map(shownVersion)
+const shownOf = (versions) => versions.map(([id, shown]) => [id, shown === "gone" ? shown : Object.entries(shown)])
 
 function byTheLibrary() {
-  for (const [name, attributes, sets, versions] of ROWS) {
+  for (const [name, attributes, changes, versions] of ROWS) {
     const drawing = new Drawing()
     drawing.add(creationOf(attributes))
-    for (const set of sets) drawing.add(setOf(set))
+    for (const change of changes) drawing.add(changeOf(change))
     same(name, shownBy(drawing), shownOf(versions))
   }
   return `${ROWS.length} rows`
 }
 
 /** The lines of a row for sessions 1 to 5, and the reply to the last. */
-function linesOf([, attributes, sets, versions], room) {
-  const sites = [1, 2, 3, 4, 5].slice(0, Math.max(1, ...sets.map(([[site]]) => site)))
+function linesOf([, attributes, changes, versions], room) {
+  const sites = [1, 2, 3, 4, 5].slice(0, Math.max(1, ...changes.map(([[site]]) => site)))
   const session = (site) => room * 5 + site
   const lines = sites.map((site) => `${session(site)} ["join","r${room}"]`)
   lines.push(`${session(1)} ${writeText(["new", 1, [], "rect", attributes])}`)
-  for (const [[site, number], seen, version, key, value] of sets) {
-    lines.push(`${session(site)} ${writeText(["set", number, seen, [1, 1], version, key, value])}`)
-  }
+  for (const change of changes.map(changeOf)) lines.push(`${session(change.name[0])} ${requestOf(change)}`)
   const reply = ["versions", lines.length, [1, 1], "rect", shownOf(versions)]
   return [[...lines, `${session(1)} ["show",[1,1]]`], `${session(1)} ${writeText(reply)}`]
 }
@@ -88,29 +100,61 @@ async function byTheProgram() {
 function refusals() {
   const drawing = new Drawing()
   drawing.add(creationOf([["x", 0]]))
-  drawing.add(setOf(X5))
-  drawing.add(setOf(X9))
+  drawing.add(changeOf(X5))
+  drawing.add(changeOf(X9))
   const shown = shownBy(drawing)
-  const add = (set) => () => drawing.add(setOf(set))
-  fails("no version of this name", add([[2, 2], BOTH, [], "line", 3]), "Refused", "no-such-version")
-  fails("one that isn't in dispute", add([[3, 1], [[1, 2]], [[1, 2]], "x", 1]), "Refused", "no-such-version")
-  fails("both of two that conflict", add([[3, 1], BOTH, BOTH, "x", 1]), "Refused", "no-such-version")
-  fails("a set that isn't known", add([[3, 1], MADE, [[2, 1]], "x", 1]), "Refused", "no-such-version")
-  fails("a wrong number", add([[1, 2], MADE, [], "x", 1]), "ProtocolFault")
-  fails("one that counts what isn't there", add([[3, 1], [[1, 3]], [], "x", 1]), "ProtocolFault")
+  const add = (change) => () => drawing.add(changeOf(change))
+  fails("no version of this name", add([[2, 2], BOTH, [], { line: 3 }]), "Refused", "no-such-version")
+  fails("one that isn't in dispute", add([[3, 1], [[1, 2]], [[1, 2]], { x: 1 }]), "Refused", "no-such-version")
+  fails("both of two that conflict", add([[3, 1], BOTH, BOTH, { x: 1 }]), "Refused", "no-such-version")
+  fails("a change that isn't known", add([[3, 1], MADE, [[2, 1]], { x: 1 }]), "Refused", "no-such-version")
+  fails("a wrong number", add([[1, 2], MADE, [], { x: 1 }]), "ProtocolFault")
+  fails("one that counts what isn't there", add([[3, 1], [[1, 3]], [], { x: 1 }]), "ProtocolFault")
   fails("no such object", () => drawing.versions([3, 3]), "Refused", "no-such-object")
   same("the versions afterwards", shownBy(drawing), shown)
+  drawing.add(changeOf([[2, 2], BOTH, [[2, 1]], DROP]))
+  fails("one that is gone", add([[3, 1], [[1, 2], [2, 2]], [[2, 1], [2, 2]], { x: 1 }]), "Refused", "gone")
 }
 
 /** In another order of the same operations there are the same versions. */
 function otherOrders() {
-  const [, attributes, sets, versions] = ROWS.find(([name]) => name === "five of five")
+  const [, attributes, changes, versions] = ROWS.find(([name]) => name === "five of five")
   for (const order of [[4, 3, 2, 1, 0], [2, 0, 4, 1, 3], [1, 3, 0, 2, 4]]) {
     const drawing = new Drawing()
     drawing.add(creationOf(attributes))
-    for (const place of order) drawing.add(setOf(sets[place]))
+    for (const place of order) drawing.add(changeOf(changes[place]))
     same(`in the order ${order}`, shownBy(drawing), shownOf(versions))
   }
+}
+
+/** A version outlives a drop whose author deleted it as far as he had seen it, and no other drop. */
+function outlived() {
+  const cases = [
+    ["changed in the meantime", [X5, [[2, 1], [[1, 2]], [], DROP], [[1, 3], [[1, 2]], [], { x: 6 }]], [[[2, 1]], []]],
+    ["changed from an older one", [X5, [[2, 1], [[1, 2]], [], DROP], [[3, 1], MADE, [], { x: 6 }]], [[], [[2, 1]]]],
+    ["before any change", [[[2, 1], MADE, [], DROP], X5], [[[2, 1]], []]],
+    ["one of two that were seen", [X5, X9, [[1, 3], BOTH, [[1, 2]], DROP]], [[], []]],
+    ["one of two, and the other changed in the meantime",
+      [X5, X9, [[1, 3], BOTH, [[1, 2]], DROP], [[2, 2], BOTH, [[2, 1]], { line: 3 }]], [[], []]],
+    ["one of two, which was changed in the meantime",
+      [X5, X9, [[2, 2], BOTH, [[1, 2]], DROP], [[1, 3], BOTH, [[1, 2]], { line: 3 }]], [[[2, 2]], [], []]],
+    ["changed on by one who had seen the drop", [X5, [[2, 1], [[1, 2]], [], DROP], [[1, 3], [[1, 2]], [], { x: 6 }],
+      [[3, 1], [[1, 3], [2, 1]], [[1, 3]], { line: 3 }]], [[[2, 1]], []]],
+    ["two drops of one version", [X5, [[1, 3], [[1, 2]], [], DROP], [[2, 1], [[1, 2]], [], DROP]], [[]]],
+  ]
+  for (const [name, changes, wanted] of cases) {
+    const drawing = new Drawing()
+    drawing.add(creationOf([["x", 0]]))
+    for (const change of changes) drawing.add(changeOf(change))
+    same(name, drawing.versions([1, 1]).map((version) => version.outlived), wanted)
+  }
+}
+
+/** The old form of one attribute is read as a put, which is written in its own form. */
+function oldForm() {
+  const put = operationOf(["set", [1, 2], MADE, [1, 1], [], "x", 5])
+  same("read", put, changeOf(X5))
+  same("written", entryOf(put), ["put", [1, 2], MADE, [1, 1], [], [["x", 5]]])
 }
 
 export const TESTS = [
@@ -118,4 +162,6 @@ export const TESTS = [
   ["worked rows by the program", byTheProgram],
   ["what is not admitted", refusals],
   ["another order", otherOrders],
+  ["what outlived a drop", outlived],
+  ["the old form", oldForm],
 ]

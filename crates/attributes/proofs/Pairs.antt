@@ -53,6 +53,10 @@ attr_of-all key attrs (x ∷ xs) =
     ∙ or_associative (attr_of key attrs) (attr_of key (x ∷ [])) (attr_of key xs)
     ∙ ap (option_or (attr_of key attrs)) (sym (find_cons (λ (a : Attr). bytes_eq a.0 key) x xs))
 
+pub with_all-append : (attrs xs ys : List Attr) → with_all attrs (xs ++ ys) ≡ with_all (with_all attrs xs) ys
+with_all-append attrs [] ys = refl
+with_all-append attrs (x ∷ xs) ys = with_all-append (with_new x attrs) xs ys
+
 -- ---- no key twice
 
 -- no two have one key

@@ -1,34 +1,32 @@
--- What is kept once of what the sets give and then of the initial attributes, in order of key, are the attributes.
-use Rattle.std.proofs.Common.{◌≡◌, ℕ, ◌<◌, true, false, cond, List, [], ◌∷◌, ◌++◌, length, map, reverse, refl, sym, ap, ◌∙◌, subst, inl, inr, Option, Some, None, is_some}
+-- What is kept once of what the changes give and then of the initial attributes, in order of key, are the attributes.
+use Rattle.std.proofs.Common.{◌≡◌, ℕ, ◌<◌, true, cond, List, [], ◌∷◌, ◌++◌, length, map, reverse, refl, sym, ap, ◌∙◌, subst, inl, inr, Option, Some, None, is_some}
 use Rattle.std.specs.Prelude.{All, filter_map, find, flat_map, bytes_eq, option_map}
 use Rattle.std.specs.Option.{option_or}
 use Rattle.std.specs.List.Sorted.{IsPermutation, IsSorted, IsStrictlyIncreasing}
-use Rattle.std.proofs.lemmas.Bool.{cases_Bool, true≢false}
+use Rattle.std.proofs.lemmas.List.Folds.{find-append}
 use Rattle.std.proofs.lemmas.List.Sorted.{Contains-permutation, IsPermutation-sym}
 use Rattle.std.proofs.lemmas.Slice.Eq.{bytes_eq-Decides}
 use Rattle.op_names.specs.Names.{Name}
 use Rattle.op_names.specs.Texts.{Bytes}
 use Rattle.op_names.specs.declared.value.Value.{Value}
 use Rattle.rules.specs.declared.history.Op.{Op}
-use Rattle.rules.specs.declared.history.Body.{Body}
-use Rattle.rules.specs.declared.history.Body.TheVariants.{New, Set}
 use Rattle.rules.specs.AttrLists.{Attr}
-use Rattle.rules.specs.Bodies.{keys_in, value_in}
+use Rattle.rules.specs.Bodies.{pairs_in, value_in}
 use Rattle.rules.specs.Lists.{each_once}
 use Rattle.rules.specs.Groups.{is_compatible}
 use Rattle.rules.specs.Conflicts.{conflict}
 use Rattle.rules.specs.Versions.{attributes, decides, gives, key_cmp, keys_of, value_by, value_of_key}
-use Rattle.rules.proofs.Lists.{In, In-from_Contains, Contains-from_In, In-append_left, In-append_right, In-filter_map, In-filter_map_back, In-flat_map, In-map, find_is}
+use Rattle.rules.proofs.Lists.{In, In-from_Contains, Contains-from_In, In-append_left, In-append_right, In-filter_map, In-filter_map_back, find_is}
+use Rattle.rules.proofs.Bodies.{key_there}
 use Rattle.rules.proofs.Once.{Once}
-use Rattle.rules.proofs.Relation.{same_answer}
 use Rattle.rules.proofs.Sorting.{Rises, sort_is}
 use Rattle.rules.proofs.Decided.{value_is_last}
-use Rattle.rules.proofs.Reordered.{In-each_once, Once-each_once, in_keys, key_cmp_total, one_key, same_key_is, same_key_itself, untied_with_values}
+use Rattle.rules.proofs.Reordered.{In-each_once, Once-each_once, key_cmp_total, one_key, same_key_is, same_key_itself, untied_with_values, in_keys}
 use Rattle.rules.proofs.Sorted.{sorted_rises}
-use Rattle.places.specs.Sets.{at, AreSetsOn}
-use Rattle.attributes.specs.Pairs.{given_backwards, given_by, with_all}
+use Rattle.places.specs.Changes.{at, AreChangesOn}
+use Rattle.attributes.specs.Pairs.{given_backwards, with_all}
 use Rattle.attributes.proofs.Pairs.{Apart, Apart-all, attr_of, attr_of-all, attr_if_in}
-use Rattle.attributes.proofs.Members.{is_set, members_ordered, not_before_itself}
+use Rattle.attributes.proofs.Members.{is_change, members_ordered, not_before_itself}
 
 -- ---- a sort keeps keys apart
 
@@ -76,28 +74,14 @@ module _ (f : Bytes → Option Value) where
   in_shown keys z m e = In-filter_map shown z.0 z keys m (ap (pair_of z.0) e)
 
 -- a key with a value stands among the keys
-key_there : (initial : List Attr) (g : List Op) (key : Bytes) (v : Value) → value_of_key initial g key ≡ Some v → In key (map (λ (attr : Attr). attr.0) initial ++ keys_of g)
-key_there initial g key v e = go (find (decides key g) g) refl e
+key_listed : (initial : List Attr) (g : List Op) (key : Bytes) (v : Value) → value_of_key initial g key ≡ Some v → In key (map (λ (attr : Attr). attr.0) initial ++ keys_of g)
+key_listed initial g key v e = go (find (decides key g) g) refl e
   where
-    from_initial : (r : Option Attr) → find (λ attr. bytes_eq attr.0 key) initial ≡ r → option_map (λ (attr : Attr). attr.1) r ≡ Some v → In key (map (λ (attr : Attr). attr.0) initial)
-    from_initial None f t = absurd cc
-    from_initial (Some a) f t =
-        let c = find_is (λ (attr : Attr). bytes_eq attr.0 key) a initial f in
-        subst (λ k. In k (map (λ (attr : Attr). attr.0) initial)) ((bytes_eq-Decides a.0 key).0 c.1) (In-map (λ (attr : Attr). attr.0) a initial c.0)
-
-    from_body : (b : Body) → value_in key b ≡ Some v → In key (keys_in b)
-    from_body (New m a) t = absurd cc
-    from_body (Set o w k x) t = elim (cases_Bool (bytes_eq key k)) [
-      | inl q ↦ inl ((bytes_eq-Decides key k).0 q)
-      | inr q ↦ (let z : None ≡ Some v = rw q at t in absurd (true≢false (ap is_some (sym z))))
-    ]
-
     go : (r : Option Op) → find (decides key g) g ≡ r → value_by key initial r ≡ Some v → In key (map (λ (attr : Attr). attr.0) initial ++ keys_of g)
-    go None f t = In-append_left key (map (λ (attr : Attr). attr.0) initial) (keys_of g) (from_initial (find (λ attr. bytes_eq attr.0 key) initial) refl t)
+    go None f t = In-append_left key (map (λ (attr : Attr). attr.0) initial) (keys_of g) (key_there key initial (ap is_some t))
     go (Some a) f t =
         let c = find_is (decides key g) a g f in
-        In-append_right key (map (λ (attr : Attr). attr.0) initial) (keys_of g)
-        (in_keys g a key c.0 (from_body a.body t))
+        In-append_right key (map (λ (attr : Attr). attr.0) initial) (keys_of g) (in_keys g a key c.0 (key_there key (pairs_in a.body) (ap is_some t)))
 
 -- a rising list that has a key with a value exactly where that is the key's value are the attributes
 are_attributes : (initial : List Attr) (g : List Op) (pairs : List Attr) → Rises key_cmp key_cmp_total pairs → ((z : Attr) → In z pairs → value_of_key initial g z.0 ≡ Some z.1) → ((z : Attr) → value_of_key initial g z.0 ≡ Some z.1 → In z pairs) → pairs ≡ attributes initial g
@@ -108,25 +92,27 @@ are_attributes initial g pairs rises back to =
     let keys : List Bytes = each_once bytes_eq all in
     sort_is key_cmp key_cmp_total (filter_map (shown f) keys) pairs (untied_with_values f keys (Once-each_once bytes_eq same_key_is same_key_itself all)) rises
     (λ z m. to z (shown_in f keys z m).1)
-    (λ z m. let e = back z m in in_shown f keys z (In-each_once bytes_eq same_key_is same_key_itself z.0 all (key_there initial g z.0 z.1 e)) e)
+    (λ z m. let e = back z m in in_shown f keys z (In-each_once bytes_eq same_key_is same_key_itself z.0 all (key_listed initial g z.0 z.1 e)) e)
 
--- ---- what is kept of what the sets give and of the initial attributes
+-- ---- what is kept of what the changes give and of the initial attributes
 
 abbrev given : List Op → List Attr
-given ops = flat_map (λ (op : Op). given_by op.body) ops
+given ops = flat_map (λ (op : Op). pairs_in op.body) ops
 
--- the value of a key there is what the first set that gives it gives, or else the initial one
+-- the value of a key there is what the first change that gives it gives, or else the initial one
 first_given : (initial : List Attr) (key : Bytes) (ops : List Op) → option_map (λ (attr : Attr). attr.1) (option_or (attr_of key (given ops)) (attr_of key initial)) ≡ value_by key initial (find (gives key) ops)
 first_given initial key [] = refl
-first_given initial key (op ∷ ops) = by_body op.body refl (first_given initial key ops)
+first_given initial key (op ∷ ops) = go (attr_of key (pairs_in op.body)) refl (first_given initial key ops)
   where
-    by_body : (b : Body) → op.body ≡ b → option_map (λ (attr : Attr). attr.1) (option_or (attr_of key (given ops)) (attr_of key initial)) ≡ value_by key initial (find (gives key) ops)
-        → option_map (λ (attr : Attr). attr.1) (option_or (attr_of key (given_by op.body ++ given ops)) (attr_of key initial)) ≡ value_by key initial (cond (is_some (value_in key op.body)) (Some op) (find (gives key) ops))
-    by_body (New m a) e h = rw e h
-    by_body (Set o w k x) e h = elim (cases_Bool (bytes_eq key k)) [
-      | inl t ↦ (let s : bytes_eq k key ≡ true = (bytes_eq-Decides k key).1 (sym ((bytes_eq-Decides key k).0 t)) in rw (e, t, s) (sym (ap (λ b. cond b (Some x) None) t)))
-      | inr t ↦ (let s : bytes_eq k key ≡ false = same_answer (bytes_eq k key) (bytes_eq key k) (λ q. (bytes_eq-Decides key k).1 (sym ((bytes_eq-Decides k key).0 q))) (λ q. (bytes_eq-Decides k key).1 (sym ((bytes_eq-Decides key k).0 q))) ∙ t in rw (e, t, s) h)
-    ]
+    split : attr_of key (pairs_in op.body ++ given ops) ≡ option_or (attr_of key (pairs_in op.body)) (attr_of key (given ops))
+    split = find-append (λ (attr : Attr). bytes_eq attr.0 key) (pairs_in op.body) (given ops)
+
+    -- within a put the first pair of the key decides
+    go : (r : Option Attr) → attr_of key (pairs_in op.body) ≡ r
+        → option_map (λ (attr : Attr). attr.1) (option_or (attr_of key (given ops)) (attr_of key initial)) ≡ value_by key initial (find (gives key) ops)
+        → option_map (λ (attr : Attr). attr.1) (option_or (attr_of key (pairs_in op.body ++ given ops)) (attr_of key initial)) ≡ value_by key initial (cond (is_some (value_in key op.body)) (Some op) (find (gives key) ops))
+    go None e h = rw (split, e) h
+    go (Some attr) e h = rw (split, e) (sym (ap (option_map (λ (a : Attr). a.1)) e))
 
 with_value : (key : Bytes) (attrs : List Attr) (v : Value) → option_map (λ (attr : Attr). attr.1) (attr_of key attrs) ≡ Some v → attr_of key attrs ≡ Some (key, v)
 with_value key attrs v e = go (attr_of key attrs) refl e
@@ -139,7 +125,7 @@ with_value key attrs v e = go (attr_of key attrs) refl e
         f ∙ (λ i. Some (k i, w i))
 
 -- the pairs that the program ends with
-pub attributes_are : {object : Name} (k : List Op) (members : List ℕ) (initial : List Attr) (first all pairs : List Attr) → AreSetsOn object k
+pub attributes_are : {object : Name} (k : List Op) (members : List ℕ) (initial : List Attr) (first all pairs : List Attr) → AreChangesOn object k
     → IsStrictlyIncreasing members → All (λ place. place < length k) members → is_compatible (conflict k) (map (at k) members) ≡ true
     → first ≡ with_all [] (given_backwards (map (at k) members)) → all ≡ with_all first initial → IsPermutation all pairs → IsSorted key_cmp pairs
     → pairs ≡ attributes initial (map (at k) members)
@@ -150,7 +136,7 @@ attributes_are k members initial first all pairs w rises within compatible e f p
     λ key. ap (attr_of key) (f ∙ ap (λ z. with_all z initial) e) ∙ attr_of-all key (with_all [] (given (reverse l))) initial ∙ ap (λ o. option_or o (attr_of key initial)) (attr_of-all key [] (given (reverse l))) in
     let valued : (key : Bytes) → option_map (λ (attr : Attr). attr.1) (attr_of key all) ≡ value_of_key initial l key =
     λ key. ap (option_map (λ (attr : Attr). attr.1)) (looked key) ∙ first_given initial key (reverse l)
-    ∙ sym (value_is_last k l l compatible (λ x m. m) (λ x m. m) (members_ordered k members w.listed.ordered rises within) (λ x m. not_before_itself w.listed x (is_set k members within x m)) initial key) in
+    ∙ sym (value_is_last k l l compatible (λ x m. m) (λ x m. m) (members_ordered k members w.listed.ordered rises within) (λ x m. not_before_itself w.listed x (is_change k members within x m)) initial key) in
     are_attributes initial l pairs (rises_if_sorted all pairs apart p s)
     (λ z m.
     let n = In-from_Contains z all (Contains-permutation pairs all z (IsPermutation-sym all pairs p) (Contains-from_In z pairs m)) in

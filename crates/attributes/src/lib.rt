@@ -5,11 +5,12 @@ ghost use Rattle.std.specs.Prelude.{◌≡◌, ◌<◌, [], true, length, map, b
 ghost use Rattle.std.specs.List.{list_any};
 ghost use Rattle.std.specs.List.Sorted.{IsPermutation, IsSorted};
 ghost use Rattle.op_names.specs.Names.{Name};
+ghost use Rattle.rules.specs.Bodies.{pairs_in};
 ghost use Rattle.rules.specs.Groups.{is_compatible};
 ghost use Rattle.rules.specs.Conflicts.{conflict};
 ghost use Rattle.rules.specs.Versions.{attributes, key_cmp};
-ghost use Rattle.places.specs.Sets.{at, AreSetsOn};
-ghost use Rattle.attributes.specs.Pairs.{given_backwards, given_by, with_all, with_new};
+ghost use Rattle.places.specs.Changes.{at, AreChangesOn};
+ghost use Rattle.attributes.specs.Pairs.{given_backwards, with_all, with_new};
 
 use op_names::{Key, NoMemory, Value};
 use places::Members;
@@ -17,18 +18,18 @@ use rules::{Attrs, Body, SharedOp};
 use std::alloc::Global;
 
 /// The attributes of an object that was created with these initial attributes and changed by the
-/// sets at these places: each key with its value, in order of key. A key has the value that the
-/// last set on it gives; without one, the initial value. Fails only with `NoMemory`.
+/// changes at these places: each key with its value, in order of key. A key has the value that the
+/// last put of it gives; without one, the initial value. Fails only with `NoMemory`.
 ///
-/// Takes time with the number of the places and of the initial attributes, and for each of them with
-/// the number of keys. Copies only what it gives.
+/// Takes time with the number of the places, of the pairs that their puts give and of the initial
+/// attributes, and for each pair with the number of keys. Copies only what it gives.
 pub fn attributes_of(
     alloc: Global,
     initial: &Attrs,
     ops: &[SharedOp],
     members: &Members,
 ) -> Result<Vec<(Key, Value)>, NoMemory>
-    requires sets { (object : Name) × AreSetsOn object ops.now }
+    requires changes { (object : Name) × AreChangesOn object ops.now }
     requires within { All (λ place. place < length ops.now) members.now }
     requires compatible { is_compatible (conflict ops.now) (map (at ops.now) members.now) ≡ true }
     ensures { IfOk result (λ pairs.
@@ -41,7 +42,7 @@ pub fn attributes_of(
     Ok(pairs)
 }
 
-/// For each key that the sets at these places give, what the last one of them gives: so they are
+/// For each key that the changes at these places give, what the last one of them gives: so they are
 /// gone over from the last to the first.
 fn last_given(
     alloc: Global,
@@ -61,14 +62,14 @@ fn last_given(
     Ok(pairs)
 }
 
-/// Adds what a set gives, if its key isn't there yet.
+/// Adds what a put gives: those of its pairs whose keys aren't there yet. A drop gives nothing.
 fn add_given(alloc: Global, pairs: &mut Vec<(Key, Value)>, body: &Body) -> Result<(), NoMemory>
-    ensures { OnOk result (pairs.new.items ≡ with_all pairs.old.items (given_by body.now)) }
+    ensures { OnOk result (pairs.new.items ≡ with_all pairs.old.items (pairs_in body.now)) }
 {
-    if let Body::Set { key, value, .. } = body {
-        add_new(alloc, pairs, key, value)?;
+    match body {
+        Body::Put { pairs: given, .. } => add_missing(alloc, pairs, given.pairs()),
+        Body::New { .. } | Body::DropVersion { .. } => Ok(()),
     }
-    Ok(())
 }
 
 /// Adds those pairs whose keys aren't there yet.

@@ -2,6 +2,7 @@
 
 mod checking;
 mod interrupted;
+mod migrating;
 mod scripts;
 
 use commands::{Fault, script_over};

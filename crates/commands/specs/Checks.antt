@@ -1,14 +1,14 @@
 -- What the program says of a record and a transcript of it.
-use Rattle.std.specs.Prelude.{◌≡◌, ◌↔◌, ◌⊎◌, ◌++◌, ◌∷◌, [], ℕ, List, Option, Result, Ok, Err, IfSome, codes}
+use Rattle.std.specs.Prelude.{◌≡◌, ◌↔◌, ◌++◌, ◌∷◌, [], ℕ, List, Option, Result, Ok, Err, IfSome, codes}
 use Rattle.std.specs.Fmt.{decimal}
-use Rattle.std.specs.Io.KnownBytes.{Appends, Keeps}
+use Rattle.std.specs.Io.KnownBytes.{Appends}
 use Rattle.byte_streams.specs.Fronts.{AppendsFront}
 use Rattle.history_check.specs.declared.verdict.Verdict.{Verdict}
 use Rattle.history_check.specs.declared.verdict.Verdict.TheVariants.{Holds, BadRecord, BadTranscript, WrongReply}
 use Rattle.history_check.specs.Verdicts.{AreTrue, IsVerdict}
 use Rattle.commands.specs.declared.fault.Fault.{Fault}
-use Rattle.commands.specs.declared.fault.Fault.TheVariants.{Input, Output, NoMemory}
 use Rattle.commands.specs.Faults.{status_of}
+use Rattle.commands.specs.Ends.{Ends}
 
 -- words, a number, and the end of a line
 abbrev pub numbered_line : List ℕ → ℕ → List ℕ
@@ -46,24 +46,13 @@ pub record TellsFront (before after : Option (List ℕ)) (entries transcript : L
   pub right : IsRight entries transcript verdict
   pub front : AppendsFront before after (verdict_line verdict)
 
--- Of which bytes of a record and of a transcript this is so: of these,
-abbrev pub OfThese : List ℕ → List ℕ → (List ℕ → List ℕ → Type 0) → Type 0
-OfThese entries transcript P = P entries transcript
-
--- of all that two readers give, where both are known,
+-- Of which bytes of a record and of a transcript this is so: of all that two readers give, where both are known,
 abbrev pub OfReaders : Option (List ℕ) → Option (List ℕ) → (List ℕ → List ℕ → Type 0) → Type 0
 OfReaders first second P = IfSome first (λ entries. IfSome second (λ transcript. P entries transcript))
 
 -- or of some.
 abbrev pub OfSome : (List ℕ → List ℕ → Type 0) → Type 0
 OfSome P = (entries : List ℕ) × (transcript : List ℕ) × P entries transcript
-
--- what was written where a fault ends the program: nothing, unless it is the output that failed
-abbrev pub EndsEarly : ((List ℕ → List ℕ → Type 0) → Type 0) → Option (List ℕ) → Option (List ℕ) → Fault → Type 0
-EndsEarly Of before after Input = Keeps before after
-EndsEarly Of before after NoMemory = Keeps before after
-EndsEarly Of before after Output = Of (TellsFront before after)
-EndsEarly Of before after _ = ⊥
 
 -- the verdict was told, and the status is its status
 pub record Judges (Of : (List ℕ → List ℕ → Type 0) → Type 0) (before after : Option (List ℕ)) (status : ℕ) : Type 0 where
@@ -72,12 +61,5 @@ pub record Judges (Of : (List ℕ → List ℕ → Type 0) → Type 0) (before a
   pub ends : status ≡ verdict_status verdict
 
 -- what the program does with a record and a transcript
-pub record Checks (Of : (List ℕ → List ℕ → Type 0) → Type 0) (before after : Option (List ℕ)) (status : ℕ) : Type 0 where
-  -- which statuses there may be
-  pub known : (status ≡ 0) ⊎ (status ≡ 1) ⊎ (status ≡ 3) ⊎ (status ≡ 4)
-  -- 0 and 1: the verdict was told
-  pub judged : (status ≡ 0) ⊎ (status ≡ 1) → Judges Of before after status
-  -- 3: nothing was written, or a front of its line
-  pub failed : status ≡ 3 → Keeps before after ⊎ Of (TellsFront before after)
-  -- 4: nothing was written
-  pub memory : status ≡ 4 → Keeps before after
+abbrev pub Checks : ((List ℕ → List ℕ → Type 0) → Type 0) → Option (List ℕ) → Option (List ℕ) → ℕ → Type 0
+Checks Of before after = Ends (Judges Of before after) (Of (TellsFront before after)) before after

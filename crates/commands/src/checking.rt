@@ -3,7 +3,8 @@
 ghost use Rattle.std.specs.Prelude.{◌≡◌, ◌≤◌, ◌⊎◌, IfErr, IfOk, IfSome, OnErr, OnOk, length, string_bytes};
 ghost use Rattle.std.specs.Io.KnownBytes.{Appends, IsAtEnd};
 ghost use Rattle.byte_streams.specs.Fronts.{AppendsFront};
-ghost use Rattle.commands.specs.Checks.{Checks, EndsEarly, OfReaders, OfSome, OfThese, Tells, end_status, verdict_line};
+ghost use Rattle.commands.specs.Checks.{Checks, OfReaders, OfSome, Tells, TellsFront, end_status, verdict_line};
+ghost use Rattle.commands.specs.Ends.{EndsEarly};
 
 use crate::fault::Fault;
 use byte_streams::{Uninterrupted, read_buffer, write_out};
@@ -43,7 +44,7 @@ pub fn read_up_to<R: Read>(alloc: Global, input: &mut R, limit: usize) -> Result
 }
 
 /// All bytes of a file.
-fn read_whole<R: Read>(alloc: Global, input: &mut R) -> Result<Vec<u8>, Fault>
+pub(crate) fn read_whole<R: Read>(alloc: Global, input: &mut R) -> Result<Vec<u8>, Fault>
     ensures all { IfOk result (λ bytes. IfSome (R.remaining input.old) (λ all. bytes.items ≡ all)) }
     ensures most { IfOk result (λ bytes. length bytes.items ≤ MAX_FILE_LEN) }
     ensures end { OnOk result (IsAtEnd (R.remaining input.new)) }
@@ -53,7 +54,7 @@ fn read_whole<R: Read>(alloc: Global, input: &mut R) -> Result<Vec<u8>, Fault>
 }
 
 /// All bytes of the file of this name.
-fn read_at<H: Files>(rt: &H, alloc: Global, path: &str) -> Result<Vec<u8>, Fault>
+pub(crate) fn read_at<H: Files>(rt: &H, alloc: Global, path: &str) -> Result<Vec<u8>, Fault>
     ensures most { IfOk result (λ bytes. length bytes.items ≤ MAX_FILE_LEN) }
     ensures fault { IfErr result (λ fault. (fault ≡ Fault.Input) ⊎ (fault ≡ Fault.NoMemory)) }
 {
@@ -78,7 +79,7 @@ fn verdict_line(alloc: Global, verdict: Verdict) -> Result<String, Fault>
 }
 
 /// Writes a line, and hands it on.
-fn write_line<W: Write>(output: &mut W, line: &[u8]) -> Result<(), Fault>
+pub(crate) fn write_line<W: Write>(output: &mut W, line: &[u8]) -> Result<(), Fault>
     ensures ok { OnOk result (Appends (W.contents output.old) (W.contents output.new) line.now) }
     ensures front { OnErr result
         (AppendsFront (W.contents output.old) (W.contents output.new) line.now) }
@@ -99,7 +100,8 @@ fn judge<W: Write>(
 ) -> Result<Verdict, Fault>
     ensures ok { IfOk result (λ verdict. Tells (W.contents output.old) (W.contents output.new)
         verdict entries.now transcript.now) }
-    ensures fault { IfErr result (EndsEarly (OfThese entries.now transcript.now)
+    ensures fault { IfErr result (EndsEarly
+        (TellsFront (W.contents output.old) (W.contents output.new) entries.now transcript.now)
         (W.contents output.old) (W.contents output.new)) }
 {
     let verdict = check(alloc, entries, transcript)?;
@@ -118,7 +120,9 @@ fn judge_over<A: Read, B: Read, W: Write>(
     ensures ok { IfOk result (λ verdict. OfReaders (A.remaining first.old) (B.remaining second.old)
         (Tells (W.contents output.old) (W.contents output.new) verdict)) }
     ensures fault { IfErr result
-        (EndsEarly (OfReaders (A.remaining first.old) (B.remaining second.old))
+        (EndsEarly
+        (OfReaders (A.remaining first.old) (B.remaining second.old)
+        (TellsFront (W.contents output.old) (W.contents output.new)))
         (W.contents output.old) (W.contents output.new)) }
 {
     let entries = read_whole(alloc, first)?;
@@ -137,7 +141,9 @@ fn judge_at<H: Files, W: Write>(
     ensures ok { IfOk result (λ verdict. OfSome
         (Tells (W.contents output.old) (W.contents output.new) verdict)) }
     ensures fault { IfErr result
-        (EndsEarly OfSome (W.contents output.old) (W.contents output.new)) }
+        (EndsEarly
+        (OfSome (TellsFront (W.contents output.old) (W.contents output.new)))
+        (W.contents output.old) (W.contents output.new)) }
 {
     let entries = read_at(rt, alloc, record)?;
     let transcript = read_at(rt, alloc, transcript)?;

@@ -1,4 +1,4 @@
--- The places that a set that is to be added is in direct conflict with: known ones outside its base, and unknown ones.
+-- The places that a change that is to be added is in direct conflict with: known ones outside its base, and unknown ones.
 use Rattle.std.proofs.Common.{◌≡◌, ℕ, ◌<◌, ◌≤◌, Bool, true, false, not, ◌&&◌, ◌||◌, List, [], ◌∷◌, ◌++◌, length, refl, sym, ap, subst, cond, eqb, ◌+◌, ◌∙◌, inl, inr, arith}
 use Rattle.std.specs.Prelude.{filter, nat_lt, All}
 use Rattle.std.specs.List.{list_any}
@@ -6,17 +6,17 @@ use Rattle.std.proofs.lemmas.Bool.{and_right, true≢false, cases_Bool, cases_lt
 use Rattle.state_vector.specs.Vectors.{counts}
 use Rattle.op_names.specs.Names.{Name}
 use Rattle.rules.specs.declared.history.Op.{Op}
-use Rattle.rules.specs.Bodies.{differ_on_a_key}
+use Rattle.rules.specs.Bodies.{are_at_odds}
 use Rattle.rules.specs.Operations.{same_op}
 use Rattle.rules.specs.Conflicts.{base, conflict, direct_conflict, members}
 use Rattle.rules.proofs.Counted.{same_name-true}
 use Rattle.rules.proofs.Lists.{any_back, filter_agree}
-use Rattle.rules.proofs.Sets.{in_known_back}
+use Rattle.rules.proofs.Changes.{in_known_back}
 use Rattle.places.specs.Members.{has, with_place, places, with_all}
 use Rattle.conflict.specs.Rows.{conflicts_below, is_in_row, with_those}
-use Rattle.places.specs.Sets.{AreSetsOf, at, clash_of, base_places, places_counted}
+use Rattle.places.specs.Changes.{AreChangesOf, at, clash_of, base_places, places_counted}
 use Rattle.places.proofs.Places.{In-places, below, has_if_in, in_if_has, has-filter, has-filter_past, all_below, in_all}
-use Rattle.places.proofs.SetsAt.{has-places_of}
+use Rattle.places.proofs.ChangesAt.{has-places_of}
 use Rattle.places.proofs.WordPlaces.{Up, same_set, up_range, up_filter, up_with_place, up_with_all, has-with_place, has-with_all, has-kept, or_turned}
 use Rattle.conflict.proofs.Growth.{base_within, never_before}
 use Rattle.conflict.proofs.Rows.{direct_if_known, direct_if_unknown}
@@ -29,29 +29,29 @@ with_those-filter test direct (p ∷ ps) = elim (cases_Bool (test p)) [
   | inr t ↦ rw t (with_those-filter test direct ps)
 ]
 
-pick_known : (known there outside differs r : Bool) → known ≡ true → outside ≡ r → ((known && outside) || ((there && not known) && differs)) ≡ r
-pick_known true true true differs r e f = f
-pick_known true true false differs r e f = f
-pick_known true false true differs r e f = f
-pick_known true false false differs r e f = f
-pick_known false there outside differs r e f = absurd (true≢false (sym e))
+pick_known : (known there outside at_odds r : Bool) → known ≡ true → outside ≡ r → ((known && outside) || ((there && not known) && at_odds)) ≡ r
+pick_known true true true at_odds r e f = f
+pick_known true true false at_odds r e f = f
+pick_known true false true at_odds r e f = f
+pick_known true false false at_odds r e f = f
+pick_known false there outside at_odds r e f = absurd (true≢false (sym e))
 
-pick_unknown : (known there outside differs r : Bool) → known ≡ false → there ≡ true → differs ≡ r → ((known && outside) || ((there && not known) && differs)) ≡ r
-pick_unknown false true outside differs r e g f = f
-pick_unknown true there outside differs r e g f = absurd (true≢false e)
-pick_unknown false false outside differs r e g f = absurd (true≢false (sym g))
+pick_unknown : (known there outside at_odds r : Bool) → known ≡ false → there ≡ true → at_odds ≡ r → ((known && outside) || ((there && not known) && at_odds)) ≡ r
+pick_unknown false true outside at_odds r e g f = f
+pick_unknown true there outside at_odds r e g f = absurd (true≢false e)
+pick_unknown false false outside at_odds r e g f = absurd (true≢false (sym g))
 
-pick_none : (known there outside differs r : Bool) → known ≡ false → there ≡ false → r ≡ false → ((known && outside) || ((there && not known) && differs)) ≡ r
-pick_none false false outside differs r e g f = sym f
-pick_none true there outside differs r e g f = absurd (true≢false e)
-pick_none false true outside differs r e g f = absurd (true≢false g)
+pick_none : (known there outside at_odds r : Bool) → known ≡ false → there ≡ false → r ≡ false → ((known && outside) || ((there && not known) && at_odds)) ≡ r
+pick_none false false outside at_odds r e g f = sym f
+pick_none true there outside at_odds r e g f = absurd (true≢false e)
+pick_none false true outside at_odds r e g f = absurd (true≢false g)
 
-module _ {object : Name} (k : List Op) (o : Op) (w : AreSetsOf object (k ++ o ∷ [])) where
+module _ {object : Name} (k : List Op) (o : Op) (w : AreChangesOf object (k ++ o ∷ [])) where
   abbrev is_direct : ℕ → Bool
   is_direct p = direct_conflict (base (k ++ o ∷ [])) o (at k p)
 
-  abbrev differs : ℕ → Bool
-  differs p = differ_on_a_key o.body (at k p).body
+  abbrev at_odds : ℕ → Bool
+  at_odds p = are_at_odds o.body (at k p).body
 
   abbrev outside : ℕ → Bool
   outside p = not (has (base_places k o) p)
@@ -66,7 +66,7 @@ module _ {object : Name} (k : List Op) (o : Op) (w : AreSetsOf object (k ++ o �
   first = filter outside (places_counted k o.seen)
 
   abbrev second : List ℕ
-  second = filter differs (filter unknown (places (length k)))
+  second = filter at_odds (filter unknown (places (length k)))
 
   has_place : (x : ℕ) → x < length k → has (places (length k)) x ≡ true
   has_place x l = has_if_in (places (length k)) x (In-places (length k) x l)
@@ -77,23 +77,23 @@ module _ {object : Name} (k : List Op) (o : Op) (w : AreSetsOf object (k ++ o �
     | inr f ↦ f
   ]
 
-  each : (x : ℕ) → ((has (places_counted k o.seen) x && outside x) || ((has (places (length k)) x && unknown x) && differs x)) ≡ has (filter is_direct (places (length k))) x
+  each : (x : ℕ) → ((has (places_counted k o.seen) x && outside x) || ((has (places (length k)) x && unknown x) && at_odds x)) ≡ has (filter is_direct (places (length k))) x
   each x = elim (cases_lt x (length k)) [
     | inl l ↦ elim (cases_Bool (counted x)) [
-      | inl t ↦ pick_known (has (places_counted k o.seen) x) (has (places (length k)) x) (outside x) (differs x) (has (filter is_direct (places (length k))) x)
+      | inl t ↦ pick_known (has (places_counted k o.seen) x) (has (places (length k)) x) (outside x) (at_odds x) (has (filter is_direct (places (length k))) x)
           (has-filter counted (length k) x l ∙ t) (direct_if_known k o w x l t ∙ sym (has-filter is_direct (length k) x l))
-      | inr t ↦ pick_unknown (has (places_counted k o.seen) x) (has (places (length k)) x) (outside x) (differs x) (has (filter is_direct (places (length k))) x)
+      | inr t ↦ pick_unknown (has (places_counted k o.seen) x) (has (places (length k)) x) (outside x) (at_odds x) (has (filter is_direct (places (length k))) x)
           (has-filter counted (length k) x l ∙ t) (has_place x l) (direct_if_unknown k o w x l t ∙ sym (has-filter is_direct (length k) x l))
     ]
-    | inr g ↦ pick_none (has (places_counted k o.seen) x) (has (places (length k)) x) (outside x) (differs x) (has (filter is_direct (places (length k))) x)
+    | inr g ↦ pick_none (has (places_counted k o.seen) x) (has (places (length k)) x) (outside x) (at_odds x) (has (filter is_direct (places (length k))) x)
         (has-filter_past counted (length k) x g) (has_no_place x g) (has-filter_past is_direct (length k) x g)
   ]
 
   has_both : (x : ℕ) → has (with_all first second) x ≡ has (filter is_direct (places (length k))) x
   has_both x =
       has-with_all first second x
-      ∙ (λ i. has-kept outside (places_counted k o.seen) x i || has-kept differs (filter unknown (places (length k))) x i)
-      ∙ (λ i. (has (places_counted k o.seen) x && outside x) || (has-kept unknown (places (length k)) x i && differs x))
+      ∙ (λ i. has-kept outside (places_counted k o.seen) x i || has-kept at_odds (filter unknown (places (length k))) x i)
+      ∙ (λ i. (has (places_counted k o.seen) x && outside x) || (has-kept unknown (places (length k)) x i && at_odds x))
       ∙ each x
 
   both : with_all first second ≡ filter is_direct (places (length k))
@@ -103,13 +103,13 @@ module _ {object : Name} (k : List Op) (o : Op) (w : AreSetsOf object (k ++ o �
       has_both
 
   pub direct_conflicts_are : (based known all others compared listed direct result : List ℕ) → based ≡ base_places k o → known ≡ places_counted k o.seen → all ≡ places (length k)
-      → others ≡ filter (λ x. not (has known x)) all → filter differs compared ≡ filter differs others → listed ≡ compared → direct ≡ filter (λ x. not (has based x)) known
-      → result ≡ with_those differs direct listed → result ≡ filter is_direct (places (length k))
+      → others ≡ filter (λ x. not (has known x)) all → filter at_odds compared ≡ filter at_odds others → listed ≡ compared → direct ≡ filter (λ x. not (has based x)) known
+      → result ≡ with_those at_odds direct listed → result ≡ filter is_direct (places (length k))
   direct_conflicts_are based known all others compared listed direct result b n a u c l m r =
       let same_others : others ≡ filter unknown (places (length k)) = u ∙ (λ i. filter (λ x. not (has (n i) x)) (a i)) in
       let same_direct : direct ≡ first = m ∙ (λ i. filter (λ x. not (has (b i) x)) (n i)) in
-      let same_second : filter differs listed ≡ second = ap (filter differs) l ∙ c ∙ ap (filter differs) same_others in
-      r ∙ with_those-filter differs direct listed ∙ (λ i. with_all (same_direct i) (same_second i)) ∙ both
+      let same_second : filter at_odds listed ≡ second = ap (filter at_odds) l ∙ c ∙ ap (filter at_odds) same_others in
+      r ∙ with_those-filter at_odds direct listed ∙ (λ i. with_all (same_direct i) (same_second i)) ∙ both
 
 -- places of a part of the first n
 pub others_below : (n : ℕ) (known all others : List ℕ) → all ≡ places n → others ≡ filter (λ x. not (has known x)) all → All (λ x. x < n) others
@@ -117,12 +117,12 @@ others_below n known all others a u = all_below (λ x. not (has known x)) n othe
 
 -- ---- the row, from the direct conflicts and those of the base
 
--- is the set at a place in the row, where of those in direct conflict, themselves or by their bases, only the ones below n count?
+-- is the change at a place in the row, where of those in direct conflict, themselves or by their bases, only the ones below n count?
 abbrev pub row_below : List Op → List ℕ → List ℕ → ℕ → ℕ → Bool
 row_below k direct based n place = (nat_lt place n && list_any (has (place ∷ base_places k (at k place))) direct) || list_any (λ other. conflict k (at k other) (at k place)) based
 
-module _ {object : Name} (k : List Op) (w : AreSetsOf object k) where
-  -- a set isn't based on a later one
+module _ {object : Name} (k : List Op) (w : AreChangesOf object k) where
+  -- a change isn't based on a later one
   no_later : (p q : ℕ) → p < q → q < length k → list_any (same_op (at k q)) (members (base k (at k p))) ≡ false
   no_later p q l m = false_from_ne_true (list_any (same_op (at k q)) (members (base k (at k p)))) (λ t.
       let c = any_back (same_op (at k q)) (members (base k (at k p))) t in
@@ -200,7 +200,7 @@ module _ {object : Name} (k : List Op) (w : AreSetsOf object k) where
         let b = below (length k) x m in
         ap (λ t. (t && has_direct x) || list_any (λ other. conflict k (at k other) (at k x)) based) (lt-ltb x n (omega arith)))
 
--- where no set is in direct conflict, those that the base is in conflict with are the row
+-- where no change is in direct conflict, those that the base is in conflict with are the row
 pub row_if_none : (k : List Op) (based direct conflicting : List ℕ) → direct ≡ [] → All (λ other. other < length k) based
     → conflicting ≡ filter (conflicts_below (clash_of k) based (length k)) (places (length k)) → conflicting ≡ filter (is_in_row k direct based) (places (length k))
 row_if_none k based direct conflicting none low e = e ∙ filter_agree (conflicts_below (clash_of k) based (length k)) (is_in_row k direct based) (places (length k)) (λ p m.

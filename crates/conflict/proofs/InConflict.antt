@@ -11,13 +11,13 @@ use Rattle.rules.specs.Conflicts.{conflict}
 use Rattle.rules.proofs.Relation.{conflict_symmetric}
 use Rattle.rules.proofs.Lists.{In, In-filter, In-filter_back, any_from, any_back, any_agree, Contains-from_In, filter_agree}
 use Rattle.rules.proofs.Relation.{same_answer}
-use Rattle.places.specs.Sets.{clash_of, Added, IsAddition, AreSetsOn, at}
+use Rattle.places.specs.Changes.{clash_of, Added, IsAddition, AreChangesOn, at}
 use Rattle.conflict.proofs.Growth.{never_alone}
-use Rattle.conflict.proofs.Rows.{one_set_more, sets_with_addition, last_in_row, conflict_stays, row_found}
+use Rattle.conflict.proofs.Rows.{one_change_more, changes_with_addition, last_in_row, conflict_stays, row_found}
 use Rattle.places.specs.Members.{has, places, with_all}
 use Rattle.conflict.specs.Rows.{conflicts_below, earlier_conflicts, has_earlier_conflict, places_in_conflict, with_row, with_rows}
 use Rattle.places.proofs.Places.{In-places, below, has_if_in, in_if_has, has-filter, has-filter_past, kept_next, left_next}
-use Rattle.places.proofs.SetsAt.{at_in}
+use Rattle.places.proofs.ChangesAt.{at_in}
 use Rattle.places.proofs.WordPlaces.{Up, same_set, up_range, up_filter, up_with_place, up_with_all, has-with_place, has-with_all, or_turned}
 
 -- none is below 0
@@ -151,9 +151,9 @@ direct_or_based p base (m ∷ ms) = same_answer (has (m ∷ ms) p || list_any (h
       | inr h ↦ or_right (has (m ∷ ms) p) (list_any (has base) (m ∷ ms)) (any_from (has base) c.0 (m ∷ ms) c.1 h)
     ])
 
--- ---- the sets on an object
+-- ---- the changes on an object
 
-pub row_added : {object : Name} (k : List Op) → AreSetsOn object k → (scope : List ℕ) (p : ℕ) (row found : List ℕ) → p < length k
+pub row_added : {object : Name} (k : List Op) → AreChangesOn object k → (scope : List ℕ) (p : ℕ) (row found : List ℕ) → p < length k
     → row ≡ earlier_conflicts k p → found ≡ filter (conflicts_below (clash_of k) scope p) (places (length k))
     → with_row scope row p found ≡ filter (conflicts_below (clash_of k) scope (p + 1)) (places (length k))
 row_added k w scope p row found l r m =
@@ -170,7 +170,7 @@ with_rows-append : (scope : List ℕ) (rows : List (List ℕ)) (found xs ys : Li
 with_rows-append scope rows found [] ys = refl
 with_rows-append scope rows found (x ∷ xs) ys = with_rows-append scope rows (with_row scope (get_or rows x []) x found) xs ys
 
-module _ {object : Name} (k : List Op) (w : AreSetsOn object k) (scope : List ℕ) (rows : List (List ℕ)) (rows_are : rows ≡ map (earlier_conflicts k) (places (length k))) where
+module _ {object : Name} (k : List Op) (w : AreChangesOn object k) (scope : List ℕ) (rows : List (List ℕ)) (rows_are : rows ≡ map (earlier_conflicts k) (places (length k))) where
   abbrev so_far : ℕ → List ℕ
   so_far n = with_rows scope rows [] (filter (has_earlier_conflict k) (places n))
 
@@ -224,9 +224,9 @@ module _ {object : Name} (k : List Op) (a : Added) (w : IsAddition object k a) (
       → first ≡ filter (conflicts_below (clash_of k) scope (length k)) (places (length k)) → found ≡ with_row scope row last first
       → found ≡ filter (in_conflict_with (clash_of ops) scope) (places (length ops))
   conflicts_with_addition scope row first found last low q r f m =
-      let more = one_set_more k a w ops e in
+      let more = one_change_more k a w ops e in
       let n : ℕ = length k in
       let size : ℕ = length ops in
       let start = lifted (clash_of k) (clash_of ops) scope n size first (omega (arith, more)) (λ i j l h. conflict_stays k a w ops e i j l h) f in
-      let next = row_added ops (sets_with_addition k a w ops e) scope n row first (omega (arith, more)) (r ∙ row_is_of_last) start in
+      let next = row_added ops (changes_with_addition k a w ops e) scope n row first (omega (arith, more)) (r ∙ row_is_of_last) start in
       all_in_conflict (clash_of ops) scope size found low (m ∙ ap (λ (v : ℕ). with_row scope row v first) q ∙ next ∙ ap (λ (v : ℕ). filter (conflicts_below (clash_of ops) scope v) (places size)) (sym more))

@@ -1,7 +1,7 @@
 -- Places by classes: with the next place, and over a list that agrees.
 use Rattle.std.proofs.Common.{◌≡◌, ℕ, ◌+◌, ◌<◌, Bool, true, false, List, [], ◌∷◌, ◌++◌, refl, sym, ap, ◌∙◌, subst, inl, inr, arith}
 use Rattle.std.specs.Prelude.{filter, Result, Ok, Err, OnOk, OnErr}
-use Rattle.std.proofs.lemmas.Bool.{true≢false, cases_eq, cases_lt, false_from_ne_true}
+use Rattle.std.proofs.lemmas.Bool.{cases_eq, cases_lt, false_from_ne_true}
 use Rattle.rules.proofs.Lists.{In, filter_agree}
 use Rattle.places.specs.Members.{with_place, places}
 use Rattle.conflict.specs.Indexes.{IsIndex}
@@ -30,18 +30,6 @@ index_agrees of other n size class found same index = record {
 
 module _ {C : Type 0} (of : C → ℕ → Bool) (one : (c d : C) (p : ℕ) → of c p ≡ true → of d p ≡ true → c ≡ d)
     (n size : ℕ) (class : ℕ → C) (found : ℕ → List ℕ) (index : IsIndex of n size class found) where
-  -- the next place is of no class
-  pub index_skipped : ((c : C) → of c n ≡ false) → IsIndex of (n + 1) size class found
-  index_skipped none = record {
-    each = λ i l. index.each i l ∙ sym (left_next (of (class i)) n (none (class i)));
-    some = λ i l. let s = index.some i l in let b : s.0 < n = s.1 in (s.0, omega (arith, b), s.2);
-    all = λ c p l t. elim (cases_lt p n) [
-      | inl b ↦ index.all c p b t
-      | inr g ↦ (let e : p ≡ n = omega arith in absurd (true≢false (sym t ∙ ap (of c) e ∙ none c)))
-    ];
-    apart = index.apart;
-  }
-
   module _ (class' : ℕ → C) (found' : ℕ → List ℕ) (same : (i : ℕ) → i < size → class' i ≡ class i) where
     stays : (i : ℕ) → i < size → found' i ≡ found i → of (class i) n ≡ false → found' i ≡ filter (of (class' i)) (places (n + 1))
     stays i l e f = e ∙ index.each i l ∙ sym (left_next (of (class i)) n f) ∙ ap (λ c. filter (of c) (places (n + 1))) (sym (same i l))

@@ -1,4 +1,4 @@
--- The row of a set that comes after all others, and what is stored once it is added.
+-- The row of a change that comes after all others, and what is stored once it is added.
 use Rattle.std.proofs.Common.{◌≡◌, ℕ, ◌+◌, ◌^◌, ◌<◌, ◌≤◌, Bool, true, false, not, ◌&&◌, ◌||◌, List, [], ◌∷◌, ◌++◌, length, map, get_or, refl, sym, ap, ◌∙◌, subst, arith, inl, inr, eqb, cond}
 use Rattle.std.specs.Prelude.{filter, nat_lt, Contains}
 use Rattle.std.specs.List.{list_any}
@@ -8,26 +8,26 @@ use Rattle.std.proofs.lemmas.List.FromFn.{map-range_with_len_more, get_or-map-ra
 use Rattle.state_vector.specs.Vectors.{counts}
 use Rattle.op_names.specs.Names.{Name, is_op_name}
 use Rattle.rules.specs.declared.history.Op.{Op}
-use Rattle.rules.specs.Bodies.{differ_on_a_key}
+use Rattle.rules.specs.Bodies.{are_at_odds}
 use Rattle.rules.specs.Operations.{before, same_op}
 use Rattle.rules.specs.Conflicts.{base, conflict, direct_conflict, members}
 use Rattle.rules.proofs.Lists.{In, In-from_Contains, Contains-from_In, In-append_cases, In-filter, In-filter_back, any_from, any_back, any_agree, filter_agree, map_agree}
 use Rattle.rules.proofs.Relation.{same_answer, conflict_symmetric}
 use Rattle.rules.proofs.Counted.{same_name-true, same_name-refl}
-use Rattle.rules.proofs.Sets.{in_known_back}
+use Rattle.rules.proofs.Changes.{in_known_back}
 use Rattle.places.specs.Members.{has, places}
 use Rattle.places.specs.Relations.{IsRelation}
 use Rattle.conflict.specs.Indexes.{SiteIndex, KeyIndex}
 use Rattle.conflict.specs.Stored.{AreStored}
-use Rattle.places.specs.Sets.{AreSetsOf, AreSetsOn, Added, IsAddition, at, places_of, base_places, new_conflicts}
+use Rattle.places.specs.Changes.{AreChangesOf, AreChangesOn, Added, IsAddition, at, places_of, base_places, new_conflicts}
 use Rattle.conflict.specs.Rows.{earlier_conflicts, is_in_row, has_earlier_conflict, places_in_conflict}
 use Rattle.places.proofs.Places.{In-places, below, has-filter, has-filter_past, kept_next, left_next}
-use Rattle.places.proofs.SetsAt.{at_in, place_of, one_place_each, at_push, at_last, has-places_of, any-places_of}
+use Rattle.places.proofs.ChangesAt.{at_in, place_of, one_place_each, at_push, at_last, has-places_of, any-places_of}
 use Rattle.conflict.proofs.Sited.{by_site_push}
 use Rattle.conflict.proofs.Keyed.{by_key_push}
-use Rattle.conflict.proofs.Growth.{apart, once, few_sets, base_inside, base_within, never_alone, conflict_from_base_on, stays, is_there, apart_before, before_none, base_grows, conflict_grows}
+use Rattle.conflict.proofs.Growth.{apart, once, few_changes, base_inside, base_within, never_alone, conflict_from_base_on, stays, is_there, apart_before, before_none, base_grows, conflict_grows}
 
--- ---- direct conflict with a later set
+-- ---- direct conflict with a later change
 
 -- the test of direct conflict, where the first operation isn't before the second, but the second before the first
 direct_test_known : (p q d l m : Bool) → p ≡ false → q ≡ true → not m ≡ (((not p && not q) && d) || (p && not l) || (q && not m))
@@ -42,7 +42,7 @@ direct_test_unknown false false false l m e t = refl
 direct_test_unknown true q d l m e t = absurd (true≢false e)
 direct_test_unknown false true d l m e t = absurd (true≢false t)
 
-module _ {object : Name} (k : List Op) (o : Op) (w : AreSetsOf object (k ++ o ∷ [])) where
+module _ {object : Name} (k : List Op) (o : Op) (w : AreChangesOf object (k ++ o ∷ [])) where
   abbrev pub with_last : List Op
   with_last = k ++ o ∷ []
 
@@ -51,24 +51,24 @@ module _ {object : Name} (k : List Op) (o : Op) (w : AreSetsOf object (k ++ o �
       has-places_of k (members (base k o)) p l
       ∙ ap (λ b. list_any (same_op (at k p)) (members b)) (base_grows k o w o (is_there k o w))
 
-  -- a set that the later one knows is in direct conflict with it where it isn't in its base
+  -- a change that the later one knows is in direct conflict with it where it isn't in its base
   pub direct_if_known : (p : ℕ) → p < length k → before (at k p) o ≡ true → not (has (base_places k o) p) ≡ direct_conflict (base with_last) o (at k p)
   direct_if_known p l t =
       let x = at k p in
       ap not (has_base_place p l)
-      ∙ direct_test_known (before o x) (before x o) (differ_on_a_key o.body x.body) (list_any (same_op o) (members (base with_last x))) (list_any (same_op x) (members (base with_last o)))
+      ∙ direct_test_known (before o x) (before x o) (are_at_odds o.body x.body) (list_any (same_op o) (members (base with_last x))) (list_any (same_op x) (members (base with_last o)))
       (before_none k o w x (stays k o w x (at_in k p l))) t
 
-  -- one that it doesn't know, where the two give a key different values
-  pub direct_if_unknown : (p : ℕ) → p < length k → before (at k p) o ≡ false → differ_on_a_key o.body (at k p).body ≡ direct_conflict (base with_last) o (at k p)
+  -- one that it doesn't know, where the two are at odds
+  pub direct_if_unknown : (p : ℕ) → p < length k → before (at k p) o ≡ false → are_at_odds o.body (at k p).body ≡ direct_conflict (base with_last) o (at k p)
   direct_if_unknown p l t =
       let x = at k p in
-      direct_test_unknown (before o x) (before x o) (differ_on_a_key o.body x.body) (list_any (same_op o) (members (base with_last x))) (list_any (same_op x) (members (base with_last o)))
+      direct_test_unknown (before o x) (before x o) (are_at_odds o.body x.body) (list_any (same_op o) (members (base with_last x))) (list_any (same_op x) (members (base with_last o)))
       (before_none k o w x (stays k o w x (at_in k p l))) t
 
   -- ---- the row
 
-  -- a test on a set and its base, at their places
+  -- a test on a change and its base, at their places
   test_with_base : (f : Op → Bool) (j : ℕ) → j < length k → list_any (has (j ∷ base_places k (at k j))) (filter (λ p. f (at k p)) (places (length k))) ≡ list_any f (at k j ∷ members (base k (at k j)))
   test_with_base f j l =
       let b = at k j in
@@ -126,7 +126,7 @@ module _ {object : Name} (k : List Op) (o : Op) (w : AreSetsOf object (k ++ o �
       (is_in_row k (filter (λ p. direct_conflict (base with_last) o (at k p)) (places (length k))) (base_places k o))
       (λ j. conflict with_last o (at k j)) (places (length k)) (λ j m. in_row j (below (length k) j m))
 
-  -- ---- what is stored, with one set more
+  -- ---- what is stored, with one change more
 
   one_more : length with_last ≡ length k + 1
   one_more = length-append k (o ∷ [])
@@ -180,7 +180,7 @@ module _ {object : Name} (k : List Op) (o : Op) (w : AreSetsOf object (k ++ o �
         | inr t ↦ rw t (sym (more ∙ left_next (has_earlier_conflict with_last) (length k) (last ∙ t) ∙ in_conflict_stay))
       ]
 
--- there are few sets, also with one more
+-- there are few changes, also with one more
 module _ (k : List Op) (o : Op) (named : (x : Op) → Contains k x → is_op_name x.name ≡ true) (name : is_op_name o.name ≡ true) where
   all_named : (x : Op) → In x (k ++ o ∷ []) → is_op_name x.name ≡ true
   all_named x m = elim (In-append_cases x k (o ∷ []) m) [
@@ -188,21 +188,21 @@ module _ (k : List Op) (o : Op) (named : (x : Op) → Contains k x → is_op_nam
     | inr l ↦ elim l [ inl e ↦ ap (λ (z : Op). is_op_name z.name) e ∙ name | inr f ↦ absurd f ]
   ]
 
-  few_after : {object : Name} → AreSetsOf object (k ++ o ∷ []) → length (k ++ o ∷ []) < 2 ^ 32
-  few_after w = few_sets w all_named
+  few_after : {object : Name} → AreChangesOf object (k ++ o ∷ []) → length (k ++ o ∷ []) < 2 ^ 32
+  few_after w = few_changes w all_named
 
-  pub few_with_one_more : {object : Name} → AreSetsOf object (k ++ o ∷ []) → length k + 1 < 2 ^ 32
+  pub few_with_one_more : {object : Name} → AreChangesOf object (k ++ o ∷ []) → length k + 1 < 2 ^ 32
   few_with_one_more w = omega (arith, few_after w, length-append k (o ∷ []))
 
 pub stored_push : {object : Name} (k : List Op) (bases rows : List (List ℕ)) (in_conflict : List ℕ) (sites : SiteIndex) (keys : KeyIndex) (a : Added) → AreStored object k bases rows in_conflict sites keys → IsAddition object k a → is_op_name a.op.name ≡ true
     → AreStored object (k ++ a.op ∷ []) (bases ++ a.base ∷ []) (rows ++ a.row ∷ []) (cond (nat_lt 0 (length a.row)) (in_conflict ++ length k ∷ []) in_conflict) sites keys
 stored_push {object} k bases rows in_conflict sites keys a s w name = record {
-  sets = w.sets;
+  changes = w.changes;
   named = λ x m. all_named k a.op s.named name x (In-from_Contains x (k ++ a.op ∷ []) m);
-  few = few_after k a.op s.named name w.sets.listed;
-  bases_are = (λ i. s.bases_are i ++ w.base i ∷ []) ∙ sym (bases_grow k a.op w.sets.listed);
-  rows_are = (λ i. s.rows_are i ++ w.row i ∷ []) ∙ sym (rows_grow k a.op w.sets.listed);
-  in_conflict_are = (λ i. cond (nat_lt 0 (length (w.row i))) (s.in_conflict_are i ++ length k ∷ []) (s.in_conflict_are i)) ∙ in_conflict_grow k a.op w.sets.listed;
+  few = few_after k a.op s.named name w.changes.listed;
+  bases_are = (λ i. s.bases_are i ++ w.base i ∷ []) ∙ sym (bases_grow k a.op w.changes.listed);
+  rows_are = (λ i. s.rows_are i ++ w.row i ∷ []) ∙ sym (rows_grow k a.op w.changes.listed);
+  in_conflict_are = (λ i. cond (nat_lt 0 (length (w.row i))) (s.in_conflict_are i ++ length k ∷ []) (s.in_conflict_are i)) ∙ in_conflict_grow k a.op w.changes.listed;
   by_site = by_site_push k a.op sites s.by_site;
   by_key = by_key_push k a.op keys s.by_key;
 }
@@ -215,8 +215,8 @@ row_found k rows p d e l = ap (λ r. get_or r p d) e ∙ get_or-map-range_with_l
 pub rows_length : (k : List Op) (rows : List (List ℕ)) → rows ≡ map (earlier_conflicts k) (places (length k)) → length rows ≡ length k
 rows_length k rows e = ap length e ∙ length-map-range_with_len (earlier_conflicts k) 0 (length k)
 
-module _ {object : Name} {k : List Op} (w : AreSetsOn object k) where
-  -- the sets at two places, by the row of the later one
+module _ {object : Name} {k : List Op} (w : AreChangesOn object k) where
+  -- the changes at two places, by the row of the later one
   pub conflict_in_row : (i j : ℕ) → i < length k → i < j → has (earlier_conflicts k j) i ≡ conflict k (at k i) (at k j)
   conflict_in_row i j l b = has-filter (λ e. conflict k (at k j) (at k e)) j i b ∙ conflict_symmetric k (at k j) (at k i)
 
@@ -240,20 +240,20 @@ module _ {object : Name} {k : List Op} (w : AreSetsOn object k) where
     one_each = same_place;
   }
 
--- ---- with one set more
+-- ---- with one change more
 
 module _ {object : Name} (k : List Op) (a : Added) (w : IsAddition object k a) (ops : List Op) (e : k ++ a.op ∷ [] ≡ ops) where
   abbrev with_addition : List Op
   with_addition = k ++ a.op ∷ []
 
-  pub one_set_more : length ops ≡ length k + 1
-  one_set_more = ap length (sym e) ∙ length-append k (a.op ∷ [])
+  pub one_change_more : length ops ≡ length k + 1
+  one_change_more = ap length (sym e) ∙ length-append k (a.op ∷ [])
 
-  pub sets_with_addition : AreSetsOn object ops
-  sets_with_addition = subst (AreSetsOn object) e w.sets
+  pub changes_with_addition : AreChangesOn object ops
+  changes_with_addition = subst (AreChangesOn object) e w.changes
 
   pub never_alone_with_addition : (i j : ℕ) → i < length ops → i ≡ j → false ≡ conflict ops (at ops i) (at ops j)
-  never_alone_with_addition i j l q = sym (never_alone sets_with_addition (at ops i) (at_in ops i l)) ∙ ap (λ n. conflict ops (at ops i) (at ops n)) q
+  never_alone_with_addition i j l q = sym (never_alone changes_with_addition (at ops i) (at_in ops i l)) ∙ ap (λ n. conflict ops (at ops i) (at ops n)) q
 
   pub last_in_row : (i j : ℕ) → i ≡ length k → j < length k → has a.row j ≡ conflict ops (at ops i) (at ops j)
   last_in_row i j q l =
@@ -267,6 +267,6 @@ module _ {object : Name} (k : List Op) (a : Added) (w : IsAddition object k a) (
 
   pub conflict_stays : (i j : ℕ) → i < length k → j < length k → conflict k (at k i) (at k j) ≡ conflict ops (at ops i) (at ops j)
   conflict_stays i j l m =
-      conflict_grows k a.op w.sets.listed (at k i) (at k j) (stays k a.op w.sets.listed (at k i) (at_in k i l)) (stays k a.op w.sets.listed (at k j) (at_in k j m))
+      conflict_grows k a.op w.changes.listed (at k i) (at k j) (stays k a.op w.changes.listed (at k i) (at_in k i l)) (stays k a.op w.changes.listed (at k j) (at_in k j m))
       ∙ (λ t. conflict with_addition (sym (at_push k a.op i l) t) (sym (at_push k a.op j m) t))
       ∙ (λ t. conflict (e t) (at (e t) i) (at (e t) j))

@@ -1,4 +1,4 @@
--- The index of sets by site: with one set more, and what a vector counts of it.
+-- The index of changes by site: with one change more, and what a vector counts of it.
 use Rattle.std.proofs.Common.{◌≡◌, ℕ, ◌+◌, ◌<◌, ◌≤◌, Bool, true, false, ◌||◌, List, [], ◌∷◌, ◌++◌, length, map, get_or, set, refl, sym, ap, ◌∙◌, subst, inl, inr, arith, eqb}
 use Rattle.std.specs.Prelude.{filter, nat_le}
 use Rattle.std.specs.List.{list_any}
@@ -12,10 +12,10 @@ use Rattle.rules.specs.declared.history.Op.{Op}
 use Rattle.rules.proofs.Lists.{In, In-from_Contains, Contains-from_In, In-filter, In-filter_back, any_from, any_back, filter_agree}
 use Rattle.rules.proofs.Relation.{same_answer}
 use Rattle.places.specs.Members.{has, with_place, places, with_all}
-use Rattle.places.specs.Sets.{AreSetsOf, at}
-use Rattle.conflict.specs.Indexes.{IsIndex, OfSite, SiteIndex, AreBySite, AreInOrder, IsRising, site_at, of_site, numbered, with_set, counted_of, with_counted}
+use Rattle.places.specs.Changes.{AreChangesOf, at}
+use Rattle.conflict.specs.Indexes.{IsIndex, OfSite, SiteIndex, AreBySite, AreInOrder, IsRising, site_at, of_site, numbered, with_change, counted_of, with_counted}
 use Rattle.places.proofs.Places.{In-places, below, has_if_in, in_if_has, kept_next, put_next}
-use Rattle.places.proofs.SetsAt.{at_in, at_push}
+use Rattle.places.proofs.ChangesAt.{at_in, at_push}
 use Rattle.places.proofs.WordPlaces.{Up, same_set, up_range, up_filter, up_with_all, has-with_all, kept_rises, or_turned, or_grouped}
 use Rattle.conflict.proofs.Growth.{in_history, never_before}
 use Rattle.conflict.proofs.Indexed.{filter_all, index_agrees, index_grown, index_begun}
@@ -25,7 +25,7 @@ one_site k s t p e f = sym (eqb-true (at k p).name.0 s e) ∙ eqb-true (at k p).
 
 -- ---- in order
 
-pub in_order : {object : Name} {k : List Op} → AreSetsOf object k → AreInOrder k
+pub in_order : {object : Name} {k : List Op} → AreChangesOf object k → AreInOrder k
 in_order {object} {k} w p q l m e =
     let x = at k p in
     let y = at k q in
@@ -36,7 +36,7 @@ in_order {object} {k} w p q l m e =
       | inr g ↦ absurd (true≢false (sym (le-leb y.name.1 (count_of x.seen y.name.0) g) ∙ never_before k w.ordered p q l m))
     ]
 
--- ---- one set more
+-- ---- one change more
 
 pub by_site_push : (k : List Op) (o : Op) (index : SiteIndex) → AreBySite k index → AreBySite (k ++ o ∷ []) index
 by_site_push k o index w =
@@ -68,31 +68,31 @@ module _ (k : List Op) (index : SiteIndex) (w : AreBySite k index) (few : index.
   pushed s old new t e f = f ∙ kept_next (of_site k s) n t ∙ ap (λ (l : List ℕ). l ++ n ∷ []) (sym e)
 
   pub by_site_grown : (i number : ℕ) → i < size → (site_at sites i).site ≡ (at k n).name.0 → number ≡ (at k n).name.1
-      → AreBySite k (record { len = n + 1; sites = set sites i (with_set number n (site_at sites i)) })
+      → AreBySite k (record { len = n + 1; sites = set sites i (with_change number n (site_at sites i)) })
   by_site_grown i number l here is = record {
     within = omega arith;
-    entries = subst (λ z. IsIndex (of_site k) (n + 1) z (λ j. (site_at grown j).site) (λ j. (site_at grown j).places)) (sym (length-set sites i (with_set number n (site_at sites i)))) entries;
-    numbers = λ j m. (let b : j < size = (let h = length-set sites i (with_set number n (site_at sites i)) in omega arith) in elim (cases_eq j i) [
-      | inl f ↦ ap (λ j. (site_at grown j).sets) f ∙ ap (λ (of : OfSite). of.sets) same
+    entries = subst (λ z. IsIndex (of_site k) (n + 1) z (λ j. (site_at grown j).site) (λ j. (site_at grown j).places)) (sym (length-set sites i (with_change number n (site_at sites i)))) entries;
+    numbers = λ j m. (let b : j < size = (let h = length-set sites i (with_change number n (site_at sites i)) in omega arith) in elim (cases_eq j i) [
+      | inl f ↦ ap (λ j. (site_at grown j).changes) f ∙ ap (λ (of : OfSite). of.changes) same
           ∙ (λ t. w.numbers i l t ++ (is t, n) ∷ []) ∙ sym (map_push (numbered k) (site_at sites i).places n)
           ∙ ap (map (numbered k)) (sym (pushed (site_at sites i).site (site_at sites i).places (with_place n (site_at sites i).places) there (w.entries.each i l) (put_next (of_site k (site_at sites i).site) n (site_at sites i).places (with_place n (site_at sites i).places) (w.entries.each i l) there refl)))
           ∙ ap (λ (of : OfSite). map (numbered k) of.places) (sym same)
           ∙ ap (λ j. map (numbered k) (site_at grown j).places) (sym f)
-      | inr d ↦ ap (λ (of : OfSite). of.sets) (other j d) ∙ w.numbers j b ∙ ap (λ (of : OfSite). map (numbered k) of.places) (sym (other j d))
+      | inr d ↦ ap (λ (of : OfSite). of.changes) (other j d) ∙ w.numbers j b ∙ ap (λ (of : OfSite). map (numbered k) of.places) (sym (other j d))
     ]);
   }
     where
       grown : List OfSite
-      grown = set sites i (with_set number n (site_at sites i))
+      grown = set sites i (with_change number n (site_at sites i))
 
       there : of_site k (site_at sites i).site n ≡ true
       there = eq-eqb (at k n).name.0 (site_at sites i).site (sym here)
 
-      same : site_at grown i ≡ with_set number n (site_at sites i)
-      same = get_or-set_same sites i (with_set number n (site_at sites i)) (site_at [] 0) l
+      same : site_at grown i ≡ with_change number n (site_at sites i)
+      same = get_or-set_same sites i (with_change number n (site_at sites i)) (site_at [] 0) l
 
       other : (j : ℕ) → (j ≡ i → ⊥) → site_at grown j ≡ site_at sites j
-      other j d = get_or-set_other sites i j (with_set number n (site_at sites i)) (site_at [] 0) d
+      other j d = get_or-set_other sites i j (with_change number n (site_at sites i)) (site_at [] 0) d
 
       entries : IsIndex (of_site k) (n + 1) size (λ j. (site_at grown j).site) (λ j. (site_at grown j).places)
       entries = index_grown (of_site k) (one_site k) n size (λ j. (site_at sites j).site) (λ j. (site_at sites j).places) w.entries
@@ -104,19 +104,19 @@ module _ (k : List Op) (index : SiteIndex) (w : AreBySite k index) (few : index.
           i l there (ap (λ (of : OfSite). of.places) same) (λ j m d. ap (λ (of : OfSite). of.places) (other j d))
 
   pub by_site_begun : (site number : ℕ) → site ≡ (at k n).name.0 → number ≡ (at k n).name.1 → ((i : ℕ) → i < size → (site_at sites i).site ≡ site → ⊥)
-      → AreBySite k (record { len = n + 1; sites = sites ++ record { site = site; sets = (number, n) ∷ []; places = n ∷ [] } ∷ [] })
+      → AreBySite k (record { len = n + 1; sites = sites ++ record { site = site; changes = (number, n) ∷ []; places = n ∷ [] } ∷ [] })
   by_site_begun site number here is new = record {
     within = omega arith;
     entries = subst (λ z. IsIndex (of_site k) (n + 1) z (λ j. (site_at with_addition j).site) (λ j. (site_at with_addition j).places)) (sym (length-append sites (entry ∷ []))) entries;
     numbers = λ j m. (let h = length-append sites (entry ∷ []) in elim (cases_lt j size) [
-      | inl b ↦ ap (λ (of : OfSite). of.sets) (old j b) ∙ w.numbers j b ∙ ap (λ (of : OfSite). map (numbered k) of.places) (sym (old j b))
+      | inl b ↦ ap (λ (of : OfSite). of.changes) (old j b) ∙ w.numbers j b ∙ ap (λ (of : OfSite). map (numbered k) of.places) (sym (old j b))
       | inr g ↦ (let f : j ≡ size = omega arith in
-          ap (λ j. (site_at with_addition j).sets) f ∙ ap (λ (of : OfSite). of.sets) last ∙ (λ t. (is t, n) ∷ []) ∙ ap (λ (of : OfSite). map (numbered k) of.places) (sym last) ∙ ap (λ j. map (numbered k) (site_at with_addition j).places) (sym f))
+          ap (λ j. (site_at with_addition j).changes) f ∙ ap (λ (of : OfSite). of.changes) last ∙ (λ t. (is t, n) ∷ []) ∙ ap (λ (of : OfSite). map (numbered k) of.places) (sym last) ∙ ap (λ j. map (numbered k) (site_at with_addition j).places) (sym f))
     ]);
   }
     where
       entry : OfSite
-      entry = record { site = site; sets = (number, n) ∷ []; places = n ∷ [] }
+      entry = record { site = site; changes = (number, n) ∷ []; places = n ∷ [] }
 
       with_addition : List OfSite
       with_addition = sites ++ entry ∷ []
@@ -134,7 +134,7 @@ module _ (k : List Op) (index : SiteIndex) (w : AreBySite k index) (few : index.
 
 -- ---- what a vector counts of it
 
-unnumbered : (k : List Op) (ps : List ℕ) → map (λ (set : ℕ × ℕ). set.1) (map (numbered k) ps) ≡ ps
+unnumbered : (k : List Op) (ps : List ℕ) → map (λ (change : ℕ × ℕ). change.1) (map (numbered k) ps) ≡ ps
 unnumbered k [] = refl
 unnumbered k (p ∷ ps) = ap (λ (l : List ℕ). p ∷ l) (unnumbered k ps)
 
@@ -159,7 +159,7 @@ module _ (k : List Op) (order : AreInOrder k) (site n : ℕ) (within : n ≤ len
       let r : get_or ps i 0 < get_or ps j 0 = AllPairs-from_increasing ps rise i j 0 l (omega arith) in
       omega (arith, ap (λ (s : ℕ × ℕ). s.1) a, ap (λ (s : ℕ × ℕ). s.1) b, r)
 
-  pub rising_numbers : IsNonDecreasingBy (λ (set : ℕ × ℕ). set.0) (map (numbered k) ps)
+  pub rising_numbers : IsNonDecreasingBy (λ (change : ℕ × ℕ). change.0) (map (numbered k) ps)
   rising_numbers i j d l m =
       let size = length-map ps (numbered k) in
       let a = get_or-map (numbered k) ps i 0 d (omega arith) in
@@ -176,45 +176,45 @@ module _ (k : List Op) (order : AreInOrder k) (site n : ℕ) (within : n ≤ len
 pub rising : (k : List Op) (index : SiteIndex) → AreBySite k index → AreInOrder k → (i : ℕ) → i < length index.sites → IsRising (site_at index.sites i)
 rising k index w order i l =
     let of = site_at index.sites i in
-    let e : of.sets ≡ map (numbered k) of.places = w.numbers i l in
+    let e : of.changes ≡ map (numbered k) of.places = w.numbers i l in
     record {
-      same = sym (ap (map (λ (set : ℕ × ℕ). set.1)) e ∙ unnumbered k of.places);
-      numbers = subst (IsNonDecreasingBy (λ (set : ℕ × ℕ). set.0)) (sym e) (rising_numbers k order of.site index.len w.within of.places (w.entries.each i l));
+      same = sym (ap (map (λ (change : ℕ × ℕ). change.1)) e ∙ unnumbered k of.places);
+      numbers = subst (IsNonDecreasingBy (λ (change : ℕ × ℕ). change.0)) (sym e) (rising_numbers k order of.site index.len w.within of.places (w.entries.each i l));
       places = subst (λ (s : List (ℕ × ℕ)). (i j : ℕ) (d : ℕ × ℕ) → i < j → j < length s → (get_or s i d).1 < (get_or s j d).1) (sym e) (rising_places k order of.site index.len w.within of.places (w.entries.each i l));
     }
 
-filter_map_in : (p : ℕ → Bool) (xs : List (ℕ × ℕ)) → filter p (map (λ (set : ℕ × ℕ). set.1) xs) ≡ map (λ (set : ℕ × ℕ). set.1) (filter (λ (set : ℕ × ℕ). p set.1) xs)
+filter_map_in : (p : ℕ → Bool) (xs : List (ℕ × ℕ)) → filter p (map (λ (change : ℕ × ℕ). change.1) xs) ≡ map (λ (change : ℕ × ℕ). change.1) (filter (λ (change : ℕ × ℕ). p change.1) xs)
 filter_map_in p [] = refl
 filter_map_in p (x ∷ xs) = elim (cases_Bool (p x.1)) [ inl t ↦ rw t (ap (λ (l : List ℕ). x.1 ∷ l) (filter_map_in p xs)) | inr t ↦ rw t (filter_map_in p xs) ]
 
--- a search for the first set that isn't counted
-module _ (of : OfSite) (r : IsRising of) (number j : ℕ) (point : IsPartitionPoint (λ (set : ℕ × ℕ). nat_le set.0 number ≡ true) (λ (set : ℕ × ℕ). nat_le set.0 number ≡ false) of.sets j) where
+-- a search for the first change that isn't counted
+module _ (of : OfSite) (r : IsRising of) (number j : ℕ) (point : IsPartitionPoint (λ (change : ℕ × ℕ). nat_le change.0 number ≡ true) (λ (change : ℕ × ℕ). nat_le change.0 number ≡ false) of.changes j) where
   -- there is none
-  pub counted_whole : j ≡ length of.sets → of.places ≡ map (λ (set : ℕ × ℕ). set.1) (filter (λ (set : ℕ × ℕ). nat_le set.0 number) of.sets)
-  counted_whole e = r.same ∙ ap (map (λ (set : ℕ × ℕ). set.1)) (sym (filter_all (λ (set : ℕ × ℕ). nat_le set.0 number) of.sets (λ x m.
-      let c = Contains-from_In x of.sets m in
-      let l : c.0 < length of.sets = c.1 in
+  pub counted_whole : j ≡ length of.changes → of.places ≡ map (λ (change : ℕ × ℕ). change.1) (filter (λ (change : ℕ × ℕ). nat_le change.0 number) of.changes)
+  counted_whole e = r.same ∙ ap (map (λ (change : ℕ × ℕ). change.1)) (sym (filter_all (λ (change : ℕ × ℕ). nat_le change.0 number) of.changes (λ x m.
+      let c = Contains-from_In x of.changes m in
+      let l : c.0 < length of.changes = c.1 in
       ap (λ (s : ℕ × ℕ). nat_le s.0 number) (sym c.2) ∙ point.0 c.0 x (omega arith) (omega (arith, l)))))
 
   -- it is at j
-  pub counted_cut : (d : ℕ × ℕ) (bound : ℕ) → j < length of.sets → bound ≡ (get_or of.sets j d).1 → filter (has (places bound)) of.places ≡ map (λ (set : ℕ × ℕ). set.1) (filter (λ (set : ℕ × ℕ). nat_le set.0 number) of.sets)
+  pub counted_cut : (d : ℕ × ℕ) (bound : ℕ) → j < length of.changes → bound ≡ (get_or of.changes j d).1 → filter (has (places bound)) of.places ≡ map (λ (change : ℕ × ℕ). change.1) (filter (λ (change : ℕ × ℕ). nat_le change.0 number) of.changes)
   counted_cut d bound within e =
       ap (filter (has (places bound))) r.same
-      ∙ filter_map_in (has (places bound)) of.sets
-      ∙ ap (map (λ (set : ℕ × ℕ). set.1)) (filter_agree (λ (set : ℕ × ℕ). has (places bound) set.1) (λ (set : ℕ × ℕ). nat_le set.0 number) of.sets each)
+      ∙ filter_map_in (has (places bound)) of.changes
+      ∙ ap (map (λ (change : ℕ × ℕ). change.1)) (filter_agree (λ (change : ℕ × ℕ). has (places bound) change.1) (λ (change : ℕ × ℕ). nat_le change.0 number) of.changes each)
     where
-      each : (x : ℕ × ℕ) → In x of.sets → has (places bound) x.1 ≡ nat_le x.0 number
+      each : (x : ℕ × ℕ) → In x of.changes → has (places bound) x.1 ≡ nat_le x.0 number
       each x m =
-          let c = Contains-from_In x of.sets m in
-          let l : c.0 < length of.sets = c.1 in
+          let c = Contains-from_In x of.changes m in
+          let l : c.0 < length of.changes = c.1 in
           let i : ℕ = c.0 in
-          let here : get_or of.sets i d ≡ x = get_or_default of.sets i d x l ∙ c.2 in
-          let place : (get_or of.sets i d).1 ≡ x.1 = ap (λ (s : ℕ × ℕ). s.1) here in
+          let here : get_or of.changes i d ≡ x = get_or_default of.changes i d x l ∙ c.2 in
+          let place : (get_or of.changes i d).1 ≡ x.1 = ap (λ (s : ℕ × ℕ). s.1) here in
           elim (cases_lt i j) [
             | inl b ↦ (let o = r.places i j d b within in has_if_in (places bound) x.1 (In-places bound x.1 (omega arith))) ∙ sym (ap (λ (s : ℕ × ℕ). nat_le s.0 number) (sym here) ∙ point.0 i d (omega arith) b)
             | inr g ↦
-                (let o : (get_or of.sets j d).1 ≤ (get_or of.sets i d).1 = elim (cases_eq j i) [
-                  | inl q ↦ (let f = ap (λ z. (get_or of.sets z d).1) q in omega arith)
+                (let o : (get_or of.changes j d).1 ≤ (get_or of.changes i d).1 = elim (cases_eq j i) [
+                  | inl q ↦ (let f = ap (λ z. (get_or of.changes z d).1) q in omega arith)
                   | inr q ↦ (let f = r.places j i d (omega arith) l in omega arith)
                 ] in
                 false_from_ne_true (has (places bound) x.1) (λ t. let h = below bound x.1 (in_if_has (places bound) x.1 t) in absurd (omega arith)))
@@ -233,7 +233,7 @@ module _ (seen : Vector) where
       ∙ ap (λ b. b || list_any (λ (of : OfSite). has (counted_of seen of) x) sites) (has-with_all known (counted_of seen of) x)
       ∙ sym (or_grouped (has known x) (has (counted_of seen of) x) (list_any (λ (of : OfSite). has (counted_of seen of) x) sites))
 
-picked : (k : List Op) (number : ℕ) (ps : List ℕ) → map (λ (set : ℕ × ℕ). set.1) (filter (λ (set : ℕ × ℕ). nat_le set.0 number) (map (numbered k) ps)) ≡ filter (λ p. nat_le (at k p).name.1 number) ps
+picked : (k : List Op) (number : ℕ) (ps : List ℕ) → map (λ (change : ℕ × ℕ). change.1) (filter (λ (change : ℕ × ℕ). nat_le change.0 number) (map (numbered k) ps)) ≡ filter (λ p. nat_le (at k p).name.1 number) ps
 picked k number [] = refl
 picked k number (p ∷ ps) = elim (cases_Bool (nat_le (at k p).name.1 number)) [ inl t ↦ rw t (ap (λ (l : List ℕ). p ∷ l) (picked k number ps)) | inr t ↦ rw t (picked k number ps) ]
 
@@ -249,7 +249,7 @@ module _ (k : List Op) (index : SiteIndex) (w : AreBySite k index) (seen : Vecto
 
   counted_is : (i : ℕ) → i < length listed → counted_of seen (site_at listed i) ≡ filter (up_to (site_at listed i).site) (filter (of_site k (site_at listed i).site) (places index.len))
   counted_is i l =
-      ap (λ (s : List (ℕ × ℕ)). map (λ (set : ℕ × ℕ). set.1) (filter (λ (set : ℕ × ℕ). nat_le set.0 (count_of seen (site_at listed i).site)) s)) (w.numbers i l)
+      ap (λ (s : List (ℕ × ℕ)). map (λ (change : ℕ × ℕ). change.1) (filter (λ (change : ℕ × ℕ). nat_le change.0 (count_of seen (site_at listed i).site)) s)) (w.numbers i l)
       ∙ picked k (count_of seen (site_at listed i).site) (site_at listed i).places
       ∙ ap (filter (up_to (site_at listed i).site)) (w.entries.each i l)
 

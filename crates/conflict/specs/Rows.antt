@@ -1,20 +1,20 @@
--- The steps by which the conflicts of a set are found: cited by functions that are not public, and by what is stored.
+-- The steps by which the conflicts of a change are found: cited by functions that are not public, and by what is stored.
 use Rattle.std.specs.Prelude.{ℕ, Bool, ◌&&◌, ◌||◌, List, [], ◌∷◌, ◌++◌, filter, length, nat_lt, if◌then◌else◌, slice_index_or}
 use Rattle.std.specs.List.{list_any}
 use Rattle.rules.specs.declared.history.Op.{Op}
 use Rattle.rules.specs.declared.history.Body.{Body}
-use Rattle.rules.specs.Bodies.{differ_on_a_key}
+use Rattle.rules.specs.Bodies.{are_at_odds}
 use Rattle.rules.specs.Conflicts.{base, conflict, direct_conflict}
 use Rattle.places.specs.Members.{has, places, with_place, with_all}
-use Rattle.places.specs.Sets.{at, base_places}
+use Rattle.places.specs.Changes.{at, base_places}
 
--- ---- the sets on an object
+-- ---- the changes of an object
 
--- the places below one whose sets conflict with the set at it
+-- the places below one whose changes conflict with the change at it
 abbrev pub earlier_conflicts : List Op → ℕ → List ℕ
 earlier_conflicts k place = filter (λ earlier. conflict k (at k place) (at k earlier)) (places place)
 
--- is the set at a place in conflict with an earlier one?
+-- is the change at a place in conflict with an earlier one?
 abbrev pub has_earlier_conflict : List Op → ℕ → Bool
 has_earlier_conflict k place = nat_lt 0 (length (earlier_conflicts k place))
 
@@ -22,15 +22,15 @@ has_earlier_conflict k place = nat_lt 0 (length (earlier_conflicts k place))
 abbrev pub places_in_conflict : List Op → List ℕ
 places_in_conflict k = filter (has_earlier_conflict k) (places (length k))
 
--- do a body and the set at a place give one key different values?
-abbrev pub differs_at : List Op → Body → ℕ → Bool
-differs_at k body place = differ_on_a_key body (at k place).body
+-- is a body at odds with that of the change at a place?
+abbrev pub at_odds_at : List Op → Body → ℕ → Bool
+at_odds_at k body place = are_at_odds body (at k place).body
 
--- the places of the sets that are in direct conflict with one that is to be added
+-- the places of the changes that are in direct conflict with one that is to be added
 abbrev pub direct_places : List Op → Op → List ℕ
 direct_places k op = filter (λ place. direct_conflict (base (k ++ op ∷ [])) op (at k place)) (places (length k))
 
--- is a set that is to be added in conflict with the one at a place? It is in direct conflict with those at some places, and
+-- is a change that is to be added in conflict with the one at a place? It is in direct conflict with those at some places, and
 -- is based on those at the places of a base.
 abbrev pub is_in_row : List Op → List ℕ → List ℕ → ℕ → Bool
 is_in_row k direct based place =

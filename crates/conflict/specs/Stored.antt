@@ -1,17 +1,17 @@
--- What is stored with the sets on an object.
+-- What is stored with the changes on an object.
 use Rattle.std.specs.Prelude.{◌≡◌, ◌<◌, ◌^◌, ℕ, true, List, map, length, Contains}
 use Rattle.op_names.specs.Names.{Name, is_op_name}
 use Rattle.rules.specs.declared.history.Op.{Op}
 use Rattle.places.specs.Members.{places}
 use Rattle.conflict.specs.Indexes.{SiteIndex, KeyIndex, AreBySite, AreByKey}
-use Rattle.places.specs.Sets.{AreSetsOn, base_places}
+use Rattle.places.specs.Changes.{AreChangesOn, base_places}
 use Rattle.conflict.specs.Rows.{earlier_conflicts, places_in_conflict}
 
--- what is stored beside the sets: the places of each one's base, those of the earlier sets that conflict with it, and at
--- which places there are such; and the places of the first sets by site and by key
+-- what is stored beside the changes: the places of each one's base, those of the earlier changes that conflict with it, and at
+-- which places there are such; and the places of the first changes by site and by key
 pub record AreStored (object : Name) (k : List Op) (bases rows : List (List ℕ)) (in_conflict : List ℕ) (sites : SiteIndex) (keys : KeyIndex) : Type 0 where
-  pub sets : AreSetsOn object k
-  -- names are in range, so the sets are few
+  pub changes : AreChangesOn object k
+  -- names are in range, so the changes are few
   pub named : (x : Op) → Contains k x → is_op_name x.name ≡ true
   pub few : length k < 2 ^ 32
   pub bases_are : bases ≡ map (base_places k) k

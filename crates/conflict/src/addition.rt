@@ -1,8 +1,8 @@
-//! A set that is to be put with those on its object.
+//! A change that is to be put with those on its object.
 
 ghost use Rattle.std.specs.Prelude.{◌≡◌, ◌+◌, ◌<◌, ◌^◌, ◌++◌, ◌∷◌, [], List, length};
 ghost use Rattle.rules.specs.declared.history.Op.{Op};
-ghost use Rattle.places.specs.Sets.{IsAddition};
+ghost use Rattle.places.specs.Changes.{IsAddition};
 
 use crate::Clashes;
 use crate::joins::add_row;
@@ -12,7 +12,7 @@ use rules::SharedOp;
 use std::alloc::Global;
 use std::marker::Model;
 
-/// A set that `Clashes` has planned, with the places of its base and of the sets that it is in
+/// A change that `Clashes` has planned, with the places of its base and of the changes that it is in
 /// conflict with.
 #[derive(Drop)]
 pub struct Addition {
@@ -22,7 +22,7 @@ pub struct Addition {
 }
 
 impl Model for Addition {
-    ghost use Rattle.places.specs.Sets.{Added};
+    ghost use Rattle.places.specs.Changes.{Added};
 
     ghost Value = { Added };
 
@@ -37,14 +37,14 @@ impl Addition {
         Addition { op, base, row }
     }
 
-    /// The set.
+    /// The change.
     pub fn op(&self) -> &SharedOp
         ensures { result.now ≡ self.now.op }
     {
         &self.op
     }
 
-    /// The places of the sets that it is in conflict with.
+    /// The places of the changes that it is in conflict with.
     pub(crate) fn row(&self) -> &Members
         ensures { result.now ≡ self.now.row }
     {
@@ -58,40 +58,40 @@ impl Addition {
     }
 }
 
-/// The sets on an object and one that is planned for them, as a relation.
+/// The changes on an object and one that is planned for them, as a relation.
 #[derive(Drop)]
 pub struct WithAddition<'a> {
-    sets: &'a Clashes,
+    changes: &'a Clashes,
     addition: &'a Addition,
 }
 
 impl<'a> Model for WithAddition<'a> {
     ghost use Rattle.std.specs.Prelude.{◌+◌, ◌<◌, ◌^◌, List, [], ◌∷◌, ◌++◌, length};
     ghost use Rattle.rules.specs.declared.history.Op.{Op};
-    ghost use Rattle.places.specs.Sets.{IsAddition};
+    ghost use Rattle.places.specs.Changes.{IsAddition};
 
     ghost Value = { List Op };
 
-    ghost view = { λ all. all.sets.now.ops ++ all.addition.now.op ∷ [] };
+    ghost view = { λ all. all.changes.now.ops ++ all.addition.now.op ∷ [] };
 
-    ghost invariant = { λ all. IsAddition all.sets.now.object all.sets.now.ops all.addition.now
-        × (length all.sets.now.ops + 1 < 2 ^ 32) };
+    ghost invariant = { λ all. IsAddition all.changes.now.object all.changes.now.ops all.addition.now
+        × (length all.changes.now.ops + 1 < 2 ^ 32) };
 }
 
 impl<'a> WithAddition<'a> {
-    pub(crate) fn new(sets: &'a Clashes, addition: &'a Addition) -> WithAddition<'a>
-        requires ready { IsAddition sets.now.object sets.now.ops addition.now }
-        requires few { length sets.now.ops + 1 < 2 ^ 32 }
-        ensures { result ≡ sets.now.ops ++ addition.now.op ∷ [] }
+    pub(crate) fn new(changes: &'a Clashes, addition: &'a Addition) -> WithAddition<'a>
+        requires ready { IsAddition changes.now.object changes.now.ops addition.now }
+        requires few { length changes.now.ops + 1 < 2 ^ 32 }
+        ensures { result ≡ changes.now.ops ++ addition.now.op ∷ [] }
     {
-        WithAddition { sets, addition }
+        WithAddition { changes, addition }
     }
 }
 
 impl<'a> Relation for WithAddition<'a> {
     ghost use Rattle.std.specs.Prelude.{length};
     ghost use Rattle.rules.specs.Conflicts.{conflict};
-    ghost use Rattle.places.specs.Sets.{at};
+    ghost use Rattle.places.specs.Changes.{at};
 
     ghost size = { λ ops. length ops };
 
@@ -100,19 +100,19 @@ impl<'a> Relation for WithAddition<'a> {
     ghost clashes = { λ ops i j. conflict ops (at ops i) (at ops j) };
 
     fn len(&self) -> u32 {
-        self.sets.len() + 1
+        self.changes.len() + 1
     }
 
     fn name(&self, i: u32) -> OpName {
-        if i < self.sets.len() {
-            self.sets.name(i)
+        if i < self.changes.len() {
+            self.changes.name(i)
         } else {
             self.addition.op().name
         }
     }
 
     fn clash(&self, i: u32, j: u32) -> bool {
-        let last = self.sets.len();
+        let last = self.changes.len();
         if i == j {
             false
         } else if i == last {
@@ -120,17 +120,17 @@ impl<'a> Relation for WithAddition<'a> {
         } else if j == last {
             self.addition.row().has(i)
         } else {
-            self.sets.clash(i, j)
+            self.changes.clash(i, j)
         }
     }
 
     fn in_conflict_with(&self, alloc: Global, scope: &Members) -> Result<Members, NoMemory> {
-        let mut conflicting = self.sets.conflicting_places(alloc, scope)?;
+        let mut conflicting = self.changes.conflicting_places(alloc, scope)?;
         add_row(
             &mut conflicting,
             scope,
             self.addition.row(),
-            self.sets.len(),
+            self.changes.len(),
         )?;
         Ok(conflicting)
     }

@@ -1,25 +1,28 @@
-//! The places of sets by the keys that they give values.
+//! The places of puts by the keys that they give values, and the places of drops.
 
-ghost use Rattle.std.specs.Prelude.{◌≡◌, ℕ, ◌+◌, ◌<◌, ◌≤◌, ◌^◌, List, [], ◌∷◌, true, false, length, IfOk, OnOk, OnErr, MatchBool};
+ghost use Rattle.std.specs.Prelude.{◌≡◌, ℕ, ◌+◌, ◌<◌, ◌≤◌, ◌^◌, ◌||◌, List, [], ◌∷◌, true, false, length, bytes_eq, IfOk, OnOk, OnErr, MatchBool};
 ghost use Rattle.std.specs.List.{list_any};
+ghost use Rattle.op_names.specs.Texts.{Bytes};
 ghost use Rattle.rules.specs.declared.history.Op.{Op};
-ghost use Rattle.places.specs.Members.{with_place};
-ghost use Rattle.conflict.specs.Indexes.{gives, key_at, of_key, of_other_keys, with_key_at, with_new_key, AreByKey, IsPlaceOf};
+ghost use Rattle.rules.specs.Bodies.{is_drop_body, pairs_in};
+ghost use Rattle.places.specs.Members.{has, with_place};
+ghost use Rattle.places.specs.Changes.{at};
+ghost use Rattle.conflict.specs.Indexes.{gives, is_drop_at, is_drop_or_gives, key_at, of_key, of_others, with_drop, with_key_at, with_new_key, AreByKey, IsPlaceOf, IsUnder};
 
-use op_names::{Key, NoMemory};
+use op_names::{Key, NoMemory, Value};
 use places::Members;
-use rules::{Body, SharedOp};
+use rules::{Body, Op, SharedOp};
 use std::alloc::Global;
 use std::marker::Model;
 
-/// The places of the sets on an object that give a key a value.
+/// The places of the puts on an object that give a key a value.
 #[derive(Drop)]
-struct KeySets {
+struct KeyPuts {
     key: Key,
     places: Members,
 }
 
-impl Model for KeySets {
+impl Model for KeyPuts {
     ghost use Rattle.conflict.specs.Indexes.{OfKey};
 
     ghost Value = { OfKey };
@@ -27,17 +30,17 @@ impl Model for KeySets {
     ghost view = { λ of. record { key = of.key; places = of.places } };
 }
 
-impl KeySets {
-    /// The key's first set.
-    fn of_one(alloc: Global, key: &Key, place: u32) -> Result<KeySets, NoMemory>
+impl KeyPuts {
+    /// The key's first put.
+    fn of_one(alloc: Global, key: &Key, place: u32) -> Result<KeyPuts, NoMemory>
         ensures { IfOk result (λ of. of ≡ record { key = key.now; places = place ∷ [] }) }
     {
         let places = Members::from_places(alloc, &[place])?;
         let key = key.copy(alloc)?;
-        Ok(KeySets { key, places })
+        Ok(KeyPuts { key, places })
     }
 
-    /// Puts a set in. On `NoMemory` all stays as it is.
+    /// Puts a place in. On `NoMemory` all stays as it is.
     fn add(&mut self, place: u32) -> Result<(), NoMemory>
         ensures ok { OnOk result
             (self.new ≡ record { key = self.old.key; places = with_place place self.old.places }) }
@@ -47,21 +50,38 @@ impl KeySets {
     }
 }
 
+/// Does one of the pairs have the key?
+fn has_key(pairs: &[(Key, Value)], key: &Key) -> bool
+    ensures { result ≡ list_any (λ pair. bytes_eq key.now pair.0) pairs.now }
+{
+    pairs.iter().any(|pair| *key == pair.0)
+}
+
 /// Does an operation give the key a value?
 fn gives(body: &Body, key: &Key) -> bool
     ensures { result ≡ gives key.now body.now }
 {
     match body {
-        Body::Set { key: other, .. } => key == other,
+        Body::Put { pairs, .. } => has_key(pairs.pairs(), key),
+        Body::DropVersion { .. } => false,
         Body::New { .. } => false,
     }
 }
 
-/// The first sets on an object, as many as `len`, by key.
+/// Is an operation a drop?
+fn is_drop(body: &Body) -> bool
+    ensures { result ≡ is_drop_body body.now }
+{
+    matches!(body, Body::DropVersion { .. })
+}
+
+/// The first changes on an object, as many as `len`: the puts by key, and the drops. Where memory is
+/// refused, the next put may be in under some of its keys too.
 #[derive(Drop)]
 pub(crate) struct ByKey {
     len: u32,
-    keys: Vec<KeySets>,
+    keys: Vec<KeyPuts>,
+    drops: Members,
 }
 
 impl Model for ByKey {
@@ -69,16 +89,18 @@ impl Model for ByKey {
 
     ghost Value = { KeyIndex };
 
-    ghost view = { λ index. record { len = index.len; keys = index.keys.items } };
+    ghost view = { λ index.
+        record { len = index.len; keys = index.keys.items; drops = index.drops } };
 }
 
 impl ByKey {
     pub(crate) fn new(alloc: Global) -> ByKey
-        ensures { result ≡ record { len = 0; keys = [] } }
+        ensures { result ≡ record { len = 0; keys = []; drops = [] } }
     {
         ByKey {
             len: 0,
             keys: Vec::new(alloc),
+            drops: Members::empty(alloc),
         }
     }
 
@@ -87,34 +109,111 @@ impl ByKey {
         ensures { let count = length self.now.keys
             in IsPlaceOf (λ i. (key_at self.now.keys i).key) count key.now result }
     {
-        self.keys.iter().position(|sets| sets.key == *key)
+        self.keys.iter().position(|puts| puts.key == *key)
     }
 
-    /// Puts the next set in, whose key stands there.
+    /// Puts the next change in under the key that stands there.
     fn grow(&mut self, i: usize) -> Result<(), NoMemory>
         requires there { i < length self.old.keys }
-        requires few { self.old.len + 1 < 2 ^ 32 }
         ensures ok { OnOk result (self.new ≡ with_key_at i self.old) }
         ensures err { OnErr result (self.new ≡ self.old) }
     {
-        self.keys[i].add(self.len)?;
-        self.len += 1;
-        Ok(())
+        self.keys[i].add(self.len)
     }
 
-    /// Puts the next set in, the first of its key.
+    /// Puts the next change in, the first under the key.
     fn begin(&mut self, alloc: Global, key: &Key) -> Result<(), NoMemory>
-        requires few { self.old.len + 1 < 2 ^ 32 }
         ensures ok { OnOk result (self.new ≡ with_new_key key.now self.old) }
         ensures err { OnErr result (self.new ≡ self.old) }
     {
-        let sets = KeySets::of_one(alloc, key, self.len)?;
-        self.keys.push(sets)?;
+        let puts = KeyPuts::of_one(alloc, key, self.len)?;
+        self.keys.push(puts)?;
+        Ok(())
+    }
+
+    /// Puts the next change in under one of its keys. One look-up.
+    fn insert(&mut self, alloc: Global, ops: &[SharedOp], key: &Key) -> Result<(), NoMemory>
+        // What is put in.
+        requires more { self.old.len < length ops.now }
+        requires given { of_key ops.now key.now self.old.len ≡ true }
+        requires keys { AreByKey ops.now self.old }
+        // What is in then.
+        ensures keys { AreByKey ops.now self.new }
+        ensures len { self.new.len ≡ self.old.len }
+        ensures there { OnOk result (IsUnder self.new.keys key.now self.old.len) }
+        ensures kept { (other : Bytes) (place : ℕ) → IsUnder self.old.keys other place
+            → IsUnder self.new.keys other place }
+    {
+        match self.find(key) {
+            Some(i) => self.grow(i),
+            None => self.begin(alloc, key),
+        }
+    }
+
+    /// Puts the next change in under each of its keys. On `NoMemory` it is in under some of them.
+    fn insert_all(
+        &mut self,
+        alloc: Global,
+        ops: &[SharedOp],
+        pairs: &[(Key, Value)],
+    ) -> Result<(), NoMemory>
+        requires more { self.old.len < length ops.now }
+        requires pairs { pairs.now ≡ pairs_in (at ops.now self.old.len).body }
+        requires keys { AreByKey ops.now self.old }
+        ensures keys { AreByKey ops.now self.new }
+        ensures len { self.new.len ≡ self.old.len }
+        ensures there { OnOk result ((key : Bytes) → of_key ops.now key self.old.len ≡ true
+            → IsUnder self.new.keys key self.old.len) }
+    {
+        for pair in pairs {
+            self.insert(alloc, ops, &pair.0)?;
+        }
+        Ok(())
+    }
+
+    /// Puts the next change in, a put of these pairs. On `NoMemory` it is in under some of its keys.
+    fn add_put(
+        &mut self,
+        alloc: Global,
+        ops: &[SharedOp],
+        pairs: &[(Key, Value)],
+    ) -> Result<(), NoMemory>
+        // What is put in.
+        requires more { self.old.len < length ops.now }
+        requires few { length ops.now < 2 ^ 32 }
+        requires pairs { pairs.now ≡ pairs_in (at ops.now self.old.len).body }
+        requires no_drop { is_drop_at ops.now self.old.len ≡ false }
+        requires keys { AreByKey ops.now self.old }
+        // What is in then.
+        ensures keys { AreByKey ops.now self.new }
+        ensures len { OnOk result (self.new.len ≡ self.old.len + 1) }
+    {
+        self.insert_all(alloc, ops, pairs)?;
         self.len += 1;
         Ok(())
     }
 
-    /// Puts the next set in.
+    /// Puts the next change in, a drop. On `NoMemory` all stays as it is.
+    fn add_drop(&mut self) -> Result<(), NoMemory>
+        requires few { self.old.len + 1 < 2 ^ 32 }
+        ensures ok { OnOk result (self.new ≡ with_drop self.old) }
+        ensures err { OnErr result (self.new ≡ self.old) }
+    {
+        self.drops.insert(self.len)?;
+        self.len += 1;
+        Ok(())
+    }
+
+    /// The next change.
+    fn next_op<'a>(&self, ops: &'a [SharedOp]) -> &'a Op
+        requires { self.now.len < length ops.now }
+        ensures { result.now ≡ at ops.now self.now.len }
+    {
+        &ops[self.len as usize]
+    }
+
+    /// Puts the next change in: one look-up for each of its keys. On `NoMemory` it may be in under
+    /// some of them.
     fn add(&mut self, alloc: Global, ops: &[SharedOp]) -> Result<(), NoMemory>
         requires more { self.old.len < length ops.now }
         requires few { length ops.now < 2 ^ 32 }
@@ -122,12 +221,9 @@ impl ByKey {
         ensures keys { AreByKey ops.now self.new }
         ensures len { OnOk result (self.new.len ≡ self.old.len + 1) }
     {
-        let op = &ops[self.len as usize];
-        match &op.body {
-            Body::Set { key, .. } => match self.find(key) {
-                Some(i) => self.grow(i),
-                None => self.begin(alloc, key),
-            },
+        match &self.next_op(ops).body {
+            Body::Put { pairs, .. } => self.add_put(alloc, ops, pairs.pairs()),
+            Body::DropVersion { .. } => self.add_drop(),
             Body::New { .. } => {
                 self.len += 1;
                 Ok(())
@@ -135,7 +231,8 @@ impl ByKey {
         }
     }
 
-    /// Puts the sets in that have come since. On `NoMemory` some of them are in.
+    /// Puts the changes in that have come since. On `NoMemory` some of them are in, the last one maybe
+    /// under some of its keys only.
     pub(crate) fn catch_up(&mut self, alloc: Global, ops: &[SharedOp]) -> Result<(), NoMemory>
         requires few { length ops.now < 2 ^ 32 }
         requires keys { AreByKey ops.now self.old }
@@ -147,7 +244,7 @@ impl ByKey {
         Ok(())
     }
 
-    /// Does one of the sets that aren't in it give the key a value?
+    /// Does one of the changes that aren't in it give the key a value?
     fn is_key_of_last(&self, ops: &[SharedOp], key: &Key) -> bool
         requires few { length ops.now < 2 ^ 32 }
         ensures { MatchBool result
@@ -163,7 +260,7 @@ impl ByKey {
         false
     }
 
-    /// Does one of the sets give the key a value?
+    /// Does one of the changes give the key a value?
     pub(crate) fn has(&self, ops: &[SharedOp], key: &Key) -> bool
         requires few { length ops.now < 2 ^ 32 }
         requires keys { AreByKey ops.now self.now }
@@ -172,15 +269,65 @@ impl ByKey {
         self.find(key).is_some() || self.is_key_of_last(ops, key)
     }
 
-    /// The places of the sets in it that give the key no value.
-    pub(crate) fn others(&self, alloc: Global, key: &Key) -> Result<Members, NoMemory>
-        ensures { IfOk result (λ others. (ops : List Op) → AreByKey ops self.now
-            → others ≡ of_other_keys ops key.now self.now.len) }
+    /// Is one of the changes that aren't in it a drop at one of these places?
+    fn is_last_drop_at(&self, ops: &[SharedOp], members: &Members) -> bool
+        requires few { length ops.now < 2 ^ 32 }
+        ensures { MatchBool result
+            ((place : ℕ) × (is_drop_at ops.now place ≡ true) × (has members.now place ≡ true))
+            ((place : ℕ) → self.now.len ≤ place → place < length ops.now
+            → is_drop_at ops.now place ≡ true → has members.now place ≡ false) }
     {
-        let all = Members::first_places(alloc, self.len)?;
-        match self.find(key) {
-            Some(i) => all.without(alloc, &self.keys[i].places),
-            None => Ok(all),
+        for place in self.len..ops.len() as u32 {
+            if is_drop(&ops[place as usize].body) && members.has(place) {
+                return true;
+            }
         }
+        false
+    }
+
+    /// Is one of the changes a drop at one of these places? Goes by words of 64 places over the drops
+    /// in it, and over the changes that aren't in it.
+    pub(crate) fn has_drop_at(&self, ops: &[SharedOp], members: &Members) -> bool
+        requires few { length ops.now < 2 ^ 32 }
+        requires keys { AreByKey ops.now self.now }
+        ensures { result ≡ list_any (is_drop_at ops.now) members.now }
+    {
+        self.drops.intersects(members) || self.is_last_drop_at(ops, members)
+    }
+
+    /// Puts in the places under the key: those of the changes in it that give the key a value, and maybe
+    /// of the next one. One look-up.
+    fn insert_puts(&self, key: &Key, members: &mut Members) -> Result<(), NoMemory>
+        ensures { OnOk result ((ops : List Op) (place : ℕ) → AreByKey ops self.now
+            → place < self.now.len
+            → has members.new place ≡ (has members.old place || of_key ops key.now place)) }
+    {
+        match self.find(key) {
+            Some(i) => members.insert_all(&self.keys[i].places),
+            None => Ok(()),
+        }
+    }
+
+    /// The places of the changes in it that are drops or give one of the keys a value, and maybe of the
+    /// next one.
+    fn drops_and_puts(&self, alloc: Global, pairs: &[(Key, Value)]) -> Result<Members, NoMemory>
+        ensures { IfOk result (λ found. (ops : List Op) (place : ℕ) → AreByKey ops self.now
+            → place < self.now.len → has found place ≡ is_drop_or_gives ops pairs.now place) }
+    {
+        let mut found = self.drops.copy(alloc)?;
+        for pair in pairs {
+            self.insert_puts(&pair.0, &mut found)?;
+        }
+        Ok(found)
+    }
+
+    /// The places of the changes in it that are no drops and give none of the keys a value.
+    pub(crate) fn others(&self, alloc: Global, pairs: &[(Key, Value)]) -> Result<Members, NoMemory>
+        ensures { IfOk result (λ others. (ops : List Op) → AreByKey ops self.now
+            → others ≡ of_others ops pairs.now self.now.len) }
+    {
+        let first = Members::first_places(alloc, self.len)?;
+        let found = self.drops_and_puts(alloc, pairs)?;
+        first.without(alloc, &found)
     }
 }

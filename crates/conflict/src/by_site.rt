@@ -1,9 +1,9 @@
-//! The places of sets by the sites that they come from.
+//! The places of changes by the sites that they come from.
 
 ghost use Rattle.std.specs.Prelude.{◌≡◌, ℕ, ◌+◌, ◌<◌, ◌^◌, [], ◌∷◌, length, IfOk, OnOk, OnErr};
 ghost use Rattle.places.specs.Members.{with_all};
-ghost use Rattle.places.specs.Sets.{places_counted};
-ghost use Rattle.conflict.specs.Indexes.{counted_of, site_at, with_counted, with_new_site, with_set, with_set_at, AreBySite, AreInOrder, IsPlaceOf, IsRising};
+ghost use Rattle.places.specs.Changes.{places_counted};
+ghost use Rattle.conflict.specs.Indexes.{counted_of, site_at, with_counted, with_new_site, with_change, with_change_at, AreBySite, AreInOrder, IsPlaceOf, IsRising};
 
 use op_names::{NoMemory, OpName};
 use places::Members;
@@ -12,51 +12,51 @@ use state_vector::StateVector;
 use std::alloc::Global;
 use std::marker::Model;
 
-/// The sets of a site on an object.
+/// The changes of a site on an object.
 #[derive(Drop)]
-struct SiteSets {
+struct SiteChanges {
     site: u32,
     /// The number of each and its place, in order of arrival.
-    sets: Vec<(u32, u32)>,
+    changes: Vec<(u32, u32)>,
     places: Members,
 }
 
-impl Model for SiteSets {
+impl Model for SiteChanges {
     ghost use Rattle.conflict.specs.Indexes.{OfSite};
 
     ghost Value = { OfSite };
 
-    ghost view = { λ of. record { site = of.site; sets = of.sets.items; places = of.places } };
+    ghost view = { λ of. record { site = of.site; changes = of.changes.items; places = of.places } };
 }
 
-impl SiteSets {
-    /// The site's first set.
-    fn of_one(alloc: Global, name: OpName, place: u32) -> Result<SiteSets, NoMemory>
+impl SiteChanges {
+    /// The site's first change.
+    fn of_one(alloc: Global, name: OpName, place: u32) -> Result<SiteChanges, NoMemory>
         ensures { IfOk result (λ of. of
-            ≡ record { site = name.0; sets = (name.1, place) ∷ []; places = place ∷ [] }) }
+            ≡ record { site = name.0; changes = (name.1, place) ∷ []; places = place ∷ [] }) }
     {
-        let mut sets = Vec::new(alloc);
-        sets.push((name.seq(), place))?;
+        let mut changes = Vec::new(alloc);
+        changes.push((name.seq(), place))?;
         let places = Members::from_places(alloc, &[place])?;
-        Ok(SiteSets {
+        Ok(SiteChanges {
             site: name.site(),
-            sets,
+            changes,
             places,
         })
     }
 
-    /// Puts the next set in. On `NoMemory` all stays as it is.
+    /// Puts the next change in. On `NoMemory` all stays as it is.
     fn add(&mut self, number: u32, place: u32) -> Result<(), NoMemory>
-        ensures ok { OnOk result (self.new ≡ with_set number place self.old) }
+        ensures ok { OnOk result (self.new ≡ with_change number place self.old) }
         ensures err { OnErr result (self.new ≡ self.old) }
     {
-        self.sets.reserve(1)?;
+        self.changes.reserve(1)?;
         self.places.insert(place)?;
-        self.sets.push_reserved((number, place));
+        self.changes.push_reserved((number, place));
         Ok(())
     }
 
-    /// Puts the places of the sets in that a vector counts: all, or those before the first that it
+    /// Puts the places of the changes in that a vector counts: all, or those before the first that it
     /// doesn't count.
     fn insert_counted(
         &self,
@@ -68,21 +68,21 @@ impl SiteSets {
         ensures { OnOk result (known.new ≡ with_all known.old (counted_of seen.now self.now)) }
     {
         let number = seen.count(self.site);
-        let counted = self.sets.partition_point(|set| set.0 <= number);
-        if counted == self.sets.len() {
+        let counted = self.changes.partition_point(|change| change.0 <= number);
+        if counted == self.changes.len() {
             return known.insert_all(&self.places);
         }
-        let earlier = Members::first_places(alloc, self.sets[counted].1)?;
+        let earlier = Members::first_places(alloc, self.changes[counted].1)?;
         let places = self.places.intersection(alloc, &earlier)?;
         known.insert_all(&places)
     }
 }
 
-/// The first sets on an object, as many as `len`, by site.
+/// The first changes on an object, as many as `len`, by site.
 #[derive(Drop)]
 pub(crate) struct BySite {
     len: u32,
-    sites: Vec<SiteSets>,
+    sites: Vec<SiteChanges>,
 }
 
 impl Model for BySite {
@@ -108,14 +108,14 @@ impl BySite {
         ensures { let count = length self.now.sites
             in IsPlaceOf (λ i. (site_at self.now.sites i).site) count site result }
     {
-        self.sites.iter().position(|sets| sets.site == site)
+        self.sites.iter().position(|changes| changes.site == site)
     }
 
-    /// Puts the next set in, whose site stands there.
+    /// Puts the next change in, whose site stands there.
     fn grow(&mut self, i: usize, number: u32) -> Result<(), NoMemory>
         requires there { i < length self.old.sites }
         requires few { self.old.len + 1 < 2 ^ 32 }
-        ensures ok { OnOk result (self.new ≡ with_set_at i number self.old) }
+        ensures ok { OnOk result (self.new ≡ with_change_at i number self.old) }
         ensures err { OnErr result (self.new ≡ self.old) }
     {
         self.sites[i].add(number, self.len)?;
@@ -123,19 +123,19 @@ impl BySite {
         Ok(())
     }
 
-    /// Puts the next set in, the first of its site.
+    /// Puts the next change in, the first of its site.
     fn begin(&mut self, alloc: Global, name: OpName) -> Result<(), NoMemory>
         requires few { self.old.len + 1 < 2 ^ 32 }
         ensures ok { OnOk result (self.new ≡ with_new_site name self.old) }
         ensures err { OnErr result (self.new ≡ self.old) }
     {
-        let sets = SiteSets::of_one(alloc, name, self.len)?;
-        self.sites.push(sets)?;
+        let changes = SiteChanges::of_one(alloc, name, self.len)?;
+        self.sites.push(changes)?;
         self.len += 1;
         Ok(())
     }
 
-    /// Puts the next set in.
+    /// Puts the next change in.
     fn add(&mut self, alloc: Global, ops: &[SharedOp]) -> Result<(), NoMemory>
         requires more { self.old.len < length ops.now }
         requires few { length ops.now < 2 ^ 32 }
@@ -150,7 +150,7 @@ impl BySite {
         }
     }
 
-    /// Puts the sets in that have come since. On `NoMemory` some of them are in.
+    /// Puts the changes in that have come since. On `NoMemory` some of them are in.
     pub(crate) fn catch_up(&mut self, alloc: Global, ops: &[SharedOp]) -> Result<(), NoMemory>
         requires few { length ops.now < 2 ^ 32 }
         requires sites { AreBySite ops.now self.old }
@@ -162,19 +162,19 @@ impl BySite {
         Ok(())
     }
 
-    /// The places of the sets in it that a vector counts: one look-up for each site.
+    /// The places of the changes in it that a vector counts: one look-up for each site.
     fn counted_places(&self, alloc: Global, seen: &StateVector) -> Result<Members, NoMemory>
         requires { (i : ℕ) → i < length self.now.sites → IsRising (site_at self.now.sites i) }
         ensures { IfOk result (λ counted. counted ≡ with_counted seen.now [] self.now.sites) }
     {
         let mut counted = Members::empty(alloc);
-        for sets in &self.sites {
-            sets.insert_counted(alloc, seen, &mut counted)?;
+        for changes in &self.sites {
+            changes.insert_counted(alloc, seen, &mut counted)?;
         }
         Ok(counted)
     }
 
-    /// The places of the sets that a vector counts: by the sites, and then the last sets one by one.
+    /// The places of the changes that a vector counts: by the sites, and then the last changes one by one.
     pub(crate) fn known_places(
         &self,
         alloc: Global,

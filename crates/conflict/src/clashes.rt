@@ -1,11 +1,11 @@
-//! The sets on an object, and which of them are in conflict.
+//! The changes on an object, and which of them are in conflict.
 
 ghost use Rattle.std.specs.Prelude.{◌≡◌, ◌<◌, [], ◌∷◌, ◌++◌, length, filter, nat_lt, bytes_eq, if◌then◌else◌, vec_capacity, vec_len, All, IsOk, IfOk, OnOk, OnErr};
 ghost use Rattle.std.specs.List.{list_any};
-ghost use Rattle.rules.specs.Bodies.{differ_on_a_key, keys_in};
+ghost use Rattle.rules.specs.Bodies.{is_drop_body, keys_in};
 ghost use Rattle.places.specs.Members.{has, places, with_place};
-ghost use Rattle.conflict.specs.Rows.{conflicts_below, differs_at, direct_places, earlier_conflicts, is_in_row, with_those};
-ghost use Rattle.places.specs.Sets.{at, base_places, clash_of, new_conflicts, places_counted, AreSetsOn, IsAddition};
+ghost use Rattle.conflict.specs.Rows.{at_odds_at, conflicts_below, direct_places, earlier_conflicts, is_in_row, with_those};
+ghost use Rattle.places.specs.Changes.{at, base_places, clash_of, new_conflicts, places_counted, AreChangesOn, IsAddition};
 
 use crate::by_key::ByKey;
 use crate::by_site::BySite;
@@ -18,30 +18,30 @@ use state_vector::StateVector;
 use std::alloc::Global;
 use std::marker::Model;
 
-/// The sets on an object in order of arrival, by their places, which count from 0. With each stand
-/// the places of its base. Which of the earlier sets it is in conflict with is worked out once, before
+/// The changes on an object in order of arrival, by their places, which count from 0. With each stand
+/// the places of its base. Which of the earlier changes it is in conflict with is worked out once, before
 /// it is put in.
 #[derive(Drop)]
 pub struct Clashes {
     object: OpName,
     ops: Vec<SharedOp>,
     bases: Vec<Members>,
-    /// For each set the places of the earlier ones that it is in conflict with.
+    /// For each change the places of the earlier ones that it is in conflict with.
     rows: Vec<Members>,
-    /// The places of the sets that are in conflict with an earlier one, in rising order.
+    /// The places of the changes that are in conflict with an earlier one, in rising order.
     in_conflict: Vec<u32>,
-    /// The places of the first sets by site and by key. Since `commit` takes no memory, a set is in
-    /// them only from the next `plan` on.
+    /// The places of the first changes by site; those of the puts by key, and of the drops. Since `commit`
+    /// takes no memory, a change is in them only from the next `plan` on.
     sites: BySite,
     keys: ByKey,
 }
 
 impl Model for Clashes {
     ghost use Rattle.std.specs.Prelude.{◌-◌, min, vec_capacity, vec_len};
-    ghost use Rattle.places.specs.Sets.{Sets};
+    ghost use Rattle.places.specs.Changes.{Changes};
     ghost use Rattle.conflict.specs.Stored.{AreStored};
 
-    ghost Value = { Sets };
+    ghost Value = { Changes };
 
     ghost view = { λ clashes. record {
       object = clashes.object;
@@ -57,25 +57,7 @@ impl Model for Clashes {
         clashes.sites clashes.keys };
 }
 
-/// Do two sets give one key different values?
-fn differ_on_a_key(a: &Body, b: &Body) -> bool
-    ensures { result ≡ differ_on_a_key a.now b.now }
-{
-    let Body::Set { key, value, .. } = a else {
-        return false;
-    };
-    let Body::Set {
-        key: other_key,
-        value: other,
-        ..
-    } = b
-    else {
-        return false;
-    };
-    key == other_key && value != other
-}
-
-/// Puts a place last, where its set is in conflict with earlier ones. Takes no memory.
+/// Puts a place last, where its change is in conflict with earlier ones. Takes no memory.
 fn push_if_in_conflict(in_conflict: &mut Vec<u32>, place: u32, conflicts: usize)
     requires { vec_len in_conflict.old < vec_capacity in_conflict.old }
     ensures { in_conflict.new.items
@@ -100,7 +82,7 @@ fn insert_if(members: &mut Members, place: u32, is_in: bool) -> Result<(), NoMem
 }
 
 impl Clashes {
-    /// No sets on an object. It takes no memory yet.
+    /// No changes on an object. It takes no memory yet.
     pub fn new(alloc: Global, object: OpName) -> Result<Clashes, NoMemory>
         ensures certain { IsOk result }
         ensures object { IfOk result (λ clashes. clashes.object ≡ object) }
@@ -117,12 +99,15 @@ impl Clashes {
         })
     }
 
-    /// Works out what a set on the object needs to be put with these, and takes the memory for it,
-    /// so that `commit` can't fail; otherwise `NoMemory`. The set is before none of these in causal
-    /// order, it knows no others on the object, and it comes with the places of its base and of the
-    /// sets that it knows. The sets stay as they are. Takes time with the number of the sets that are
-    /// in conflict with an earlier one, of those of the same key that it doesn't know, and of those
-    /// from the first on that it is in direct conflict with; all else goes by words of 64 places.
+    /// Works out what a change on the object needs to be put with these, and takes the memory for it, so
+    /// that `commit` can't fail. Gives `NoMemory` where memory is refused. The changes stay as they are.
+    ///
+    /// The change is before none of these in causal order, and it knows no others on the object. It comes
+    /// with the places of its base and of the changes that it knows.
+    ///
+    /// Goes over the changes that are in conflict with an earlier one, and over all from its first direct
+    /// conflict on. Of the changes that it doesn't know, compares a put with the drops and the puts of its
+    /// keys, and a drop with all. All else goes by words of 64 places, for a put once for each key.
     pub fn plan(
         &mut self,
         alloc: Global,
@@ -130,8 +115,8 @@ impl Clashes {
         base: Members,
         known: &Members,
     ) -> Result<Addition, NoMemory>
-        // What is known of the set.
-        requires sets { AreSetsOn self.old.object (self.old.ops ++ op ∷ []) }
+        // What is known of the change.
+        requires changes { AreChangesOn self.old.object (self.old.ops ++ op ∷ []) }
         requires base { base ≡ base_places self.old.ops op }
         requires known { known.now ≡ places_counted self.old.ops op.seen }
         // What is planned.
@@ -139,7 +124,7 @@ impl Clashes {
         ensures ready { IfOk result (λ addition.
             IsAddition self.new.object self.new.ops addition) }
         ensures spare { OnOk result (0 < self.new.spare) }
-        // The sets stay as they are.
+        // The changes stay as they are.
         ensures object { self.new.object ≡ self.old.object }
         ensures ops { self.new.ops ≡ self.old.ops }
     {
@@ -149,7 +134,7 @@ impl Clashes {
         Ok(Addition::new(op, base, row))
     }
 
-    /// Puts a set with these that was planned for them. Takes no memory.
+    /// Puts a change with these that was planned for them. Takes no memory.
     pub fn commit(&mut self, addition: Addition)
         requires ready { IsAddition self.old.object self.old.ops addition }
         requires spare { 0 < self.old.spare }
@@ -157,7 +142,7 @@ impl Clashes {
         ensures ops { self.new.ops ≡ self.old.ops ++ addition.op ∷ [] }
     {
         let (op, base, row) = addition.into_parts();
-        // That the name is in range is part of what stays true of the sets: so there are few of them.
+        // That the name is in range is part of what stays true of the changes: so there are few of them.
         let name = op.name;
         let _ = name.site();
         let _ = name.seq();
@@ -169,12 +154,12 @@ impl Clashes {
         push_if_in_conflict(&mut self.in_conflict, place, conflicts);
     }
 
-    /// These sets and one that was planned for them, as a relation.
+    /// These changes and one that was planned for them, as a relation.
     pub fn with<'a>(&'a self, addition: &'a Addition) -> WithAddition<'a>
         requires { IsAddition self.now.object self.now.ops addition.now }
         ensures { result ≡ self.now.ops ++ addition.now.op ∷ [] }
     {
-        // What stays true of the sets, and the range of the name: there are few, also with one more.
+        // What stays true of the changes, and the range of the name: there are few, also with one more.
         let _ = &self.ops;
         let name = addition.op().name;
         let _ = name.site();
@@ -182,7 +167,7 @@ impl Clashes {
         WithAddition::new(self, addition)
     }
 
-    /// The places of the base of the set at a place.
+    /// The places of the base of the change at a place.
     pub fn base(&self, i: u32) -> &Members
         requires { i < length self.now.ops }
         ensures { result.now ≡ base_places self.now.ops (at self.now.ops i) }
@@ -190,24 +175,24 @@ impl Clashes {
         &self.bases[i as usize]
     }
 
-    /// The sets, in the order in which they were added. They are all sets on the object of some
+    /// The changes, in the order in which they were added. They are all changes on the object of some
     /// history, in causal order, and each has a base.
     pub fn ops(&self) -> &[SharedOp]
-        ensures sets { result.now ≡ self.now.ops }
-        ensures object { AreSetsOn self.now.object self.now.ops }
+        ensures changes { result.now ≡ self.now.ops }
+        ensures object { AreChangesOn self.now.object self.now.ops }
     {
         self.ops.as_slice()
     }
 
-    /// The places of the sets that a vector counts: one look-up for each site that they come from,
-    /// and for each set that came after the last `plan`.
+    /// The places of the changes that a vector counts: one look-up for each site that they come from,
+    /// and for each change that came after the last `plan`.
     pub fn known_places(&self, alloc: Global, seen: &StateVector) -> Result<Members, NoMemory>
         ensures { IfOk result (λ known. known ≡ places_counted self.now.ops seen.now) }
     {
         self.sites.known_places(alloc, &self.ops, seen)
     }
 
-    /// Does one of the sets give the key a value? Goes over the different keys, and over the sets that
+    /// Does one of the changes give the key a value? Goes over the different keys, and over the changes that
     /// came after the last `plan`.
     pub fn has_key(&self, key: &Key) -> bool
         ensures { result
@@ -216,7 +201,16 @@ impl Clashes {
         self.keys.has(&self.ops, key)
     }
 
-    /// Takes the memory for one set more. The sets stay as they are.
+    /// Is there a drop at one of these places? Goes by words of 64 places over the drops, and over the
+    /// changes that came after the last `plan`.
+    pub fn has_drop_at(&self, members: &Members) -> bool
+        ensures { result
+            ≡ list_any (λ place. is_drop_body (at self.now.ops place).body) members.now }
+    {
+        self.keys.has_drop_at(&self.ops, members)
+    }
+
+    /// Takes the memory for one change more. The changes stay as they are.
     fn reserve(&mut self) -> Result<(), NoMemory>
         ensures spare { OnOk result (0 < self.new.spare) }
         ensures object { self.new.object ≡ self.old.object }
@@ -229,7 +223,7 @@ impl Clashes {
         Ok(())
     }
 
-    /// Brings the places by site and by key up to date. For a caller all stays as it is.
+    /// Brings the places by site, by key and of drops up to date. For a caller all stays as it is.
     fn catch_up(&mut self, alloc: Global) -> Result<(), NoMemory>
         ensures { self.new ≡ self.old }
     {
@@ -237,24 +231,24 @@ impl Clashes {
         self.keys.catch_up(alloc, &self.ops)
     }
 
-    /// The set at a place.
-    fn set_at(&self, place: u32) -> &Op
+    /// The change at a place.
+    fn change_at(&self, place: u32) -> &Op
         requires { place < length self.now.ops }
         ensures { result.now ≡ at self.now.ops place }
     {
         &self.ops[place as usize]
     }
 
-    /// The places below one whose sets are in conflict with the set at it.
+    /// The places below one whose changes are in conflict with the change at it.
     fn row_at(&self, place: u32) -> &Members
         requires { place < length self.now.ops }
         ensures row { result.now ≡ earlier_conflicts self.now.ops place }
-        ensures sets { AreSetsOn self.now.object self.now.ops }
+        ensures changes { AreChangesOn self.now.object self.now.ops }
     {
         &self.rows[place as usize]
     }
 
-    /// Are the sets at two places in conflict?
+    /// Are the changes at two places in conflict?
     fn are_in_conflict(&self, first: u32, second: u32) -> bool
         requires first { first < length self.now.ops }
         requires second { second < length self.now.ops }
@@ -267,23 +261,29 @@ impl Clashes {
         }
     }
 
-    /// Some places with those of the others whose sets give one key a different value than a set.
-    fn with_differing(&self, direct: Members, op: &Op, places: &[u32]) -> Result<Members, NoMemory>
+    /// Some places with those of the others whose changes are at odds with a change.
+    fn with_those_at_odds(
+        &self,
+        direct: Members,
+        op: &Op,
+        places: &[u32],
+    ) -> Result<Members, NoMemory>
         requires { All (λ place. place < length self.now.ops) places.now }
         ensures { IfOk result (λ all. all
-            ≡ with_those (differs_at self.now.ops op.now.body) direct places.now) }
+            ≡ with_those (at_odds_at self.now.ops op.now.body) direct places.now) }
     {
         let mut all = direct;
         for place in places {
-            let differs = differ_on_a_key(&op.body, &self.set_at(*place).body);
-            insert_if(&mut all, *place, differs)?;
+            let at_odds = op.body.is_at_odds(&self.change_at(*place).body);
+            insert_if(&mut all, *place, at_odds)?;
         }
         Ok(all)
     }
 
-    /// Some places without those of which it is known that their sets give another key than the body
-    /// a value. It is not known of the sets that came after the last `plan`.
-    fn without_other_keys(
+    /// Of some places those whose changes may be at odds with the body. For a put these are the drops, the
+    /// puts of one of its keys, and the changes that came after the last `plan`. For a drop these are all,
+    /// for a creation none. Looks up each key of a put once.
+    fn that_may_be_at_odds(
         &self,
         alloc: Global,
         body: &Body,
@@ -293,21 +293,21 @@ impl Clashes {
         ensures within { IfOk result (λ candidates.
             All (λ place. place < length self.now.ops) candidates) }
         ensures same { IfOk result (λ candidates.
-            filter (differs_at self.now.ops body.now) candidates
-            ≡ filter (differs_at self.now.ops body.now) unknown.now) }
+            filter (at_odds_at self.now.ops body.now) candidates
+            ≡ filter (at_odds_at self.now.ops body.now) unknown.now) }
     {
         match body {
-            Body::Set { key, .. } => {
-                let others = self.keys.others(alloc, key)?;
+            Body::Put { pairs, .. } => {
+                let others = self.keys.others(alloc, pairs.pairs())?;
                 unknown.without(alloc, &others)
             }
+            Body::DropVersion { .. } => unknown.copy(alloc),
             Body::New { .. } => Ok(Members::empty(alloc)),
         }
     }
 
-    /// The places of the sets that are in direct conflict with a set that is to be added: of those
-    /// that it knows the ones outside its base, and of the others those that give its key a different
-    /// value.
+    /// The places of the changes that are in direct conflict with a change that is to be added. Of those
+    /// that it knows these are the ones outside its base, and of the others those at odds with it.
     fn direct_conflicts(
         &self,
         alloc: Global,
@@ -315,20 +315,20 @@ impl Clashes {
         based: &Members,
         known: &Members,
     ) -> Result<Members, NoMemory>
-        requires sets { AreSetsOn self.now.object (self.now.ops ++ op.now ∷ []) }
+        requires changes { AreChangesOn self.now.object (self.now.ops ++ op.now ∷ []) }
         requires base { based.now ≡ base_places self.now.ops op.now }
         requires known { known.now ≡ places_counted self.now.ops op.now.seen }
         ensures { IfOk result (λ direct. direct ≡ direct_places self.now.ops op.now) }
     {
         let all = Members::first_places(alloc, self.ops.len() as u32)?;
         let unknown = all.without(alloc, known)?;
-        let candidates = self.without_other_keys(alloc, &op.body, &unknown)?;
+        let candidates = self.that_may_be_at_odds(alloc, &op.body, &unknown)?;
         let others = candidates.list(alloc)?;
         let direct = known.without(alloc, based)?;
-        self.with_differing(direct, op, &others)
+        self.with_those_at_odds(direct, op, &others)
     }
 
-    /// The places of the sets that are in conflict with one of those at some places.
+    /// The places of the changes that are in conflict with one of those at some places.
     pub(crate) fn conflicting_places(
         &self,
         alloc: Global,
@@ -340,7 +340,7 @@ impl Clashes {
         union_of_rows(alloc, &self.rows, &self.in_conflict, scope)
     }
 
-    /// Is the set at a place, or one in its base, at one of the places of the direct conflicts?
+    /// Is the change at a place, or one in its base, at one of the places of the direct conflicts?
     fn has_direct_conflict(&self, direct: &Members, place: u32) -> bool
         requires { place < length self.now.ops }
         ensures { let base = base_places self.now.ops (at self.now.ops place)
@@ -349,8 +349,8 @@ impl Clashes {
         direct.has(place) || direct.intersects(self.base(place))
     }
 
-    /// The places of the sets that are in conflict with a set that is to be added, where it is in
-    /// direct conflict with these and is based on those. No set is based on a later one: so before the
+    /// The places of the changes that are in conflict with a change that is to be added, where it is in
+    /// direct conflict with these and is based on those. No change is based on a later one: so before the
     /// lowest direct conflict only those are in conflict that the base is in conflict with.
     fn row_from(
         &self,
@@ -373,7 +373,7 @@ impl Clashes {
         Ok(row)
     }
 
-    /// The places of the sets that are in conflict with a set that is to be added, which is based on
+    /// The places of the changes that are in conflict with a change that is to be added, which is based on
     /// these and knows those.
     fn row(
         &self,
@@ -382,7 +382,7 @@ impl Clashes {
         based: &Members,
         known: &Members,
     ) -> Result<Members, NoMemory>
-        requires sets { AreSetsOn self.now.object (self.now.ops ++ op.now ∷ []) }
+        requires changes { AreChangesOn self.now.object (self.now.ops ++ op.now ∷ []) }
         requires base { based.now ≡ base_places self.now.ops op.now }
         requires known { known.now ≡ places_counted self.now.ops op.now.seen }
         ensures { IfOk result (λ row. row ≡ new_conflicts self.now.ops op.now) }
@@ -395,20 +395,20 @@ impl Clashes {
 impl Relation for Clashes {
     ghost use Rattle.std.specs.Prelude.{length};
     ghost use Rattle.rules.specs.Conflicts.{conflict};
-    ghost use Rattle.places.specs.Sets.{at};
+    ghost use Rattle.places.specs.Changes.{at};
 
-    ghost size = { λ sets. length sets.ops };
+    ghost size = { λ changes. length changes.ops };
 
-    ghost name_at = { λ sets i. (at sets.ops i).name };
+    ghost name_at = { λ changes i. (at changes.ops i).name };
 
-    ghost clashes = { λ sets i j. conflict sets.ops (at sets.ops i) (at sets.ops j) };
+    ghost clashes = { λ changes i j. conflict changes.ops (at changes.ops i) (at changes.ops j) };
 
     fn len(&self) -> u32 {
         self.ops.len() as u32
     }
 
     fn name(&self, i: u32) -> OpName {
-        self.set_at(i).name
+        self.change_at(i).name
     }
 
     fn clash(&self, i: u32, j: u32) -> bool {

@@ -1,4 +1,4 @@
-//! The sets on an object by their places, and the conflicts between them.
+//! The changes on an object by their places, and the conflicts between them.
 #![tactic(auto)]
 
 mod addition;

@@ -1,5 +1,5 @@
 pub mod Fronts
-pub mod WithSets
+pub mod WithChanges
 pub mod Lookup
 pub mod NewNames
 pub mod OneMore

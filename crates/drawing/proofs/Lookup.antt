@@ -7,7 +7,7 @@ use Rattle.op_names.specs.Names.{Name, same_name}
 use Rattle.rules.specs.declared.history.Op.{Op}
 use Rattle.rules.specs.declared.history.Entry.{Entry}
 use Rattle.rules.specs.declared.limits.LimitValues.{LimitValues}
-use Rattle.rules.specs.Bodies.{is_set_body}
+use Rattle.rules.specs.Bodies.{is_change_body}
 use Rattle.rules.specs.Operations.{before, creation_of, is_creation_of, object_of}
 use Rattle.rules.specs.Conflicts.{has_object}
 use Rattle.rules.specs.Records.{operations, objects}
@@ -15,8 +15,8 @@ use Rattle.rules.proofs.Counted.{same_name-true}
 use Rattle.rules.proofs.Lists.{Contains-from_In, find_agree, find_is}
 use Rattle.state_vector.specs.Vectors.{counts}
 use Rattle.shape.specs.Objects.{Object, Stored, IsOf}
-use Rattle.drawing.specs.Objects.{object_with_sets, objects_with_sets, without_spare}
-use Rattle.drawing.proofs.WithSets.{objects_with_sets_at, same_name-sym}
+use Rattle.drawing.specs.Objects.{object_with_changes, objects_with_changes, without_spare}
+use Rattle.drawing.proofs.WithChanges.{objects_with_changes_at, same_name-sym}
 
 lookup_without_spare : (t : Name → Bool) (shapes : List (Name × Stored)) → option_map (λ (d : Stored). d.object) (lookup t shapes) ≡ lookup t (without_spare shapes)
 lookup_without_spare t [] = refl
@@ -26,11 +26,11 @@ lookup_without_spare t (s ∷ ss) = step (t s.0) (lookup_without_spare t ss)
     step true e = refl
     step false e = e
 
-lookup_at : (t : Name → Bool) (l : LimitValues) (h cs : List Op) → lookup t (objects_with_sets_at l h cs) ≡ option_map (object_with_sets l h) (find (λ c. t c.name) cs)
+lookup_at : (t : Name → Bool) (l : LimitValues) (h cs : List Op) → lookup t (objects_with_changes_at l h cs) ≡ option_map (object_with_changes l h) (find (λ c. t c.name) cs)
 lookup_at t l h [] = refl
 lookup_at t l h (c ∷ cs) = step (t c.name) (lookup_at t l h cs)
   where
-    step : (b : Bool) → lookup t (objects_with_sets_at l h cs) ≡ option_map (object_with_sets l h) (find (λ c. t c.name) cs) → cond b (Some (object_with_sets l h c)) (lookup t (objects_with_sets_at l h cs)) ≡ option_map (object_with_sets l h) (cond b (Some c) (find (λ c. t c.name) cs))
+    step : (b : Bool) → lookup t (objects_with_changes_at l h cs) ≡ option_map (object_with_changes l h) (find (λ c. t c.name) cs) → cond b (Some (object_with_changes l h c)) (lookup t (objects_with_changes_at l h cs)) ≡ option_map (object_with_changes l h) (cond b (Some c) (find (λ c. t c.name) cs))
     step true e = refl
     step false e = e
 
@@ -42,22 +42,22 @@ find_filter p q (x ∷ xs) = step (p x) (find_filter p q xs)
     step true e = ap (λ o. cond (q x) (Some x) o) e
     step false e = e
 
-module _ (l : LimitValues) (r : List Entry) (shapes : List (Name × Stored)) (are : without_spare shapes ≡ objects_with_sets l r) where
+module _ (l : LimitValues) (r : List Entry) (shapes : List (Name × Stored)) (are : without_spare shapes ≡ objects_with_changes l r) where
   abbrev h : List Op
   h = operations r
 
   module _ (object : Name) where
-    shape_at : option_map (λ (d : Stored). d.object) (lookup (same_name object) shapes) ≡ option_map (object_with_sets l h) (creation_of h object)
+    shape_at : option_map (λ (d : Stored). d.object) (lookup (same_name object) shapes) ≡ option_map (object_with_changes l h) (creation_of h object)
     shape_at =
         lookup_without_spare (same_name object) shapes
         ∙ ap (lookup (same_name object)) are
         ∙ lookup_at (same_name object) l h (objects r)
-        ∙ ap (option_map (object_with_sets l h)) (
-        find_filter (λ op. not (is_set_body op.body)) (λ c. same_name object c.name) h
-        ∙ find_agree (λ x. not (is_set_body x.body) && same_name object x.name) (is_creation_of object) h (λ x m. ap (λ b. not (is_set_body x.body) && b) (same_name-sym object x.name))
+        ∙ ap (option_map (object_with_changes l h)) (
+        find_filter (λ op. not (is_change_body op.body)) (λ c. same_name object c.name) h
+        ∙ find_agree (λ x. not (is_change_body x.body) && same_name object x.name) (is_creation_of object) h (λ x m. ap (λ b. not (is_change_body x.body) && b) (same_name-sym object x.name))
         )
 
-    none_by : (q : Option Op) → option_map (object_with_sets l h) q ≡ None → q ≡ None
+    none_by : (q : Option Op) → option_map (object_with_changes l h) q ≡ None → q ≡ None
     none_by None e = refl
     none_by (Some c) e = cc
 
@@ -70,9 +70,9 @@ module _ (l : LimitValues) (r : List Entry) (shapes : List (Name × Stored)) (ar
     none_created e = none_by (creation_of h object) (sym shape_at ∙ ap (option_map (λ (d : Stored). d.object)) e)
 
     pub none_there : creation_of h object ≡ None → lookup (same_name object) shapes ≡ None
-    none_there e = none_of (lookup (same_name object) shapes) (shape_at ∙ ap (option_map (object_with_sets l h)) e)
+    none_there e = none_of (lookup (same_name object) shapes) (shape_at ∙ ap (option_map (object_with_changes l h)) e)
 
-    some_by : (q : Option Op) (x : Object) → option_map (object_with_sets l h) q ≡ Some x → (c : Op) × (q ≡ Some c) × (object_with_sets l h c ≡ x)
+    some_by : (q : Option Op) (x : Object) → option_map (object_with_changes l h) q ≡ Some x → (c : Op) × (q ≡ Some c) × (object_with_changes l h c ≡ x)
     some_by None x e = cc
     some_by (Some c) x e = (c, refl, cc)
 
@@ -87,15 +87,15 @@ module _ (l : LimitValues) (r : List Entry) (shapes : List (Name × Stored)) (ar
     is_there d e =
         let c = some_by (creation_of h object) d.object (sym shape_at ∙ ap (option_map (λ (d : Stored). d.object)) e) in
         let f = find_is (is_creation_of object) c.0 h c.1 in
-        let p = and_parts (not (is_set_body c.0.body)) (same_name c.0.name object) f.1 in
+        let p = and_parts (not (is_change_body c.0.body)) (same_name c.0.name object) f.1 in
         subst IsThere c.2 (record {
           creation = c.1;
-          of_history = record { created = not-true (is_set_body c.0.body) p.0; there = Contains-from_In c.0 h f.0; all = refl };
+          of_history = record { created = not-true (is_change_body c.0.body) p.0; there = Contains-from_In c.0 h f.0; all = refl };
           named = same_name-true c.0.name object p.1;
           bounds = refl;
         })
 
-    some_is : (q : Option Stored) (p : Option Op) → option_map (λ (d : Stored). d.object) q ≡ option_map (object_with_sets l h) p → is_some q ≡ is_some p
+    some_is : (q : Option Stored) (p : Option Op) → option_map (λ (d : Stored). d.object) q ≡ option_map (object_with_changes l h) p → is_some q ≡ is_some p
     some_is None None e = refl
     some_is None (Some c) e = cc
     some_is (Some d) None e = cc
@@ -112,9 +112,9 @@ module _ (l : LimitValues) (r : List Entry) (shapes : List (Name × Stored)) (ar
   pub listed : {X : Type 0} (f : Name → Op → X) → map (λ (s : Name × Stored). f s.0 s.1.object.creation) shapes ≡ map (λ (c : Op). f c.name c) (objects r)
   listed {X} f =
       let g : Name × Object → X = λ p. f p.0 p.1.creation in
-      sym (map_map g (λ (s : Name × Stored). (s.0, s.1.object)) shapes) ∙ ap (map g) are ∙ map_map g (λ c. (c.name, object_with_sets l h c)) (objects r)
+      sym (map_map g (λ (s : Name × Stored). (s.0, s.1.object)) shapes) ∙ ap (map g) are ∙ map_map g (λ c. (c.name, object_with_changes l h c)) (objects r)
 
--- a set has its object where it counts the name and there is such a creation
+-- a change has its object where it counts the name and there is such a creation
 pub has_object_by_name : (h : List Op) (o : Op) → has_object h o ≡ (counts o.seen (object_of o) && is_some (creation_of h (object_of o)))
 has_object_by_name [] o = sym (none (counts o.seen (object_of o)))
   where
@@ -123,7 +123,7 @@ has_object_by_name [] o = sym (none (counts o.seen (object_of o)))
     none false = refl
 has_object_by_name (x ∷ h) o = elim (cases_Bool (is_creation_of (object_of o) x)) [
   | inl t ↦
-      (let named : x.name ≡ object_of o = same_name-true x.name (object_of o) (and_parts (not (is_set_body x.body)) (same_name x.name (object_of o)) t).1 in
+      (let named : x.name ≡ object_of o = same_name-true x.name (object_of o) (and_parts (not (is_change_body x.body)) (same_name x.name (object_of o)) t).1 in
       ap (λ b. (b && before x o) || has_object h o) t
       ∙ ap (λ (n : Name). counts o.seen n || has_object h o) named
       ∙ step (counts o.seen (object_of o)) (is_some (creation_of h (object_of o))) (has_object h o) (has_object_by_name h o)

@@ -1,4 +1,4 @@
--- What one more entry does to the objects of a record with their sets.
+-- What one more entry does to the objects of a record with their changes.
 use Rattle.std.proofs.Common.{◌≡◌, ℕ, ◌+◌, true, false, not, List, [], ◌∷◌, ◌++◌, length, sym, ap, ◌∙◌, Some, cond}
 use Rattle.std.specs.Prelude.{filter}
 use Rattle.std.specs.List.{IsDistinct}
@@ -9,43 +9,43 @@ use Rattle.rules.specs.declared.history.Op.{Op}
 use Rattle.rules.specs.declared.history.Entry.{Entry}
 use Rattle.rules.specs.declared.history.Entry.TheVariants.{Join, Operation}
 use Rattle.rules.specs.declared.limits.LimitValues.{LimitValues}
-use Rattle.rules.specs.Bodies.{is_set_body}
-use Rattle.rules.specs.Operations.{is_set_on, object_of}
+use Rattle.rules.specs.Bodies.{is_change_body}
+use Rattle.rules.specs.Operations.{is_change_on, object_of}
 use Rattle.rules.specs.Records.{objects, operations}
 use Rattle.rules.proofs.Lists.{In}
 use Rattle.rules.proofs.Records.{filter-push, objects-creation, objects-join, operations-join, operations-push}
-use Rattle.shape.specs.Objects.{Stored, with_set}
-use Rattle.drawing.specs.Objects.{objects_with_sets, without_spare}
-use Rattle.drawing.proofs.WithSets.{objects_with_sets_at, objects_with_sets_push, objects_with_sets_set}
+use Rattle.shape.specs.Objects.{Stored, with_change}
+use Rattle.drawing.specs.Objects.{objects_with_changes, without_spare}
+use Rattle.drawing.proofs.WithChanges.{objects_with_changes_at, objects_with_changes_push, objects_with_changes_set}
 
--- a set creates nothing
-pub objects-set : (r : List Entry) (o : Op) → is_set_body o.body ≡ true → objects (r ++ Operation o ∷ []) ≡ objects r
-objects-set r o t =
-    ap (λ (h : List Op). filter (λ op. not (is_set_body op.body)) h) (operations-push r o)
-    ∙ filter-push (λ (op : Op). not (is_set_body op.body)) (operations r) o
+-- a change creates nothing
+pub objects-change : (r : List Entry) (o : Op) → is_change_body o.body ≡ true → objects (r ++ Operation o ∷ []) ≡ objects r
+objects-change r o t =
+    ap (λ (h : List Op). filter (λ op. not (is_change_body op.body)) h) (operations-push r o)
+    ∙ filter-push (λ (op : Op). not (is_change_body op.body)) (operations r) o
     ∙ ap (λ b. objects r ++ cond (not b) (o ∷ []) []) t
     ∙ append-nil (objects r)
 
 -- a creation creates one object
-pub length-objects-creation : (r : List Entry) (o : Op) → is_set_body o.body ≡ false → length (objects (r ++ Operation o ∷ [])) ≡ length (objects r) + 1
+pub length-objects-creation : (r : List Entry) (o : Op) → is_change_body o.body ≡ false → length (objects (r ++ Operation o ∷ [])) ≡ length (objects r) + 1
 length-objects-creation r o f = ap length (objects-creation r o f) ∙ length_push (objects r) o
 
-module _ (l : LimitValues) (r : List Entry) (shapes : List (Name × Stored)) (are : without_spare shapes ≡ objects_with_sets l r) where
+module _ (l : LimitValues) (r : List Entry) (shapes : List (Name × Stored)) (are : without_spare shapes ≡ objects_with_changes l r) where
   -- a join changes none
-  pub with_join : (site : ℕ) → without_spare shapes ≡ objects_with_sets l (r ++ Join site ∷ [])
-  with_join site = are ∙ (λ i. objects_with_sets_at l (sym (operations-join r site) i) (sym (objects-join r site) i))
+  pub with_join : (site : ℕ) → without_spare shapes ≡ objects_with_changes l (r ++ Join site ∷ [])
+  with_join site = are ∙ (λ i. objects_with_changes_at l (sym (operations-join r site) i) (sym (objects-join r site) i))
 
   -- a creation's object goes last
-  pub with_creation : (o : Op) (d : Stored) → is_set_body o.body ≡ false → ((x : Op) → In x (operations r) → is_set_on o.name x ≡ false) → d.object ≡ record { limits = l; creation = o; sets = [] }
-      → without_spare (shapes ++ (o.name, d) ∷ []) ≡ objects_with_sets l (r ++ Operation o ∷ [])
+  pub with_creation : (o : Op) (d : Stored) → is_change_body o.body ≡ false → ((x : Op) → In x (operations r) → is_change_on o.name x ≡ false) → d.object ≡ record { limits = l; creation = o; changes = [] }
+      → without_spare (shapes ++ (o.name, d) ∷ []) ≡ objects_with_changes l (r ++ Operation o ∷ [])
   with_creation o d creates none made =
-      objects_with_sets_push l (operations r) o (objects r) shapes d creates none are made
-      ∙ (λ i. objects_with_sets_at l (sym (operations-push r o) i) (sym (objects-creation r o creates) i))
+      objects_with_changes_push l (operations r) o (objects r) shapes d creates none are made
+      ∙ (λ i. objects_with_changes_at l (sym (operations-push r o) i) (sym (objects-creation r o creates) i))
 
-  -- the object of a set takes it
-  pub with_set_on : (o : Op) (d w : Stored) → is_set_body o.body ≡ true → IsDistinct same_name (keys_of shapes)
-      → lookup (same_name (object_of o)) shapes ≡ Some d → w.object ≡ with_set d.object o
-      → without_spare (set_value (same_name (object_of o)) shapes w) ≡ objects_with_sets l (r ++ Operation o ∷ [])
-  with_set_on o d w sets unique there taken =
-      objects_with_sets_set l (operations r) o d w shapes (objects r) sets unique are there taken
-      ∙ (λ i. objects_with_sets_at l (sym (operations-push r o) i) (sym (objects-set r o sets) i))
+  -- the object of a change takes it
+  pub with_change_on : (o : Op) (d w : Stored) → is_change_body o.body ≡ true → IsDistinct same_name (keys_of shapes)
+      → lookup (same_name (object_of o)) shapes ≡ Some d → w.object ≡ with_change d.object o
+      → without_spare (set_value (same_name (object_of o)) shapes w) ≡ objects_with_changes l (r ++ Operation o ∷ [])
+  with_change_on o d w changes unique there taken =
+      objects_with_changes_set l (operations r) o d w shapes (objects r) changes unique are there taken
+      ∙ (λ i. objects_with_changes_at l (sym (operations-push r o) i) (sym (objects-change r o changes) i))

@@ -11,22 +11,22 @@ use Rattle.rules.specs.declared.history.Entry.TheVariants.{Join, Operation}
 use Rattle.rules.specs.declared.refusal.Refusal.TheVariants.{TooManyObjects}
 use Rattle.rules.specs.declared.limits.LimitValues.{LimitValues}
 use Rattle.rules.specs.Admission.{count_at_site, first_that_applies}
-use Rattle.rules.specs.Bodies.{is_set_body}
+use Rattle.rules.specs.Bodies.{is_change_body}
 use Rattle.rules.specs.Operations.{object_of}
-use Rattle.rules.specs.Records.{operations, objects, creation_conditions, set_conditions}
+use Rattle.rules.specs.Records.{operations, objects, creation_conditions, change_conditions}
 use Rattle.rules.proofs.Conditions.{not_first}
 use Rattle.rules.proofs.Founded.{HasGround, founded_push, ground_if}
 use Rattle.rules.proofs.Histories.{IsNumbered, follows_if}
 use Rattle.rules.proofs.Records.{operations-join, operations-push, objects-join}
-use Rattle.shape.specs.Objects.{Stored, with_set}
+use Rattle.shape.specs.Objects.{Stored, with_change}
 use Rattle.shape.proofs.Next.{next_history, next_ordered, numbered_if}
 use Rattle.drawing.specs.Additions.{IsNext, body_refusal}
 use Rattle.drawing.specs.Drawing.{IsReplay, IsSound}
 use Rattle.drawing.specs.Room.{Room}
 use Rattle.drawing.proofs.Lookup.{none_there}
-use Rattle.drawing.proofs.NewNames.{no_set_yet, not_created}
-use Rattle.drawing.proofs.OneMore.{length-objects-creation, objects-set, with_creation, with_join, with_set_on}
-use Rattle.drawing.proofs.WithSets.{objects_with_sets_same}
+use Rattle.drawing.proofs.NewNames.{no_change_yet, not_created}
+use Rattle.drawing.proofs.OneMore.{length-objects-creation, objects-change, with_creation, with_join, with_change_on}
+use Rattle.drawing.proofs.WithChanges.{objects_with_changes_same}
 
 -- the room with one more entry
 abbrev pub more : Room → Entry → Room
@@ -36,14 +36,14 @@ more room entry = record { limits = room.limits; entries = room.entries ++ entry
 
 module _ (room : Room) (o : Op) where
   abbrev of_body : Bool → Type 0
-  of_body b = first_that_applies (cond b (set_conditions room.limits (operations room.entries) o) (creation_conditions room.limits room.entries)) ≡ None
+  of_body b = first_that_applies (cond b (change_conditions room.limits (operations room.entries) o) (creation_conditions room.limits room.entries)) ≡ None
 
-  -- a set that isn't refused has its object and its base
-  pub ground : body_refusal room o ≡ None → is_set_body o.body ≡ true → HasGround (operations room.entries) o
-  ground allowed set = ground_if room.limits (operations room.entries) o (subst of_body set allowed)
+  -- a change that isn't refused has its object and its base
+  pub ground : body_refusal room o ≡ None → is_change_body o.body ≡ true → HasGround (operations room.entries) o
+  ground allowed change = ground_if room.limits (operations room.entries) o (subst of_body change allowed)
 
   -- a creation that isn't finds room for an object
-  pub fits_one_more : body_refusal room o ≡ None → is_set_body o.body ≡ false → length (objects room.entries) < room.limits.objects
+  pub fits_one_more : body_refusal room o ≡ None → is_change_body o.body ≡ false → length (objects room.entries) < room.limits.objects
   fits_one_more allowed creates =
       leb-false _ _ (not_first (leb room.limits.objects (length (objects room.entries)), TooManyObjects) [] (subst of_body creates allowed)).0
 
@@ -90,32 +90,32 @@ module _ (room : Room) (shapes : List (Name × Stored)) (history : List Op) (rep
       past_after : history ++ o ∷ [] ≡ operations (r ++ Operation o ∷ [])
       past_after = ap (λ (k : List Op). k ++ o ∷ []) replay.past ∙ sym (operations-push r o)
 
-      pub replay_creation : (d : Stored) → is_set_body o.body ≡ false → d.object ≡ record { limits = room.limits; creation = o; sets = [] }
+      pub replay_creation : (d : Stored) → is_change_body o.body ≡ false → d.object ≡ record { limits = room.limits; creation = o; changes = [] }
           → IsReplay (more room (Operation o)) (shapes ++ (o.name, d) ∷ []) (history ++ o ∷ [])
       replay_creation d creates made = record {
         sound = sound_after;
-        shapes_are = with_creation room.limits r shapes replay.shapes_are o d creates (no_set_yet h numbered o next_seq replay.sound.founded) made;
+        shapes_are = with_creation room.limits r shapes replay.shapes_are o d creates (no_change_yet h numbered o next_seq replay.sound.founded) made;
         past = past_after;
         short = (let e = length_push r (Operation o) in let s = next.short in omega (arith, e, s));
         fits = (let e = length-objects-creation r o creates in let f = fits_one_more room o allowed creates in omega (arith, e, f));
       }
 
-      pub replay_set : (d w : Stored) → is_set_body o.body ≡ true → IsDistinct same_name (keys_of shapes)
-          → lookup (same_name (object_of o)) shapes ≡ Some d → w.object ≡ with_set d.object o
+      pub replay_change : (d w : Stored) → is_change_body o.body ≡ true → IsDistinct same_name (keys_of shapes)
+          → lookup (same_name (object_of o)) shapes ≡ Some d → w.object ≡ with_change d.object o
           → IsReplay (more room (Operation o)) (set_value (same_name (object_of o)) shapes w) (history ++ o ∷ [])
-      replay_set d w sets unique there taken = record {
+      replay_change d w changes unique there taken = record {
         sound = sound_after;
-        shapes_are = with_set_on room.limits r shapes replay.shapes_are o d w sets unique there taken;
+        shapes_are = with_change_on room.limits r shapes replay.shapes_are o d w changes unique there taken;
         past = past_after;
         short = (let e = length_push r (Operation o) in let s = next.short in omega (arith, e, s));
-        fits = (let e = ap length (objects-set r o sets) in omega (arith, e, replay.fits));
+        fits = (let e = ap length (objects-change r o changes) in omega (arith, e, replay.fits));
       }
 
   -- an object that stays, in another's place
   pub replay_same : (t : Name → Bool) (d w : Stored) → lookup t shapes ≡ Some d → w.object ≡ d.object → IsReplay room (set_value t shapes w) history
   replay_same t d w there same = record {
     sound = replay.sound;
-    shapes_are = objects_with_sets_same t d w shapes there same ∙ replay.shapes_are;
+    shapes_are = objects_with_changes_same t d w shapes there same ∙ replay.shapes_are;
     past = replay.past;
     short = replay.short;
     fits = replay.fits;

@@ -12,11 +12,11 @@ use Rattle.rules.specs.Versions.{versions}
 use Rattle.wire.specs.declared.reply.Reply.TheVariants.{No, Versions}
 use Rattle.shape.specs.Objects.{Stored, shown_versions}
 use Rattle.shape.proofs.Objects.{versions_beside}
-use Rattle.drawing.specs.Objects.{objects_with_sets, without_spare}
+use Rattle.drawing.specs.Objects.{objects_with_changes, without_spare}
 use Rattle.drawing.specs.Shown.{shown, shown_by}
 use Rattle.drawing.proofs.Lookup.{is_there, none_created}
 
-module _ (l : LimitValues) (r : List Entry) (shapes : List (Name × Stored)) (are : without_spare shapes ≡ objects_with_sets l r) (object : Name) where
+module _ (l : LimitValues) (r : List Entry) (shapes : List (Name × Stored)) (are : without_spare shapes ≡ objects_with_changes l r) (object : Name) where
   pub shown_absent : lookup (same_name object) shapes ≡ None → shown r object ≡ No (length r) NoSuchObject
   shown_absent e = ap (shown_by r object) (none_created l r shapes are object e)
 

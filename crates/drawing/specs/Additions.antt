@@ -8,11 +8,11 @@ use Rattle.rules.specs.declared.history.Entry.{Entry}
 use Rattle.rules.specs.declared.history.Entry.TheVariants.{Join, Operation}
 use Rattle.rules.specs.declared.refusal.Refusal.{Refusal}
 use Rattle.rules.specs.Admission.{Condition, causal_refusal, first_that_applies}
-use Rattle.rules.specs.Bodies.{is_set_body}
+use Rattle.rules.specs.Bodies.{is_change_body}
 use Rattle.rules.specs.Operations.{object_of}
-use Rattle.rules.specs.Records.{operations, creation_conditions, set_conditions}
+use Rattle.rules.specs.Records.{operations, creation_conditions, change_conditions}
 use Rattle.shape.specs.Objects.{Stored}
-use Rattle.shape.specs.Planned.{IsPlanned, Plan as SetPlan}
+use Rattle.shape.specs.Planned.{IsPlanned, Plan as ChangePlan}
 use Rattle.drawing.specs.Room.{Room}
 use Rattle.drawing.specs.Shown.{ids_with}
 use Rattle.drawing.specs.State.{State, spare_of}
@@ -24,8 +24,8 @@ use Rattle.drawing.specs.declared.addition.Part.TheVariants as part
 -- what is asked of an operation for what it does
 abbrev pub body_conditions : Room → Op → List Condition
 body_conditions room op =
-    if is_set_body op.body
-    then set_conditions room.limits (operations room.entries) op
+    if is_change_body op.body
+    then change_conditions room.limits (operations room.entries) op
     else creation_conditions room.limits room.entries
 
 -- why it is refused for what it does, if it is
@@ -45,11 +45,11 @@ pub record Added : Type 0 where
   pub entry : Entry
   pub part : Part
 
--- the identifiers that are planned to be shown of a set's object
+-- the identifiers that are planned to be shown of a change's object
 abbrev pub ids_of : Part → Option (List (List Name))
 ids_of part.Join = None
 ids_of (part.Creation op shape) = None
-ids_of (part.Set op planned) = Some planned.ids
+ids_of (part.Change op planned) = Some planned.ids
 
 -- a shape stands under this name, and this holds of it
 abbrev pub HasShape : List (Name × Stored) → Name → (Stored → Type 0) → Type 0
@@ -69,12 +69,12 @@ pub record CanAdd (s : State) (entry : Entry) (op : Op) : Type 0 where
   pub past_place : 0 < spare_of s op.name.0
 
 pub record CanCreate (s : State) (op : Op) (shape : Stored) : Type 0 where
-  pub creation : is_set_body op.body ≡ false
-  pub created : shape.object ≡ record { limits = s.room.limits; creation = op; sets = [] }
+  pub creation : is_change_body op.body ≡ false
+  pub created : shape.object ≡ record { limits = s.room.limits; creation = op; changes = [] }
   pub place : 0 < s.reserve.objects
 
-pub record CanSet (s : State) (op : Op) (planned : SetPlan) : Type 0 where
-  pub set : is_set_body op.body ≡ true
+pub record CanChange (s : State) (op : Op) (planned : ChangePlan) : Type 0 where
+  pub change : is_change_body op.body ≡ true
   pub added : planned.addition.op ≡ op
   pub shape : HasShape s.reserve.shapes (object_of op) (λ d. IsPlanned d planned)
 
@@ -82,15 +82,15 @@ pub record CanSet (s : State) (op : Op) (planned : SetPlan) : Type 0 where
 abbrev pub IsReadyPart : State → Entry → Part → Type 0
 IsReadyPart s entry part.Join = CanJoin s entry
 IsReadyPart s entry (part.Creation op shape) = CanAdd s entry op × CanCreate s op shape
-IsReadyPart s entry (part.Set op planned) = CanAdd s entry op × CanSet s op planned
+IsReadyPart s entry (part.Change op planned) = CanAdd s entry op × CanChange s op planned
 
 -- the entry can be added as planned, and takes no memory
 abbrev pub IsReady : State → Added → Type 0
 IsReady s added = IsReadyPart s added.entry added.part
 
--- what of an operation's body is planned: of a set the identifiers with it, of a creation none
+-- what of an operation's body is planned: of a change the identifiers with it, of a creation none
 abbrev pub planned_ids : Room → Op → Option (List (List Name))
-planned_ids room op = if is_set_body op.body then Some (ids_with room op) else None
+planned_ids room op = if is_change_body op.body then Some (ids_with room op) else None
 
 -- the operation is planned and can be added
 pub record IsPlanFor (room : Room) (op : Op) (s : State) (added : Added) : Type 0 where

@@ -1,8 +1,8 @@
 -- Why an operation can't be added, as a refusal.
 use Rattle.std.specs.Prelude.{◌≡◌, ◌≢◌, Option, Some, None}
 use Rattle.rules.specs.declared.refusal.Refusal.{Refusal}
-use Rattle.shape.specs.declared.fault.SetFault.{SetFault}
-use Rattle.shape.specs.Faults.{refusal_of as set_refusal_of}
+use Rattle.shape.specs.declared.fault.ChangeFault.{ChangeFault}
+use Rattle.shape.specs.Faults.{refusal_of as change_refusal_of}
 use Rattle.drawing.specs.declared.fault.AddFault.{AddFault}
 use Rattle.drawing.specs.declared.fault.AddFault.TheVariants.{NoMemory, Refused}
 
@@ -21,5 +21,5 @@ fault_of None = NoMemory
 fault_of (Some refusal) = Refused refusal
 
 -- what a fault of an object is to its drawing
-abbrev pub of_set : SetFault → AddFault
-of_set fault = fault_of (set_refusal_of fault)
+abbrev pub of_change : ChangeFault → AddFault
+of_change fault = fault_of (change_refusal_of fault)

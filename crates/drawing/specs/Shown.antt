@@ -21,6 +21,6 @@ shown_by r name (Some op) = Versions (length r) name (kind_in op.body) (versions
 abbrev pub shown : List Entry → Name → Reply
 shown r name = shown_by r name (creation_of (operations r) name)
 
--- the identifiers of the versions of a set's object, with the set
+-- the identifiers of the versions of a change's object, with the change
 abbrev pub ids_with : Room → Op → List (List Name)
 ids_with room op = map (λ version. version.id) (versions (operations room.entries ++ op ∷ []) (object_of op))

@@ -10,7 +10,7 @@ use Rattle.drawing.specs.Room.{Room}
 abbrev pub kinds_of : List (Name × Stored) → List (Name × Bytes)
 kinds_of shapes = map (λ shape. (shape.0, kind_in shape.1.object.creation.body)) shapes
 
--- for how many more entries, operations of each site, objects, and sets on each object there is memory; no part of the room
+-- for how many more entries, operations of each site, objects, and changes on each object there is memory; no part of the room
 pub record Reserve : Type 0 where
   pub entries : ℕ
   pub operations : List ℕ

@@ -8,7 +8,7 @@ ghost use Rattle.drawing.specs.Additions.{IsReady, ids_of};
 
 use op_names::VersionId;
 use rules::{Entry, SharedOp};
-use shape::{PlannedSet, Shape};
+use shape::{PlannedChange, Shape};
 use std::alloc::Global;
 use std::marker::Model;
 use std::sync::Arc;
@@ -20,8 +20,8 @@ pub(crate) enum Part {
     Join,
     /// A creation adds the operation and its object.
     Creation(SharedOp, Shape),
-    /// A set adds the operation, and what is planned for its object.
-    Set(SharedOp, PlannedSet),
+    /// A change adds the operation, and what is planned for its object.
+    Change(SharedOp, PlannedChange),
 }
 
 /// An entry that a drawing can add without an allocation. Only the plans of `Drawing` make one.
@@ -58,7 +58,7 @@ impl Addition {
         }
     }
 
-    /// Takes out the identifiers of the versions of a set's object, with the set. Of a creation and a
+    /// Takes out the identifiers of the versions of a change's object, with the change. Of a creation and a
     /// join there are none. What is planned stays.
     pub fn take_ids(&mut self, alloc: Global) -> Option<Vec<VersionId>>
         ensures ids { option_map (λ ids. ids.items) result ≡ ids_of self.old.part }
@@ -67,7 +67,7 @@ impl Addition {
     {
         match &mut self.part {
             Part::Join | Part::Creation(..) => None,
-            Part::Set(_, planned) => Some(planned.take_ids(alloc)),
+            Part::Change(_, planned) => Some(planned.take_ids(alloc)),
         }
     }
 }

@@ -10,7 +10,7 @@ ghost use Rattle.rules.specs.declared.limits.TheConstants.Limits.{MAX_ENTRIES};
 ghost use Rattle.rules.specs.Admission.{causal_refusal};
 ghost use Rattle.rules.specs.Operations.{name_of, object_of};
 ghost use Rattle.rules.specs.Records.{objects, operations};
-ghost use Rattle.drawing.specs.Additions.{CanAdd, CanCreate, CanJoin, CanSet, IsReady};
+ghost use Rattle.drawing.specs.Additions.{CanAdd, CanCreate, CanJoin, CanChange, IsReady};
 ghost use Rattle.drawing.specs.Room.{all_objects, empty_room, with_entry};
 ghost use Rattle.drawing.specs.Shown.{shown};
 
@@ -22,7 +22,7 @@ use causal::Past;
 use indexmap::IndexMap;
 use op_names::{NoMemory, OpName};
 use rules::{Body, Entry, Limits, Op, Refusal, SharedOp};
-use shape::{PlannedSet, Shape};
+use shape::{PlannedChange, Shape};
 use std::alloc::Global;
 use std::marker::Model;
 use std::sync::Arc;
@@ -68,7 +68,7 @@ fn object_of(op: &Op) -> OpName
 {
     match &op.body {
         Body::New { .. } => op.name,
-        Body::Set { object, .. } => *object,
+        Body::Put { object, .. } | Body::DropVersion { object, .. } => *object,
     }
 }
 
@@ -195,7 +195,7 @@ impl Drawing {
         match part {
             Part::Join => self.add_join(entry),
             Part::Creation(op, shape) => self.add_creation(entry, op, shape),
-            Part::Set(op, planned) => self.add_set(entry, op, planned),
+            Part::Change(op, planned) => self.add_change(entry, op, planned),
         }
     }
 
@@ -219,10 +219,10 @@ impl Drawing {
         insert_reserved(&mut self.objects, name, shape);
     }
 
-    /// Adds a set, and changes its object as planned.
-    fn add_set(&mut self, entry: Arc<Entry>, op: SharedOp, planned: PlannedSet)
+    /// Adds a change, and changes its object as planned.
+    fn add_change(&mut self, entry: Arc<Entry>, op: SharedOp, planned: PlannedChange)
         requires operation { CanAdd self.old (arc_value entry) op }
-        requires set { CanSet self.old op planned }
+        requires change { CanChange self.old op planned }
         ensures { self.new.room ≡ with_entry self.old.room (Some (arc_value entry)) }
     {
         let object = object_of(&op);

@@ -2,11 +2,11 @@
 
 ghost use Rattle.std.specs.Prelude.{◌≡◌};
 ghost use Rattle.drawing.specs.declared.fault.AddFault.TheVariants as add_fault;
-ghost use Rattle.drawing.specs.Faults.{of_set};
+ghost use Rattle.drawing.specs.Faults.{of_change};
 
 use op_names::NoMemory;
 use rules::Refusal;
-use shape::SetFault;
+use shape::ChangeFault;
 use thiserror::Error;
 
 /// Why an operation can't be added: a rule does not allow it, or an allocation failed.
@@ -26,10 +26,10 @@ impl From<NoMemory> for AddFault {
     }
 }
 
-impl From<SetFault> for AddFault {
-    ghost from_gives = { λ set_fault fault. fault ≡ of_set set_fault };
+impl From<ChangeFault> for AddFault {
+    ghost from_gives = { λ change_fault fault. fault ≡ of_change change_fault };
 
-    fn from(fault: SetFault) -> AddFault {
+    fn from(fault: ChangeFault) -> AddFault {
         match fault.refusal() {
             Some(refusal) => AddFault::Refused(refusal),
             None => AddFault::NoMemory,

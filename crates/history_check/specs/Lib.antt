@@ -1,5 +1,6 @@
 pub mod Findings
 pub mod Readings
+pub mod Migration
 pub mod Records
 pub mod Replays
 pub mod Transcripts

@@ -4,8 +4,10 @@
 mod findings;
 pub mod laws;
 mod line_fault;
+mod migration;
 mod record;
 mod replay;
 mod verdict;
 
+pub use migration::{Migrated, migrate};
 pub use verdict::{Verdict, check};

@@ -3,7 +3,7 @@ use Rattle.std.proofs.Common.{◌≡◌, ℕ, ◌+◌, ◌<◌, ◌≤◌, Bool,
 use Rattle.std.specs.Prelude.{Contains, filter, is_none, is_some}
 use Rattle.std.specs.List.{range_with_len}
 use Rattle.std.specs.List.Sorted.{IsPermutation}
-use Rattle.std.proofs.lemmas.Bool.{true≢false, cases_Bool, and_parts, and_from, not-false, not-true, not_from_false, false_from_ne_true, le-leb, lt-leb, le-ltb, ne_eqb, eqb-true, eq-eqb, cases_order}
+use Rattle.std.proofs.lemmas.Bool.{true≢false, cases_Bool, and_parts, and_from, and_right, not-false, not-true, not_from_false, false_from_ne_true, le-leb, lt-leb, le-ltb, ne_eqb, eqb-true, eq-eqb, cases_order}
 use Rattle.std.proofs.lemmas.List.{length-map}
 use Rattle.std.proofs.lemmas.List.Elements.{Contains-push}
 use Rattle.std.proofs.lemmas.List.Sums.{length-filter}
@@ -13,38 +13,38 @@ use Rattle.state_vector.specs.Vectors.{count_of, counts, covers}
 use Rattle.rules.specs.declared.history.Op.{Op}
 use Rattle.rules.specs.declared.history.Entry.{Entry}
 use Rattle.rules.specs.declared.history.Entry.TheVariants.{Join, Operation}
-use Rattle.rules.specs.declared.refusal.Refusal.TheVariants.{RoomFull, RecordFull, OwnCount, NotClosed, NoSuchObject, NoSuchVersion, ObjectFull, TooManyKeys, TooManyVersions, TooManyObjects}
+use Rattle.rules.specs.declared.refusal.Refusal.TheVariants.{RoomFull, RecordFull, OwnCount, NotClosed, NoSuchObject, NoSuchVersion, Gone, ObjectFull, TooManyKeys, TooManyVersions, TooManyObjects}
 use Rattle.rules.specs.declared.limits.LimitValues.{LimitValues}
-use Rattle.rules.specs.Bodies.{is_set_body, kind_in}
+use Rattle.rules.specs.Bodies.{is_change_body, is_put_body, kind_in}
 use Rattle.rules.specs.Limits.{full_limits}
-use Rattle.rules.specs.Operations.{IsHistory, IsPartOf, AreSame, before, creation_of, is_creation_of, is_on, is_set_on, object_of, operation, sets_on}
-use Rattle.rules.specs.Admission.{first_that_applies, names_counted, count_at_site, has_wrong_seq, has_wrong_own_count, is_ahead, is_not_closed}
-use Rattle.rules.specs.Conflicts.{base, has_object, IsFounded}
+use Rattle.rules.specs.Operations.{IsHistory, IsPartOf, AreSame, before, creation_of, holds_drop, is_creation_of, is_on, is_change_on, object_of, operation, changes_on}
+use Rattle.rules.specs.Admission.{Condition, first_that_applies, names_counted, count_at_site, has_wrong_seq, has_wrong_own_count, is_ahead, is_not_closed}
+use Rattle.rules.specs.Conflicts.{base, has_object, members, IsFounded}
 use Rattle.rules.specs.Versions.{groups, keys_of, versions}
-use Rattle.rules.specs.Records.{operation_in, operations, objects, creation_conditions, set_conditions, has_new_key, has_too_many_keys, has_too_many_versions, IsLegal}
+use Rattle.rules.specs.Records.{operation_in, operations, objects, creation_conditions, change_conditions, has_too_many_keys, has_too_many_versions, IsLegal}
 use Rattle.rules.proofs.Lists.{In, In-from_Contains, Contains-from_In, In-append_cases, In-append_left, In-append_right, In-filter, In-filter_back, In-filter_map, In-filter_map_back, In-map_back, In-range, any_from, any_back, any_none, find_is}
 use Rattle.rules.proofs.Once.{Once, Once-from_HasNoRepeats, HasNoRepeats-from_Once, Once-map, Once-filter, length_within}
 use Rattle.rules.proofs.Permutations.{in_permutation, once_permutation}
 use Rattle.rules.proofs.Counted.{In-names_counted, covers_if, found, same_name-refl, same_name-true}
-use Rattle.rules.proofs.Sets.{in_sets_on, in_sets_on_back, Once-sets_on}
+use Rattle.rules.proofs.Changes.{in_changes_on, in_changes_on_back, Once-changes_on}
 use Rattle.rules.proofs.Conditions.{is_none_if}
 use Rattle.rules.proofs.Records.{operations-join, operations-push}
 use Rattle.rules.proofs.Founded.{history_if_legal, founded_if_legal}
 use Rattle.rules.proofs.Histories.{count_at_site_push}
 use Rattle.rules.proofs.Agreement.{base_in_part}
 use Rattle.rules.proofs.Parts.{base_before_adding, group_count_in_part}
-use Rattle.rules.proofs.Shown.{versions_same}
+use Rattle.rules.proofs.Keys.{keys_within}
+use Rattle.rules.proofs.Versions.{versions_same}
 use Rattle.shape.proofs.Next.{numbered_if}
-use Rattle.shape.proofs.KeyCounts.{one_key_of_set, one_more_key}
 use Rattle.shape.proofs.Objects.{creation_there}
 use Rattle.shape.proofs.Refusals.{passed}
 use Rattle.shape.specs.Objects.{IsOf}
 use Rattle.wire.specs.declared.reply.Reply.TheVariants.{No, Versions}
-use Rattle.drawing.specs.Objects.{object_with_sets}
+use Rattle.drawing.specs.Objects.{object_with_changes}
 use Rattle.drawing.specs.Shown.{shown, shown_by}
 use Rattle.late_join.specs.Taking.{is_join_of, has_joined, lacks_another, may_take, has_past, IsTakeable, IsTakeableAfter, IsInOrderAfter, IsCausalOrderOf}
 use Rattle.late_join.proofs.Taken.{taken_from, sound}
-use Rattle.late_join.proofs.Within.{IsWithin, within, keys_within}
+use Rattle.late_join.proofs.Within.{IsWithin, within}
 
 -- ---- lists
 
@@ -287,69 +287,70 @@ module _ (b : LimitValues) (r t : List Entry) (legal : IsLegal b r) (order : IsP
         true≢false (sym e ∙ not-true (covers o.seen c.0.seen) d.1))
 
     -- a creation finds room for an object
-    room_for_creation : is_set_body o.body ≡ false → leb b.objects (length (objects front)) ≡ false
+    room_for_creation : is_change_body o.body ≡ false → leb b.objects (length (objects front)) ≡ false
     room_for_creation f =
-        let creates : Op → Bool = λ op. not (is_set_body op.body) in
+        let creates : Op → Bool = λ op. not (is_change_body op.body) in
         let inside = length_within (o ∷ objects front) (objects r)
         ((λ m. not_yet (In-filter_back creates o h m).0), Once-filter creates h (Once-from_HasNoRepeats h part0.part.once))
         (λ x m. elim m [
-          | inl e ↦ subst (λ z. In z (objects r)) (sym e) (In-filter creates o H in_h (not_from_false (is_set_body o.body) f))
+          | inl e ↦ subst (λ z. In z (objects r)) (sym e) (In-filter creates o H in_h (not_from_false (is_change_body o.body) f))
           | inr l ↦ (let c = In-filter_back creates x h l in In-filter creates x H (front_whole front (Operation o ∷ later) is x c.0) c.1)
         ]) in
         lt-leb b.objects (length (objects front)) (omega (arith, inside, w.objects))
 
-    -- a set finds its object and its base, and room
-    module _ (set : is_set_body o.body ≡ true) where
+    -- a change finds its object and its base, and room
+    module _ (change : is_change_body o.body ≡ true) where
       abbrev object : Name
       object = object_of o
 
-      on : is_set_on object o ≡ true
-      on = and_from (is_set_body o.body) (is_on object o) set (same_name-refl object object refl)
+      on : is_change_on object o ≡ true
+      on = and_from (is_change_body o.body) (is_on object o) change (same_name-refl object object refl)
 
       has : has_object h o ≡ true
       has =
           let test : Op → Bool = λ a. is_creation_of (object_of o) a && before a o in
-          let c = any_back test H (founded.object o there set) in
+          let c = any_back test H (founded.object o there change) in
           let d = and_parts (is_creation_of (object_of o) c.0) (before c.0 o) c.2 in
           let mine = whole.own c.0 (Contains-from_In c.0 H c.1) in
           let a = counted front o past c.0.name (omega (arith, mine)) d.1 in
           let same = whole.distinct a.0 c.0 (part0.within a.0 (Contains-from_In a.0 h a.1)) (Contains-from_In c.0 H c.1) a.2 in
           any_from test c.0 h (subst (λ z. In z h) same a.1) c.2
 
+      same_base : base h o ≡ base H o
+      same_base = base_before_adding o part0.part part1.part ∙ base_in_part part1 o (Contains-push h o)
+
       based : is_some (base h o) ≡ true
-      based = ap is_some (base_before_adding o part0.part part1.part ∙ base_in_part part1 o (Contains-push h o)) ∙ founded.based o there set
+      based = ap is_some same_base ∙ founded.based o there change
+
+      alive : holds_drop (members (base h o)) ≡ false
+      alive = ap (λ g. holds_drop (members g)) same_base ∙ founded.alive o there change
 
       fits : Rattle.late_join.proofs.Within.Fits b H object
-      fits = w.fits o in_h set
+      fits = w.fits o in_h change
 
-      sets_within : (x : Op) → In x (sets_on h object) → In x (sets_on H object)
-      sets_within x m = let c = in_sets_on_back h object x m in in_sets_on H object x (front_whole front (Operation o ∷ later) is x c.0) c.1
+      changes_within : (x : Op) → In x (changes_on h object) → In x (changes_on H object)
+      changes_within x m = let c = in_changes_on_back h object x m in in_changes_on H object x (front_whole front (Operation o ∷ later) is x c.0) c.1
 
-      itself : In o (sets_on H object)
-      itself = in_sets_on H object o in_h on
+      itself : In o (changes_on H object)
+      itself = in_changes_on H object o in_h on
 
-      room_for_set : leb b.sets (length (sets_on h object)) ≡ false
-      room_for_set =
-          let inside = length_within (o ∷ sets_on h object) (sets_on H object)
-          ((λ m. not_yet (in_sets_on_back h object o m).0), Once-sets_on part0.part object)
-          (λ x m. elim m [ inl e ↦ subst (λ z. In z (sets_on H object)) (sym e) itself | inr l ↦ sets_within x l ]) in
-          let k = fits.sets in
-          lt-leb b.sets (length (sets_on h object)) (omega (arith, inside, k))
+      room_for_change : leb b.changes (length (changes_on h object)) ≡ false
+      room_for_change =
+          let inside = length_within (o ∷ changes_on h object) (changes_on H object)
+          ((λ m. not_yet (in_changes_on_back h object o m).0), Once-changes_on part0.part object)
+          (λ x m. elim m [ inl e ↦ subst (λ z. In z (changes_on H object)) (sym e) itself | inr l ↦ changes_within x l ]) in
+          let k = fits.changes in
+          lt-leb b.changes (length (changes_on h object)) (omega (arith, inside, k))
 
-      room_for_key : has_too_many_keys b (sets_on h object) o ≡ false
-      room_for_key = elim (cases_Bool (has_new_key (sets_on h object) o)) [
-        | inr f ↦ rw f refl
-        | inl t ↦
-            (let key = one_key_of_set o.body set in
-            let one = one_more_key (sets_on h object) o key.key key.is t in
-            let inside = keys_within (sets_on h object ++ o ∷ []) (sets_on H object) (λ x m. elim (In-append_cases x (sets_on h object) (o ∷ []) m) [
-              | inl l ↦ sets_within x l
-              | inr r ↦ elim r [ inl e ↦ subst (λ z. In z (sets_on H object)) (sym e) itself | inr z ↦ absurd z ]
-            ]) in
-            let k = fits.keys in
-            let full = lt-leb b.keys (length (keys_of (sets_on h object))) (omega (arith, one, inside, k)) in
-            rw (t, full) refl)
-      ]
+      room_for_key : has_too_many_keys b (changes_on h object) o ≡ false
+      room_for_key =
+          let all = changes_on h object ++ o ∷ [] in
+          let inside = keys_within all (changes_on H object) (λ x m. elim (In-append_cases x (changes_on h object) (o ∷ []) m) [
+            | inl l ↦ changes_within x l
+            | inr r ↦ elim r [ inl e ↦ subst (λ z. In z (changes_on H object)) (sym e) itself | inr z ↦ absurd z ]
+          ]) in
+          let k = fits.keys in
+          and_right (is_put_body o.body) (ltb b.keys (length (keys_of all))) (le-ltb b.keys (length (keys_of all)) (omega (arith, inside, k)))
 
       room_for_version : has_too_many_versions b h o ≡ false
       room_for_version =
@@ -357,29 +358,31 @@ module _ (b : LimitValues) (r t : List Entry) (legal : IsLegal b r) (order : IsP
           let k = fits.versions in
           le-ltb b.versions (length (groups (h ++ o ∷ []) object)) (omega (arith, grow, k))
 
-      set_passes : first_that_applies (set_conditions b h o) ≡ None
-      set_passes =
+      change_passes : first_that_applies (change_conditions b h o) ≡ None
+      change_passes =
           let versions = (has_too_many_versions b h o, TooManyVersions) ∷ [] in
-          let keys = (has_too_many_keys b (sets_on h object) o, TooManyKeys) ∷ versions in
-          let sets = (leb b.sets (length (sets_on h object)), ObjectFull) ∷ keys in
-          let named = (is_none (base h o), NoSuchVersion) ∷ sets in
+          let keys = (has_too_many_keys b (changes_on h object) o, TooManyKeys) ∷ versions in
+          let changes = (leb b.changes (length (changes_on h object)), ObjectFull) ∷ keys in
+          let gone : Condition = (holds_drop (members (base h o)), Gone) in
+          let named = (is_none (base h o), NoSuchVersion) ∷ gone ∷ changes in
           passed (not (has_object h o), NoSuchObject) named (ap not has)
-          ∙ passed (is_none (base h o), NoSuchVersion) sets (is_none_if (base h o) based)
-          ∙ passed (leb b.sets (length (sets_on h object)), ObjectFull) keys room_for_set
-          ∙ passed (has_too_many_keys b (sets_on h object) o, TooManyKeys) versions room_for_key
+          ∙ passed (is_none (base h o), NoSuchVersion) (gone ∷ changes) (is_none_if (base h o) based)
+          ∙ passed gone changes alive
+          ∙ passed (leb b.changes (length (changes_on h object)), ObjectFull) keys room_for_change
+          ∙ passed (has_too_many_keys b (changes_on h object) o, TooManyKeys) versions room_for_key
           ∙ passed (has_too_many_versions b h o, TooManyVersions) [] room_for_version
 
-    passes : first_that_applies (cond (is_set_body o.body) (set_conditions b h o) (creation_conditions b front)) ≡ None
-    passes = elim (cases_Bool (is_set_body o.body)) [
-      | inl t ↦ ap (λ c. first_that_applies (cond c (set_conditions b h o) (creation_conditions b front))) t ∙ set_passes t
-      | inr f ↦ ap (λ c. first_that_applies (cond c (set_conditions b h o) (creation_conditions b front))) f
+    passes : first_that_applies (cond (is_change_body o.body) (change_conditions b h o) (creation_conditions b front)) ≡ None
+    passes = elim (cases_Bool (is_change_body o.body)) [
+      | inl t ↦ ap (λ c. first_that_applies (cond c (change_conditions b h o) (creation_conditions b front))) t ∙ change_passes t
+      | inr f ↦ ap (λ c. first_that_applies (cond c (change_conditions b h o) (creation_conditions b front))) f
           ∙ passed (leb b.objects (length (objects front)), TooManyObjects) [] (room_for_creation f)
     ]
 
     -- an operation may be taken
     take_operation : may_take b front (Operation o) ≡ true
     take_operation =
-        let rest = cond (is_set_body o.body) (set_conditions b h o) (creation_conditions b front) in
+        let rest = cond (is_change_body o.body) (change_conditions b h o) (creation_conditions b front) in
         let close = (is_not_closed h o.seen, NotClosed) ∷ rest in
         let mine = (has_wrong_own_count o.name o.seen, OwnCount) ∷ close in
         taken_from b front (Operation o) (whole.vector o there) fresh not_early (
@@ -427,14 +430,14 @@ module _ (k h : List Op) (same : AreSame k h) (object : Name) where
   created_too : (c : Op) → creation_of k object ≡ Some c → creation_of h object ≡ Some c
   created_too c e =
       let f = find_is (is_creation_of object) c k e in
-      let p = and_parts (not (is_set_body c.body)) (same_name c.name object) f.1 in
+      let p = and_parts (not (is_change_body c.body)) (same_name c.name object) f.1 in
       let limits = full_limits in
-      let is : IsOf h (object_with_sets limits h c) = record {
-        created = not-true (is_set_body c.body) p.0;
+      let is : IsOf h (object_with_changes limits h c) = record {
+        created = not-true (is_change_body c.body) p.0;
         there = same.one.within c (Contains-from_In c k f.0);
         all = refl;
       } in
-      ap (creation_of h) (sym (same_name-true c.name object p.1)) ∙ creation_there h (object_with_sets limits h c) is same.one.whole
+      ap (creation_of h) (sym (same_name-true c.name object p.1)) ∙ creation_there h (object_with_changes limits h c) is same.one.whole
 
 -- the creation of an object is the same in whatever order the operations come
 creation_same : (k h : List Op) → AreSame k h → (object : Name) → creation_of k object ≡ creation_of h object

@@ -11,10 +11,10 @@ use Rattle.rules.specs.declared.history.Entry.TheVariants.{Operation}
 use Rattle.rules.specs.declared.refusal.Refusal.{Refusal}
 use Rattle.rules.specs.declared.refusal.Refusal.TheVariants.{RecordFull, OwnCount, NotClosed}
 use Rattle.rules.specs.Admission.{Condition, causal_refusal, count_at_site, first_that_applies, has_wrong_own_count, has_wrong_seq, is_not_closed, names_counted}
-use Rattle.rules.specs.Bodies.{is_set_body}
+use Rattle.rules.specs.Bodies.{is_change_body}
 use Rattle.rules.specs.declared.limits.LimitValues.{LimitValues}
 use Rattle.rules.specs.Operations.{operation}
-use Rattle.rules.specs.Records.{creation_conditions, operations, set_conditions}
+use Rattle.rules.specs.Records.{creation_conditions, operations, change_conditions}
 use Rattle.rules.proofs.Conditions.{not_first}
 use Rattle.rules.proofs.Counted.{In-names_counted, In-names_counted_back, count_in, count_of_pair, count_positive, found}
 use Rattle.rules.proofs.Lists.{any_back, any_from}
@@ -80,7 +80,7 @@ module _ (b : LimitValues) (t : List Entry) (o : Op) where
   front = arriving_conditions b t o
 
   abbrev rest : List Condition
-  rest = cond (is_set_body o.body) (set_conditions b (operations t) o) (creation_conditions b t)
+  rest = cond (is_change_body o.body) (change_conditions b (operations t) o) (creation_conditions b t)
 
   none_map : (q : Option Refusal) → option_map Refused q ≡ None → q ≡ None
   none_map None e = refl

@@ -12,11 +12,11 @@ use Rattle.rules.specs.declared.history.Entry.TheVariants.{Join, Operation}
 use Rattle.rules.specs.declared.refusal.Refusal.{Refusal}
 use Rattle.rules.specs.declared.refusal.Refusal.TheVariants.{RecordFull, WrongSeq, OwnCount, Ahead, NotClosed}
 use Rattle.rules.specs.declared.limits.LimitValues.{LimitValues}
-use Rattle.rules.specs.Bodies.{is_set_body}
+use Rattle.rules.specs.Bodies.{is_change_body}
 use Rattle.rules.specs.Operations.{IsHistory, IsCausallyOrdered, operation}
 use Rattle.rules.specs.Admission.{Condition, first_that_applies, names_counted, count_at_site, has_wrong_seq, has_wrong_own_count, is_ahead, is_not_closed, causal_refusal}
 use Rattle.rules.specs.Conflicts.{IsFounded}
-use Rattle.rules.specs.Records.{operations, refusal, creation_conditions, set_conditions}
+use Rattle.rules.specs.Records.{operations, refusal, creation_conditions, change_conditions}
 use Rattle.rules.proofs.Lists.{In-from_Contains, any_back, any_none, find_none}
 use Rattle.rules.proofs.Counted.{In-names_counted_back, same_name-refl}
 use Rattle.rules.proofs.Conditions.{none_of_both, not_first}
@@ -60,14 +60,14 @@ pub record Taken (b : LimitValues) (t : List Entry) (o : Op) : Type 0 where
   pub room : length t < b.entries
   pub own : has_wrong_own_count o.name o.seen ≡ false
   pub closed : is_not_closed (operations t) o.seen ≡ false
-  pub rest : first_that_applies (cond (is_set_body o.body) (set_conditions b (operations t) o) (creation_conditions b t)) ≡ None
+  pub rest : first_that_applies (cond (is_change_body o.body) (change_conditions b (operations t) o) (creation_conditions b t)) ≡ None
 
 pub taken_if : (b : LimitValues) (t : List Entry) (o : Op) → may_take b t (Operation o) ≡ true → Taken b t o
 taken_if b t o a =
     let p = parts_of_taken b t (Operation o) a in
     let e = or_parts (not (has_joined t o.name.0) || has_wrong_seq (operations t) o.name) (lacks_another (operations t) o) p.2 in
     let f = or_parts (not (has_joined t o.name.0)) (has_wrong_seq (operations t) o.name) e.0 in
-    let q = none_of_both (arriving_conditions b t o) (cond (is_set_body o.body) (set_conditions b (operations t) o) (creation_conditions b t)) p.3 in
+    let q = none_of_both (arriving_conditions b t o) (cond (is_change_body o.body) (change_conditions b (operations t) o) (creation_conditions b t)) p.3 in
     let first = not_first (leb b.entries (length t), RecordFull) ((has_wrong_own_count o.name o.seen, OwnCount) ∷ (is_not_closed (operations t) o.seen, NotClosed) ∷ []) q.0 in
     let second = not_first (has_wrong_own_count o.name o.seen, OwnCount) ((is_not_closed (operations t) o.seen, NotClosed) ∷ []) first.1 in
     let third = not_first (is_not_closed (operations t) o.seen, NotClosed) [] second.1 in
@@ -127,14 +127,14 @@ causal_if b t o i whole k =
     let s = k.seq in let w = k.own in let c = k.closed in
     rw (s, w, a, c) refl
 
--- a set that is taken has its object and its base
-ground_if_taken : (b : LimitValues) (t : List Entry) (op : Op) → Taken b t op → is_set_body op.body ≡ true → HasGround (operations t) op
+-- a change that is taken has its object and its base
+ground_if_taken : (b : LimitValues) (t : List Entry) (op : Op) → Taken b t op → is_change_body op.body ≡ true → HasGround (operations t) op
 ground_if_taken b t op k e =
     let rest = k.rest in
-    let none : first_that_applies (set_conditions b (operations t) op) ≡ None = rw e at rest in
+    let none : first_that_applies (change_conditions b (operations t) op) ≡ None = rw e at rest in
     ground_if b (operations t) op none
 
--- a history in causal order, whose sites number their operations without a gap, and whose sets have their objects and bases
+-- a history in causal order, whose sites number their operations without a gap, and whose changes have their objects and bases
 pub record IsSound (h : List Op) : Type 0 where
   pub numbered : IsNumbered h
   pub ordered : IsCausallyOrdered h
@@ -184,7 +184,11 @@ sound_empty : IsSound []
 sound_empty = record {
   numbered = numbered_empty;
   ordered = tt;
-  founded = record { object = λ x m t. absurd (In-from_Contains x [] m); based = λ x m t. absurd (In-from_Contains x [] m) };
+  founded = record {
+    object = λ x m t. absurd (In-from_Contains x [] m);
+    based = λ x m t. absurd (In-from_Contains x [] m);
+    alive = λ x m t. absurd (In-from_Contains x [] m);
+  };
   whole = λ n low high. absurd (omega (arith, low, high));
 }
 
@@ -203,7 +207,7 @@ refused_as_room b t o g vector new early =
     let s = sound b t g in
     let e = or_parts (not (has_joined t o.name.0) || has_wrong_seq h o.name) (lacks_another h o) early in
     let seq = (or_parts (not (has_joined t o.name.0)) (has_wrong_seq h o.name) e.0).1 in
-    let rest = cond (is_set_body o.body) (set_conditions b h o) (creation_conditions b t) in
+    let rest = cond (is_change_body o.body) (change_conditions b h o) (creation_conditions b t) in
     go (leb b.entries (length t)) (has_wrong_seq h o.name) (has_wrong_own_count o.name o.seen) (is_ahead h o.seen) (is_not_closed h o.seen) rest seq
     (λ own. not_ahead h o s.numbered.history s.whole vector seq own e.1)
   where

@@ -1,113 +1,114 @@
 -- A legal record is within its limits, and no entry stands twice in it.
 use Rattle.std.proofs.Common.{◌≡◌, ℕ, ◌+◌, ◌<◌, ◌≤◌, Bool, true, false, cond, not, List, [], ◌∷◌, ◌++◌, length, refl, sym, ap, ◌∙◌, subst, arith, inl, inr, None, leb, ltb, ◌&&◌, append_assoc}
-use Rattle.std.specs.Prelude.{filter, flat_map, bytes_eq, is_none}
+use Rattle.std.specs.Prelude.{filter, is_none}
 use Rattle.std.proofs.lemmas.Bool.{true≢false, cases_Bool, and_parts, leb-false, eqb-true, cases_lt, lt-ltb}
 use Rattle.std.proofs.lemmas.List.{append-nil, length_push}
 use Rattle.op_names.specs.Names.{Name}
-use Rattle.op_names.specs.Texts.{Bytes}
 use Rattle.state_vector.specs.Vectors.{is_vector}
 use Rattle.rules.specs.declared.history.Op.{Op}
 use Rattle.rules.specs.declared.history.Entry.{Entry}
 use Rattle.rules.specs.declared.history.Entry.TheVariants.{Join, Operation}
-use Rattle.rules.specs.declared.refusal.Refusal.TheVariants.{NoSuchObject, NoSuchVersion, ObjectFull, TooManyKeys, TooManyVersions}
+use Rattle.rules.specs.declared.refusal.Refusal.TheVariants.{NoSuchObject, NoSuchVersion, Gone, ObjectFull, TooManyKeys, TooManyVersions}
 use Rattle.rules.specs.declared.limits.LimitValues.{LimitValues}
-use Rattle.rules.specs.Bodies.{is_set_body, keys_in}
+use Rattle.rules.specs.declared.history.Body.{Body}
+use Rattle.rules.specs.declared.history.Body.TheVariants.{New, Put, DropVersion}
+use Rattle.rules.specs.Bodies.{is_change_body, is_put_body, keys_in}
 use Rattle.rules.specs.Lists.{sort_by}
-use Rattle.rules.specs.Operations.{by_name, is_on, is_set_on, object_of, sets_on}
-use Rattle.rules.specs.Admission.{first_that_applies}
-use Rattle.rules.specs.Conflicts.{base, has_object}
-use Rattle.rules.specs.Versions.{groups, keys_of}
-use Rattle.rules.specs.Records.{operation_in, operations, objects, sites, admits, is_placed, refusal, order_conditions, set_conditions, creation_conditions, has_new_key, has_too_many_keys, has_too_many_versions, IsLegal, IsLegalAfter}
-use Rattle.rules.proofs.Lists.{In, Contains-from_In, In-append_cases, In-append_left, In-append_right, In-filter_map, In-flat_map, In-flat_map_back}
-use Rattle.rules.proofs.Once.{Once, Once-append, length_within}
-use Rattle.rules.proofs.Reordered.{SameMembers, In-each_once, In-each_once_back, Once-each_once, same_key_is, same_key_itself}
-use Rattle.rules.proofs.Sets.{in_sets_on, in_sets_on_back}
-use Rattle.rules.proofs.Shown.{sort-length}
+use Rattle.rules.specs.Operations.{by_name, holds_drop, is_on, is_change_on, object_of, changes_on}
+use Rattle.rules.specs.Admission.{Condition, first_that_applies}
+use Rattle.rules.specs.Conflicts.{base, has_object, members}
+use Rattle.rules.specs.Versions.{groups, keys_of, new_keys}
+use Rattle.rules.specs.Records.{operation_in, operations, objects, sites, admits, is_placed, refusal, order_conditions, change_conditions, creation_conditions, has_too_many_keys, has_too_many_versions, IsLegal, IsLegalAfter}
+use Rattle.rules.proofs.Lists.{In, Contains-from_In, In-append_cases, In-append_left, In-append_right, In-filter_map}
+use Rattle.rules.proofs.Once.{Once, Once-append}
+use Rattle.rules.proofs.Reordered.{SameMembers}
+use Rattle.rules.proofs.Changes.{in_changes_on, in_changes_on_back}
+use Rattle.rules.proofs.Keys.{keys_as_many, keys_with as keys_with_change}
+use Rattle.rules.proofs.Versions.{sort-length}
 use Rattle.rules.proofs.Objects.{groups_kept}
 use Rattle.rules.proofs.Records.{filter-push, operations-join, operations-push, sites-join, sites-operation, objects-join, objects-creation, legal_push}
 use Rattle.rules.proofs.Conditions.{none_of_both, not_first, none_applies, room_for_join, room_for_operation, room_for_object}
 use Rattle.rules.proofs.Founded.{history_if_legal}
 use Rattle.rules.proofs.Histories.{follows_if}
 use Rattle.shape.proofs.Next.{numbered_if}
-use Rattle.shape.proofs.KeyCounts.{keys_as_many, one_key_of_set, one_more_key, as_many_keys}
 
--- ---- keys
+-- what is no put gives no key
+no_keys : (body : Body) → is_put_body body ≡ false → keys_in body ≡ []
+no_keys (New kind attrs) f = refl
+no_keys (Put object version pairs) f = absurd (true≢false f)
+no_keys (DropVersion object version) f = refl
 
--- sets that have all that others have have no fewer keys
-pub keys_within : (f g : List Op) → ((x : Op) → In x f → In x g) → length (keys_of f) ≤ length (keys_of g)
-keys_within f g w =
-    let all : List Op → List Bytes = λ k. flat_map (λ op. keys_in op.body) k in
-    length_within (keys_of f) (keys_of g) (Once-each_once bytes_eq same_key_is same_key_itself (all f)) (λ key m.
-    let c = In-flat_map_back (λ (op : Op). keys_in op.body) key f (In-each_once_back bytes_eq same_key_is same_key_itself key (all f) m) in
-    In-each_once bytes_eq same_key_is same_key_itself key (all g) (In-flat_map (λ (op : Op). keys_in op.body) c.0 key g (w c.0 c.1) c.2))
+at_most : (n limit : ℕ) → ltb limit n ≡ false → n ≤ limit
+at_most n limit f = elim (cases_lt limit n) [ inl l ↦ absurd (true≢false (sym (lt-ltb limit n l) ∙ f)) | inr g ↦ g ]
 
 -- ---- one object, and one operation more
 
 module _ (h : List Op) (o : Op) (object : Name) where
   abbrev test : Op → Bool
-  test = is_set_on object
+  test = is_change_on object
 
-  module _ (beside : is_set_on object o ≡ false) where
+  module _ (beside : is_change_on object o ≡ false) where
     same : filter test (h ++ o ∷ []) ≡ filter test h
     same = filter-push test h o ∙ ap (λ b. filter test h ++ cond b (o ∷ []) []) beside ∙ append-nil (filter test h)
 
-    pub sets_beside : sets_on (h ++ o ∷ []) object ≡ sets_on h object
-    unfolding sets_on
-    sets_beside = ap (sort_by by_name) same
+    pub changes_beside : changes_on (h ++ o ∷ []) object ≡ changes_on h object
+    unfolding changes_on
+    changes_beside = ap (sort_by by_name) same
 
     pub groups_beside : groups (h ++ o ∷ []) object ≡ groups h object
     groups_beside = sym (groups_kept object test (λ x e. e) (h ++ o ∷ [])) ∙ ap (λ l. groups l object) same ∙ groups_kept object test (λ x e. e) h
 
-  module _ (on : is_set_on object o ≡ true) where
+  module _ (on : is_change_on object o ≡ true) where
     more : filter test (h ++ o ∷ []) ≡ filter test h ++ o ∷ []
     more = filter-push test h o ∙ ap (λ b. filter test h ++ cond b (o ∷ []) []) on
 
-    pub sets_with : length (sets_on (h ++ o ∷ []) object) ≡ length (sets_on h object) + 1
-    unfolding sets_on
-    sets_with =
+    pub changes_with : length (changes_on (h ++ o ∷ []) object) ≡ length (changes_on h object) + 1
+    unfolding changes_on
+    changes_with =
         let a = sort-length by_name (filter test (h ++ o ∷ [])) in
         let c = sort-length by_name (filter test h) in
         let d = ap length more ∙ length_push (filter test h) o in
         omega (arith, a, c, d)
 
-    pub sets_with_same : SameMembers (sets_on (h ++ o ∷ []) object) (sets_on h object ++ o ∷ [])
-    sets_with_same = record {
+    pub changes_with_same : SameMembers (changes_on (h ++ o ∷ []) object) (changes_on h object ++ o ∷ [])
+    changes_with_same = record {
       to = λ x m.
-          let c = in_sets_on_back (h ++ o ∷ []) object x m in
+          let c = in_changes_on_back (h ++ o ∷ []) object x m in
           elim (In-append_cases x h (o ∷ []) c.0) [
-            | inl l ↦ In-append_left x (sets_on h object) (o ∷ []) (in_sets_on h object x l c.1)
-            | inr r ↦ In-append_right x (sets_on h object) (o ∷ []) r
+            | inl l ↦ In-append_left x (changes_on h object) (o ∷ []) (in_changes_on h object x l c.1)
+            | inr r ↦ In-append_right x (changes_on h object) (o ∷ []) r
           ];
-      back = λ x m. elim (In-append_cases x (sets_on h object) (o ∷ []) m) [
-        | inl l ↦ (let c = in_sets_on_back h object x l in in_sets_on (h ++ o ∷ []) object x (In-append_left x h (o ∷ []) c.0) c.1)
+      back = λ x m. elim (In-append_cases x (changes_on h object) (o ∷ []) m) [
+        | inl l ↦ (let c = in_changes_on_back h object x l in in_changes_on (h ++ o ∷ []) object x (In-append_left x h (o ∷ []) c.0) c.1)
         | inr r ↦ elim r [
-          | inl e ↦ in_sets_on (h ++ o ∷ []) object x (In-append_right x h (o ∷ []) (inl e)) (ap test e ∙ on)
+          | inl e ↦ in_changes_on (h ++ o ∷ []) object x (In-append_right x h (o ∷ []) (inl e)) (ap test e ∙ on)
           | inr z ↦ absurd z
         ]
       ];
     }
 
-    -- where the set's key is within the limit, so are the keys with it
-    pub keys_with : (b : LimitValues) → has_too_many_keys b (sets_on h object) o ≡ false → length (keys_of (sets_on h object)) ≤ b.keys → length (keys_of (sets_on (h ++ o ∷ []) object)) ≤ b.keys
+    -- where the change's keys are within the limit, so are the keys with it
+    pub keys_with : (b : LimitValues) → has_too_many_keys b (changes_on h object) o ≡ false → length (keys_of (changes_on h object)) ≤ b.keys → length (keys_of (changes_on (h ++ o ∷ []) object)) ≤ b.keys
     keys_with b few within =
-        let key = one_key_of_set o.body (and_parts (is_set_body o.body) (is_on object o) on).0 in
-        let same = keys_as_many (sets_on (h ++ o ∷ []) object) (sets_on h object ++ o ∷ []) sets_with_same in
-        elim (cases_Bool (has_new_key (sets_on h object) o)) [
-          | inl t ↦
-              (let full : leb b.keys (length (keys_of (sets_on h object))) ≡ false = rw t at few in
-              let one = one_more_key (sets_on h object) o key.key key.is t in
-              omega (arith, same, one, leb-false b.keys (length (keys_of (sets_on h object))) full))
-          | inr f ↦
-              (let one = as_many_keys (sets_on h object) o key.key key.is f in
-              omega (arith, same, one, within))
+        let all = changes_on h object ++ o ∷ [] in
+        let same = keys_as_many (changes_on (h ++ o ∷ []) object) all changes_with_same in
+        elim (cases_Bool (is_put_body o.body)) [
+          | inl put ↦
+              (let low : ltb b.keys (length (keys_of all)) ≡ false = rw put at few in
+              let most = at_most (length (keys_of all)) b.keys low in
+              omega (arith, same, most))
+          | inr other ↦
+              (let new : length (new_keys (changes_on h object) o) ≡ 0 = rw (no_keys o.body other) refl in
+              let more = keys_with_change (changes_on h object) o in
+              omega (arith, same, more, new, within))
         ]
 
 -- ---- what stays within the limits
 
--- an object that has a set
+-- an object that has a change
 pub record Fits (b : LimitValues) (h : List Op) (object : Name) : Type 0 where
-  pub sets : length (sets_on h object) ≤ b.sets
-  pub keys : length (keys_of (sets_on h object)) ≤ b.keys
+  pub changes : length (changes_on h object) ≤ b.changes
+  pub keys : length (keys_of (changes_on h object)) ≤ b.keys
   pub versions : length (groups h object) ≤ b.versions
 
 pub record IsWithin (b : LimitValues) (r : List Entry) : Type 0 where
@@ -116,32 +117,31 @@ pub record IsWithin (b : LimitValues) (r : List Entry) : Type 0 where
   pub few : sites r ≤ b.joins
   pub objects : Rattle.std.proofs.Common.length (objects r) ≤ b.objects
   pub once : Once r
-  pub fits : (o : Op) → In o (operations r) → is_set_body o.body ≡ true → Fits b (operations r) (object_of o)
+  pub fits : (o : Op) → In o (operations r) → is_change_body o.body ≡ true → Fits b (operations r) (object_of o)
 
--- what is asked of a set that is admitted
+-- what is asked of a change that is admitted
 record Room (b : LimitValues) (h : List Op) (o : Op) : Type 0 where
-  sets : length (sets_on h (object_of o)) < b.sets
-  keys : has_too_many_keys b (sets_on h (object_of o)) o ≡ false
+  changes : length (changes_on h (object_of o)) < b.changes
+  keys : has_too_many_keys b (changes_on h (object_of o)) o ≡ false
   versions : length (groups (h ++ o ∷ []) (object_of o)) ≤ b.versions
 
-at_most : (n limit : ℕ) → ltb limit n ≡ false → n ≤ limit
-at_most n limit f = elim (cases_lt limit n) [ inl l ↦ absurd (true≢false (sym (lt-ltb limit n l) ∙ f)) | inr g ↦ g ]
-
-room_if : (b : LimitValues) (r : List Entry) (o : Op) → admits b r (Operation o) ≡ true → is_set_body o.body ≡ true → Room b (operations r) o
+room_if : (b : LimitValues) (r : List Entry) (o : Op) → admits b r (Operation o) ≡ true → is_change_body o.body ≡ true → Room b (operations r) o
 room_if b r o a e =
     let h = operations r in
-    let x = none_of_both (order_conditions b r o) (cond (is_set_body o.body) (set_conditions b h o) (creation_conditions b r)) (none_applies b r (Operation o) a) in
-    let y : first_that_applies (set_conditions b h o) ≡ None = rw e at x.1 in
-    let sets = sets_on h (object_of o) in
+    let x = none_of_both (order_conditions b r o) (cond (is_change_body o.body) (change_conditions b h o) (creation_conditions b r)) (none_applies b r (Operation o) a) in
+    let y : first_that_applies (change_conditions b h o) ≡ None = rw e at x.1 in
+    let changes = changes_on h (object_of o) in
     let d = (has_too_many_versions b h o, TooManyVersions) ∷ [] in
-    let c = (has_too_many_keys b sets o, TooManyKeys) ∷ d in
-    let f = (leb b.sets (length sets), ObjectFull) ∷ c in
-    let first = not_first (not (has_object h o), NoSuchObject) ((is_none (base h o), NoSuchVersion) ∷ f) y in
-    let second = not_first (is_none (base h o), NoSuchVersion) f first.1 in
-    let third = not_first (leb b.sets (length sets), ObjectFull) c second.1 in
-    let fourth = not_first (has_too_many_keys b sets o, TooManyKeys) d third.1 in
+    let c = (has_too_many_keys b changes o, TooManyKeys) ∷ d in
+    let f = (leb b.changes (length changes), ObjectFull) ∷ c in
+    let gone : Condition = (holds_drop (members (base h o)), Gone) in
+    let first = not_first (not (has_object h o), NoSuchObject) ((is_none (base h o), NoSuchVersion) ∷ gone ∷ f) y in
+    let second = not_first (is_none (base h o), NoSuchVersion) (gone ∷ f) first.1 in
+    let alive = not_first gone f second.1 in
+    let third = not_first (leb b.changes (length changes), ObjectFull) c alive.1 in
+    let fourth = not_first (has_too_many_keys b changes o, TooManyKeys) d third.1 in
     let fifth = not_first (has_too_many_versions b h o, TooManyVersions) [] fourth.1 in
-    record { sets = leb-false b.sets (length sets) third.0; keys = fourth.0; versions = at_most (length (groups (h ++ o ∷ []) (object_of o))) b.versions fifth.0 }
+    record { changes = leb-false b.changes (length changes) third.0; keys = fourth.0; versions = at_most (length (groups (h ++ o ∷ []) (object_of o))) b.versions fifth.0 }
 
 -- a name that is admitted is new
 new_name : (b : LimitValues) (r : List Entry) (o : Op) → IsLegal b r → admits b r (Operation o) ≡ true → In o (operations r) → ⊥
@@ -180,61 +180,61 @@ module _ (b : LimitValues) (r : List Entry) (legal : IsLegal b r) (w : IsWithin 
     abbrev h : List Op
     h = operations r
 
-    fits_on : (object : Name) → object_of p ≡ object → is_set_on object p ≡ true → length (keys_of (sets_on h object)) ≤ b.keys → Fits b (h ++ p ∷ []) object
+    fits_on : (object : Name) → object_of p ≡ object → is_change_on object p ≡ true → length (keys_of (changes_on h object)) ≤ b.keys → Fits b (h ++ p ∷ []) object
     fits_on object e on keys =
-        let room = subst (λ n. (length (sets_on h n) < b.sets) × (has_too_many_keys b (sets_on h n) p ≡ false) × (length (groups (h ++ p ∷ []) n) ≤ b.versions)) e
-        (let k = room_if b r p a (and_parts (is_set_body p.body) (is_on object p) on).0 in (k.sets, k.keys, k.versions)) in
+        let room = subst (λ n. (length (changes_on h n) < b.changes) × (has_too_many_keys b (changes_on h n) p ≡ false) × (length (groups (h ++ p ∷ []) n) ≤ b.versions)) e
+        (let k = room_if b r p a (and_parts (is_change_body p.body) (is_on object p) on).0 in (k.changes, k.keys, k.versions)) in
         record {
-          sets = (let n = sets_with h p object on in omega (arith, n, room.0));
+          changes = (let n = changes_with h p object on in omega (arith, n, room.0));
           keys = keys_with h p object on b room.1 keys;
           versions = room.2;
         }
 
-    fits_beside : (object : Name) → is_set_on object p ≡ false → Fits b h object → Fits b (h ++ p ∷ []) object
+    fits_beside : (object : Name) → is_change_on object p ≡ false → Fits b h object → Fits b (h ++ p ∷ []) object
     fits_beside object f k = record {
-      sets = (let e = ap length (sets_beside h p object f) in omega (arith, e, k.sets));
-      keys = (let e = ap (λ s. length (keys_of s)) (sets_beside h p object f) in omega (arith, e, k.keys));
+      changes = (let e = ap length (changes_beside h p object f) in omega (arith, e, k.changes));
+      keys = (let e = ap (λ s. length (keys_of s)) (changes_beside h p object f) in omega (arith, e, k.keys));
       versions = (let e = ap length (groups_beside h p object f) in omega (arith, e, k.versions));
     }
 
-    -- the keys of an object, with a set or without, are within the limit
-    keys_now : (object : Name) → length (keys_of (sets_on h object)) ≤ b.keys
-    keys_now object = go (sets_on h object) refl
+    -- the keys of an object, with a change or without, are within the limit
+    keys_now : (object : Name) → length (keys_of (changes_on h object)) ≤ b.keys
+    keys_now object = go (changes_on h object) refl
       where
-        go : (s : List Op) → sets_on h object ≡ s → length (keys_of s) ≤ b.keys
+        go : (s : List Op) → changes_on h object ≡ s → length (keys_of s) ≤ b.keys
         go [] e = omega arith
         go (x ∷ s) e =
-            let c = in_sets_on_back h object x (subst (λ l. In x l) (sym e) (inl refl)) in
-            let d = and_parts (is_set_body x.body) (is_on object x) c.1 in
+            let c = in_changes_on_back h object x (subst (λ l. In x l) (sym e) (inl refl)) in
+            let d = and_parts (is_change_body x.body) (is_on object x) c.1 in
             let k = w.fits x c.0 d.0 in
             let named : object_of x ≡ object = Rattle.rules.proofs.Counted.same_name-true (object_of x) object d.1 in
-            subst (λ l. length (keys_of l) ≤ b.keys) e (subst (λ n. length (keys_of (sets_on h n)) ≤ b.keys) named k.keys)
+            subst (λ l. length (keys_of l) ≤ b.keys) e (subst (λ n. length (keys_of (changes_on h n)) ≤ b.keys) named k.keys)
 
-    fits_with : (o : Op) → In o (h ++ p ∷ []) → is_set_body o.body ≡ true → Fits b (h ++ p ∷ []) (object_of o)
-    fits_with o m t = elim (cases_Bool (is_set_on (object_of o) p)) [
+    fits_with : (o : Op) → In o (h ++ p ∷ []) → is_change_body o.body ≡ true → Fits b (h ++ p ∷ []) (object_of o)
+    fits_with o m t = elim (cases_Bool (is_change_on (object_of o) p)) [
       | inl on ↦
-          (let named : object_of p ≡ object_of o = Rattle.rules.proofs.Counted.same_name-true (object_of p) (object_of o) (and_parts (is_set_body p.body) (is_on (object_of o) p) on).1 in
+          (let named : object_of p ≡ object_of o = Rattle.rules.proofs.Counted.same_name-true (object_of p) (object_of o) (and_parts (is_change_body p.body) (is_on (object_of o) p) on).1 in
           fits_on (object_of o) named on (keys_now (object_of o)))
       | inr f ↦ elim (In-append_cases o h (p ∷ []) m) [
         | inl l ↦ fits_beside (object_of o) f (w.fits o l t)
         | inr q ↦ elim q [
           | inl e ↦
-              (let mine : is_set_on (object_of p) p ≡ true = Rattle.std.proofs.lemmas.Bool.and_from (is_set_body p.body) (is_on (object_of p) p) (sym (ap (λ (z : Op). is_set_body z.body) e) ∙ t) (Rattle.rules.proofs.Counted.same_name-refl (object_of p) (object_of p) refl) in
-              absurd (true≢false (sym mine ∙ sym (ap (λ (z : Op). is_set_on (object_of z) p) e) ∙ f)))
+              (let mine : is_change_on (object_of p) p ≡ true = Rattle.std.proofs.lemmas.Bool.and_from (is_change_body p.body) (is_on (object_of p) p) (sym (ap (λ (z : Op). is_change_body z.body) e) ∙ t) (Rattle.rules.proofs.Counted.same_name-refl (object_of p) (object_of p) refl) in
+              absurd (true≢false (sym mine ∙ sym (ap (λ (z : Op). is_change_on (object_of z) p) e) ∙ f)))
           | inr z ↦ absurd z
         ]
       ]
     ]
 
     creates : Op → Bool
-    creates op = not (is_set_body op.body)
+    creates op = not (is_change_body op.body)
 
     objects_with : Rattle.std.proofs.Common.length (objects (r ++ Operation p ∷ [])) ≤ b.objects
-    objects_with = elim (cases_Bool (is_set_body p.body)) [
+    objects_with = elim (cases_Bool (is_change_body p.body)) [
       | inl t ↦
           (let e : objects (r ++ Operation p ∷ []) ≡ objects r =
-          ap (λ (k : List Op). filter (λ op. not (is_set_body op.body)) k) (operations-push r p)
-          ∙ filter-push (λ (op : Op). not (is_set_body op.body)) h p
+          ap (λ (k : List Op). filter (λ op. not (is_change_body op.body)) k) (operations-push r p)
+          ∙ filter-push (λ (op : Op). not (is_change_body op.body)) h p
           ∙ ap (λ c. objects r ++ cond (not c) (p ∷ []) []) t
           ∙ append-nil (objects r) in
           let n = ap length e in

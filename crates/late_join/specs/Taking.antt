@@ -8,10 +8,10 @@ use Rattle.rules.specs.declared.history.Entry.{Entry}
 use Rattle.rules.specs.declared.history.Entry.TheVariants.{Join, Operation}
 use Rattle.rules.specs.declared.refusal.Refusal.TheVariants.{RoomFull, RecordFull, OwnCount, NotClosed}
 use Rattle.rules.specs.declared.limits.LimitValues.{LimitValues}
-use Rattle.rules.specs.Bodies.{is_set_body}
+use Rattle.rules.specs.Bodies.{is_change_body}
 use Rattle.rules.specs.Operations.{operation}
 use Rattle.rules.specs.Admission.{Condition, first_that_applies, names_counted, count_at_site, has_wrong_seq, has_wrong_own_count, is_ahead, is_not_closed}
-use Rattle.rules.specs.Records.{operations, creation_conditions, set_conditions}
+use Rattle.rules.specs.Records.{operations, creation_conditions, change_conditions}
 use Rattle.late_join.specs.declared.fault.TakeFault.{TakeFault}
 use Rattle.late_join.specs.declared.fault.TakeFault.TheVariants.{Repeat, Early, Refused}
 
@@ -54,7 +54,7 @@ arriving_conditions b t op = (nat_le b.entries (length t), RecordFull) ∷ (has_
 -- what is asked of an entry that is neither a repeat nor early, in this order
 abbrev pub taking_conditions : LimitValues → List Entry → Entry → List Condition
 taking_conditions b t (Join site) = joining_conditions b t site
-taking_conditions b t (Operation op) = arriving_conditions b t op ++ (if is_set_body op.body then set_conditions b (operations t) op else creation_conditions b t)
+taking_conditions b t (Operation op) = arriving_conditions b t op ++ (if is_change_body op.body then change_conditions b (operations t) op else creation_conditions b t)
 
 -- why this entry, whose vector is one, isn't taken after these, if it isn't
 unfoldable pub take_fault : LimitValues → List Entry → Entry → Option TakeFault

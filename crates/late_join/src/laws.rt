@@ -32,7 +32,7 @@ pub fn a_replica_shows_what_the_room_shows()
         → IsLegal b r → IsCausalOrderOf r t → shown t object ≡ shown r object }
 {}
 
-/// The operations of a takeable list are a history in causal order, and each set in it has its
+/// The operations of a takeable list are a history in causal order, and each change in it has its
 /// object and its base.
 pub fn takeable_lists_are_histories()
     ensures history { (b : LimitValues) (t : List Entry) → IsTakeable b t

@@ -2,4 +2,4 @@ pub mod Places
 pub mod Rising
 pub mod WordPlaces
 pub mod Counted
-pub mod SetsAt
+pub mod ChangesAt

@@ -1,4 +1,4 @@
 pub mod Members
 pub mod Words
 pub mod Relations
-pub mod Sets
+pub mod Changes

@@ -1,4 +1,4 @@
--- Sets of places as words of 64 bits, the lowest places first.
+-- Changes of places as words of 64 bits, the lowest places first.
 use Rattle.std.specs.Prelude.{ℕ, Bool, List, ◌*◌, ◌/◌, ◌%◌, ◌==◌, slice_index, filter, length}
 use Rattle.std.specs.Int.{bit_at}
 use Rattle.places.specs.Members.{places}

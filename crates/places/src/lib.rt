@@ -1,4 +1,4 @@
-//! Sets of places, and relations of conflict between places.
+//! Changes of places, and relations of conflict between places.
 #![tactic(auto)]
 
 mod members;

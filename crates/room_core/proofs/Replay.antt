@@ -14,7 +14,7 @@ use Rattle.rules.proofs.Records.{legal_push, sites-join, sites-operation}
 use Rattle.state_vector.specs.Vectors.{is_vector}
 use Rattle.shape.proofs.Refusals.{first_of_front, front_passed}
 use Rattle.op_names.specs.Names.{Name}
-use Rattle.rules.specs.Bodies.{is_set_body}
+use Rattle.rules.specs.Bodies.{is_change_body}
 use Rattle.wire.specs.declared.reply.Reply.TheVariants.{Made, Taken}
 use Rattle.drawing.specs.Additions.{IsNext, body_conditions, body_refusal, planned_ids}
 use Rattle.drawing.specs.Shown.{ids_with}
@@ -87,4 +87,4 @@ reply_by_body at name ids true = refl
 reply_by_body at name ids false = refl
 
 pub reply_is : (room : Room) (o : Op) → reply_by (length room.entries) o.name (planned_ids room o) ≡ operation_reply room o
-reply_is room o = reply_by_body (length room.entries) o.name (ids_with room o) (is_set_body o.body)
+reply_is room o = reply_by_body (length room.entries) o.name (ids_with room o) (is_change_body o.body)

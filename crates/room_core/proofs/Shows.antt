@@ -8,16 +8,16 @@ use Rattle.rules.specs.declared.history.Entry.TheVariants.{Join, Operation}
 use Rattle.rules.specs.declared.refusal.Refusal.{Refusal}
 use Rattle.rules.specs.declared.refusal.Refusal.TheVariants.{NotJoined}
 use Rattle.rules.specs.declared.version.Version.{Version}
-use Rattle.rules.specs.Bodies.{is_set_body, kind_in}
-use Rattle.rules.specs.Operations.{IsHistory, creation_of, sets_on}
+use Rattle.rules.specs.Bodies.{is_change_body, kind_in}
+use Rattle.rules.specs.Operations.{IsHistory, creation_of, changes_on}
 use Rattle.rules.specs.Conflicts.{conflict}
 use Rattle.rules.specs.Records.{operations, refusal, sites, IsLegal}
 use Rattle.rules.specs.Versions.{groups, versions}
 use Rattle.rules.proofs.Once.{HasNoRepeats-from_Once}
-use Rattle.rules.proofs.Sets.{Once-sets_on}
+use Rattle.rules.proofs.Changes.{Once-changes_on}
 use Rattle.rules.proofs.Founded.{history_if_legal}
 use Rattle.rules.proofs.Groups.{groups_of_is}
-use Rattle.rules.proofs.Shown.{groups_once, each_shown, identifiers_rise}
+use Rattle.rules.proofs.Versions.{groups_once, each_shown, identifiers_rise}
 use Rattle.wire.specs.declared.request.Request.{Request}
 use Rattle.wire.specs.declared.request.Request.TheVariants as request
 use Rattle.wire.specs.declared.reply.Reply.{Reply}
@@ -32,7 +32,7 @@ pub versions_are : (h : List Op) (object : Name) → IsHistory h → AreVersions
 unfolding groups
 versions_are h object history = record {
   groups = groups h object;
-  maximal = λ g. groups_of_is (conflict h) (sets_on h object) g (HasNoRepeats-from_Once (sets_on h object) (Once-sets_on history object));
+  maximal = λ g. groups_of_is (conflict h) (changes_on h object) g (HasNoRepeats-from_Once (changes_on h object) (Once-changes_on history object));
   once = groups_once h object history;
   shown = each_shown h object;
   rising = identifiers_rise h object history;
@@ -94,7 +94,7 @@ module _ (room : Room) (at : ℕ) (object : Name) (kind : Bytes) (vs : List Vers
   operation_shows : (op : Op) {added : Option Entry} → (operation_answer room op).0 ≡ Versions at object kind vs → IsShownBy room at object kind vs added
   operation_shows op e =
       absurd (decided_not (refusal room.limits room.entries (Operation op)) (Operation op) (operation_reply room op)
-      (either_not (is_set_body op.body) _ _ (taken_not _ _) (made_not _ _)) e)
+      (either_not (is_change_body op.body) _ _ (taken_not _ _) (made_not _ _)) e)
 
   site_shows : (site : ℕ) (asks : Request) → (site_answer room site asks).0 ≡ Versions at object kind vs → IsShownBy room at object kind vs (site_answer room site asks).1
   site_shows site (request.Join name) e = absurd cc

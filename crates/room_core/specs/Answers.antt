@@ -8,7 +8,7 @@ use Rattle.rules.specs.declared.history.Entry.{Entry}
 use Rattle.rules.specs.declared.history.Entry.TheVariants.{Join, Operation}
 use Rattle.rules.specs.declared.refusal.Refusal.{Refusal}
 use Rattle.rules.specs.declared.refusal.Refusal.TheVariants.{NotJoined, AlreadyJoined, TooFar}
-use Rattle.rules.specs.Bodies.{is_set_body}
+use Rattle.rules.specs.Bodies.{is_change_body}
 use Rattle.rules.specs.Records.{objects, sites, refusal, admits}
 use Rattle.drawing.specs.Room.{Room, all_objects, with_entry}
 use Rattle.drawing.specs.Shown.{ids_with, shown}
@@ -46,9 +46,9 @@ join_answer room = let site = sites room.entries + 1 in entry_answer room (Join 
 abbrev pub operation_by : ℕ → ℕ → Vector → Body → Op
 operation_by site seq seen body = record { name = (site, seq); seen = seen; body = body }
 
--- a creation is answered made, and a set taken, with the identifiers of its object's versions
+-- a creation is answered made, and a change taken, with the identifiers of its object's versions
 abbrev pub operation_reply : Room → Op → Reply
-operation_reply room op = if is_set_body op.body then Taken (length room.entries) (ids_with room op) else Made (length room.entries) op.name
+operation_reply room op = if is_change_body op.body then Taken (length room.entries) (ids_with room op) else Made (length room.entries) op.name
 
 -- the answer to an operation
 abbrev pub operation_answer : Room → Op → Outcome

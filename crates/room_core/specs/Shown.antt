@@ -8,18 +8,18 @@ use Rattle.rules.specs.declared.history.Op.{Op}
 use Rattle.rules.specs.declared.version.Version.{Version}
 use Rattle.rules.specs.Bodies.{kind_in}
 use Rattle.rules.specs.Lists.{HasNoRepeats}
-use Rattle.rules.specs.Operations.{creation_of, sets_on}
+use Rattle.rules.specs.Operations.{creation_of, changes_on}
 use Rattle.rules.specs.Groups.{IsGroup}
 use Rattle.rules.specs.Conflicts.{conflict}
 use Rattle.rules.specs.Versions.{version_of}
 use Rattle.rules.specs.Records.{operations}
 use Rattle.room_core.specs.Room.{Room}
 
--- The versions of an object after these operations: one for each maximal compatible group of the sets on it, each group
+-- The versions of an object after these operations: one for each maximal compatible group of the changes on it, each group
 -- once, with the group's identifier and the attributes that its own operations decide, in order of identifier.
 pub record AreVersionsOf (h : List Op) (object : Name) (versions : List Version) : Type 0 where
   pub groups : List (List Op)
-  pub maximal : (g : List Op) → Contains groups g ↔ IsGroup (conflict h) (sets_on h object) g
+  pub maximal : (g : List Op) → Contains groups g ↔ IsGroup (conflict h) (changes_on h object) g
   pub once : HasNoRepeats groups
   pub shown : IsPermutation (map (version_of h object) groups) versions
   pub rising : IsStrictlySortedBy id_cmp (map (λ version. version.id) versions)

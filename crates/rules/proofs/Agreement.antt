@@ -3,13 +3,13 @@ use Rattle.std.proofs.Common.{◌≡◌, ℕ, zero, suc, ◌<◌, List, ◌∷�
 use Rattle.std.specs.Prelude.{Contains}
 use Rattle.std.specs.List.{list_any}
 use Rattle.rules.specs.declared.history.Op.{Op}
-use Rattle.rules.specs.Bodies.{version_in, differ_on_a_key}
+use Rattle.rules.specs.Bodies.{version_in, are_at_odds}
 use Rattle.rules.specs.Groups.{group_named}
 use Rattle.rules.specs.Operations.{IsHistory, IsPartOf, known, before, concurrent, same_op, name_of}
 use Rattle.rules.specs.Conflicts.{members, with_base, is_left_out, direct_conflict, conflict_by, total, base_within, base, conflict}
 use Rattle.rules.proofs.Lists.{In, In-from_Contains, Contains-from_In, any_agree}
 use Rattle.rules.proofs.Vectors.{total-before}
-use Rattle.rules.proofs.Sets.{known_same, in_known_back, one_op}
+use Rattle.rules.proofs.Changes.{known_same, in_known_back, one_op}
 use Rattle.rules.proofs.Groups.{group_within}
 use Rattle.rules.proofs.Identifiers.{group_named_agree, group_named_back}
 
@@ -17,7 +17,7 @@ left_out_agree : (f g : Op → Option (List Op)) (a b : Op) → f b ≡ g b → 
 left_out_agree f g a b e = λ i. before a b && not (list_any (same_op a) (members (e i)))
 
 direct_agree : (f g : Op → Option (List Op)) (a b : Op) → f a ≡ g a → f b ≡ g b → direct_conflict f a b ≡ direct_conflict g a b
-direct_agree f g a b p q = λ i. (concurrent a b && differ_on_a_key a.body b.body) || left_out_agree f g a b q i || left_out_agree f g b a p i
+direct_agree f g a b p q = λ i. (concurrent a b && are_at_odds a.body b.body) || left_out_agree f g a b q i || left_out_agree f g b a p i
 
 -- conflict reads the bases of two operations and of the members of these
 pub conflict_agree : (f g : Op → Option (List Op)) (a b : Op) → ((x : Op) → In x (with_base f a) → f x ≡ g x) → ((y : Op) → In y (with_base f b) → f y ≡ g y) → conflict_by f a b ≡ conflict_by g a b

@@ -1,42 +1,21 @@
--- The operations that could decide a key agree, and a group has the same attributes in all histories that have it.
-use Rattle.std.proofs.Common.{◌≡◌, true, false, List, [], ◌∷◌, map, refl, sym, ap, ◌∙◌, inl, inr, Some, ◌&&◌, ◌||◌, not}
-use Rattle.std.specs.Prelude.{Contains, IsTrue, is_some, bytes_eq}
+-- The operations that could decide a key agree, and a group is shown the same in all histories that have it.
+use Rattle.std.proofs.Common.{◌≡◌, true, false, List, [], ◌∷◌, map, refl, sym, ◌∙◌, inl, inr, ◌&&◌, ◌||◌, not}
+use Rattle.std.specs.Prelude.{Contains, IsTrue}
 use Rattle.std.specs.List.{list_any}
-use Rattle.std.proofs.lemmas.Bool.{cases_Bool, true≢false, and_parts, and_cases, not-true, or_parts, or_left, and_from, not-false, not_from_false}
-use Rattle.std.proofs.lemmas.Slice.Eq.{bytes_eq-Decides}
+use Rattle.std.proofs.lemmas.Bool.{true≢false, and_parts, and_cases, not-true, or_parts, or_left, and_from, not_from_false}
 use Rattle.op_names.specs.Names.{Name}
 use Rattle.op_names.specs.Texts.{Bytes}
-use Rattle.op_names.specs.Values.{same_value, same_value-Decides}
 use Rattle.rules.specs.declared.history.Op.{Op}
-use Rattle.rules.specs.declared.history.Body.{Body}
-use Rattle.rules.specs.declared.history.Body.TheVariants.{New, Set}
-use Rattle.rules.specs.Bodies.{value_in, differ_on_a_key}
-use Rattle.rules.specs.Operations.{IsHistory, before, concurrent, creation_of, is_past, name_of, same_op, sets_on}
+use Rattle.rules.specs.Bodies.{value_in, differ_on_a_key, is_one_a_drop, are_at_odds}
+use Rattle.rules.specs.Operations.{IsHistory, before, concurrent, creation_of, is_past, name_of, same_op, changes_on}
 use Rattle.rules.specs.Conflicts.{base, conflict, direct_conflict, is_left_out}
-use Rattle.rules.specs.Versions.{gives, decides, groups, version_of, attributes, initial_of}
+use Rattle.rules.specs.Versions.{gives, decides, groups, version_of, shown_of, initial_of}
 use Rattle.rules.proofs.Lists.{In, In-from_Contains, Contains-from_In, any_none}
+use Rattle.rules.proofs.Bodies.{one_value}
 use Rattle.rules.proofs.Counted.{same_name-refl}
-use Rattle.rules.proofs.Sets.{in_sets_on_back, one_op}
+use Rattle.rules.proofs.Changes.{in_changes_on_back, one_op}
 use Rattle.rules.proofs.Groups.{group_is, group_within}
 use Rattle.rules.proofs.Relation.{no_direct_conflict}
-
--- two sets of one key that don't differ on it give it one value
-one_value : (k : Bytes) (b c : Body) → is_some (value_in k b) ≡ true → is_some (value_in k c) ≡ true → differ_on_a_key b c ≡ false → value_in k b ≡ value_in k c
-one_value k (New m a) c p q d = absurd (true≢false (sym p))
-one_value k (Set o v l x) (New m a) p q d = absurd (true≢false (sym q))
-one_value k (Set o v l x) (Set r w n y) p q d =
-    elim (cases_Bool (bytes_eq k l)) [
-      | inr e ↦ (let z : false ≡ true = rw e at p in absurd (true≢false (sym z)))
-      | inl e ↦ elim (cases_Bool (bytes_eq k n)) [
-        | inr f ↦ (let z : false ≡ true = rw f at q in absurd (true≢false (sym z)))
-        | inl f ↦
-            (let u : bytes_eq l n ≡ true = (bytes_eq-Decides l n).1 (sym ((bytes_eq-Decides k l).0 e) ∙ (bytes_eq-Decides k n).0 f) in
-            elim (and_cases (bytes_eq l n) (not (same_value x y)) d) [
-              | inl z ↦ absurd (true≢false (sym u ∙ z))
-              | inr z ↦ (let g : x ≡ y = (same_value-Decides x y).0 (not-false (same_value x y) z) in rw (e, f) (ap Some g))
-            ])
-      ]
-    ]
 
 record Last (key : Bytes) (g : List Op) (a : Op) : Type 0 where
   gives_it : gives key a ≡ true
@@ -60,16 +39,16 @@ one_value_decided h g key a b free ma da mb db =
     let ba : before b a ≡ false = q.none_later a ma p.gives_it in
     let apart : concurrent a b ≡ true = and_from (not (before a b)) (not (before b a)) (not_from_false _ ab) (not_from_false _ ba) in
     let direct : direct_conflict (base h) a b ≡ false = no_direct_conflict (base h) a b a b free (inl refl) (inl refl) in
-    let part = or_parts ((concurrent a b && differ_on_a_key a.body b.body) || is_left_out (base h) a b) (is_left_out (base h) b a) direct in
-    let first = or_parts (concurrent a b && differ_on_a_key a.body b.body) (is_left_out (base h) a b) part.0 in
-    let same : differ_on_a_key a.body b.body ≡ false = elim (and_cases (concurrent a b) (differ_on_a_key a.body b.body) first.0) [ inl z ↦ absurd (true≢false (sym apart ∙ z)) | inr z ↦ z ] in
-    one_value key a.body b.body p.gives_it q.gives_it same
+    let part = or_parts ((concurrent a b && are_at_odds a.body b.body) || is_left_out (base h) a b) (is_left_out (base h) b a) direct in
+    let first = or_parts (concurrent a b && are_at_odds a.body b.body) (is_left_out (base h) a b) part.0 in
+    let even : are_at_odds a.body b.body ≡ false = elim (and_cases (concurrent a b) (are_at_odds a.body b.body) first.0) [ inl z ↦ absurd (true≢false (sym apart ∙ z)) | inr z ↦ z ] in
+    one_value key a.body b.body p.gives_it q.gives_it (or_parts (differ_on_a_key a.body b.body) (is_one_a_drop a.body b.body) even).0
 
 -- all operations of a group that could decide a key give it one value
 pub one_decision : (h : List Op) (object : Name) (g : List Op) (key : Bytes) (a b : Op) → Contains (groups h object) g → Contains g a → IsTrue (decides key g a) → Contains g b → IsTrue (decides key g b) → value_in key a.body ≡ value_in key b.body
 unfolding groups
 one_decision h object g key a b group ma da mb db =
-    let i = group_is (conflict h) (sets_on h object) g (In-from_Contains g (groups h object) group) in
+    let i = group_is (conflict h) (changes_on h object) g (In-from_Contains g (groups h object) group) in
     one_value_decided h g key a b (i.compatible a b ma mb) (In-from_Contains a g ma) da (In-from_Contains b g mb) db
 
 -- ---- two histories
@@ -92,16 +71,16 @@ same_listed (a ∷ f) (b ∷ g) e d =
     tails : (m n : Name) (ms ns : List Name) → m ∷ ms ≡ n ∷ ns → ms ≡ ns
     tails m n ms ns q = cc
 
--- a group of two histories that agree on the creation, on its operations and on all before them has the same attributes in both
-pub same_attributes : (h k : List Op) (object : Name) (f g : List Op) → IsHistory h → IsHistory k
+-- a group of two histories that agree on the creation, on its operations and on all before them is shown the same in both
+pub same_shown : (h k : List Op) (object : Name) (f g : List Op) → IsHistory h → IsHistory k
     → Contains (groups h object) f → Contains (groups k object) g → map name_of f ≡ map name_of g
     → creation_of h object ≡ creation_of k object
     → ((a x : Op) → Contains f a → Contains h x → IsTrue (is_past a x) → Contains k x)
-    → (version_of h object f).attrs ≡ (version_of k object g).attrs
+    → (version_of h object f).shown ≡ (version_of k object g).shown
 unfolding groups version_of
-same_attributes h k object f g i j mf mg names creation agree =
-    let in_h : (a : Op) → In a f → In a h = λ a m. (in_sets_on_back h object a (group_within (conflict h) (sets_on h object) f (In-from_Contains f (groups h object) mf) a m)).0 in
-    let in_k : (a : Op) → In a g → In a k = λ a m. (in_sets_on_back k object a (group_within (conflict k) (sets_on k object) g (In-from_Contains g (groups k object) mg) a m)).0 in
+same_shown h k object f g i j mf mg names creation agree =
+    let in_h : (a : Op) → In a f → In a h = λ a m. (in_changes_on_back h object a (group_within (conflict h) (changes_on h object) f (In-from_Contains f (groups h object) mf) a m)).0 in
+    let in_k : (a : Op) → In a g → In a k = λ a m. (in_changes_on_back k object a (group_within (conflict k) (changes_on k object) g (In-from_Contains g (groups k object) mg) a m)).0 in
     let moved : (a : Op) → In a f → In a k = λ a m. In-from_Contains a k (agree a a (Contains-from_In a f m) (Contains-from_In a h (in_h a m)) (or_left (same_op a a) (before a a) (same_name-refl a.name a.name refl))) in
     let same : f ≡ g = same_listed f g names (λ a b m n e. one_op j a b (moved a m) (in_k b n) e) in
-    λ t. attributes (initial_of (creation t)) (same t)
+    λ t. shown_of (initial_of (creation t)) (same t)

@@ -1,4 +1,4 @@
--- The base of a set is the one group of what it knows that has the identifier which it names.
+-- The base of a change is the one group of what it knows that has the identifier which it names.
 use Rattle.std.proofs.Common.{◌≡◌, List, refl, sym, ◌∙◌, Option, Some, None, ◌↔◌}
 use Rattle.std.specs.Prelude.{Contains}
 use Rattle.rules.specs.declared.history.Op.{Op}
@@ -7,7 +7,7 @@ use Rattle.rules.specs.Groups.{IsGroup, identifier}
 use Rattle.rules.specs.Operations.{IsHistory, known, name_of}
 use Rattle.rules.specs.Conflicts.{base, conflict, members}
 use Rattle.rules.proofs.Lists.{In}
-use Rattle.rules.proofs.Sets.{Once-known, in_known_back, one_op}
+use Rattle.rules.proofs.Changes.{Once-known, in_known_back, one_op}
 use Rattle.rules.proofs.Groups.{sublist_in}
 use Rattle.rules.proofs.Identifiers.{group_named_is}
 use Rattle.rules.proofs.Agreement.{base_is}

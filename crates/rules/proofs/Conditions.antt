@@ -10,10 +10,10 @@ use Rattle.rules.specs.declared.history.Entry.{Entry}
 use Rattle.rules.specs.declared.history.Entry.TheVariants.{Join, Operation}
 use Rattle.rules.specs.declared.refusal.Refusal.TheVariants.{RoomFull, RecordFull, WrongSeq, TooManyObjects}
 use Rattle.rules.specs.declared.limits.LimitValues.{LimitValues}
-use Rattle.rules.specs.Bodies.{is_set_body}
+use Rattle.rules.specs.Bodies.{is_change_body}
 use Rattle.rules.specs.Admission.{Condition, count_at_site, first_that_applies, causal_conditions, causal_refusal}
 use Rattle.rules.proofs.Records.{count_at_site-length}
-use Rattle.rules.specs.Records.{operations, objects, sites, is_placed, admits, refusal, conditions, order_conditions, creation_conditions, set_conditions}
+use Rattle.rules.specs.Records.{operations, objects, sites, is_placed, admits, refusal, conditions, order_conditions, creation_conditions, change_conditions}
 
 -- what isn't absent is there, and the other way round
 pub is_some-not_none : {X : Type 0} (r : Option X) → is_none r ≡ false → is_some r ≡ true
@@ -60,14 +60,14 @@ module _ (b : LimitValues) (r : List Entry) where
   pub room_for_operation : (op : Op) → admits b r (Operation op) ≡ true → (length r < b.entries) × (causal_refusal (operations r) op.name op.seen ≡ None)
   unfolding causal_refusal
   room_for_operation op a =
-      let x = none_of_both (order_conditions b r op) (cond (is_set_body op.body) (set_conditions b (operations r) op) (creation_conditions b r)) (none_applies (Operation op) a) in
+      let x = none_of_both (order_conditions b r op) (cond (is_change_body op.body) (change_conditions b (operations r) op) (creation_conditions b r)) (none_applies (Operation op) a) in
       let y = not_first (leb b.entries (length r), RecordFull) (causal_conditions (operations r) op.name op.seen) x.0 in
       (leb-false b.entries (length r) y.0, y.1)
 
   -- a creation finds room for an object
-  pub room_for_object : (op : Op) → admits b r (Operation op) ≡ true → is_set_body op.body ≡ false → length (objects r) < b.objects
+  pub room_for_object : (op : Op) → admits b r (Operation op) ≡ true → is_change_body op.body ≡ false → length (objects r) < b.objects
   room_for_object op a e =
-      let x = none_of_both (order_conditions b r op) (cond (is_set_body op.body) (set_conditions b (operations r) op) (creation_conditions b r)) (none_applies (Operation op) a) in
+      let x = none_of_both (order_conditions b r op) (cond (is_change_body op.body) (change_conditions b (operations r) op) (creation_conditions b r)) (none_applies (Operation op) a) in
       let y : first_that_applies (creation_conditions b r) ≡ None = rw e at x.1 in
       leb-false b.objects (length (objects r)) (not_first (leb b.objects (length (objects r)), TooManyObjects) [] y).0
 

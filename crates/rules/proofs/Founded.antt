@@ -1,4 +1,4 @@
--- A legal record's operations are a history in causal order, and each of its sets has its object and its base.
+-- A legal record's operations are a history in causal order, and each of its changes has its object and its base, in which there is no drop.
 use Rattle.std.proofs.Common.{◌≡◌, true, false, not, List, [], ◌∷◌, ◌++◌, length, refl, sym, ap, ◌∙◌, subst, inl, inr, None, leb, cond, ◌&&◌}
 use Rattle.std.specs.Prelude.{IsTrue, is_none, is_some, Bool, filter}
 use Rattle.std.proofs.lemmas.Bool.{and_parts, cases_Bool, not-false, not_from_false, false_from_ne_true}
@@ -7,13 +7,13 @@ use Rattle.state_vector.specs.Vectors.{is_vector}
 use Rattle.rules.specs.declared.history.Op.{Op}
 use Rattle.rules.specs.declared.history.Entry.{Entry}
 use Rattle.rules.specs.declared.history.Entry.TheVariants.{Join, Operation}
-use Rattle.rules.specs.declared.refusal.Refusal.TheVariants.{NoSuchObject, NoSuchVersion, ObjectFull, TooManyKeys, TooManyVersions}
+use Rattle.rules.specs.declared.refusal.Refusal.TheVariants.{NoSuchObject, NoSuchVersion, Gone, ObjectFull, TooManyKeys, TooManyVersions}
 use Rattle.rules.specs.declared.limits.LimitValues.{LimitValues}
-use Rattle.rules.specs.Bodies.{is_set_body}
-use Rattle.rules.specs.Operations.{IsHistory, IsCausallyOrdered, before, is_creation_of, object_of, sets_on}
-use Rattle.rules.specs.Admission.{first_that_applies}
-use Rattle.rules.specs.Conflicts.{base, has_object, IsFounded}
-use Rattle.rules.specs.Records.{operations, sites, admits, is_placed, refusal, order_conditions, set_conditions, creation_conditions, has_too_many_keys, has_too_many_versions, IsLegal}
+use Rattle.rules.specs.Bodies.{is_change_body}
+use Rattle.rules.specs.Operations.{IsHistory, IsCausallyOrdered, before, holds_drop, is_creation_of, object_of, changes_on}
+use Rattle.rules.specs.Admission.{Condition, first_that_applies}
+use Rattle.rules.specs.Conflicts.{base, has_object, members, IsFounded}
+use Rattle.rules.specs.Records.{operations, sites, admits, is_placed, refusal, order_conditions, change_conditions, creation_conditions, has_too_many_keys, has_too_many_versions, IsLegal}
 use Rattle.rules.proofs.Lists.{In, In-from_Contains, Contains-from_In, In-append_left, In-filter_back, any_from, any_back}
 use Rattle.rules.proofs.Histories.{IsNumbered, numbered_push, numbered_empty, not_counted}
 use Rattle.rules.proofs.Records.{kept_by_admitted, operations-join, operations-push}
@@ -24,25 +24,28 @@ use Rattle.rules.proofs.Parts.{part_of_grown, base_before_adding}
 pub record HasGround (h : List Op) (op : Op) : Type 0 where
   pub object : has_object h op ≡ true
   pub based : is_some (base h op) ≡ true
+  pub alive : holds_drop (members (base h op)) ≡ false
 
--- a set to which no condition on sets applies has its object and its base
-pub ground_if : (b : LimitValues) (h : List Op) (op : Op) → first_that_applies (set_conditions b h op) ≡ None → HasGround h op
+-- a change to which no condition on changes applies has its object and its base, in which there is no drop
+pub ground_if : (b : LimitValues) (h : List Op) (op : Op) → first_that_applies (change_conditions b h op) ≡ None → HasGround h op
 ground_if b h op none =
-    let sets = sets_on h (object_of op) in
-    let late = (leb b.sets (length sets), ObjectFull) ∷ (has_too_many_keys b sets op, TooManyKeys) ∷ (has_too_many_versions b h op, TooManyVersions) ∷ [] in
-    let first = not_first (not (has_object h op), NoSuchObject) ((is_none (base h op), NoSuchVersion) ∷ late) none in
-    let second = not_first (is_none (base h op), NoSuchVersion) late first.1 in
-    record { object = not-false (has_object h op) first.0; based = is_some-not_none (base h op) second.0 }
+    let changes = changes_on h (object_of op) in
+    let late = (leb b.changes (length changes), ObjectFull) ∷ (has_too_many_keys b changes op, TooManyKeys) ∷ (has_too_many_versions b h op, TooManyVersions) ∷ [] in
+    let gone : Condition = (holds_drop (members (base h op)), Gone) in
+    let first = not_first (not (has_object h op), NoSuchObject) ((is_none (base h op), NoSuchVersion) ∷ gone ∷ late) none in
+    let second = not_first (is_none (base h op), NoSuchVersion) (gone ∷ late) first.1 in
+    let third = not_first gone late second.1 in
+    record { object = not-false (has_object h op) first.0; based = is_some-not_none (base h op) second.0; alive = third.0 }
 
 -- and so has one that is admitted
-ground_if_admitted : (b : LimitValues) (r : List Entry) (op : Op) → admits b r (Operation op) ≡ true → is_set_body op.body ≡ true → HasGround (operations r) op
+ground_if_admitted : (b : LimitValues) (r : List Entry) (op : Op) → admits b r (Operation op) ≡ true → is_change_body op.body ≡ true → HasGround (operations r) op
 ground_if_admitted b r op a e =
     let h = operations r in
-    let x = none_of_both (order_conditions b r op) (cond (is_set_body op.body) (set_conditions b h op) (creation_conditions b r)) (none_applies b r (Operation op) a) in
-    let none : first_that_applies (set_conditions b h op) ≡ None = rw e at x.1 in
+    let x = none_of_both (order_conditions b r op) (cond (is_change_body op.body) (change_conditions b h op) (creation_conditions b r)) (none_applies b r (Operation op) a) in
+    let none : first_that_applies (change_conditions b h op) ≡ None = rw e at x.1 in
     ground_if b h op none
 
--- a history in causal order, whose sites number their operations, and whose sets have their objects and bases
+-- a history in causal order, whose sites number their operations, and whose changes have their objects and bases
 record IsSound (h : List Op) : Type 0 where
   numbered : IsNumbered h
   ordered : IsCausallyOrdered h
@@ -73,15 +76,19 @@ ordered_push (x ∷ h) o c f = (
   ordered_push h o c.1 (λ z m. f z (inr m)),
 )
 
-pub founded_push : (h : List Op) (o : Op) → IsHistory h → IsFounded h → IsHistory (h ++ o ∷ []) → (is_set_body o.body ≡ true → HasGround h o) → IsFounded (h ++ o ∷ [])
+pub founded_push : (h : List Op) (o : Op) → IsHistory h → IsFounded h → IsHistory (h ++ o ∷ []) → (is_change_body o.body ≡ true → HasGround h o) → IsFounded (h ++ o ∷ [])
 founded_push h o i f j ground = record {
   object = λ x m t. elim (Contains-push_cases h o x m) [
     | inl p ↦ object_stays h o x (f.object x p t)
-    | inr e ↦ subst (λ z. has_object (h ++ o ∷ []) z ≡ true) e (object_stays h o o (ground (ap (λ (z : Op). is_set_body z.body) e ∙ t)).object)
+    | inr e ↦ subst (λ z. has_object (h ++ o ∷ []) z ≡ true) e (object_stays h o o (ground (ap (λ (z : Op). is_change_body z.body) e ∙ t)).object)
   ];
   based = λ x m t. elim (Contains-push_cases h o x m) [
     | inl p ↦ ap is_some (sym (base_in_part (part_of_grown o i j) x p)) ∙ f.based x p t
-    | inr e ↦ subst (λ z. is_some (base (h ++ o ∷ []) z) ≡ true) e (ap is_some (sym (base_before_adding o i j)) ∙ (ground (ap (λ (z : Op). is_set_body z.body) e ∙ t)).based)
+    | inr e ↦ subst (λ z. is_some (base (h ++ o ∷ []) z) ≡ true) e (ap is_some (sym (base_before_adding o i j)) ∙ (ground (ap (λ (z : Op). is_change_body z.body) e ∙ t)).based)
+  ];
+  alive = λ x m t. elim (Contains-push_cases h o x m) [
+    | inl p ↦ ap (λ r. holds_drop (members r)) (sym (base_in_part (part_of_grown o i j) x p)) ∙ f.alive x p t
+    | inr e ↦ subst (λ z. holds_drop (members (base (h ++ o ∷ []) z)) ≡ false) e (ap (λ r. holds_drop (members r)) (sym (base_before_adding o i j)) ∙ (ground (ap (λ (z : Op). is_change_body z.body) e ∙ t)).alive)
   ];
 }
 
@@ -105,7 +112,11 @@ sound_empty : IsSound []
 sound_empty = record {
   numbered = numbered_empty;
   ordered = tt;
-  founded = record { object = λ x m t. absurd (In-from_Contains x [] m); based = λ x m t. absurd (In-from_Contains x [] m) };
+  founded = record {
+    object = λ x m t. absurd (In-from_Contains x [] m);
+    based = λ x m t. absurd (In-from_Contains x [] m);
+    alive = λ x m t. absurd (In-from_Contains x [] m);
+  };
 }
 
 sound : (b : LimitValues) (r : List Entry) → IsLegal b r → IsSound (operations r)
@@ -119,6 +130,6 @@ history_if_legal b r g = (sound b r g).numbered.history
 pub ordered_if_legal : (b : LimitValues) (r : List Entry) → IsLegal b r → IsCausallyOrdered (operations r)
 ordered_if_legal b r g = (sound b r g).ordered
 
--- whose sets have their objects and bases
+-- whose changes have their objects and bases
 pub founded_if_legal : (b : LimitValues) (r : List Entry) → IsLegal b r → IsFounded (operations r)
 founded_if_legal b r g = (sound b r g).founded

@@ -2,6 +2,7 @@ pub mod Sorting
 pub mod Records
 pub mod Conditions
 pub mod Lists
+pub mod Bodies
 pub mod Once
 pub mod Counted
 pub mod Histories
@@ -11,7 +12,7 @@ pub mod Identifiers
 pub mod Resolve
 pub mod Growth
 pub mod Orders
-pub mod Sets
+pub mod Changes
 pub mod Vectors
 pub mod Agreement
 pub mod Bases
@@ -21,11 +22,13 @@ pub mod Parts
 pub mod Objects
 pub mod Attributes
 pub mod Decided
-pub mod Shown
+pub mod Versions
 pub mod Founded
 pub mod SameRecords
 pub mod Ordered
 pub mod Reordered
+pub mod Drops
+pub mod Keys
 pub mod Permutations
 pub mod Sorted
 pub mod Names

@@ -5,14 +5,14 @@ use Rattle.std.specs.List.{list_any}
 use Rattle.std.proofs.lemmas.Bool.{true≢false, and_parts}
 use Rattle.op_names.specs.Names.{Name, same_name}
 use Rattle.rules.specs.declared.history.Op.{Op}
-use Rattle.rules.specs.Bodies.{is_set_body}
+use Rattle.rules.specs.Bodies.{is_change_body}
 use Rattle.rules.specs.Groups.{IsGroup}
-use Rattle.rules.specs.Operations.{IsHistory, known, object_of, is_set_on}
+use Rattle.rules.specs.Operations.{IsHistory, known, object_of, is_change_on}
 use Rattle.rules.specs.Conflicts.{base, conflict, members, with_base, direct_conflict, total}
 use Rattle.rules.proofs.Lists.{In, In-from_Contains, Contains-from_In, any_from, any_back}
 use Rattle.rules.proofs.Groups.{sublist_in}
 use Rattle.rules.proofs.Counted.{same_name-true}
-use Rattle.rules.proofs.Sets.{in_known, in_known_back}
+use Rattle.rules.proofs.Changes.{in_known, in_known_back}
 use Rattle.rules.proofs.Bases.{base_is_group, has_base, base_within_known}
 use Rattle.rules.proofs.Relation.{same_answer}
 use Rattle.rules.proofs.Vectors.{total-before}
@@ -24,8 +24,8 @@ widened h u z a f e =
     let c = any_back (λ x. list_any (direct_conflict (base h) x) (with_base (base h) z)) (with_base (base h) u) e in
     any_from (λ x. list_any (direct_conflict (base h) x) (with_base (base h) z)) c.0 (with_base (base h) a) (f c.0 c.1) c.2
 
-pub object_if : (x : Op) (object : Name) → is_set_on object x ≡ true → object_of x ≡ object
-object_if x object e = same_name-true (object_of x) object (and_parts (is_set_body x.body) (same_name (object_of x) object) e).1
+pub object_if : (x : Op) (object : Name) → is_change_on object x ≡ true → object_of x ≡ object
+object_if x object e = same_name-true (object_of x) object (and_parts (is_change_body x.body) (same_name (object_of x) object) e).1
 
 module _ {h : List Op} (i : IsHistory h) where
   -- what y knows, a knows, where a knows y
@@ -33,7 +33,7 @@ module _ {h : List Op} (i : IsHistory h) where
   known_nested a y u m p q =
       let c = in_known_back h a y p in
       let d = in_known_back h y u q in
-      in_known h a u d.there (subst (λ n. is_set_on n u ≡ true) (object_if y (object_of a) c.set) d.set)
+      in_known h a u d.there (subst (λ n. is_change_on n u ≡ true) (object_if y (object_of a) c.change) d.change)
       (i.closed y a u.name (Contains-from_In y h c.there) m c.earlier d.earlier)
 
   -- a group of a list that holds what its members know, where the bases of a's base are in it

@@ -12,7 +12,7 @@ use Rattle.rules.specs.Operations.{IsHistory, IsCausallyOrdered, before}
 use Rattle.rules.specs.Conflicts.{total}
 use Rattle.rules.proofs.Lists.{In, In-from_Contains, Contains-from_In}
 use Rattle.rules.proofs.Sorting.{insert_back, sort_back}
-use Rattle.rules.proofs.Shown.{sort_permutes}
+use Rattle.rules.proofs.Versions.{sort_permutes}
 use Rattle.rules.proofs.Vectors.{total-before}
 
 -- operations by how many operations they count

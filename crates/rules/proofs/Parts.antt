@@ -6,15 +6,15 @@ use Rattle.std.proofs.lemmas.List.Elements.{Contains-append_left, Contains-push_
 use Rattle.op_names.specs.Names.{Name}
 use Rattle.state_vector.specs.Vectors.{counts}
 use Rattle.rules.specs.declared.history.Op.{Op}
-use Rattle.rules.specs.Bodies.{is_set_body}
+use Rattle.rules.specs.Bodies.{is_change_body}
 use Rattle.rules.specs.Groups.{groups_of}
-use Rattle.rules.specs.Operations.{IsHistory, IsPartOf, is_past, before, same_op, sets_on, known, is_on}
+use Rattle.rules.specs.Operations.{IsHistory, IsPartOf, is_past, before, same_op, changes_on, known, is_on}
 use Rattle.rules.specs.Conflicts.{base, conflict, IsFounded}
 use Rattle.rules.specs.Versions.{groups}
 use Rattle.rules.proofs.Lists.{In, In-from_Contains, Contains-from_In, In-filter, In-filter_back}
 use Rattle.rules.proofs.Once.{Once-filter, Once-from_HasNoRepeats, HasNoRepeats-from_Once}
 use Rattle.rules.proofs.Counted.{same_name-true, same_name-refl}
-use Rattle.rules.proofs.Sets.{in_sets_on, in_sets_on_back, in_known_back, known_same, Once-sets_on}
+use Rattle.rules.proofs.Changes.{in_changes_on, in_changes_on_back, in_known_back, known_same, Once-changes_on}
 use Rattle.rules.proofs.Groups.{groups_agree}
 use Rattle.rules.proofs.Growth.{groups_grow}
 use Rattle.rules.proofs.Relation.{conflict_symmetric, conflict_self, not_before_self}
@@ -28,17 +28,17 @@ some_if (Some x) e = (x, refl)
 pub group_count_in_part : (k h : List Op) (object : Name) → IsPartOf k h → IsFounded h → length (groups k object) ≤ length (groups h object)
 unfolding groups
 group_count_in_part k h object w f =
-    let there : (a : Op) → In a (sets_on k object) → Contains k a = λ a m. Contains-from_In a k (in_sets_on_back k object a m).0 in
-    let same : groups_of (conflict k) (sets_on k object) ≡ groups_of (conflict h) (sets_on k object) =
-    groups_agree (conflict k) (conflict h) (sets_on k object) (λ x y m n. conflict_in_part w x y (there x m) (there y n)) in
-    let grow = groups_grow (conflict h) (sets_on h object) (λ x y m n. conflict_symmetric h x y)
+    let there : (a : Op) → In a (changes_on k object) → Contains k a = λ a m. Contains-from_In a k (in_changes_on_back k object a m).0 in
+    let same : groups_of (conflict k) (changes_on k object) ≡ groups_of (conflict h) (changes_on k object) =
+    groups_agree (conflict k) (conflict h) (changes_on k object) (λ x y m n. conflict_in_part w x y (there x m) (there y n)) in
+    let grow = groups_grow (conflict h) (changes_on h object) (λ x y m n. conflict_symmetric h x y)
     (λ x m.
-    let c = in_sets_on_back h object x m in
+    let c = in_changes_on_back h object x m in
     let here = Contains-from_In x h c.0 in
-    let b = some_if (base h x) (f.based x here (and_parts (is_set_body x.body) (is_on object x) c.1).0) in
+    let b = some_if (base h x) (f.based x here (and_parts (is_change_body x.body) (is_on object x) c.1).0) in
     conflict_self w.whole x here b.0 b.1)
-    (sets_on k object) (Once-sets_on w.part object) (Once-sets_on w.whole object)
-    (λ x m. let c = in_sets_on_back k object x m in in_sets_on h object x (In-from_Contains x h (w.within x (Contains-from_In x k c.0))) c.1) in
+    (changes_on k object) (Once-changes_on w.part object) (Once-changes_on w.whole object)
+    (λ x m. let c = in_changes_on_back k object x m in in_changes_on h object x (In-from_Contains x h (w.within x (Contains-from_In x k c.0))) c.1) in
     omega (arith, grow, ap length same)
 
 -- ---- two histories that agree on two operations and all before them

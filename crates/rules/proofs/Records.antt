@@ -8,7 +8,7 @@ use Rattle.rules.specs.declared.history.Op.{Op}
 use Rattle.rules.specs.declared.history.Entry.{Entry}
 use Rattle.rules.specs.declared.history.Entry.TheVariants.{Join, Operation}
 use Rattle.rules.specs.declared.limits.LimitValues.{LimitValues}
-use Rattle.rules.specs.Bodies.{is_set_body}
+use Rattle.rules.specs.Bodies.{is_change_body}
 use Rattle.rules.specs.Admission.{count_at_site}
 use Rattle.rules.specs.Records.{operation_in, operations, sites, objects, is_join, admits, IsLegal, IsLegalAfter}
 
@@ -16,7 +16,7 @@ pub filter-push : {X : Type 0} (p : X → Bool) (xs : List X) (x : X) → filter
 filter-push p xs x = filter-append p xs (x ∷ [])
 
 abbrev creates : Op → Bool
-creates op = not (is_set_body op.body)
+creates op = not (is_change_body op.body)
 
 module _ (r : List Entry) where
   pub operations-join : (site : ℕ) → operations (r ++ Join site ∷ []) ≡ operations r
@@ -34,7 +34,7 @@ module _ (r : List Entry) where
   pub objects-join : (site : ℕ) → objects (r ++ Join site ∷ []) ≡ objects r
   objects-join site = ap (filter creates) (operations-join site)
 
-  pub objects-creation : (op : Op) → is_set_body op.body ≡ false → objects (r ++ Operation op ∷ []) ≡ objects r ++ op ∷ []
+  pub objects-creation : (op : Op) → is_change_body op.body ≡ false → objects (r ++ Operation op ∷ []) ≡ objects r ++ op ∷ []
   objects-creation op e = ap (filter creates) (operations-push op) ∙ filter-push creates (operations r) op ∙ ap (λ b. objects r ++ cond (not b) (op ∷ []) []) e
 
 -- ---- legal records

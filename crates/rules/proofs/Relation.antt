@@ -1,21 +1,19 @@
 -- Conflict goes both ways, and nothing that has a base conflicts with itself.
 use Rattle.std.proofs.Common.{◌≡◌, Bool, true, false, List, ◌∷◌, refl, sym, ◌∙◌, subst, arith, inl, inr, Option, Some, ◌||◌, ◌&&◌, not}
-use Rattle.std.specs.Prelude.{Contains, bytes_eq}
+use Rattle.std.specs.Prelude.{Contains}
 use Rattle.std.specs.List.{list_any}
 use Rattle.std.proofs.lemmas.Bool.{true≢false, false_from_ne_true, not_from_true, and_left, and_right, or_from, lt-leb}
 use Rattle.std.proofs.lemmas.Bool.Decides.{same_from_decides}
-use Rattle.std.proofs.lemmas.Cmp.{nat_list_eq_equiv}
 use Rattle.state_vector.specs.Vectors.{count_of}
-use Rattle.op_names.specs.Values.{same_value, same_value-Decides, same_value-equivalence}
 use Rattle.rules.specs.declared.history.Op.{Op}
 use Rattle.rules.specs.declared.history.Body.{Body}
-use Rattle.rules.specs.declared.history.Body.TheVariants.{New, Set}
-use Rattle.rules.specs.Bodies.{differ_on_a_key}
+use Rattle.rules.specs.Bodies.{differ_on_a_key, are_at_odds}
 use Rattle.rules.specs.Operations.{IsHistory, before, concurrent, same_op, known}
 use Rattle.rules.specs.Conflicts.{base, conflict, conflict_by, direct_conflict, is_left_out, members, with_base}
 use Rattle.rules.proofs.Lists.{In, Contains-from_In, any_from, any_back, any_none}
+use Rattle.rules.proofs.Bodies.{differ_turned, one_a_drop_turned, at_odds_self}
 use Rattle.rules.proofs.Counted.{same_name-refl}
-use Rattle.rules.proofs.Sets.{in_known_back}
+use Rattle.rules.proofs.Changes.{in_known_back}
 use Rattle.rules.proofs.Bases.{base_is_group}
 use Rattle.rules.proofs.Groups.{sublist_in}
 
@@ -36,19 +34,15 @@ swap_and false true = refl
 swap_and false false = refl
 
 differ_symmetric : (b c : Body) → differ_on_a_key b c ≡ differ_on_a_key c b
-differ_symmetric (New m a) (New n b) = refl
-differ_symmetric (New m a) (Set o v k x) = refl
-differ_symmetric (Set o v k x) (New m a) = refl
-differ_symmetric (Set o v k x) (Set p w l y) = λ i. nat_list_eq_equiv.symm k l i && not (same_value-equivalence.symm x y i)
+differ_symmetric b c = same_answer (differ_on_a_key b c) (differ_on_a_key c b) (differ_turned b c) (differ_turned c b)
 
-differ_self : (b : Body) → differ_on_a_key b b ≡ false
-differ_self (New m a) = refl
-differ_self (Set o v k x) = and_right (bytes_eq k k) (not (same_value x x)) (not_from_true (same_value x x) ((same_value-Decides x x).1 refl))
+at_odds_symmetric : (b c : Body) → are_at_odds b c ≡ are_at_odds c b
+at_odds_symmetric b c = λ i. differ_symmetric b c i || one_a_drop_turned b c i
 
 direct_symmetric : (f : Op → Option (List Op)) (a b : Op) → direct_conflict f a b ≡ direct_conflict f b a
 direct_symmetric f a b =
-    let p : (concurrent a b && differ_on_a_key a.body b.body) ≡ (concurrent b a && differ_on_a_key b.body a.body) = λ i. swap_and (not (before a b)) (not (before b a)) i && differ_symmetric a.body b.body i in
-    (λ i. p i || is_left_out f a b || is_left_out f b a) ∙ swap_or (concurrent b a && differ_on_a_key b.body a.body) (is_left_out f a b) (is_left_out f b a)
+    let p : (concurrent a b && are_at_odds a.body b.body) ≡ (concurrent b a && are_at_odds b.body a.body) = λ i. swap_and (not (before a b)) (not (before b a)) i && at_odds_symmetric a.body b.body i in
+    (λ i. p i || is_left_out f a b || is_left_out f b a) ∙ swap_or (concurrent b a && are_at_odds b.body a.body) (is_left_out f a b) (is_left_out f b a)
 
 half : (f : Op → Option (List Op)) (a b : Op) → conflict_by f a b ≡ true → conflict_by f b a ≡ true
 half f a b e =
@@ -78,7 +72,7 @@ module _ {h : List Op} (i : IsHistory h) (b : Op) (m : Contains h b) where
 
   module _ (g : List Op) (e : base h b ≡ Some g) where
     direct_self : direct_conflict (base h) b b ≡ false
-    direct_self = or_from _ _ (or_from _ _ (and_right (concurrent b b) _ (differ_self b.body)) (and_left (before b b) _ not_before_self)) (and_left (before b b) _ not_before_self)
+    direct_self = or_from _ _ (or_from _ _ (and_right (concurrent b b) _ (at_odds_self b.body)) (and_left (before b b) _ not_before_self)) (and_left (before b b) _ not_before_self)
 
     in_known : (x : Op) → In x g → In x (known h b)
     in_known x n = sublist_in g (known h b) ((base_is_group i b m g).0 e).0.inside x n

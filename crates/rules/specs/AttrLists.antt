@@ -1,5 +1,6 @@
 -- Lists of attributes: keys with values.
-use Rattle.std.specs.Prelude.{Bool, nat_lt, List, length, Option, Some, option_map, is_none, bytes_eq, if◌then◌else◌}
+use Rattle.std.specs.Prelude.{Bool, false, not, ◌&&◌, nat_lt, ◌==◌, List, length, Option, Some, find, option_map, is_none, bytes_eq, if◌then◌else◌}
+use Rattle.std.specs.List.{list_any}
 use Rattle.std.specs.Ordering.{on, eq_of_both}
 use Rattle.std.specs.Cmp.Lexicographic.{pointwise}
 use Rattle.op_names.specs.Texts.{Bytes}
@@ -8,10 +9,29 @@ use Rattle.op_names.specs.Repeats.{first_repeat}
 use Rattle.op_names.specs.declared.value.Value.{Value}
 use Rattle.rules.specs.declared.attrs.AttrsFault.{AttrsFault}
 use Rattle.rules.specs.declared.attrs.AttrsFault.TheVariants.{TooMany, Repeated}
+use Rattle.rules.specs.declared.pairs.PairsFault.{PairsFault}
+use Rattle.rules.specs.declared.pairs.PairsFault.TheVariants as pairs_faults
 
 -- a key with its value
 abbrev pub Attr : Type 0
 Attr = Bytes × Value
+
+-- the value of a key in a list of attributes
+abbrev pub value_at : Bytes → List Attr → Option Value
+value_at key attrs = option_map (λ attr. attr.1) (find (λ attr. bytes_eq attr.0 key) attrs)
+
+-- both values are there, and they are different
+abbrev pub are_different : Option Value → Option Value → Bool
+are_different (Some first) (Some second) = not (same_value first second)
+are_different _ _ = false
+
+-- two lists of attributes give some key different values
+abbrev pub do_pairs_differ : List Attr → List Attr → Bool
+do_pairs_differ first second = list_any (λ attr. are_different (value_at attr.0 first) (value_at attr.0 second)) first
+
+-- some attribute gives the key a value other than this one
+abbrev pub gives_another : Bytes → Value → List Attr → Bool
+gives_another key value attrs = list_any (λ attr. bytes_eq attr.0 key && not (same_value value attr.1)) attrs
 
 abbrev pub same_key : Attr → Attr → Bool
 same_key p q = bytes_eq p.0 q.0
@@ -26,3 +46,14 @@ attrs_fault attrs = if nat_lt 16 (length attrs) then Some TooMany else option_ma
 -- at most 16 attributes, and no key twice
 abbrev pub are_attrs : List Attr → Bool
 are_attrs attrs = is_none (attrs_fault attrs)
+
+-- what is wrong with the attributes of a put: the first that applies
+unfoldable pub pairs_fault : List Attr → Option PairsFault
+pairs_fault pairs =
+    if length pairs == 0 then Some pairs_faults.Empty
+    else (if nat_lt 16 (length pairs) then Some pairs_faults.TooMany
+    else option_map pairs_faults.Repeated (first_repeat same_key pairs))
+
+-- 1 to 16 attributes, and no key twice
+abbrev pub are_pairs : List Attr → Bool
+are_pairs pairs = is_none (pairs_fault pairs)

@@ -1,50 +1,78 @@
 -- What the body of an operation says: the one place that a new kind of operation changes.
-use Rattle.std.specs.Prelude.{Bool, true, false, not, ◌&&◌, List, [], ◌∷◌, Option, Some, None, bytes_eq, if◌then◌else◌}
+use Rattle.std.specs.Prelude.{Bool, true, false, ◌||◌, List, [], Option, map}
 use Rattle.op_names.specs.Names.{Name}
 use Rattle.op_names.specs.Texts.{Bytes}
-use Rattle.op_names.specs.Values.{same_value}
 use Rattle.op_names.specs.declared.value.Value.{Value}
 use Rattle.rules.specs.declared.history.Body.{Body}
-use Rattle.rules.specs.declared.history.Body.TheVariants.{New, Set}
-use Rattle.rules.specs.AttrLists.{Attr}
+use Rattle.rules.specs.declared.history.Body.TheVariants.{New, Put, DropVersion}
+use Rattle.rules.specs.AttrLists.{Attr, value_at, do_pairs_differ}
 
 -- does it change an object, and not create one
-abbrev pub is_set_body : Body → Bool
-is_set_body (New kind attrs) = false
-is_set_body (Set object version key value) = true
+abbrev pub is_change_body : Body → Bool
+is_change_body (New kind attrs) = false
+is_change_body (Put object version pairs) = true
+is_change_body (DropVersion object version) = true
+
+-- is the change a put
+abbrev pub is_put_body : Body → Bool
+is_put_body (New kind attrs) = false
+is_put_body (Put object version pairs) = true
+is_put_body (DropVersion object version) = false
+
+-- is the change a drop
+abbrev pub is_drop_body : Body → Bool
+is_drop_body (New kind attrs) = false
+is_drop_body (Put object version pairs) = false
+is_drop_body (DropVersion object version) = true
 
 -- the object that an operation of this name and body creates or changes: it has the name of its creation
 abbrev pub object_in : Name → Body → Name
 object_in name (New kind attrs) = name
-object_in name (Set object version key value) = object
+object_in name (Put object version pairs) = object
+object_in name (DropVersion object version) = object
 
--- the version that a set changes, by its identifier; a creation names none
+-- the version that a change starts from, by its identifier; a creation names none
 abbrev pub version_in : Body → List Name
 version_in (New kind attrs) = []
-version_in (Set object version key value) = version
+version_in (Put object version pairs) = version
+version_in (DropVersion object version) = version
 
--- the keys that a set gives a value
+-- the attributes that a put gives, in their order
+abbrev pub pairs_in : Body → List Attr
+pairs_in (New kind attrs) = []
+pairs_in (Put object version pairs) = pairs
+pairs_in (DropVersion object version) = []
+
+-- the keys that a put gives values
 abbrev pub keys_in : Body → List Bytes
-keys_in (New kind attrs) = []
-keys_in (Set object version key value) = key ∷ []
+keys_in body = map (λ attr. attr.0) (pairs_in body)
 
--- the value that a set gives a key
+-- the value that a put gives a key
 abbrev pub value_in : Bytes → Body → Option Value
-value_in key (New kind attrs) = None
-value_in key (Set object version set_key value) = if bytes_eq key set_key then Some value else None
+value_in key body = value_at key (pairs_in body)
 
--- two sets give one key different values
+-- two puts give some key different values
 abbrev pub differ_on_a_key : Body → Body → Bool
-differ_on_a_key (Set first_object first_version first_key first) (Set second_object second_version second_key second) =
-    bytes_eq first_key second_key && not (same_value first second)
-differ_on_a_key _ _ = false
+differ_on_a_key first second = do_pairs_differ (pairs_in first) (pairs_in second)
 
--- the kind that a creation gives its object; a set gives none
+-- exactly one of two changes is a drop
+abbrev pub is_one_a_drop : Body → Body → Bool
+is_one_a_drop (Put object version pairs) (DropVersion other_object other_version) = true
+is_one_a_drop (DropVersion object version) (Put other_object other_version pairs) = true
+is_one_a_drop _ _ = false
+
+-- two changes don't go together: they are puts that give some key different values, or exactly one is a drop
+abbrev pub are_at_odds : Body → Body → Bool
+are_at_odds first second = differ_on_a_key first second || is_one_a_drop first second
+
+-- the kind that a creation gives its object; a change gives none
 abbrev pub kind_in : Body → Bytes
 kind_in (New kind attrs) = kind
-kind_in (Set object version key value) = []
+kind_in (Put object version pairs) = []
+kind_in (DropVersion object version) = []
 
--- the attributes that a creation gives its object; a set gives none
+-- the attributes that a creation gives its object; a change gives none
 abbrev pub initial_in : Body → List Attr
 initial_in (New kind attrs) = attrs
-initial_in (Set object version key value) = []
+initial_in (Put object version pairs) = []
+initial_in (DropVersion object version) = []

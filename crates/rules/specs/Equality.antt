@@ -1,24 +1,23 @@
 -- Equality of operations and of entries, as a test.
-use Rattle.std.specs.Prelude.{◌≡◌, ℕ, pos, Bool, true, false, ◌&&◌, ◌==◌, List, [], bytes_eq}
+use Rattle.std.specs.Prelude.{◌≡◌, ℕ, Bool, true, false, ◌&&◌, ◌==◌, List, [], bytes_eq}
 use Rattle.std.specs.Bool.{Decides}
 use Rattle.std.specs.Cmp.{IsEquivalence, decided, unsigned_Decides}
 use Rattle.std.proofs.Common.{ap, refl, ◌∙◌}
 use Rattle.std.proofs.lemmas.Slice.Eq.{bytes_eq-Decides, slice_eq-Decides}
 use Rattle.op_names.specs.Names.{Name, same_name}
-use Rattle.op_names.specs.Texts.{Bytes}
 use Rattle.op_names.specs.VersionIds.{same_names}
 use Rattle.op_names.specs.Values.{same_value, same_value-Decides}
-use Rattle.op_names.specs.declared.value.Value.{Value}
-use Rattle.op_names.specs.declared.value.Value.TheVariants.{Number}
 use Rattle.state_vector.specs.Vectors.{Vector, same_pairs}
 use Rattle.rules.specs.AttrLists.{Attr, same_attrs}
 use Rattle.rules.specs.Shared.{held}
-use Rattle.rules.specs.Bodies.{object_in, version_in, kind_in, initial_in}
+use Rattle.rules.specs.Bodies.{object_in, version_in, pairs_in, kind_in, initial_in}
 use Rattle.rules.specs.declared.history.Body.{Body}
-use Rattle.rules.specs.declared.history.Body.TheVariants.{New, Set}
+use Rattle.rules.specs.declared.history.Body.TheVariants.{New, Put, DropVersion}
 use Rattle.rules.specs.declared.history.Op.{Op}
 use Rattle.rules.specs.declared.history.Entry.{Entry}
 use Rattle.rules.specs.declared.history.Entry.TheVariants.{Join, Operation}
+use Rattle.rules.specs.declared.version.Shown.{Shown}
+use Rattle.rules.specs.declared.version.Shown.TheVariants.{Attrs, Gone}
 
 -- two facts decided together decide what they make
 both_decide : {P Q R : Type 0} (a b : Bool) → Decides a P → Decides b Q → (P → Q → R) → (R → P × Q) → Decides (a && b) R
@@ -50,35 +49,33 @@ same_attrs-Decides a b = slice_eq-Decides same_attr-Decides a b _ refl
 -- two bodies do the same
 abbrev pub same_body : Body → Body → Bool
 same_body (New kind attrs) (New other_kind other_attrs) = bytes_eq kind other_kind && same_attrs attrs other_attrs
-same_body (Set object version key value) (Set other_object other_version other_key other_value) =
-    same_name object other_object && same_names version other_version && bytes_eq key other_key && same_value value other_value
+same_body (Put object version pairs) (Put other_object other_version other_pairs) =
+    same_name object other_object && same_names version other_version && same_attrs pairs other_pairs
+same_body (DropVersion object version) (DropVersion other_object other_version) =
+    same_name object other_object && same_names version other_version
 same_body _ _ = false
 
-key_in : Body → Bytes
-key_in (New kind attrs) = []
-key_in (Set object version key value) = key
-
-given_in : Body → Value
-given_in (New kind attrs) = Number (pos 0)
-given_in (Set object version key value) = value
-
 pub same_body-Decides : (a b : Body) → Decides (same_body a b) (a ≡ b)
-unfolding key_in given_in
 same_body-Decides (New kind attrs) (New other_kind other_attrs) =
     both_decide _ _ (bytes_eq-Decides kind other_kind) (same_attrs-Decides attrs other_attrs)
     (λ k a. ap (λ x. New x attrs) k ∙ ap (λ y. New other_kind y) a)
     (λ e. (ap kind_in e, ap initial_in e))
-same_body-Decides (Set object version key value) (Set other_object other_version other_key other_value) =
+same_body-Decides (Put object version pairs) (Put other_object other_version other_pairs) =
     both_decide _ _
-    (both_decide _ _
     (both_decide _ _ (same_name-Decides object other_object) (same_names-Decides version other_version) (λ o w. (o, w)) (λ p. p))
-    (bytes_eq-Decides key other_key) (λ p k. (p, k)) (λ p. p))
-    (same_value-Decides value other_value)
-    (λ p v. ap (λ x. Set x version key value) p.0.0 ∙ ap (λ x. Set other_object x key value) p.0.1
-    ∙ ap (λ x. Set other_object other_version x value) p.1 ∙ ap (λ x. Set other_object other_version other_key x) v)
-    (λ e. (((ap (object_in (0, 0)) e, ap version_in e), ap key_in e), ap given_in e))
-same_body-Decides (New kind attrs) (Set object version key value) = (λ e. cc, λ e. cc)
-same_body-Decides (Set object version key value) (New kind attrs) = (λ e. cc, λ e. cc)
+    (same_attrs-Decides pairs other_pairs)
+    (λ p a. ap (λ x. Put x version pairs) p.0 ∙ ap (λ x. Put other_object x pairs) p.1 ∙ ap (λ x. Put other_object other_version x) a)
+    (λ e. ((ap (object_in (0, 0)) e, ap version_in e), ap pairs_in e))
+same_body-Decides (DropVersion object version) (DropVersion other_object other_version) =
+    both_decide _ _ (same_name-Decides object other_object) (same_names-Decides version other_version)
+    (λ o w. ap (λ x. DropVersion x version) o ∙ ap (λ x. DropVersion other_object x) w)
+    (λ e. (ap (object_in (0, 0)) e, ap version_in e))
+same_body-Decides (New kind attrs) (Put object version pairs) = (λ e. cc, λ e. cc)
+same_body-Decides (New kind attrs) (DropVersion object version) = (λ e. cc, λ e. cc)
+same_body-Decides (Put object version pairs) (New kind attrs) = (λ e. cc, λ e. cc)
+same_body-Decides (Put object version pairs) (DropVersion other_object other_version) = (λ e. cc, λ e. cc)
+same_body-Decides (DropVersion object version) (New kind attrs) = (λ e. cc, λ e. cc)
+same_body-Decides (DropVersion object version) (Put other_object other_version pairs) = (λ e. cc, λ e. cc)
 
 pub same_body-equivalence : IsEquivalence same_body
 same_body-equivalence = decided same_body same_body-Decides
@@ -123,3 +120,26 @@ same_entry-Decides (Operation op) (Join site) = (λ e. cc, λ e. cc)
 
 pub same_entry-equivalence : IsEquivalence same_entry
 same_entry-equivalence = decided same_entry same_entry-Decides
+
+-- ---- what is shown
+
+-- the same is shown of two versions
+abbrev pub same_shown : Shown → Shown → Bool
+same_shown (Attrs attrs) (Attrs other) = same_attrs attrs other
+same_shown Gone Gone = true
+same_shown _ _ = false
+
+attrs_in : Shown → List Attr
+attrs_in (Attrs attrs) = attrs
+attrs_in Gone = []
+
+pub same_shown-Decides : (a b : Shown) → Decides (same_shown a b) (a ≡ b)
+unfolding attrs_in
+same_shown-Decides (Attrs attrs) (Attrs other) =
+    (λ e. ap Attrs ((same_attrs-Decides attrs other).0 e), λ e. (same_attrs-Decides attrs other).1 (ap attrs_in e))
+same_shown-Decides Gone Gone = (λ e. refl, λ e. refl)
+same_shown-Decides (Attrs attrs) Gone = (λ e. cc, λ e. cc)
+same_shown-Decides Gone (Attrs attrs) = (λ e. cc, λ e. cc)
+
+pub same_shown-equivalence : IsEquivalence same_shown
+same_shown-equivalence = decided same_shown same_shown-Decides

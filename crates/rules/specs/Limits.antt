@@ -1,10 +1,10 @@
 -- How much a room may hold.
 use Rattle.std.specs.Prelude.{ℕ, Bool, ◌&&◌, nat_le}
 use Rattle.rules.specs.declared.limits.LimitValues.{LimitValues}
-use Rattle.rules.specs.declared.limits.TheConstants.Limits.{MAX_JOINS, MAX_ENTRIES, MAX_OBJECTS, MAX_SETS, MAX_KEYS, MAX_VERSIONS, MAX_PAGE}
+use Rattle.rules.specs.declared.limits.TheConstants.Limits.{MAX_JOINS, MAX_ENTRIES, MAX_OBJECTS, MAX_CHANGES, MAX_KEYS, MAX_VERSIONS, MAX_PAGE}
 
 abbrev pub full_limits : LimitValues
-full_limits = record { joins = MAX_JOINS; entries = MAX_ENTRIES; objects = MAX_OBJECTS; sets = MAX_SETS; keys = MAX_KEYS; versions = MAX_VERSIONS; page = MAX_PAGE }
+full_limits = record { joins = MAX_JOINS; entries = MAX_ENTRIES; objects = MAX_OBJECTS; changes = MAX_CHANGES; keys = MAX_KEYS; versions = MAX_VERSIONS; page = MAX_PAGE }
 
 -- from 1 to the full value
 abbrev pub is_limit : ℕ → ℕ → Bool
@@ -16,7 +16,7 @@ are_limits limits =
     is_limit MAX_JOINS limits.joins
     && is_limit MAX_ENTRIES limits.entries
     && is_limit MAX_OBJECTS limits.objects
-    && is_limit MAX_SETS limits.sets
+    && is_limit MAX_CHANGES limits.changes
     && is_limit MAX_KEYS limits.keys
     && is_limit MAX_VERSIONS limits.versions
     && is_limit MAX_PAGE limits.page

@@ -1,11 +1,12 @@
 -- Histories of operations, and causal order by state vectors (Sun and Chen, ACM TOCHI 9(1), 2002).
 use Rattle.std.specs.Prelude.{◌≡◌, ◌+◌, ◌≤◌, Bool, true, not, ◌&&◌, ◌||◌, List, Option, IsTrue, filter, find, Contains, [], ◌∷◌}
+use Rattle.std.specs.List.{list_any}
 use Rattle.std.specs.declared.cmp.Ordering.{Ordering}
 use Rattle.std.specs.Ordering.{on}
 use Rattle.op_names.specs.Names.{Name, name_cmp, same_name}
 use Rattle.state_vector.specs.Vectors.{count_of, counts, is_vector}
 use Rattle.rules.specs.declared.history.Op.{Op}
-use Rattle.rules.specs.Bodies.{is_set_body, object_in}
+use Rattle.rules.specs.Bodies.{is_change_body, is_drop_body, object_in}
 use Rattle.rules.specs.Lists.{HasNoRepeats, sort_by}
 
 -- an operation's name
@@ -29,12 +30,12 @@ abbrev pub is_on : Name → Op → Bool
 is_on object op = same_name (object_of op) object
 
 -- the operation changes the object
-abbrev pub is_set_on : Name → Op → Bool
-is_set_on object op = is_set_body op.body && is_on object op
+abbrev pub is_change_on : Name → Op → Bool
+is_change_on object op = is_change_body op.body && is_on object op
 
 -- the operation creates the object
 abbrev pub is_creation_of : Name → Op → Bool
-is_creation_of object op = not (is_set_body op.body) && same_name op.name object
+is_creation_of object op = not (is_change_body op.body) && same_name op.name object
 
 -- ---- histories
 
@@ -97,14 +98,18 @@ IsCausallyOrdered (x ∷ xs) = ((y : Op) → Contains xs y → IsTrue (not (befo
 
 -- ---- one object
 
--- the operations on an object: its creation and its sets
+-- the operations on an object: its creation and its changes
 abbrev pub operations_on : List Op → Name → List Op
 operations_on h object = filter (is_on object) h
 
--- all sets on an object, in order of name
-unfoldable pub sets_on : List Op → Name → List Op
-sets_on h object = sort_by by_name (filter (is_set_on object) h)
+-- all changes of an object, in order of name
+unfoldable pub changes_on : List Op → Name → List Op
+changes_on h object = sort_by by_name (filter (is_change_on object) h)
 
--- what b knows: the sets on its object that are before it
+-- what b knows: the changes of its object that are before it
 unfoldable pub known : List Op → Op → List Op
-known h b = filter (λ a. before a b) (sets_on h (object_of b))
+known h b = filter (λ a. before a b) (changes_on h (object_of b))
+
+-- there is a drop among the changes
+abbrev pub holds_drop : List Op → Bool
+holds_drop changes = list_any (λ op. is_drop_body op.body) changes

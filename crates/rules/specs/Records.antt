@@ -1,17 +1,16 @@
 -- The record of a room: its joins and operations in order, and which entry it admits next.
-use Rattle.std.specs.Prelude.{◌≡◌, ◌↔◌, Contains, ℕ, ◌+◌, Bool, true, false, not, ◌&&◌, List, [], ◌∷◌, ◌++◌, Option, Some, None, ◌==◌, nat_le, nat_lt, filter, filter_map, count_by, length, is_none, bytes_eq, if◌then◌else◌}
-use Rattle.std.specs.List.{list_any, list_all}
+use Rattle.std.specs.Prelude.{◌≡◌, ◌↔◌, Contains, ℕ, ◌+◌, Bool, true, false, not, ◌&&◌, List, [], ◌∷◌, ◌++◌, Option, Some, None, ◌==◌, nat_le, nat_lt, filter, filter_map, count_by, length, is_none, if◌then◌else◌}
 use Rattle.state_vector.specs.Vectors.{is_vector}
 use Rattle.rules.specs.declared.history.Op.{Op}
 use Rattle.rules.specs.declared.history.Entry.{Entry}
 use Rattle.rules.specs.declared.history.Entry.TheVariants.{Join, Operation}
 use Rattle.rules.specs.declared.refusal.Refusal.{Refusal}
-use Rattle.rules.specs.declared.refusal.Refusal.TheVariants.{RoomFull, RecordFull, NoSuchObject, NoSuchVersion, ObjectFull, TooManyKeys, TooManyVersions, TooManyObjects}
+use Rattle.rules.specs.declared.refusal.Refusal.TheVariants.{RoomFull, RecordFull, NoSuchObject, NoSuchVersion, Gone, ObjectFull, TooManyKeys, TooManyVersions, TooManyObjects}
 use Rattle.rules.specs.declared.limits.LimitValues.{LimitValues}
-use Rattle.rules.specs.Bodies.{is_set_body, keys_in}
-use Rattle.rules.specs.Operations.{object_of, sets_on}
+use Rattle.rules.specs.Bodies.{is_change_body, is_put_body}
+use Rattle.rules.specs.Operations.{holds_drop, object_of, changes_on}
 use Rattle.rules.specs.Admission.{Condition, first_that_applies, causal_conditions}
-use Rattle.rules.specs.Conflicts.{base, has_object}
+use Rattle.rules.specs.Conflicts.{base, has_object, members}
 use Rattle.rules.specs.Versions.{groups, keys_of}
 
 -- ---- what a record says
@@ -36,7 +35,7 @@ operations r = filter_map operation_in r
 
 -- its creations, in order: one for each object
 abbrev pub objects : List Entry → List Op
-objects r = filter (λ op. not (is_set_body op.body)) (operations r)
+objects r = filter (λ op. not (is_change_body op.body)) (operations r)
 
 -- ---- what it admits next
 
@@ -52,32 +51,28 @@ order_conditions b r op = (nat_le b.entries (length r), RecordFull) ∷ causal_c
 abbrev pub creation_conditions : LimitValues → List Entry → List Condition
 creation_conditions b r = (nat_le b.objects (length (objects r)), TooManyObjects) ∷ []
 
--- the set has a key that these sets don't have
-abbrev pub has_new_key : List Op → Op → Bool
-has_new_key sets op = not (list_all (λ key. list_any (bytes_eq key) (keys_of sets)) (keys_in op.body))
-
--- and these have as many keys as there may be
+-- it is a put, and with it the puts among these changes have more keys than there may be
 abbrev pub has_too_many_keys : LimitValues → List Op → Op → Bool
-has_too_many_keys b sets op = has_new_key sets op && nat_le b.keys (length (keys_of sets))
+has_too_many_keys b changes op = is_put_body op.body && nat_lt b.keys (length (keys_of (changes ++ op ∷ [])))
 
--- with the set its object has more versions than there may be
+-- with the change its object has more versions than there may be
 abbrev pub has_too_many_versions : LimitValues → List Op → Op → Bool
 has_too_many_versions b h op = nat_lt b.versions (length (groups (h ++ op ∷ []) (object_of op)))
 
--- or of a set on an object that is there, after these operations
+-- or of a change of an object that is there, after these operations
 abbrev pub version_conditions : LimitValues → List Op → Op → List Condition
-version_conditions b h op = let sets = sets_on h (object_of op) in
-    (is_none (base h op), NoSuchVersion) ∷ (nat_le b.sets (length sets), ObjectFull) ∷ (has_too_many_keys b sets op, TooManyKeys)
-    ∷ (has_too_many_versions b h op, TooManyVersions) ∷ []
+version_conditions b h op = let changes = changes_on h (object_of op) in
+    (is_none (base h op), NoSuchVersion) ∷ (holds_drop (members (base h op)), Gone) ∷ (nat_le b.changes (length changes), ObjectFull)
+    ∷ (has_too_many_keys b changes op, TooManyKeys) ∷ (has_too_many_versions b h op, TooManyVersions) ∷ []
 
--- or of any set
-abbrev pub set_conditions : LimitValues → List Op → Op → List Condition
-set_conditions b h op = (not (has_object h op), NoSuchObject) ∷ version_conditions b h op
+-- or of any change
+abbrev pub change_conditions : LimitValues → List Op → Op → List Condition
+change_conditions b h op = (not (has_object h op), NoSuchObject) ∷ version_conditions b h op
 
 -- what is asked of an entry, in this order
 abbrev pub conditions : LimitValues → List Entry → Entry → List Condition
 conditions b r (Join site) = join_conditions b r
-conditions b r (Operation op) = order_conditions b r op ++ (if is_set_body op.body then set_conditions b (operations r) op else creation_conditions b r)
+conditions b r (Operation op) = order_conditions b r op ++ (if is_change_body op.body then change_conditions b (operations r) op else creation_conditions b r)
 
 -- why this entry, whose site has joined and whose vector is one, isn't admitted after these, if it isn't
 unfoldable pub refusal : LimitValues → List Entry → Entry → Option Refusal

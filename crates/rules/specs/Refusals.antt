@@ -2,7 +2,7 @@
 use Rattle.std.specs.Prelude.{ℕ, List, [], ◌∷◌, codes, Option, ◌==◌}
 use Rattle.std.specs.List.{find}
 use Rattle.rules.specs.declared.refusal.Refusal.{Refusal}
-use Rattle.rules.specs.declared.refusal.Refusal.TheVariants.{BadMessage, NotJoined, AlreadyJoined, NoSuchRoom, RoomFull, RecordFull, WrongSeq, OwnCount, Ahead, NotClosed, NoSuchObject, NoSuchVersion, ObjectFull, TooManyKeys, TooManyVersions, TooManyObjects, TooFar}
+use Rattle.rules.specs.declared.refusal.Refusal.TheVariants.{BadMessage, NotJoined, AlreadyJoined, NoSuchRoom, RoomFull, RecordFull, WrongSeq, OwnCount, Ahead, NotClosed, NoSuchObject, NoSuchVersion, ObjectFull, TooManyKeys, TooManyVersions, TooManyObjects, TooFar, Gone}
 
 abbrev pub code_of : Refusal → ℕ
 code_of BadMessage = 1
@@ -22,6 +22,7 @@ code_of TooManyKeys = 14
 code_of TooManyVersions = 15
 code_of TooManyObjects = 16
 code_of TooFar = 17
+code_of Gone = 18
 
 abbrev pub word_of : Refusal → List ℕ
 word_of BadMessage = codes "bad-message"
@@ -41,9 +42,10 @@ word_of TooManyKeys = codes "too-many-keys"
 word_of TooManyVersions = codes "too-many-versions"
 word_of TooManyObjects = codes "too-many-objects"
 word_of TooFar = codes "too-far"
+word_of Gone = codes "gone"
 
 abbrev all_refusals : List Refusal
-all_refusals = BadMessage ∷ NotJoined ∷ AlreadyJoined ∷ NoSuchRoom ∷ RoomFull ∷ RecordFull ∷ WrongSeq ∷ OwnCount ∷ Ahead ∷ NotClosed ∷ NoSuchObject ∷ NoSuchVersion ∷ ObjectFull ∷ TooManyKeys ∷ TooManyVersions ∷ TooManyObjects ∷ TooFar ∷ []
+all_refusals = BadMessage ∷ NotJoined ∷ AlreadyJoined ∷ NoSuchRoom ∷ RoomFull ∷ RecordFull ∷ WrongSeq ∷ OwnCount ∷ Ahead ∷ NotClosed ∷ NoSuchObject ∷ NoSuchVersion ∷ ObjectFull ∷ TooManyKeys ∷ TooManyVersions ∷ TooManyObjects ∷ TooFar ∷ Gone ∷ []
 
 -- the refusal with this number
 abbrev pub refusal_at : ℕ → Option Refusal

@@ -1,5 +1,5 @@
--- The versions of an object (the idea is that of Sun and Chen, ACM TOCHI 9(1), 2002): one for each group of its sets.
-use Rattle.std.specs.Prelude.{Bool, not, ◌&&◌, ◌++◌, List, [], Option, Some, None, map, filter_map, flat_map, find, is_some, option_map, bytes_eq}
+-- The versions of an object (the idea is that of Sun and Chen, ACM TOCHI 9(1), 2002): one for each group of its changes.
+use Rattle.std.specs.Prelude.{Bool, not, ◌&&◌, ◌++◌, List, [], Option, Some, None, map, filter, filter_map, flat_map, find, is_some, option_map, bytes_eq, if◌then◌else◌}
 use Rattle.std.specs.List.{list_any}
 use Rattle.std.specs.declared.cmp.Ordering.{Ordering}
 use Rattle.std.specs.Ordering.{nat_cmp, on}
@@ -9,11 +9,13 @@ use Rattle.op_names.specs.Texts.{Bytes}
 use Rattle.op_names.specs.VersionIds.{id_cmp}
 use Rattle.op_names.specs.declared.value.Value.{Value}
 use Rattle.rules.specs.declared.history.Op.{Op}
+use Rattle.rules.specs.declared.version.Shown.{Shown}
+use Rattle.rules.specs.declared.version.Shown.TheVariants.{Attrs, Gone}
 use Rattle.rules.specs.declared.version.Version.{Version}
-use Rattle.rules.specs.AttrLists.{Attr}
+use Rattle.rules.specs.AttrLists.{Attr, value_at}
 use Rattle.rules.specs.Bodies.{initial_in, keys_in, value_in}
 use Rattle.rules.specs.Lists.{each_once, sort_by}
-use Rattle.rules.specs.Operations.{before, creation_of, name_of, sets_on}
+use Rattle.rules.specs.Operations.{before, creation_of, holds_drop, name_of, changes_on}
 use Rattle.rules.specs.Groups.{groups_of, identifier}
 use Rattle.rules.specs.Conflicts.{conflict}
 
@@ -30,7 +32,7 @@ decides key g op = gives key op && not (list_any (λ later. gives key later && b
 
 -- the value that an operation gives a key; without one, the creation's
 abbrev pub value_by : Bytes → List Attr → Option Op → Option Value
-value_by key initial None = option_map (λ attr. attr.1) (find (λ attr. bytes_eq attr.0 key) initial)
+value_by key initial None = value_at key initial
 value_by key initial (Some op) = value_in key op.body
 
 -- the value of a key in g, on an object created with these attributes
@@ -39,9 +41,13 @@ value_of_key initial g key = value_by key initial (find (decides key g) g)
 
 -- ---- the attributes of a group
 
--- the keys that sets give a value, each once
+-- the keys that puts give values, each once
 abbrev pub keys_of : List Op → List Bytes
 keys_of g = each_once bytes_eq (flat_map (λ op. keys_in op.body) g)
+
+-- the keys of a change that none of these changes gives a value, each once
+abbrev pub new_keys : List Op → Op → List Bytes
+new_keys changes op = filter (λ key. not (list_any (bytes_eq key) (keys_of changes))) (each_once bytes_eq (keys_in op.body))
 
 -- attributes are ordered by their keys
 abbrev pub key_cmp : Attr → Attr → Ordering
@@ -58,13 +64,17 @@ initial_of (Some op) = initial_in op.body
 
 -- ---- the versions of an object
 
--- the groups of all sets on an object
+-- the groups of all changes of an object
 unfoldable pub groups : List Op → Name → List (List Op)
-groups h object = groups_of (conflict h) (sets_on h object)
+groups h object = groups_of (conflict h) (changes_on h object)
 
--- a group as it is shown: its identifier, and its attributes
+-- what is shown of a group on an object that was created with these attributes: a group that holds a drop is gone
+unfoldable pub shown_of : List Attr → List Op → Shown
+shown_of initial g = if holds_drop g then Gone else Attrs (attributes initial g)
+
+-- a group as it is shown: its identifier, and its attributes or that it is gone
 unfoldable pub version_of : List Op → Name → List Op → Version
-version_of h object g = record { id = identifier (conflict h) name_of (sets_on h object) g; attrs = attributes (initial_of (creation_of h object)) g }
+version_of h object g = record { id = identifier (conflict h) name_of (changes_on h object) g; shown = shown_of (initial_of (creation_of h object)) g }
 
 -- versions are ordered by their identifiers
 abbrev pub by_id : Version → Version → Ordering

@@ -46,7 +46,7 @@ fn has_key(pairs: &[(Key, Value)], key: &Key) -> bool
 }
 
 /// The first place whose key stands at an earlier place too.
-fn repeated_key(pairs: &[(Key, Value)]) -> Option<usize>
+pub(crate) fn repeated_key(pairs: &[(Key, Value)]) -> Option<usize>
     ensures { result ≡ first_repeat same_key pairs.now }
 {
     for (place, pair) in pairs.iter().enumerate() {

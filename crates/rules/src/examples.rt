@@ -3,30 +3,30 @@
 //! In each a room draws one rectangle, which the first site creates; `specs/Examples.antt` has the
 //! records.
 
-#![tactic(auto, unfolding(state_vector::specs::Vectors::vector_fault, crate::specs::Operations::known, crate::specs::Operations::sets_on, crate::specs::Groups::groups_of, crate::specs::Groups::group_named, crate::specs::Groups::identifier, crate::specs::Conflicts::base, crate::specs::Conflicts::conflict, crate::specs::Versions::attributes, crate::specs::Versions::groups, crate::specs::Versions::version_of, crate::specs::Versions::versions, crate::specs::Records::refusal))]
+#![tactic(auto, unfolding(state_vector::specs::Vectors::vector_fault, crate::specs::Operations::known, crate::specs::Operations::changes_on, crate::specs::Groups::groups_of, crate::specs::Groups::group_named, crate::specs::Groups::identifier, crate::specs::Conflicts::base, crate::specs::Conflicts::conflict, crate::specs::Versions::attributes, crate::specs::Versions::groups, crate::specs::Versions::shown_of, crate::specs::Versions::version_of, crate::specs::Versions::versions, crate::specs::Records::refusal))]
 
 ghost use Rattle.std.specs.Prelude.{◌≡◌, [], ◌∷◌, Some, None};
-ghost use Rattle.rules.specs.declared.refusal.Refusal.TheVariants.{WrongSeq, OwnCount, Ahead, NotClosed, NoSuchObject, NoSuchVersion, ObjectFull, TooManyKeys, TooManyVersions};
+ghost use Rattle.rules.specs.declared.refusal.Refusal.TheVariants.{WrongSeq, OwnCount, Ahead, NotClosed, NoSuchObject, NoSuchVersion, Gone, ObjectFull, TooManyKeys, TooManyVersions};
 ghost use Rattle.rules.specs.Limits.{full_limits};
 ghost use Rattle.rules.specs.Records.{operations, refusal, IsLegal};
 ghost use Rattle.rules.specs.Versions.{versions};
-ghost use Rattle.rules.specs.Examples.{x, y, line, red, sets, version, creation_alone, one_set, two_sets, three_sites, another_key, two_ways, five_sets, same_value_twice, value_replaced, seen_by_one, based_before, based_after};
+ghost use Rattle.rules.specs.Examples.{x, y, line, red, puts, drops, version, gone, creation_alone, one_put, two_puts, three_sites, another_key, two_ways, five_puts, same_value_twice, value_replaced, seen_by_one, based_before, based_after, same_value_and_more, other_value_and_more, one_drop, put_beside_a_drop, two_drops, one_of_two_dropped, both_dropped};
 
-/// A set that conflicts with nothing makes no version: the one version has no name.
-pub fn one_set_alone()
-    ensures legal { IsLegal full_limits one_set }
-    ensures versions { versions (operations one_set) (1, 1) ≡ version [] (x 5 ∷ []) ∷ [] }
+/// A put that conflicts with nothing makes no version: the one version has no name.
+pub fn one_put_alone()
+    ensures legal { IsLegal full_limits one_put }
+    ensures versions { versions (operations one_put) (1, 1) ≡ version [] (x 5 ∷ []) ∷ [] }
 {}
 
 /// Two sites give x different values, neither having seen the other: each value has a version.
 pub fn two_values_of_one_key()
-    ensures legal { IsLegal full_limits two_sets }
-    ensures versions { versions (operations two_sets) (1, 1) ≡
+    ensures legal { IsLegal full_limits two_puts }
+    ensures versions { versions (operations two_puts) (1, 1) ≡
         version ((1, 2) ∷ []) (x 5 ∷ [])
         ∷ version ((2, 1) ∷ []) (x 9 ∷ []) ∷ [] }
 {}
 
-/// A set of another key conflicts with neither: it stands in both versions and in no identifier.
+/// A put of another key conflicts with neither: it stands in both versions and in no identifier.
 pub fn another_key_in_both_versions()
     ensures legal { IsLegal full_limits another_key }
     ensures versions { versions (operations another_key) (1, 1) ≡
@@ -34,7 +34,7 @@ pub fn another_key_in_both_versions()
         ∷ version ((2, 1) ∷ []) (red ∷ x 9 ∷ []) ∷ [] }
 {}
 
-/// Each site goes on with a version of its own. What is based on conflicting sets conflicts, so
+/// Each site goes on with a version of its own. What is based on conflicting puts conflicts, so
 /// there is no third version.
 pub fn conflict_is_inherited()
     ensures legal { IsLegal full_limits two_ways }
@@ -44,9 +44,9 @@ pub fn conflict_is_inherited()
 {}
 
 /// Three values of x and two of y, none seeing another: six versions, one for each choice.
-pub fn six_versions_of_five_sets()
-    ensures legal { IsLegal full_limits five_sets }
-    ensures versions { versions (operations five_sets) (1, 1) ≡
+pub fn six_versions_of_five_puts()
+    ensures legal { IsLegal full_limits five_puts }
+    ensures versions { versions (operations five_puts) (1, 1) ≡
         version ((1, 2) ∷ (2, 1) ∷ []) (x 1 ∷ y 2 ∷ [])
         ∷ version ((1, 2) ∷ (4, 1) ∷ []) (x 1 ∷ y 8 ∷ [])
         ∷ version ((2, 1) ∷ (3, 1) ∷ []) (x 7 ∷ y 2 ∷ [])
@@ -55,7 +55,7 @@ pub fn six_versions_of_five_sets()
         ∷ version ((4, 1) ∷ (5, 1) ∷ []) (x 9 ∷ y 8 ∷ []) ∷ [] }
 {}
 
-/// Two sites give x one value: their sets share the version.
+/// Two sites give x one value: their puts share the version.
 pub fn one_value_of_one_key()
     ensures legal { IsLegal full_limits same_value_twice }
     ensures versions { versions (operations same_value_twice) (1, 1) ≡ version [] (x 5 ∷ []) ∷ [] }
@@ -70,7 +70,7 @@ pub fn a_value_that_was_replaced()
         ∷ version ((2, 1) ∷ []) (x 5 ∷ []) ∷ [] }
 {}
 
-/// A set's version is looked for among what the set has seen: the third site saw one version, which
+/// A put's version is looked for among what the put has seen: the third site saw one version, which
 /// had no name then.
 pub fn a_version_as_it_was_seen()
     ensures legal { IsLegal full_limits seen_by_one }
@@ -79,7 +79,7 @@ pub fn a_version_as_it_was_seen()
         ∷ version ((2, 1) ∷ []) (x 9 ∷ []) ∷ [] }
 {}
 
-/// A set conflicts with what another is based on, and so with that one, whichever of the two comes
+/// A put conflicts with what another is based on, and so with that one, whichever of the two comes
 /// first.
 pub fn conflict_with_a_base()
     ensures earlier { versions (operations based_before) (1, 1) ≡
@@ -90,29 +90,97 @@ pub fn conflict_with_a_base()
         ∷ version ((2, 1) ∷ (2, 2) ∷ []) (line 3 ∷ x 9 ∷ []) ∷ [] }
 {}
 
-/// Sets that are refused, each for its own reason.
-pub fn refused_sets()
-    ensures number { refusal full_limits three_sites (sets (1, 2) creation_alone [] (x 1))
+/// Puts that are refused, each for its own reason.
+pub fn refused_puts()
+    ensures number { refusal full_limits three_sites (puts (1, 2) creation_alone [] (x 1 ∷ []))
         ≡ Some WrongSeq }
-    ensures own_count { refusal full_limits three_sites (sets (1, 3) creation_alone [] (x 1))
+    ensures own_count { refusal full_limits three_sites (puts (1, 3) creation_alone [] (x 1 ∷ []))
         ≡ Some OwnCount }
-    ensures ahead { refusal full_limits three_sites (sets (3, 1) ((1, 3) ∷ []) [] (x 1))
+    ensures ahead { refusal full_limits three_sites (puts (3, 1) ((1, 3) ∷ []) [] (x 1 ∷ []))
         ≡ Some Ahead }
-    ensures not_closed { refusal full_limits three_sites (sets (3, 1) ((2, 1) ∷ []) [] (x 1))
+    ensures not_closed { refusal full_limits three_sites (puts (3, 1) ((2, 1) ∷ []) [] (x 1 ∷ []))
         ≡ Some NotClosed }
-    ensures object { refusal full_limits three_sites (sets (3, 1) [] [] (x 1)) ≡ Some NoSuchObject }
-    ensures version { refusal full_limits three_sites (sets (1, 3) ((1, 2) ∷ (2, 1) ∷ []) [] (x 1))
-        ≡ Some NoSuchVersion }
+    ensures object { refusal full_limits three_sites (puts (3, 1) [] [] (x 1 ∷ []))
+        ≡ Some NoSuchObject }
+    ensures version { refusal full_limits three_sites
+        (puts (1, 3) ((1, 2) ∷ (2, 1) ∷ []) [] (x 1 ∷ [])) ≡ Some NoSuchVersion }
 {}
 
-/// Sets that go past a limit, and one that just doesn't.
-pub fn sets_past_a_limit()
-    ensures sets { refusal (record full_limits { sets = 1 }) one_set
-        (sets (2, 1) creation_alone [] (x 9)) ≡ Some ObjectFull }
-    ensures keys { refusal (record full_limits { keys = 1 }) one_set
-        (sets (2, 1) creation_alone [] red) ≡ Some TooManyKeys }
+/// Puts that go past a limit, and some that just don't.
+pub fn puts_past_a_limit()
+    ensures changes { refusal (record full_limits { changes = 1 }) one_put
+        (puts (2, 1) creation_alone [] (x 9 ∷ [])) ≡ Some ObjectFull }
+    ensures keys { refusal (record full_limits { keys = 1 }) one_put
+        (puts (2, 1) creation_alone [] (red ∷ [])) ≡ Some TooManyKeys }
+    ensures several { refusal (record full_limits { keys = 2 }) one_put
+        (puts (2, 1) creation_alone [] (x 5 ∷ y 1 ∷ red ∷ [])) ≡ Some TooManyKeys }
+    ensures few { refusal (record full_limits { keys = 2 }) one_put
+        (puts (2, 1) creation_alone [] (x 5 ∷ red ∷ [])) ≡ None }
     ensures versions { refusal (record full_limits { versions = 2 }) three_sites
-        (sets (3, 1) creation_alone [] (x 1)) ≡ Some TooManyVersions }
+        (puts (3, 1) creation_alone [] (x 1 ∷ [])) ≡ Some TooManyVersions }
     ensures enough { refusal (record full_limits { versions = 3 }) three_sites
-        (sets (3, 1) creation_alone [] (x 1)) ≡ None }
+        (puts (3, 1) creation_alone [] (x 1 ∷ [])) ≡ None }
+{}
+
+/// A put of several attributes conflicts with one of another value for one of its keys, and with
+/// none of the same value.
+pub fn puts_of_several_attributes()
+    ensures legal_same { IsLegal full_limits same_value_and_more }
+    ensures same { versions (operations same_value_and_more) (1, 1) ≡
+        version [] (red ∷ x 5 ∷ []) ∷ [] }
+    ensures legal_other { IsLegal full_limits other_value_and_more }
+    ensures other { versions (operations other_value_and_more) (1, 1) ≡
+        version ((1, 2) ∷ []) (x 5 ∷ [])
+        ∷ version ((2, 1) ∷ []) (red ∷ x 9 ∷ []) ∷ [] }
+{}
+
+/// A version that was dropped is gone, and no change goes on with it.
+pub fn a_dropped_version_is_gone()
+    ensures legal { IsLegal full_limits one_drop }
+    ensures versions { versions (operations one_drop) (1, 1) ≡ gone [] ∷ [] }
+    ensures put { refusal full_limits one_drop
+        (puts (2, 2) ((1, 2) ∷ (2, 1) ∷ []) [] (x 7 ∷ [])) ≡ Some Gone }
+    ensures dropped { refusal full_limits one_drop (drops (2, 2) ((1, 2) ∷ (2, 1) ∷ []) [])
+        ≡ Some Gone }
+{}
+
+/// A put conflicts with a drop that hasn't seen it: what the put makes stands, and beside it the
+/// version that is gone.
+pub fn a_put_beside_a_drop()
+    ensures legal { IsLegal full_limits put_beside_a_drop }
+    ensures versions { versions (operations put_beside_a_drop) (1, 1) ≡
+        version ((1, 3) ∷ []) (x 6 ∷ [])
+        ∷ gone ((2, 1) ∷ []) ∷ [] }
+{}
+
+/// Two drops of one version, neither having seen the other, share the version.
+pub fn two_drops_of_one_version()
+    ensures legal { IsLegal full_limits two_drops }
+    ensures versions { versions (operations two_drops) (1, 1) ≡ gone [] ∷ [] }
+{}
+
+/// Of two versions each can be dropped, and the other one stays as it is.
+pub fn drops_of_two_versions()
+    ensures legal { IsLegal full_limits both_dropped }
+    ensures one { versions (operations one_of_two_dropped) (1, 1) ≡
+        gone ((1, 2) ∷ (1, 3) ∷ [])
+        ∷ version ((2, 1) ∷ []) (x 9 ∷ []) ∷ [] }
+    ensures both { versions (operations both_dropped) (1, 1) ≡
+        gone ((1, 2) ∷ (1, 3) ∷ [])
+        ∷ gone ((2, 1) ∷ (2, 2) ∷ []) ∷ [] }
+{}
+
+/// Drops that are refused, and one that a limit on keys doesn't refuse.
+pub fn refused_drops()
+    ensures object { refusal full_limits one_put (drops (2, 1) [] []) ≡ Some NoSuchObject }
+    ensures version { refusal full_limits one_put (drops (2, 1) ((1, 2) ∷ []) ((1, 2) ∷ []))
+        ≡ Some NoSuchVersion }
+    ensures changes { refusal (record full_limits { changes = 1 }) one_put
+        (drops (2, 1) ((1, 2) ∷ []) []) ≡ Some ObjectFull }
+    ensures versions { refusal (record full_limits { versions = 1 }) one_put
+        (drops (2, 1) creation_alone []) ≡ Some TooManyVersions }
+    ensures gone { refusal (record full_limits { versions = 1 }) one_drop
+        (puts (1, 3) ((1, 2) ∷ []) [] (x 6 ∷ [])) ≡ Some TooManyVersions }
+    ensures keys { refusal (record full_limits { keys = 0 }) one_put
+        (drops (2, 1) ((1, 2) ∷ []) []) ≡ None }
 {}

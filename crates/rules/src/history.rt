@@ -1,9 +1,11 @@
 //! Operations, and the entries of a room's record.
 
 ghost use Rattle.std.specs.Prelude.{◌≡◌, IfOk};
+ghost use Rattle.rules.specs.Bodies.{are_at_odds};
 
 use crate::attrs::Attrs;
-use op_names::{Key, Kind, NoMemory, OpName, Value, VersionId};
+use crate::pairs::Pairs;
+use op_names::{Kind, NoMemory, OpName, VersionId};
 use state_vector::StateVector;
 use std::alloc::Global;
 
@@ -15,12 +17,16 @@ pub enum Body {
         kind: Kind,
         attrs: Attrs,
     },
-    /// Gives a key of an object a value, starting from one of the versions that its author saw.
-    Set {
+    /// Gives keys of an object values, starting from one of the versions that its author saw.
+    Put {
         object: OpName,
         version: VersionId,
-        key: Key,
-        value: Value,
+        pairs: Pairs,
+    },
+    /// Deletes one of the versions that its author saw.
+    DropVersion {
+        object: OpName,
+        version: VersionId,
     },
 }
 
@@ -34,17 +40,40 @@ impl Body {
                 kind: kind.copy(alloc)?,
                 attrs: attrs.copy(alloc)?,
             }),
-            Body::Set {
+            Body::Put {
                 object,
                 version,
-                key,
-                value,
-            } => Ok(Body::Set {
+                pairs,
+            } => Ok(Body::Put {
                 object: *object,
                 version: version.copy(alloc)?,
-                key: key.copy(alloc)?,
-                value: value.copy(alloc)?,
+                pairs: pairs.copy(alloc)?,
             }),
+            Body::DropVersion { object, version } => Ok(Body::DropVersion {
+                object: *object,
+                version: version.copy(alloc)?,
+            }),
+        }
+    }
+
+    /// Are the two changes that don't go together: puts that give some key different values, or
+    /// exactly one a drop?
+    pub fn is_at_odds(&self, other: &Body) -> bool
+        ensures { result ≡ are_at_odds self.now other.now }
+    {
+        match (self, other) {
+            (
+                Body::Put { pairs, .. },
+                Body::Put {
+                    pairs: other_pairs,
+                    ..
+                },
+            ) => pairs.differ(other_pairs),
+            (Body::Put { .. }, Body::DropVersion { .. }) => true,
+            (Body::DropVersion { .. }, Body::Put { .. }) => true,
+            (Body::DropVersion { .. }, Body::DropVersion { .. }) => false,
+            (Body::New { .. }, _) => false,
+            (_, Body::New { .. }) => false,
         }
     }
 }
@@ -67,24 +96,24 @@ impl PartialEq for Body {
                 },
             ) => *kind == *other_kind && *attrs == *other_attrs,
             (
-                Body::Set {
+                Body::Put {
                     object,
                     version,
-                    key,
-                    value,
+                    pairs,
                 },
-                Body::Set {
+                Body::Put {
                     object: other_object,
                     version: other_version,
-                    key: other_key,
-                    value: other_value,
+                    pairs: other_pairs,
                 },
-            ) => {
-                *object == *other_object
-                    && *version == *other_version
-                    && *key == *other_key
-                    && *value == *other_value
-            }
+            ) => *object == *other_object && *version == *other_version && *pairs == *other_pairs,
+            (
+                Body::DropVersion { object, version },
+                Body::DropVersion {
+                    object: other_object,
+                    version: other_version,
+                },
+            ) => *object == *other_object && *version == *other_version,
             _ => false,
         }
     }

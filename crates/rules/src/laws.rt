@@ -1,7 +1,7 @@
 //! Laws over the definitions. These functions run nothing.
 
-ghost use Rattle.std.specs.Prelude.{◌≡◌, ◌↔◌, ◌≤◌, ◌||◌, ◌∷◌, Bool, true, false, List, [], length, map, reverse, find, Some, None, IsTrue, Contains, if◌then◌else◌};
-ghost use Rattle.std.specs.List.{list_any};
+ghost use Rattle.std.specs.Prelude.{◌≡◌, ◌↔◌, ◌≤◌, ◌+◌, ◌||◌, ◌∷◌, ◌++◌, not, bytes_eq, Bool, true, false, List, [], length, map, reverse, find, Some, None, IsTrue, Contains, if◌then◌else◌};
+ghost use Rattle.std.specs.List.{list_any, count_by};
 ghost use Rattle.std.specs.List.Sorted.{IsPermutation, IsStrictlySortedBy};
 ghost use Rattle.op_names.specs.Names.{Name};
 ghost use Rattle.op_names.specs.Texts.{Bytes};
@@ -9,14 +9,16 @@ ghost use Rattle.op_names.specs.VersionIds.{id_cmp, same_names};
 ghost use Rattle.rules.specs.declared.history.Op.{Op};
 ghost use Rattle.rules.specs.declared.history.Entry.{Entry};
 ghost use Rattle.rules.specs.declared.limits.LimitValues.{LimitValues};
-ghost use Rattle.rules.specs.Bodies.{value_in};
+ghost use Rattle.rules.specs.declared.history.Body.{Body};
+ghost use Rattle.rules.specs.declared.version.Shown.TheVariants.{Attrs, Gone};
+ghost use Rattle.op_names.specs.declared.value.Value.{Value};
+ghost use Rattle.rules.specs.Bodies.{is_put_body, is_drop_body, pairs_in, differ_on_a_key, value_in, version_in};
 ghost use Rattle.rules.specs.Lists.{HasNoRepeats};
-ghost use Rattle.rules.specs.Operations.{IsHistory, IsPartOf, AreSame, Before, before, is_past, is_on, is_set_on, name_of, object_of, known, sets_on, operations_on, creation_of, IsCausallyOrdered};
+ghost use Rattle.rules.specs.Operations.{IsHistory, IsPartOf, AreSame, Before, before, is_past, is_on, is_change_on, name_of, object_of, known, changes_on, operations_on, creation_of, concurrent, holds_drop, IsCausallyOrdered};
 ghost use Rattle.rules.specs.Groups.{groups_of, group_named, identifier, is_compatible, compatible_with_named, IsGroup};
 ghost use Rattle.rules.specs.Conflicts.{base, conflict, direct_conflict, members, with_base, IsFounded};
-ghost use Rattle.rules.specs.Bodies.{version_in};
-ghost use Rattle.rules.specs.AttrLists.{Attr};
-ghost use Rattle.rules.specs.Versions.{attributes, groups, versions, version_of, decides, gives, value_by, value_of_key};
+ghost use Rattle.rules.specs.AttrLists.{Attr, are_pairs};
+ghost use Rattle.rules.specs.Versions.{attributes, groups, initial_of, keys_of, new_keys, shown_of, versions, version_of, decides, gives, value_by, value_of_key};
 ghost use Rattle.rules.specs.Records.{operations, version_conditions, HoldTheSame, IsLegal};
 
 // ---- causal order
@@ -35,17 +37,17 @@ pub fn histories_have_a_causal_order()
         → (k : List Op) × IsPermutation h k × IsCausallyOrdered k }
 {}
 
-/// What is listed as all sets on an object are the sets on it.
-pub fn sets_on_an_object()
+/// What is listed as all changes of an object are its changes.
+pub fn changes_on_an_object()
     ensures { (h : List Op) (object : Name) (a : Op)
-        → Contains (sets_on h object) a ↔ (Contains h a × IsTrue (is_set_on object a)) }
+        → Contains (changes_on h object) a ↔ (Contains h a × IsTrue (is_change_on object a)) }
 {}
 
-/// What an operation knows are the sets on its object that are before it.
-pub fn known_are_the_sets_before()
+/// What an operation knows are the changes of its object that are before it.
+pub fn known_are_the_changes_before()
     ensures { (h : List Op) (a b : Op) → IsHistory h → Contains h b
         → (Contains (known h b) a
-        ↔ (Contains h a × IsTrue (is_set_on (object_of b) a) × Before h a b)) }
+        ↔ (Contains h a × IsTrue (is_change_on (object_of b) a) × Before h a b)) }
 {}
 
 // ---- groups of any list, by any relation of conflict
@@ -97,6 +99,13 @@ pub fn groups_never_get_fewer<X>()
 {}
 
 // ---- bases and conflicts
+
+/// Two puts differ on a key exactly where they give one key different values.
+pub fn puts_differ_on_a_key()
+    ensures { (b c : Body) → (differ_on_a_key b c ≡ true)
+        ↔ ((key : Bytes) × (x : Value) × (y : Value)
+        × (value_in key b ≡ Some x) × (value_in key c ≡ Some y) × (x ≡ y → ⊥)) }
+{}
 
 /// The base of an operation is the group of what it knows that has the identifier which it names.
 pub fn base_is_the_named_group()
@@ -157,10 +166,30 @@ pub fn conflicts_follow_from_the_base()
         || list_any (λ x. conflict h x b) (members (base h a))) }
 {}
 
+// ---- the keys of puts
+
+/// A put gives 1 to 16 attributes, whose keys differ.
+pub fn keys_of_a_put_differ()
+    ensures { (pairs : List Attr) → are_pairs pairs ≡ true
+        → (1 ≤ length pairs) × (length pairs ≤ 16)
+        × HasNoRepeats (map (λ attr. attr.0) pairs) }
+{}
+
+/// With one change more the puts have as many keys more as it gives new ones. Of a put each of its
+/// attributes counts whose key is new.
+pub fn a_change_adds_its_new_keys()
+    ensures keys { (k : List Op) (op : Op)
+        → length (keys_of (k ++ op ∷ [])) ≡ length (keys_of k) + length (new_keys k op) }
+    ensures of_a_put { (k : List Op) (op : Op) → are_pairs (pairs_in op.body) ≡ true
+        → length (keys_of (k ++ op ∷ []))
+        ≡ length (keys_of k)
+        + count_by (λ attr. not (list_any (bytes_eq attr.0) (keys_of k))) (pairs_in op.body) }
+{}
+
 // ---- versions
 
 /// In whatever order its operations are listed, a history has the same versions of each object.
-#[tactic(auto, using(crate::proofs::Shown::versions_same))]
+#[tactic(auto, using(crate::proofs::Versions::versions_same))]
 pub fn versions_in_any_order()
     ensures { (k h : List Op) (object : Name) → AreSame k h
         → versions k object ≡ versions h object }
@@ -174,45 +203,98 @@ pub fn deciding_operations_agree()
         → value_in key a.body ≡ value_in key b.body }
 {}
 
-/// In a group in causal order the last operation that gives a key decides its value.
-pub fn the_last_set_on_a_key_decides()
+/// In a group in causal order the last put of a key decides its value.
+pub fn the_last_put_of_a_key_decides()
     ensures { (h g : List Op) (initial : List Attr) (key : Bytes)
         → is_compatible (conflict h) g ≡ true → IsCausallyOrdered g
         → ((x : Op) → Contains g x → before x x ≡ false)
         → value_of_key initial g key ≡ value_by key initial (find (gives key) (reverse g)) }
 {}
 
-/// In whatever order the operations of a group are listed, it has the same attributes, where those
-/// that could decide a key agree.
-pub fn attributes_in_any_order()
-    ensures { (initial : List Attr) (f g : List Op) → ((a : Op) → Contains f a ↔ Contains g a)
+/// In whatever order the operations of a group are listed, it has the same attributes, and the same
+/// is shown of it, where those that could decide a key agree.
+pub fn a_group_in_any_order()
+    ensures attributes { (initial : List Attr) (f g : List Op)
+        → ((a : Op) → Contains f a ↔ Contains g a)
         → ((key : Bytes) (a b : Op) → Contains f a → Contains f b
         → IsTrue (decides key f a) → IsTrue (decides key f b)
         → value_in key a.body ≡ value_in key b.body)
         → attributes initial f ≡ attributes initial g }
+    ensures shown { (initial : List Attr) (f g : List Op)
+        → ((a : Op) → Contains f a ↔ Contains g a)
+        → ((key : Bytes) (a b : Op) → Contains f a → Contains f b
+        → IsTrue (decides key f a) → IsTrue (decides key f b)
+        → value_in key a.body ≡ value_in key b.body)
+        → shown_of initial f ≡ shown_of initial g }
 {}
 
 /// Where two histories agree on the creation, on the operations of a group and on all before these,
-/// the group of the one and the group of the other with the same names have the same attributes.
+/// the same is shown of the group of the one and the group of the other with the same names.
 #[tactic(auto, using(crate::proofs::Attributes::same_attributes))]
-pub fn a_group_has_the_same_attributes_everywhere()
+pub fn a_group_is_shown_the_same_everywhere()
     ensures { (h k : List Op) (object : Name) (f g : List Op) → IsHistory h → IsHistory k
         → Contains (groups h object) f → Contains (groups k object) g
         → map name_of f ≡ map name_of g
         → creation_of h object ≡ creation_of k object
         → ((a x : Op) → Contains f a → Contains h x → IsTrue (is_past a x) → Contains k x)
-        → (version_of h object f).attrs ≡ (version_of k object g).attrs }
+        → (version_of h object f).shown ≡ (version_of k object g).shown }
+{}
+
+// ---- drops
+
+/// A group that holds a drop is shown as gone, in whatever order it is listed and in whatever
+/// history; and of each other group its attributes are shown.
+pub fn a_group_with_a_drop_is_gone()
+    ensures gone { (h : List Op) (object : Name) (g : List Op) (a : Op) → Contains g a
+        → IsTrue (is_drop_body a.body) → (version_of h object g).shown ≡ Gone }
+    ensures dropped { (h : List Op) (object : Name) (g : List Op)
+        → (version_of h object g).shown ≡ Gone
+        → (a : Op) × Contains g a × IsTrue (is_drop_body a.body) }
+    ensures others { (h : List Op) (object : Name) (g : List Op) → holds_drop g ≡ false
+        → (version_of h object g).shown
+        ≡ Attrs (attributes (initial_of (creation_of h object)) g) }
+{}
+
+/// A put is in conflict with each concurrent drop. Two concurrent drops don't conflict directly.
+pub fn a_put_conflicts_with_a_concurrent_drop()
+    ensures put_and_drop { (h : List Op) (a b : Op) → IsTrue (is_put_body a.body)
+        → IsTrue (is_drop_body b.body) → IsTrue (concurrent a b) → conflict h a b ≡ true }
+    ensures two_drops { (h : List Op) (a b : Op) → IsTrue (is_drop_body a.body)
+        → IsTrue (is_drop_body b.body) → IsTrue (concurrent a b)
+        → direct_conflict (base h) a b ≡ false }
+{}
+
+/// A drop is the end of its version: each put of a group that holds a drop is in the drop's base.
+pub fn a_drop_ends_its_version()
+    ensures { (h : List Op) (object : Name) (g : List Op) (a d : Op) → IsHistory h → IsFounded h
+        → Contains (groups h object) g → Contains g a → IsTrue (is_put_body a.body)
+        → Contains g d → IsTrue (is_drop_body d.body) → Contains (members (base h d)) a }
+{}
+
+/// Nothing is lost. Each change stands in a group, so in a version; and a version with a put that
+/// is in no drop's base is shown by its attributes.
+pub fn nothing_is_lost()
+    ensures stands { (h : List Op) (object : Name) (a : Op) → IsHistory h → IsFounded h
+        → Contains (changes_on h object) a
+        → (g : List Op) × Contains (groups h object) g × Contains g a }
+    ensures shown { (h : List Op) (object : Name) (g : List Op) (a : Op)
+        → IsHistory h → IsFounded h → Contains (groups h object) g → Contains g a
+        → IsTrue (is_put_body a.body)
+        → ((d : Op) → Contains h d → IsTrue (is_drop_body d.body)
+        → Contains (members (base h d)) a → ⊥)
+        → (version_of h object g).shown
+        ≡ Attrs (attributes (initial_of (creation_of h object)) g) }
 {}
 
 /// The identifiers of an object's versions rise strictly.
-#[tactic(auto, using(crate::proofs::Shown::identifiers_rise))]
+#[tactic(auto, using(crate::proofs::Versions::identifiers_rise))]
 pub fn identifiers_rise()
     ensures { (h : List Op) (object : Name) → IsHistory h
         → IsStrictlySortedBy id_cmp (map (λ version. version.id) (versions h object)) }
 {}
 
-/// Each group of all sets on an object is shown exactly once.
-#[tactic(auto, using(crate::proofs::Shown::groups_once, crate::proofs::Shown::each_shown))]
+/// Each group of all changes of an object is shown exactly once.
+#[tactic(auto, using(crate::proofs::Versions::groups_once, crate::proofs::Versions::each_shown))]
 pub fn each_group_is_shown_once()
     ensures groups { (h : List Op) (object : Name) → IsHistory h → HasNoRepeats (groups h object) }
     ensures shown { (h : List Op) (object : Name)
@@ -220,14 +302,14 @@ pub fn each_group_is_shown_once()
 {}
 
 /// An object never has fewer versions when operations are added.
-#[tactic(auto, using(crate::proofs::Shown::versions_of_part))]
+#[tactic(auto, using(crate::proofs::Versions::versions_of_part))]
 pub fn versions_never_get_fewer()
     ensures { (k h : List Op) (object : Name) → IsPartOf k h → IsFounded h
         → length (versions k object) ≤ length (versions h object) }
 {}
 
 /// What an operation knows, its base and its conflicts, the versions of its object, and whether a
-/// set fails for its base or for a limit on its object depend on the operations on that object
+/// change fails for its base or for a limit on its object depend on the operations on that object
 /// alone.
 #[tactic(auto, using(crate::proofs::Objects::known_alone, crate::proofs::Objects::base_alone, crate::proofs::Objects::conflict_alone, crate::proofs::Objects::groups_alone, crate::proofs::Objects::versions_alone, crate::proofs::Objects::conditions_alone))]
 pub fn an_object_stands_alone()
@@ -269,12 +351,15 @@ pub fn legal_records_with_the_same_operations_agree()
     ensures identifiers { (q r : List Entry) (object : Name) (g : List Op) → HoldTheSame q r
         → Contains (groups (operations q) object) g
         → (version_of (operations q) object g).id ≡ (version_of (operations r) object g).id }
+    ensures shown { (q r : List Entry) (object : Name) (g : List Op) → HoldTheSame q r
+        → Contains (groups (operations q) object) g
+        → (version_of (operations q) object g).shown ≡ (version_of (operations r) object g).shown }
     ensures versions { (q r : List Entry) (object : Name) → HoldTheSame q r
         → versions (operations q) object ≡ versions (operations r) object }
 {}
 
-/// Each set of a legal record has its object and its base.
+/// Each change of a legal record has its object and its base, in which there is no drop.
 #[tactic(auto, using(crate::proofs::Founded::founded_if_legal))]
-pub fn sets_of_legal_records_are_founded()
+pub fn changes_of_legal_records_are_founded()
     ensures { (b : LimitValues) (r : List Entry) → IsLegal b r → IsFounded (operations r) }
 {}

@@ -14,9 +14,9 @@ pub struct LimitValues {
     pub entries: u32,
     /// The objects that there may be.
     pub objects: u32,
-    /// The set operations that an object may have.
-    pub sets: u32,
-    /// The distinct keys that the set operations of an object may have.
+    /// The changes that an object may have: puts and drops.
+    pub changes: u32,
+    /// The distinct keys that the puts on an object may have.
     pub keys: u32,
     /// The versions that an object may have.
     pub versions: u32,
@@ -30,7 +30,7 @@ impl LimitValues {
         joins: Limits::MAX_JOINS,
         entries: Limits::MAX_ENTRIES,
         objects: Limits::MAX_OBJECTS,
-        sets: Limits::MAX_SETS,
+        changes: Limits::MAX_CHANGES,
         keys: Limits::MAX_KEYS,
         versions: Limits::MAX_VERSIONS,
         page: Limits::MAX_PAGE,
@@ -73,10 +73,10 @@ impl Limits {
     /// The most objects of a room.
     pub const MAX_OBJECTS: u32 = 512;
 
-    /// The most set operations of an object.
-    pub const MAX_SETS: u32 = 1024;
+    /// The most changes of an object.
+    pub const MAX_CHANGES: u32 = 1024;
 
-    /// The most distinct keys in the set operations of an object.
+    /// The most distinct keys in the puts on an object.
     pub const MAX_KEYS: u32 = 64;
 
     /// The most versions of an object.
@@ -85,8 +85,8 @@ impl Limits {
     /// The most objects or entries of a page.
     pub const MAX_PAGE: u32 = 64;
 
-    /// The full limits: 256 joins, 16,384 entries, 512 objects, and for each object 1,024 set
-    /// operations with 64 keys and 32 versions; pages of 64.
+    /// The full limits: 256 joins, 16,384 entries, 512 objects, and for each object 1,024
+    /// changes with 64 keys and 32 versions; pages of 64.
     pub fn full() -> Limits
         ensures { result ≡ full_limits }
     {
@@ -103,7 +103,7 @@ impl Limits {
         let within = is_limit(values.joins, Limits::MAX_JOINS)
             && is_limit(values.entries, Limits::MAX_ENTRIES)
             && is_limit(values.objects, Limits::MAX_OBJECTS)
-            && is_limit(values.sets, Limits::MAX_SETS)
+            && is_limit(values.changes, Limits::MAX_CHANGES)
             && is_limit(values.keys, Limits::MAX_KEYS)
             && is_limit(values.versions, Limits::MAX_VERSIONS)
             && is_limit(values.page, Limits::MAX_PAGE);
@@ -138,15 +138,15 @@ impl Limits {
         self.values.objects
     }
 
-    /// How many set operations an object may have.
-    pub fn sets(&self) -> u32
-        ensures value { result ≡ self.now.sets }
-        ensures range { self.now.sets ≤ Limits.MAX_SETS }
+    /// How many changes an object may have.
+    pub fn changes(&self) -> u32
+        ensures value { result ≡ self.now.changes }
+        ensures range { self.now.changes ≤ Limits.MAX_CHANGES }
     {
-        self.values.sets
+        self.values.changes
     }
 
-    /// How many distinct keys the set operations of an object may have.
+    /// How many distinct keys the puts on an object may have.
     pub fn keys(&self) -> u32
         ensures value { result ≡ self.now.keys }
         ensures range { self.now.keys ≤ Limits.MAX_KEYS }

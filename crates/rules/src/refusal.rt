@@ -22,6 +22,7 @@ pub enum Refusal {
     TooManyVersions,
     TooManyObjects,
     TooFar,
+    Gone,
 }
 
 impl Refusal {
@@ -49,6 +50,7 @@ impl Refusal {
             Refusal::TooManyVersions => 15,
             Refusal::TooManyObjects => 16,
             Refusal::TooFar => 17,
+            Refusal::Gone => 18,
         }
     }
 
@@ -74,6 +76,7 @@ impl Refusal {
             Refusal::TooManyVersions => "too-many-versions",
             Refusal::TooManyObjects => "too-many-objects",
             Refusal::TooFar => "too-far",
+            Refusal::Gone => "gone",
         }
     }
 
@@ -99,6 +102,7 @@ impl Refusal {
             15 => Some(Refusal::TooManyVersions),
             16 => Some(Refusal::TooManyObjects),
             17 => Some(Refusal::TooFar),
+            18 => Some(Refusal::Gone),
             _ => None,
         }
     }

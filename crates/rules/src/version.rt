@@ -47,11 +47,53 @@ impl AttrList {
     }
 }
 
-/// A version of an object: the identifier that tells it from the others, and its attributes.
+/// What is shown of a version: its attributes, or that it is gone, since a drop deleted it.
+#[derive(Debug, Drop)]
+pub enum Shown {
+    Attrs(AttrList),
+    Gone,
+}
+
+impl Shown {
+    /// Another one that is equal.
+    pub fn copy(&self, alloc: Global) -> Result<Shown, NoMemory>
+        ensures { IfOk result (λ shown. shown ≡ self.now) }
+    {
+        match self {
+            Shown::Attrs(attrs) => Ok(Shown::Attrs(attrs.copy(alloc)?)),
+            Shown::Gone => Ok(Shown::Gone),
+        }
+    }
+}
+
+impl PartialEq for Shown {
+    ghost use Rattle.std.specs.Cmp.{partial_equiv_from_equiv};
+    ghost use Rattle.rules.specs.Equality.{same_shown, same_shown-equivalence};
+
+    ghost eq = { same_shown };
+
+    ghost laws = { partial_equiv_from_equiv same_shown-equivalence };
+
+    fn eq(&self, other: &Shown) -> bool {
+        match (self, other) {
+            (Shown::Attrs(attrs), Shown::Attrs(other_attrs)) => *attrs == *other_attrs,
+            (Shown::Gone, Shown::Gone) => true,
+            _ => false,
+        }
+    }
+}
+
+impl Eq for Shown {
+    ghost use Rattle.rules.specs.Equality.{same_shown-equivalence};
+
+    ghost laws = { same_shown-equivalence };
+}
+
+/// A version of an object: the identifier that tells it from the others, and what is shown of it.
 #[derive(Debug, Drop, PartialEq, Eq)]
 pub struct Version {
     pub id: VersionId,
-    pub attrs: AttrList,
+    pub shown: Shown,
 }
 
 impl Version {
@@ -60,8 +102,8 @@ impl Version {
         ensures { IfOk result (λ version. version ≡ self.now) }
     {
         let id = self.id.copy(alloc)?;
-        let attrs = self.attrs.copy(alloc)?;
-        Ok(Version { id, attrs })
+        let shown = self.shown.copy(alloc)?;
+        Ok(Version { id, shown })
     }
 }
 

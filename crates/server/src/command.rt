@@ -3,7 +3,7 @@
 use crate::serve::Service;
 use clap::error::ErrorKind;
 use clap::{Arg, ArgAction, ArgMatches, Command, Error, value_parser};
-use commands::{Fault, check_at, script_over};
+use commands::{Fault, check_at, migrate_at, script_over};
 use log::Log;
 use room_watch::watch_at;
 use std::alloc::{AllocError, Global};
@@ -16,7 +16,7 @@ use std::thread::Threads;
 use std::time::Duration;
 
 /// What `--version` shows: what the number means stands in docs/DECISIONS.md.
-const VERSION: &str = "0.1.0";
+const VERSION: &str = "0.2.0";
 
 /// A word that must be there.
 fn word<'a>(alloc: Global, name: &'a str, help: &'a str) -> Arg<'a> {
@@ -110,6 +110,17 @@ fn check_command<'a>(alloc: Global) -> Result<Command<'a>, AllocError> {
         ))
 }
 
+/// `grace migrate`.
+fn migrate_command<'a>(alloc: Global) -> Result<Command<'a>, AllocError> {
+    Command::new(alloc, "migrate")
+        .about("Prints a room's record in today's forms")
+        .arg(word(
+            alloc,
+            "RECORD",
+            "A file of the record's entries, one a line",
+        ))
+}
+
 /// The commands of the program.
 fn grace<'a>(alloc: Global) -> Result<Command<'a>, AllocError> {
     Command::new(alloc, "grace")
@@ -119,7 +130,8 @@ fn grace<'a>(alloc: Global) -> Result<Command<'a>, AllocError> {
         .subcommand(script_command(alloc)?)?
         .subcommand(serve_command(alloc)?)?
         .subcommand(watch_command(alloc)?)?
-        .subcommand(check_command(alloc)?)
+        .subcommand(check_command(alloc)?)?
+        .subcommand(migrate_command(alloc)?)
 }
 
 /// Shows the text of a command line that was not read: help on `output` with status 0, a mistake on
@@ -212,6 +224,10 @@ where
                 check_at(rt, alloc, record, transcript, output, errors)
             }
             _ => 2,
+        },
+        Some(("migrate", words)) => match words.get_str("RECORD") {
+            Some(record) => migrate_at(rt, alloc, record, output, errors),
+            None => 2,
         },
         // The command line has no other command, and each word is required or has a default.
         _ => 2,

@@ -25,7 +25,7 @@ const CLOSED: &[u8] = b"\x88\x02\x03\xe8";
 /// What a session asks.
 const ASKED: &str = r#"["join","r"]
 ["new",1,[],"rect",[["x",0]]]
-["set",2,[[1,1]],[1,1],[],"x",5]
+["put",2,[[1,1]],[1,1],[],[["x",5]]]
 ["leave"]"#;
 
 /// What it is answered, where nobody else is in the room.
@@ -37,7 +37,7 @@ const ANSWERED: &str = r#"["joined",0,1]
 /// The lines of the room's record then.
 const RECORD: &str = r#"["join",1]
 ["new",[1,1],[],"rect",[["x",0]]]
-["set",[1,2],[[1,1]],[1,1],[],"x",5]
+["put",[1,2],[[1,1]],[1,1],[],[["x",5]]]
 "#;
 
 /// How many of the replies come with an entry of the record.

@@ -2,13 +2,13 @@
 
 ghost use Rattle.std.specs.Prelude.{◌≡◌, ◌<◌, false, All, IfOk, Contains, length, map};
 ghost use Rattle.op_names.specs.VersionIds.{id_cmp};
-ghost use Rattle.rules.specs.Bodies.{is_set_body};
+ghost use Rattle.rules.specs.Bodies.{initial_in, is_change_body};
 ghost use Rattle.rules.specs.Lists.{sort_by};
 ghost use Rattle.rules.specs.Groups.{groups_of, identifier};
-ghost use Rattle.rules.specs.Versions.{by_id};
+ghost use Rattle.rules.specs.Versions.{by_id, shown_of};
 ghost use Rattle.places.specs.Members.{places};
 ghost use Rattle.version_groups.specs.Kept.{AreGroups};
-ghost use Rattle.places.specs.Sets.{clash_of};
+ghost use Rattle.places.specs.Changes.{at, clash_of};
 ghost use Rattle.shape.specs.Kept.{version_at, AreGroupsOf};
 ghost use Rattle.version_ids.specs.Scopes.{places_in_conflict};
 
@@ -16,7 +16,7 @@ use attributes::attributes_of;
 use conflict::Clashes;
 use op_names::{NoMemory, VersionId};
 use places::{Members, Relation};
-use rules::{AttrList, Body, Op, Version};
+use rules::{AttrList, Body, Op, Shown, Version};
 use std::alloc::Global;
 use version_groups::Groups;
 use version_ids::{id_by, places_in_conflict};
@@ -57,68 +57,91 @@ pub(crate) fn sorted_ids<R: Relation>(
     Ok(ids)
 }
 
+/// What is shown of a group: that it is gone where it holds a drop, and else its attributes.
+fn shown_of(
+    alloc: Global,
+    creation: &Op,
+    changes: &Clashes,
+    group: &Members,
+) -> Result<Shown, NoMemory>
+    requires creation { is_change_body creation.now.body ≡ false }
+    requires group { let all = places (length changes.now.ops)
+        in Contains (groups_of (clash_of changes.now.ops) all) group.now }
+    ensures { let ops = map (at changes.now.ops) group.now
+        in IfOk result (λ shown. shown ≡ shown_of (initial_in creation.now.body) ops) }
+{
+    if changes.has_drop_at(group) {
+        return Ok(Shown::Gone);
+    }
+    let Body::New { attrs, .. } = &creation.body else {
+        unreachable!()
+    };
+    let attrs = attributes_of(alloc, attrs, changes.ops(), group)?;
+    Ok(Shown::Attrs(AttrList::from_vec(attrs)))
+}
+
 /// A group as it is shown, by the places that are in conflict with some place.
 fn version_of(
     alloc: Global,
     creation: &Op,
-    sets: &Clashes,
+    changes: &Clashes,
     conflicting: &Members,
     group: &Members,
 ) -> Result<Version, NoMemory>
-    requires creation { is_set_body creation.now.body ≡ false }
+    requires creation { is_change_body creation.now.body ≡ false }
     requires conflicting { conflicting.now
-        ≡ places_in_conflict (clash_of sets.now.ops) (length sets.now.ops) }
-    requires group { let all = places (length sets.now.ops)
-        in Contains (groups_of (clash_of sets.now.ops) all) group.now }
-    ensures { IfOk result (λ version. version ≡ version_at creation.now sets.now.ops group.now) }
+        ≡ places_in_conflict (clash_of changes.now.ops) (length changes.now.ops) }
+    requires group { let all = places (length changes.now.ops)
+        in Contains (groups_of (clash_of changes.now.ops) all) group.now }
+    ensures { IfOk result (λ version. version ≡ version_at creation.now changes.now.ops group.now) }
 {
-    let Body::New { attrs, .. } = &creation.body else {
-        unreachable!()
-    };
-    let id = id_by(alloc, sets, conflicting, group)?;
-    let attrs = attributes_of(alloc, attrs, sets.ops(), group)?;
-    Ok(Version {
-        id,
-        attrs: AttrList::from_vec(attrs),
-    })
+    let id = id_by(alloc, changes, conflicting, group)?;
+    let shown = shown_of(alloc, creation, changes, group)?;
+    Ok(Version { id, shown })
 }
 
 /// Groups as they are shown, in the order of the groups.
 fn listed_versions(
     alloc: Global,
     creation: &Op,
-    sets: &Clashes,
+    changes: &Clashes,
     groups: &Groups,
 ) -> Result<Vec<Version>, NoMemory>
-    requires creation { is_set_body creation.now.body ≡ false }
-    requires groups { AreGroupsOf sets.now.ops groups.now.groups }
+    requires creation { is_change_body creation.now.body ≡ false }
+    requires groups { AreGroupsOf changes.now.ops groups.now.groups }
     ensures { IfOk result (λ versions. versions.items
-        ≡ map (version_at creation.now sets.now.ops) groups.now.groups) }
+        ≡ map (version_at creation.now changes.now.ops) groups.now.groups) }
 {
-    let conflicting = places_in_conflict(alloc, sets)?;
+    let conflicting = places_in_conflict(alloc, changes)?;
     let mut versions = Vec::with_capacity(alloc, groups.count())?;
     for group in 0..groups.count() {
-        versions.push(version_of(alloc, creation, sets, &conflicting, groups.members(group))?)?;
+        versions.push(version_of(
+            alloc,
+            creation,
+            changes,
+            &conflicting,
+            groups.members(group),
+        )?)?;
     }
     Ok(versions)
 }
 
-/// The groups of all sets as they are shown, in the order of their identifiers.
+/// The groups of all changes as they are shown, in the order of their identifiers.
 pub(crate) fn sorted_versions(
     alloc: Global,
     creation: &Op,
-    sets: &Clashes,
+    changes: &Clashes,
     groups: &Groups,
 ) -> Result<Vec<Version>, NoMemory>
-    requires creation { is_set_body creation.now.body ≡ false }
-    requires object { sets.now.object ≡ creation.now.name }
-    requires groups { AreGroupsOf sets.now.ops groups.now.groups }
+    requires creation { is_change_body creation.now.body ≡ false }
+    requires object { changes.now.object ≡ creation.now.name }
+    requires groups { AreGroupsOf changes.now.ops groups.now.groups }
     ensures { IfOk result (λ versions. versions.items
-        ≡ sort_by by_id (map (version_at creation.now sets.now.ops) groups.now.groups)) }
+        ≡ sort_by by_id (map (version_at creation.now changes.now.ops) groups.now.groups)) }
 {
-    // That the sets are some history's is part of what stays true of them.
-    let _ = sets.ops();
-    let mut versions = listed_versions(alloc, creation, sets, groups)?;
+    // That the changes are some history's is part of what stays true of them.
+    let _ = changes.ops();
+    let mut versions = listed_versions(alloc, creation, changes, groups)?;
     versions.sort_unstable_by(|a, b| a.id.cmp(&b.id));
     Ok(versions)
 }

@@ -6,46 +6,63 @@ use Rattle.serde_json.specs.Data.{Data}
 use Rattle.op_names.specs.declared.op_name.TheConstants.{MAX_SITE}
 use Rattle.wire.specs.declared.request.Request.{Request}
 use Rattle.wire.specs.declared.reply.Reply.{Reply}
-use Rattle.wire.specs.Form.{list_form, whole_form, request_form, reply_form}
+use Rattle.wire.specs.Form.{list_form, whole_form}
 use Rattle.wire.specs.Reading.{items_in, whole_in, field_at, end_at}
 use Rattle.wire.specs.Requests.{request_of}
 use Rattle.wire.specs.Replies.{reply_of}
-use Rattle.wire.proofs.Exact.{IsExact, bind_some, items_take, items_again, exact_end, exact_field}
+use Rattle.wire.proofs.Exact.{ReadsForms, bind_some, items_take, items_again, exact_end, field_some}
 use Rattle.wire.proofs.PartForms.{exact_site}
-use Rattle.wire.proofs.Requests.{exact_request}
-use Rattle.wire.proofs.Replies.{exact_reply}
+use Rattle.wire.proofs.Requests.{reads_requests}
+use Rattle.wire.proofs.Replies.{reads_replies}
 use Rattle.wire.proofs.ByForm.{texts_by_form, one_value}
 use Rattle.transcript.specs.declared.line.TranscriptLine.{TranscriptLine}
-use Rattle.transcript.specs.Lines.{go_together, line_form, IsLine, IsLineText, line_with, line_at, line_of, line_read}
+use Rattle.transcript.specs.Lines.{go_together, IsLineForm, IsLine, IsLineText, line_with, line_at, line_of, line_read}
 
 with_takes : (site : ℕ) (request : Request) (reply : Reply) (line : TranscriptLine) → line_with site request reply ≡ Some line → (go_together request reply ≡ true) × (record { site = site; request = request; reply = reply } ≡ line)
 with_takes site request reply line e = cond_some (go_together request reply) (record { site = site; request = request; reply = reply }) line e
 
-line_takes : (d : Data) (line : TranscriptLine) → line_of d ≡ Some line → IsLine line × (d ≡ line_form line)
+line_takes : (d : Data) (line : TranscriptLine) → line_of d ≡ Some line → IsLine line × IsLineForm d line
 unfolding line_of line_at
 line_takes d line e =
     let a = bind_some (items_in d) line_at line e in
     let b = bind_some (field_at (whole_in 1 MAX_SITE) (field_at request_of (field_at reply_of end_at)) a.0) (λ p. line_with p.0 p.1.0 p.1.1.0) line a.2 in
-    let c = (exact_field exact_site (exact_field exact_request (exact_field exact_reply exact_end))).takes a.0 b.0 b.1 in
+    let p = field_some (whole_in 1 MAX_SITE) _ a.0 b.0 b.1 in
+    let q = field_some request_of _ p.1 b.0.1 p.4 in
+    let r = field_some reply_of end_at q.1 b.0.1.1 q.4 in
+    let site = exact_site.takes p.0 b.0.0 p.3 in
+    let request = reads_requests.takes q.0 b.0.1.0 q.3 in
+    let reply = reads_replies.takes r.0 b.0.1.1.0 r.3 in
+    let end = exact_end.takes r.1 b.0.1.1.1 r.4 in
+    let others = q.2 ∙ ap (λ es. q.0 ∷ es) (r.2 ∙ ap (λ es. r.0 ∷ es) end.1) in
+    let fields = p.2 ∙ ap (λ f. f ∷ p.1) site.1 ∙ ap (λ es. whole_form b.0.0 ∷ es) others in
     let f = with_takes b.0.0 b.0.1.0 b.0.1.1.0 line b.2 in
-    subst (λ (l : TranscriptLine). IsLine l × (d ≡ line_form l)) f.1
-    (record { site = c.0.0; request = c.0.1.0; reply = c.0.1.1.0; together = f.0 }, items_take d a.0 a.1 ∙ ap list_form c.1)
+    subst (λ (l : TranscriptLine). IsLine l × IsLineForm d l) f.1 (
+      record { site = site.0; request = request.0; reply = reply.0; together = f.0 },
+      record { request = q.0; reply = r.0; form = items_take d a.0 a.1 ∙ ap list_form fields; asks = request.1; answers = reply.1 },
+    )
 
-line_again : (line : TranscriptLine) → IsLine line → line_of (line_form line) ≡ Some line
+line_again : (d : Data) (line : TranscriptLine) → IsLineForm d line → IsLine line → line_of d ≡ Some line
 unfolding line_of line_at
-line_again line h =
-    rw (items_again (whole_form line.site ∷ request_form line.request ∷ reply_form line.reply ∷ []), exact_site.again line.site h.site, exact_request.again line.request h.request, exact_reply.again line.reply h.reply, h.together) refl
+line_again d line form h =
+    rw (
+      form.form,
+      items_again (whole_form line.site ∷ form.request ∷ form.reply ∷ []),
+      exact_site.again line.site h.site,
+      reads_requests.again form.request line.request form.asks h.request,
+      reads_replies.again form.reply line.reply form.answers h.reply,
+      h.together,
+    ) refl
 
-pub exact_line : IsExact TranscriptLine line_of line_form IsLine
-exact_line = record { takes = line_takes; again = line_again }
+pub reads_lines : ReadsForms TranscriptLine line_of IsLineForm IsLine
+reads_lines = record { takes = line_takes; again = line_again }
 
 pub lines_by_form : (bytes : List ℕ) (line : TranscriptLine) → (line_read bytes ≡ Some line) ↔ IsLineText bytes line
 unfolding line_read
-lines_by_form bytes line = texts_by_form exact_line bytes line
+lines_by_form bytes line = texts_by_form reads_lines bytes line
 
 -- bytes are a text of one line at most
 pub one_line : (bytes : List ℕ) (p q : TranscriptLine) → IsLineText bytes p → IsLineText bytes q → p ≡ q
-one_line = one_value exact_line
+one_line = one_value reads_lines
 
 -- what is read is in range
 pub line_fits : (bytes : List ℕ) (line : TranscriptLine) → line_read bytes ≡ Some line → IsLine line

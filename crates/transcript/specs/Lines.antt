@@ -8,7 +8,7 @@ use Rattle.wire.specs.declared.request.Request.{Request}
 use Rattle.wire.specs.declared.request.Request.TheVariants.{Join}
 use Rattle.wire.specs.declared.reply.Reply.{Reply}
 use Rattle.wire.specs.declared.reply.Reply.TheVariants.{Joined, Made, Taken, Versions, Objects, Entries, Left, No}
-use Rattle.wire.specs.Form.{list_form, whole_form, request_form, reply_form, IsRequest, IsReply, IsTextOf}
+use Rattle.wire.specs.Form.{list_form, whole_form, IsRequest, IsRequestForm, IsReply, IsReplyForm, IsTextOf}
 use Rattle.wire.specs.Reading.{◌>>=◌, items_in, whole_in, field_at, end_at}
 use Rattle.wire.specs.Requests.{request_of}
 use Rattle.wire.specs.Replies.{reply_of}
@@ -58,9 +58,13 @@ entries_after reply = if adds reply then at_of reply + 1 else at_of reply
 
 -- ---- its form
 
--- [SITE,REQUEST,REPLY]
-abbrev pub line_form : TranscriptLine → Data
-line_form line = list_form (whole_form line.site ∷ request_form line.request ∷ reply_form line.reply ∷ [])
+-- [SITE,REQUEST,REPLY], with any form of the request and of the reply
+pub record IsLineForm (d : Data) (line : TranscriptLine) : Type 0 where
+  pub request : Data
+  pub reply : Data
+  pub form : d ≡ list_form (whole_form line.site ∷ request ∷ reply ∷ [])
+  pub asks : IsRequestForm request line.request
+  pub answers : IsReplyForm reply line.reply
 
 -- a line in range, whose request and reply may stand together
 pub record IsLine (line : TranscriptLine) : Type 0 where
@@ -71,7 +75,7 @@ pub record IsLine (line : TranscriptLine) : Type 0 where
 
 -- the bytes are a text of the line
 abbrev pub IsLineText : List ℕ → TranscriptLine → Type 0
-IsLineText = IsTextOf line_form IsLine
+IsLineText = IsTextOf IsLineForm IsLine
 
 -- ---- how it is read
 
@@ -80,11 +84,11 @@ abbrev pub line_with : ℕ → Request → Reply → Option TranscriptLine
 line_with site request reply =
     if go_together request reply then Some (record { site = site; request = request; reply = reply }) else None
 
--- the line whose form these values are
+-- the line that these values are the parts of
 unfoldable pub line_at : List Data → Option TranscriptLine
 line_at ds = field_at (whole_in 1 MAX_SITE) (field_at request_of (field_at reply_of end_at)) ds >>= λ p. line_with p.0 p.1.0 p.1.1.0
 
--- the line whose form a JSON value is
+-- the line that a JSON value is a form of
 unfoldable pub line_of : Data → Option TranscriptLine
 line_of d = items_in d >>= line_at
 

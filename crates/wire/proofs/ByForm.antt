@@ -1,5 +1,5 @@
--- What an exact reader of a form says of what a function returns.
-use Rattle.std.proofs.Common.{◌≡◌, ℕ, List, Option, Some, None, Bool, true, false, cond, Result, Ok, Err, refl, sym, ap, ◌∙◌}
+-- What an exact reader of forms says of what a function returns.
+use Rattle.std.proofs.Common.{◌≡◌, ℕ, List, Option, Some, None, Bool, true, false, cond, Result, Ok, Err, refl, sym, ◌∙◌}
 use Rattle.std.specs.Prelude.{IfOk, IsErrOf, ◌↔◌}
 use Rattle.std.specs.Str.{is_utf8}
 use Rattle.std.proofs.lemmas.Str.{IsUtf8-from_is_utf8, is_utf8-from_IsUtf8}
@@ -10,7 +10,7 @@ use Rattle.wire.specs.declared.fault.ReadFault.TheVariants.{Bad, NoMemory}
 use Rattle.wire.specs.Form.{HasForm, IsTextOf}
 use Rattle.wire.specs.Reading.{Gives}
 use Rattle.wire.specs.Texts.{json_of, text_in}
-use Rattle.wire.proofs.Exact.{IsExact, bind_some, some_is}
+use Rattle.wire.proofs.Exact.{ReadsForms, bind_some, some_is}
 
 -- ---- what was given
 
@@ -36,11 +36,11 @@ given_bad r o Is h given bad x is =
 
 -- ---- JSON values
 
-pub value_takes : {X : Type 0} {reader : Data → Option X} {form : X → Data} {Fits : X → Type 0} → IsExact X reader form Fits → (d : Data) (x : X) → reader d ≡ Some x → HasForm form Fits d x
-value_takes exact d x e = let a = exact.takes d x e in record { form = a.1; in_range = a.0 }
+pub value_takes : {X : Type 0} {reader : Data → Option X} {IsForm : Data → X → Type 0} {Fits : X → Type 0} → ReadsForms X reader IsForm Fits → (d : Data) (x : X) → reader d ≡ Some x → HasForm IsForm Fits d x
+value_takes reads d x e = let a = reads.takes d x e in record { form = a.1; in_range = a.0 }
 
-pub value_again : {X : Type 0} {reader : Data → Option X} {form : X → Data} {Fits : X → Type 0} → IsExact X reader form Fits → (d : Data) (x : X) → HasForm form Fits d x → reader d ≡ Some x
-value_again {reader = reader} exact d x h = ap reader h.form ∙ exact.again x h.in_range
+pub value_again : {X : Type 0} {reader : Data → Option X} {IsForm : Data → X → Type 0} {Fits : X → Type 0} → ReadsForms X reader IsForm Fits → (d : Data) (x : X) → HasForm IsForm Fits d x → reader d ≡ Some x
+value_again reads d x h = reads.again d x h.form h.in_range
 
 -- ---- texts
 
@@ -48,21 +48,21 @@ of_utf8 : (b : Bool) (o : Option Data) (d : Data) → cond b o None ≡ Some d �
 of_utf8 true o d e = (refl, e)
 of_utf8 false o d e = absurd cc
 
-pub text_takes : {X : Type 0} {reader : Data → Option X} {form : X → Data} {Fits : X → Type 0} → IsExact X reader form Fits → (bytes : List ℕ) (x : X) → text_in reader bytes ≡ Some x → IsTextOf form Fits bytes x
+pub text_takes : {X : Type 0} {reader : Data → Option X} {IsForm : Data → X → Type 0} {Fits : X → Type 0} → ReadsForms X reader IsForm Fits → (bytes : List ℕ) (x : X) → text_in reader bytes ≡ Some x → IsTextOf IsForm Fits bytes x
 unfolding json_of
-text_takes {reader = reader} exact bytes x e =
+text_takes {reader = reader} reads bytes x e =
     let a = bind_some (cond (is_utf8 bytes) (read bytes) None) reader x e in
     let b = of_utf8 (is_utf8 bytes) (read bytes) a.0 a.1 in
-    let c = exact.takes a.0 x a.2 in
-    record { utf8 = IsUtf8-from_is_utf8 bytes b.0; form = b.1 ∙ ap (λ (d : Data). Some d) c.1; in_range = c.0 }
+    let c = reads.takes a.0 x a.2 in
+    record { utf8 = IsUtf8-from_is_utf8 bytes b.0; value = a.0; is_read = b.1; form = c.1; in_range = c.0 }
 
-pub text_again : {X : Type 0} {reader : Data → Option X} {form : X → Data} {Fits : X → Type 0} → IsExact X reader form Fits → (bytes : List ℕ) (x : X) → IsTextOf form Fits bytes x → text_in reader bytes ≡ Some x
+pub text_again : {X : Type 0} {reader : Data → Option X} {IsForm : Data → X → Type 0} {Fits : X → Type 0} → ReadsForms X reader IsForm Fits → (bytes : List ℕ) (x : X) → IsTextOf IsForm Fits bytes x → text_in reader bytes ≡ Some x
 unfolding json_of
-text_again exact bytes x h = rw (is_utf8-from_IsUtf8 bytes h.utf8, h.form) (exact.again x h.in_range)
+text_again reads bytes x h = rw (is_utf8-from_IsUtf8 bytes h.utf8, h.is_read) (reads.again h.value x h.form h.in_range)
 
-pub texts_by_form : {X : Type 0} {reader : Data → Option X} {form : X → Data} {Fits : X → Type 0} → IsExact X reader form Fits → (bytes : List ℕ) (x : X) → (text_in reader bytes ≡ Some x) ↔ IsTextOf form Fits bytes x
-texts_by_form exact bytes x = (text_takes exact bytes x, text_again exact bytes x)
+pub texts_by_form : {X : Type 0} {reader : Data → Option X} {IsForm : Data → X → Type 0} {Fits : X → Type 0} → ReadsForms X reader IsForm Fits → (bytes : List ℕ) (x : X) → (text_in reader bytes ≡ Some x) ↔ IsTextOf IsForm Fits bytes x
+texts_by_form reads bytes x = (text_takes reads bytes x, text_again reads bytes x)
 
 -- bytes are a text of one value at most
-pub one_value : {X : Type 0} {reader : Data → Option X} {form : X → Data} {Fits : X → Type 0} → IsExact X reader form Fits → (bytes : List ℕ) (x y : X) → IsTextOf form Fits bytes x → IsTextOf form Fits bytes y → x ≡ y
-one_value exact bytes x y g h = some_is x y (sym (text_again exact bytes x g) ∙ text_again exact bytes y h)
+pub one_value : {X : Type 0} {reader : Data → Option X} {IsForm : Data → X → Type 0} {Fits : X → Type 0} → ReadsForms X reader IsForm Fits → (bytes : List ℕ) (x y : X) → IsTextOf IsForm Fits bytes x → IsTextOf IsForm Fits bytes y → x ≡ y
+one_value reads bytes x y g h = some_is x y (sym (text_again reads bytes x g) ∙ text_again reads bytes y h)

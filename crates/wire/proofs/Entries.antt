@@ -1,50 +1,57 @@
 -- The reader of entries is exact.
-use Rattle.std.proofs.Common.{◌≡◌, List, ℕ, [], ◌∷◌, codes, Option, Some, refl, ◌∙◌}
-use Rattle.serde_json.specs.Data.{Data}
+use Rattle.std.proofs.Common.{◌≡◌, inl, List, ℕ, [], ◌∷◌, codes, Option, Some, refl, subst, ◌∙◌}
+use Rattle.serde_json.specs.Data.{Data, string}
 use Rattle.rules.specs.declared.history.Entry.{Entry}
 use Rattle.rules.specs.declared.history.Entry.TheVariants.{Operation, Join}
 use Rattle.rules.specs.declared.history.Op.{Op}
 use Rattle.rules.specs.declared.history.Body.{Body}
-use Rattle.rules.specs.declared.history.Body.TheVariants.{New, Set}
-use Rattle.wire.specs.Form.{whole_form, name_form, names_form, body_word, body_fields, entry_form, IsEntry}
-use Rattle.wire.specs.Reading.{by_word}
+use Rattle.rules.specs.declared.history.Body.TheVariants.{New, Put, DropVersion}
+use Rattle.wire.specs.Form.{list_form, whole_form, name_form, names_form, WordAndFields, body_form, old_body_form, entry_form_by, IsEntry, IsEntryForm}
+use Rattle.wire.specs.Reading.{name_in}
+use Rattle.wire.specs.Bodies.{operation_at}
 use Rattle.wire.specs.Entries.{join_at, change_at, entry_words, entry_of}
-use Rattle.wire.proofs.Exact.{IsExact, exact_end, exact_field, IsWordOf, word_of_fields, message_takes, message_again}
+use Rattle.wire.proofs.Exact.{ReadsForms, bind_some, some_is, exact_end, exact_field, IsWordOf, word_of_fields, message_takes, message_again}
 use Rattle.wire.proofs.PartForms.{exact_site, exact_name}
-use Rattle.wire.proofs.Bodies.{exact_operation, operation_form_by}
+use Rattle.wire.proofs.Bodies.{AreReadAgain, body_again, old_body_again, operation_takes, operation_again, AreAlone, old_alone, from_any}
 
 abbrev IsEntryWord : List ℕ × (List Data → Option Entry) → Type 0
-IsEntryWord = IsWordOf entry_form IsEntry
+IsEntryWord = IsWordOf IsEntryForm IsEntry
 
 join_word : IsEntryWord (codes "join", join_at)
 unfolding join_at
-join_word = word_of_fields (exact_field exact_site exact_end) (codes "join") (λ p. Join p.0) (λ p fit. (fit.0, refl))
+join_word = word_of_fields (exact_field exact_site exact_end) (codes "join") (λ p. Join p.0) (λ p fit. (fit.0, inl refl))
 
 change_word : (word : List ℕ) → IsEntryWord (word, change_at word)
 unfolding change_at
-change_word word =
-    word_of_fields (exact_operation exact_name word) word (λ p. Operation (record { name = p.0; seen = p.1.0; body = p.1.1 }))
-    (λ p fit. ((fit.0, fit.1.0, fit.1.1.0), operation_form_by word (name_form p.0) p.1.0 p.1.1 fit.1.1.1))
+change_word word = record {
+  takes = λ ds entry e.
+      let a = bind_some (operation_at name_in word ds) (λ p. Some (Operation (record { name = p.0; seen = p.1.0; body = p.1.1 }))) entry e in
+      let b = operation_takes exact_name word ds a.0 a.1 in
+      subst (λ (f : Entry). IsEntry f × IsEntryForm (list_form (string word ∷ ds)) f) (some_is (Operation (record { name = a.0.0; seen = a.0.1.0; body = a.0.1.1 })) entry a.2) b;
+}
 
--- the word of an operation is no other entry's
-change_alone : (body : Body) (ds : List Data) → by_word entry_words change_at (body_word body) ds ≡ change_at (body_word body) ds
+change_alone : AreAlone entry_words change_at body_form
 change_alone (New kind attrs) ds = refl
-change_alone (Set name version key value) ds = refl
+change_alone (Put object version pairs) ds = refl
+change_alone (DropVersion object version) ds = refl
 
-change_again : (o : Op) → IsEntry (Operation o) → change_at (body_word o.body) (name_form o.name ∷ names_form o.seen ∷ body_fields o.body) ≡ Some (Operation o)
+change_again : (of_body : Body → WordAndFields) → AreReadAgain of_body → (o : Op) → IsEntry (Operation o)
+    → change_at (of_body o.body).0 (name_form o.name ∷ names_form o.seen ∷ (of_body o.body).1) ≡ Some (Operation o)
 unfolding change_at
-change_again o fit = rw ((exact_operation exact_name (body_word o.body)).again (o.name, (o.seen, o.body)) (fit.0, (fit.1, (fit.2, refl)))) refl
+change_again of_body again o fit = rw (operation_again exact_name of_body again (o.name, (o.seen, o.body)) fit.0 fit.1 fit.2) refl
 
-entry_again : (e : Entry) → IsEntry e → entry_of (entry_form e) ≡ Some e
+entry_again : (of_body : Body → WordAndFields) → AreReadAgain of_body → AreAlone entry_words change_at of_body → (e : Entry) → IsEntry e → entry_of (entry_form_by of_body e) ≡ Some e
 unfolding entry_of join_at
-entry_again (Join site) fit = message_again entry_words change_at (codes "join") (whole_form site ∷ []) ∙ rw (exact_site.again site fit) refl
-entry_again (Operation o) fit =
-    let fields = name_form o.name ∷ names_form o.seen ∷ body_fields o.body in
-    message_again entry_words change_at (body_word o.body) fields ∙ change_alone o.body fields ∙ change_again o fit
+entry_again of_body again alone (Join site) fit = message_again entry_words change_at (codes "join") (whole_form site ∷ []) ∙ rw (exact_site.again site fit) refl
+entry_again of_body again alone (Operation o) fit =
+    let fields = name_form o.name ∷ names_form o.seen ∷ (of_body o.body).1 in
+    message_again entry_words change_at (of_body o.body).0 fields ∙ alone o.body fields ∙ change_again of_body again o fit
 
-pub exact_entry : IsExact Entry entry_of entry_form IsEntry
+pub reads_entries : ReadsForms Entry entry_of IsEntryForm IsEntry
 unfolding entry_of
-exact_entry = record {
-  takes = message_takes entry_form IsEntry entry_words change_at (join_word, tt) change_word;
-  again = entry_again;
+reads_entries = record {
+  takes = message_takes IsEntryForm IsEntry entry_words change_at (join_word, tt) change_word;
+  again = λ d e form fit.
+      from_any entry_form_by entry_of d e form (entry_again body_form body_again change_alone e fit)
+      (entry_again old_body_form old_body_again (old_alone entry_words change_at change_alone (λ ds. refl)) e fit);
 }

@@ -4,13 +4,13 @@ use Rattle.std.specs.Prelude.{◌↔◌}
 use Rattle.rules.specs.declared.history.Entry.{Entry}
 use Rattle.wire.specs.Form.{IsEntryText}
 use Rattle.wire.specs.Texts.{entry_read}
-use Rattle.wire.proofs.Entries.{exact_entry}
+use Rattle.wire.proofs.Entries.{reads_entries}
 use Rattle.wire.proofs.ByForm.{texts_by_form, one_value}
 
 pub entries_by_form : (bytes : List ℕ) (e : Entry) → (entry_read bytes ≡ Some e) ↔ IsEntryText bytes e
 unfolding entry_read
-entries_by_form bytes e = texts_by_form exact_entry bytes e
+entries_by_form bytes e = texts_by_form reads_entries bytes e
 
 -- bytes are a text of one entry at most
 pub one_entry : (bytes : List ℕ) (p q : Entry) → IsEntryText bytes p → IsEntryText bytes q → p ≡ q
-one_entry = one_value exact_entry
+one_entry = one_value reads_entries

@@ -1,4 +1,4 @@
--- What reads a form reads it exactly: what is read is the value of that form, and each value is read from its form.
+-- What reads forms reads them exactly: what is read is the value of that form, and each value is read from its forms.
 use Rattle.std.proofs.Common.{◌≡◌, ℕ, ◌^◌, ℤ, pos, negsuc, List, [], ◌∷◌, map, Bool, true, false, cond, ltb, leb, Option, Some, None, refl, sym, ap, subst, ◌∙◌, lt-ltb, ◌&&◌, bytes_eq}
 use Rattle.std.specs.Prelude.{⊤}
 use Rattle.std.specs.List.{AllByRecursion}
@@ -7,13 +7,22 @@ use borrow.Author.Tests.{ltb-true}
 use Rattle.serde_json.specs.Data.{unsigned, negative, float, Data, null, boolean, number, string, array, object, Items, no_items, item}
 use Rattle.serde_json.specs.Find.{as_str, of_integer}
 use Rattle.serde_json.specs.View.{items_of}
-use Rattle.wire.specs.Form.{list_form, whole_form, IsNumber}
+use Rattle.wire.specs.Form.{list_form, whole_form, AreForms, IsListForm, IsNumber}
 use Rattle.std.proofs.lemmas.Slice.Eq.{bytes_eq-Decides}
 use Rattle.wire.specs.Reading.{◌>>=◌, listed, items_in, passing, all_in, list_in, two_at, two_in, natural_in, whole_in, integer_at, integer_in, end_at, field_at, worded_at, worded_in, Words, WordReader, no_others, by_word, message_in}
 
+-- of values that have one form each
 pub record IsExact (X : Type 0) (read : Data → Option X) (form : X → Data) (Fits : X → Type 0) : Type 0 where
   pub takes : (d : Data) (x : X) → read d ≡ Some x → Fits x × (d ≡ form x)
   pub again : (x : X) → Fits x → read (form x) ≡ Some x
+
+-- of values that may have several
+pub record ReadsForms (X : Type 0) (read : Data → Option X) (IsForm : Data → X → Type 0) (Fits : X → Type 0) : Type 0 where
+  pub takes : (d : Data) (x : X) → read d ≡ Some x → Fits x × IsForm d x
+  pub again : (d : Data) (x : X) → IsForm d x → Fits x → read d ≡ Some x
+
+pub reads_form : {X : Type 0} {read : Data → Option X} {form : X → Data} {Fits : X → Type 0} → IsExact X read form Fits → ReadsForms X read (λ d x. d ≡ form x) Fits
+reads_form {read = read} exact = record { takes = exact.takes; again = λ d x e fit. ap read e ∙ exact.again x fit }
 
 -- what fits may be said otherwise
 pub exact_by : {X : Type 0} {read : Data → Option X} {form : X → Data} {Fits Gits : X → Type 0} → IsExact X read form Fits → ((x : X) → Fits x → Gits x) → ((x : X) → Gits x → Fits x) → IsExact X read form Gits
@@ -56,30 +65,51 @@ pub items_again : (ds : List Data) → items_in (list_form ds) ≡ Some ds
 unfolding items_in
 items_again ds = ap (λ (es : List Data). Some es) (listed-items_of ds)
 
-all_take : {X : Type 0} {read : Data → Option X} {form : X → Data} {Fits : X → Type 0} → IsExact X read form Fits → (ds : List Data) (xs : List X) → all_in read ds ≡ Some xs → AllByRecursion Fits xs × (ds ≡ map form xs)
+all_take : {X : Type 0} {read : Data → Option X} {IsForm : Data → X → Type 0} {Fits : X → Type 0} → ReadsForms X read IsForm Fits → (ds : List Data) (xs : List X) → all_in read ds ≡ Some xs → AllByRecursion Fits xs × AreForms IsForm ds xs
 unfolding all_in
-all_take {X = X} {form = form} {Fits = Fits} exact [] xs e =
-    subst (λ (ys : List X). AllByRecursion Fits ys × ([] ≡ map form ys)) (some_is [] xs e) (tt, refl)
-all_take {X = X} {read = read} {form = form} {Fits = Fits} exact (d ∷ ds) xs e =
+all_take {X = X} {IsForm = IsForm} {Fits = Fits} reads [] xs e =
+    subst (λ (ys : List X). AllByRecursion Fits ys × AreForms IsForm [] ys) (some_is [] xs e) (tt, tt)
+all_take {X = X} {read = read} {IsForm = IsForm} {Fits = Fits} reads (d ∷ ds) xs e =
     let a = bind_some (read d) (λ x. all_in read ds >>= λ ys. Some (x ∷ ys)) xs e in
     let b = bind_some (all_in read ds) (λ ys. Some (a.0 ∷ ys)) xs a.2 in
-    let first = exact.takes d a.0 a.1 in
-    let others = all_take exact ds b.0 b.1 in
-    subst (λ (ys : List X). AllByRecursion Fits ys × (d ∷ ds ≡ map form ys)) (some_is (a.0 ∷ b.0) xs b.2) ((first.0, others.0), cc)
+    let first = reads.takes d a.0 a.1 in
+    let others = all_take reads ds b.0 b.1 in
+    subst (λ (ys : List X). AllByRecursion Fits ys × AreForms IsForm (d ∷ ds) ys) (some_is (a.0 ∷ b.0) xs b.2) ((first.0, others.0), (first.1, others.1))
 
-all_again : {X : Type 0} {read : Data → Option X} {form : X → Data} {Fits : X → Type 0} → IsExact X read form Fits → (xs : List X) → AllByRecursion Fits xs → all_in read (map form xs) ≡ Some xs
+all_again : {X : Type 0} {read : Data → Option X} {IsForm : Data → X → Type 0} {Fits : X → Type 0} → ReadsForms X read IsForm Fits → (ds : List Data) (xs : List X) → AreForms IsForm ds xs → AllByRecursion Fits xs → all_in read ds ≡ Some xs
 unfolding all_in
-all_again exact [] fit = refl
-all_again exact (x ∷ xs) fit = rw (exact.again x fit.0, all_again exact xs fit.1) refl
+all_again reads [] [] forms fit = refl
+all_again reads [] (x ∷ xs) forms fit = absurd forms
+all_again reads (d ∷ ds) [] forms fit = absurd forms
+all_again reads (d ∷ ds) (x ∷ xs) forms fit = rw (reads.again d x forms.0 fit.0, all_again reads ds xs forms.1 fit.1) refl
 
-pub exact_list : {X : Type 0} {read : Data → Option X} {form : X → Data} {Fits : X → Type 0} → IsExact X read form Fits → IsExact (List X) (list_in read) (λ xs. list_form (map form xs)) (AllByRecursion Fits)
+pub reads_list : {X : Type 0} {read : Data → Option X} {IsForm : Data → X → Type 0} {Fits : X → Type 0} → ReadsForms X read IsForm Fits → ReadsForms (List X) (list_in read) (IsListForm IsForm) (AllByRecursion Fits)
 unfolding list_in
-exact_list {read = read} {form = form} exact = record {
+reads_list {read = read} reads = record {
   takes = λ d xs e.
       let a = bind_some (items_in d) (all_in read) xs e in
-      let b = all_take exact a.0 xs a.2 in
-      (b.0, items_take d a.0 a.1 ∙ ap list_form b.1);
-  again = λ xs fit. rw (items_again (map form xs)) (all_again exact xs fit);
+      let b = all_take reads a.0 xs a.2 in
+      (b.0, (a.0, b.1, items_take d a.0 a.1));
+  again = λ d xs form fit. rw (form.2, items_again form.0) (all_again reads form.0 xs form.1 fit);
+}
+
+-- where each has one form, so has their list
+one_form_each : {X : Type 0} (form : X → Data) (ds : List Data) (xs : List X) → AreForms (λ d x. d ≡ form x) ds xs → ds ≡ map form xs
+one_form_each form [] [] forms = refl
+one_form_each form [] (x ∷ xs) forms = absurd forms
+one_form_each form (d ∷ ds) [] forms = absurd forms
+one_form_each form (d ∷ ds) (x ∷ xs) forms = rw (forms.0, one_form_each form ds xs forms.1) refl
+
+each_its_form : {X : Type 0} (form : X → Data) (xs : List X) → AreForms (λ d x. d ≡ form x) (map form xs) xs
+each_its_form form [] = tt
+each_its_form form (x ∷ xs) = (refl, each_its_form form xs)
+
+pub exact_list : {X : Type 0} {read : Data → Option X} {form : X → Data} {Fits : X → Type 0} → IsExact X read form Fits → IsExact (List X) (list_in read) (λ xs. list_form (map form xs)) (AllByRecursion Fits)
+exact_list {form = form} exact = record {
+  takes = λ d xs e.
+      let a = (reads_list (reads_form exact)).takes d xs e in
+      (a.0, a.1.2 ∙ ap list_form (one_form_each form a.1.0 xs a.1.1));
+  again = λ xs fit. (reads_list (reads_form exact)).again (list_form (map form xs)) xs (map form xs, each_its_form form xs, refl) fit;
 }
 
 -- ---- a test
@@ -203,15 +233,22 @@ end_takes (d ∷ ds) y e = absurd cc
 pub exact_end : AreExact ⊤ end_at (λ _. []) (λ _. ⊤)
 exact_end = record { takes = end_takes; again = λ y fit. refl }
 
-field_takes : {X Y : Type 0} {first : Data → Option X} {form : X → Data} {Fits : X → Type 0} {others : List Data → Option Y} {forms : Y → List Data} {Git : Y → Type 0} → IsExact X first form Fits → AreExact Y others forms Git
-    → (ds : List Data) (p : X × Y) → field_at first others ds ≡ Some p → (Fits p.0 × Git p.1) × (ds ≡ form p.0 ∷ forms p.1)
-field_takes f g [] p e = absurd cc
-field_takes {X = X} {Y = Y} {first = first} {form = form} {Fits = Fits} {others = others} {forms = forms} {Git = Git} f g (d ∷ ds) p e =
+-- a field that was read, and the others
+pub field_some : {X Y : Type 0} (first : Data → Option X) (others : List Data → Option Y) (ds : List Data) (p : X × Y) → field_at first others ds ≡ Some p → (d : Data) × (es : List Data) × (ds ≡ d ∷ es) × (first d ≡ Some p.0) × (others es ≡ Some p.1)
+field_some first others [] p e = absurd cc
+field_some first others (d ∷ ds) p e =
     let x = bind_some (first d) (λ x. others ds >>= λ y. Some (x, y)) p e in
     let y = bind_some (others ds) (λ y. Some (x.0, y)) p x.2 in
-    let k = f.takes d x.0 x.1 in
-    let m = g.takes ds y.0 y.1 in
-    subst (λ (q : X × Y). (Fits q.0 × Git q.1) × (d ∷ ds ≡ form q.0 ∷ forms q.1)) (some_is (x.0, y.0) p y.2) ((k.0, m.0), cc)
+    let same = some_is (x.0, y.0) p y.2 in
+    (d, ds, refl, x.1 ∙ ap (λ q. Some q.0) same, y.1 ∙ ap (λ q. Some q.1) same)
+
+field_takes : {X Y : Type 0} {first : Data → Option X} {form : X → Data} {Fits : X → Type 0} {others : List Data → Option Y} {forms : Y → List Data} {Git : Y → Type 0} → IsExact X first form Fits → AreExact Y others forms Git
+    → (ds : List Data) (p : X × Y) → field_at first others ds ≡ Some p → (Fits p.0 × Git p.1) × (ds ≡ form p.0 ∷ forms p.1)
+field_takes {first = first} {others = others} f g ds p e =
+    let a = field_some first others ds p e in
+    let k = f.takes a.0 p.0 a.3 in
+    let m = g.takes a.1 p.1 a.4 in
+    ((k.0, m.0), a.2 ∙ rw (k.1, m.1) refl)
 
 pub exact_field : {X Y : Type 0} {first : Data → Option X} {form : X → Data} {Fits : X → Type 0} {others : List Data → Option Y} {forms : Y → List Data} {Git : Y → Type 0} → IsExact X first form Fits → AreExact Y others forms Git
     → AreExact (X × Y) (field_at first others) (λ p. form p.0 ∷ forms p.1) (λ p. Fits p.0 × Git p.1)
@@ -227,25 +264,24 @@ made_of {read = read} exact make ds q e =
 
 -- ---- a word and what follows it
 
--- what follows the word is read as a value whose form begins with the word
-pub record IsWordOf {X : Type 0} (form : X → Data) (Fits : X → Type 0) (w : List ℕ × (List Data → Option X)) : Type 0 where
-  pub takes : (ds : List Data) (x : X) → w.1 ds ≡ Some x → Fits x × (list_form (string w.0 ∷ ds) ≡ form x)
+-- what follows the word is read as a value that has a form which begins with the word
+pub record IsWordOf {X : Type 0} (IsForm : Data → X → Type 0) (Fits : X → Type 0) (w : List ℕ × (List Data → Option X)) : Type 0 where
+  pub takes : (ds : List Data) (x : X) → w.1 ds ≡ Some x → Fits x × IsForm (list_form (string w.0 ∷ ds)) x
 
-first_word : {X : Type 0} {form : X → Data} {Fits : X → Type 0} (b : Bool) (word : List ℕ) (first : List ℕ × (List Data → Option X)) (others : Option X) (ds : List Data) (x : X) → bytes_eq word first.0 ≡ b
-    → IsWordOf form Fits first → (others ≡ Some x → Fits x × (list_form (string word ∷ ds) ≡ form x)) → cond b (first.1 ds) others ≡ Some x → Fits x × (list_form (string word ∷ ds) ≡ form x)
-first_word true word first others ds x same h k e =
-    let a = h.takes ds x e in
-    (a.0, ap (λ (w : List ℕ). list_form (string w ∷ ds)) ((bytes_eq-Decides word first.0).0 same) ∙ a.1)
+first_word : {X : Type 0} {IsForm : Data → X → Type 0} {Fits : X → Type 0} (b : Bool) (word : List ℕ) (first : List ℕ × (List Data → Option X)) (others : Option X) (ds : List Data) (x : X) → bytes_eq word first.0 ≡ b
+    → IsWordOf IsForm Fits first → (others ≡ Some x → Fits x × IsForm (list_form (string word ∷ ds)) x) → cond b (first.1 ds) others ≡ Some x → Fits x × IsForm (list_form (string word ∷ ds)) x
+first_word {IsForm = IsForm} {Fits = Fits} true word first others ds x same h k e =
+    subst (λ (w : List ℕ). Fits x × IsForm (list_form (string w ∷ ds)) x) (sym ((bytes_eq-Decides word first.0).0 same)) (h.takes ds x e)
 first_word false word first others ds x same h k e = k e
 
 -- the words that are listed, and then the others
-pub words_take : {X : Type 0} (form : X → Data) (Fits : X → Type 0) (words : Words X) (others : WordReader X) → AllByRecursion (IsWordOf form Fits) words → ((word : List ℕ) → IsWordOf form Fits (word, others word))
-    → (word : List ℕ) (ds : List Data) (x : X) → by_word words others word ds ≡ Some x → Fits x × (list_form (string word ∷ ds) ≡ form x)
-words_take form Fits [] others h k word ds x e = (k word).takes ds x e
-words_take form Fits (first ∷ words) others h k word ds x e =
-    first_word (bytes_eq word first.0) word first (by_word words others word ds) ds x refl h.0 (words_take form Fits words others h.1 k word ds x) e
+pub words_take : {X : Type 0} (IsForm : Data → X → Type 0) (Fits : X → Type 0) (words : Words X) (others : WordReader X) → AllByRecursion (IsWordOf IsForm Fits) words → ((word : List ℕ) → IsWordOf IsForm Fits (word, others word))
+    → (word : List ℕ) (ds : List Data) (x : X) → by_word words others word ds ≡ Some x → Fits x × IsForm (list_form (string word ∷ ds)) x
+words_take IsForm Fits [] others h k word ds x e = (k word).takes ds x e
+words_take IsForm Fits (first ∷ words) others h k word ds x e =
+    first_word (bytes_eq word first.0) word first (by_word words others word ds) ds x refl h.0 (words_take IsForm Fits words others h.1 k word ds x) e
 
-pub no_other_word : {X : Type 0} {form : X → Data} {Fits : X → Type 0} (word : List ℕ) → IsWordOf form Fits (word, no_others word)
+pub no_other_word : {X : Type 0} {IsForm : Data → X → Type 0} {Fits : X → Type 0} (word : List ℕ) → IsWordOf IsForm Fits (word, no_others word)
 no_other_word word = record { takes = λ ds x e. absurd cc }
 
 worded_take : (ds : List Data) (p : List ℕ × List Data) → worded_at ds ≡ Some p → list_form ds ≡ list_form (string p.0 ∷ p.1)
@@ -255,14 +291,14 @@ worded_take (d ∷ ds) p e =
     subst (λ (q : List ℕ × List Data). list_form (d ∷ ds) ≡ list_form (string q.0 ∷ q.1)) (some_is (a.0, ds) p a.2)
     (ap (λ (x : Data). list_form (x ∷ ds)) (exact_text.takes d a.0 a.1).1)
 
-pub message_takes : {X : Type 0} (form : X → Data) (Fits : X → Type 0) (words : Words X) (others : WordReader X) → AllByRecursion (IsWordOf form Fits) words → ((word : List ℕ) → IsWordOf form Fits (word, others word))
-    → (d : Data) (x : X) → message_in words others d ≡ Some x → Fits x × (d ≡ form x)
+pub message_takes : {X : Type 0} (IsForm : Data → X → Type 0) (Fits : X → Type 0) (words : Words X) (others : WordReader X) → AllByRecursion (IsWordOf IsForm Fits) words → ((word : List ℕ) → IsWordOf IsForm Fits (word, others word))
+    → (d : Data) (x : X) → message_in words others d ≡ Some x → Fits x × IsForm d x
 unfolding worded_in
-message_takes form Fits words others h k d x e =
+message_takes IsForm Fits words others h k d x e =
     let a = bind_some (items_in d >>= worded_at) (λ p. by_word words others p.0 p.1) x e in
     let b = bind_some (items_in d) worded_at a.0 a.1 in
-    let c = words_take form Fits words others h k a.0.0 a.0.1 x a.2 in
-    (c.0, items_take d b.0 b.1 ∙ worded_take b.0 a.0 b.2 ∙ c.1)
+    let c = words_take IsForm Fits words others h k a.0.0 a.0.1 x a.2 in
+    (c.0, subst (λ (f : Data). IsForm f x) (sym (items_take d b.0 b.1 ∙ worded_take b.0 a.0 b.2)) c.1)
 
 pub message_again : {X : Type 0} (words : Words X) (others : WordReader X) (word : List ℕ) (ds : List Data) → message_in words others (list_form (string word ∷ ds)) ≡ by_word words others word ds
 unfolding worded_in
@@ -275,11 +311,12 @@ same_message v w ds es e =
     (cc, sym (listed-items_of ds) ∙ ap listed same ∙ listed-items_of es)
 
 -- fields that are read exactly, and the value made of them
-pub word_of_fields : {X Y : Type 0} {form : X → Data} {Fits : X → Type 0} {read : List Data → Option Y} {forms : Y → List Data} {Gits : Y → Type 0} → AreExact Y read forms Gits
-    → (word : List ℕ) (make : Y → X) → ((y : Y) → Gits y → Fits (make y) × (list_form (string word ∷ forms y) ≡ form (make y))) → IsWordOf form Fits (word, λ ds. read ds >>= λ y. Some (make y))
-word_of_fields {X = X} {form = form} {Fits = Fits} exact word make h = record {
+pub word_of_fields : {X Y : Type 0} {IsForm : Data → X → Type 0} {Fits : X → Type 0} {read : List Data → Option Y} {forms : Y → List Data} {Gits : Y → Type 0} → AreExact Y read forms Gits
+    → (word : List ℕ) (make : Y → X) → ((y : Y) → Gits y → Fits (make y) × IsForm (list_form (string word ∷ forms y)) (make y)) → IsWordOf IsForm Fits (word, λ ds. read ds >>= λ y. Some (make y))
+word_of_fields {X = X} {IsForm = IsForm} {Fits = Fits} exact word make h = record {
   takes = λ ds x e.
       let a = made_of exact make ds x e in
       let b = h a.0 a.1 in
-      subst (λ (y : X). Fits y × (list_form (string word ∷ ds) ≡ form y)) a.3 (b.0, ap (λ (fs : List Data). list_form (string word ∷ fs)) a.2 ∙ b.1);
+      let is = subst (λ (fs : List Data). IsForm (list_form (string word ∷ fs)) (make a.0)) (sym a.2) b.1 in
+      subst (λ (y : X). Fits y × IsForm (list_form (string word ∷ ds)) y) a.3 (b.0, is);
 }

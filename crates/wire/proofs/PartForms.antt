@@ -17,9 +17,9 @@ use Rattle.op_names.specs.declared.value.Value.TheVariants.{Number, Text}
 use Rattle.state_vector.specs.Vectors.{is_vector, vector_fault, fault_after, pair_fault}
 use Rattle.state_vector.specs.declared.VectorFault.{VectorFault}
 use Rattle.state_vector.specs.declared.VectorFault.TheVariants.{OutOfRange}
-use Rattle.rules.specs.AttrLists.{Attr, are_attrs}
-use Rattle.wire.specs.Form.{whole_form, name_form, names_form, value_form, attr_form, attrs_form, is_from, is_at, IsValue, IsAttr, IsId, AreAttrs}
-use Rattle.wire.specs.Reading.{◌>>=◌, whole_in, pair_in, name_in, room_in, seen_in, id_in, key_in, kind_in, value_in, attr_in, attrs_in, integer_in}
+use Rattle.rules.specs.AttrLists.{Attr, are_attrs, are_pairs}
+use Rattle.wire.specs.Form.{whole_form, name_form, names_form, value_form, attr_form, attrs_form, is_from, is_at, IsValue, IsAttr, IsId, AreAttrs, ArePairs}
+use Rattle.wire.specs.Reading.{◌>>=◌, whole_in, pair_in, name_in, room_in, seen_in, id_in, key_in, kind_in, value_in, attr_in, attrs_in, pairs_in, integer_in}
 use Rattle.wire.specs.Replies.{at_in}
 use Rattle.wire.proofs.Exact.{IsExact, exact_by, bind_some, some_is, exact_list, exact_passing, exact_two, exact_text_where, exact_whole, exact_integer}
 
@@ -130,3 +130,7 @@ exact_attr = exact_two exact_key exact_value
 pub exact_attrs : IsExact (List Attr) attrs_in attrs_form AreAttrs
 unfolding attrs_in
 exact_attrs = exact_passing are_attrs (exact_list exact_attr)
+
+pub exact_pairs : IsExact (List Attr) pairs_in attrs_form ArePairs
+unfolding pairs_in
+exact_pairs = exact_passing are_pairs (exact_list exact_attr)

@@ -4,13 +4,13 @@ use Rattle.std.specs.Prelude.{◌↔◌}
 use Rattle.wire.specs.declared.reply.Reply.{Reply}
 use Rattle.wire.specs.Form.{IsReplyText}
 use Rattle.wire.specs.Texts.{reply_read}
-use Rattle.wire.proofs.Replies.{exact_reply}
+use Rattle.wire.proofs.Replies.{reads_replies}
 use Rattle.wire.proofs.ByForm.{texts_by_form, one_value}
 
 pub replies_by_form : (bytes : List ℕ) (r : Reply) → (reply_read bytes ≡ Some r) ↔ IsReplyText bytes r
 unfolding reply_read
-replies_by_form bytes r = texts_by_form exact_reply bytes r
+replies_by_form bytes r = texts_by_form reads_replies bytes r
 
 -- bytes are a text of one reply at most
 pub one_reply : (bytes : List ℕ) (p q : Reply) → IsReplyText bytes p → IsReplyText bytes q → p ≡ q
-one_reply = one_value exact_reply
+one_reply = one_value reads_replies

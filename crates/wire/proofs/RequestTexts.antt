@@ -8,7 +8,7 @@ use Rattle.wire.specs.Form.{IsRequestText}
 use Rattle.wire.specs.Requests.{request_of}
 use Rattle.wire.specs.Texts.{text_in, request_read}
 use Rattle.wire.proofs.Exact.{some_is}
-use Rattle.wire.proofs.Requests.{exact_request}
+use Rattle.wire.proofs.Requests.{reads_requests}
 use Rattle.wire.proofs.ByForm.{text_takes, text_again}
 
 short_enough : (b : Bool) (o : Option Request) (q : Request) → cond b o None ≡ Some q → (b ≡ true) × (o ≡ Some q)
@@ -20,14 +20,14 @@ unfolding request_read
 request_text_takes bytes q e =
     let a = short_enough (nat_le (length bytes) MAX_REQUEST_LEN) (text_in request_of bytes) q e in
     let is_short : nat_le (length bytes) MAX_REQUEST_LEN ≡ true = a.0 in
-    record { short = grind (arith, nat_tests); text = text_takes exact_request bytes q a.1 }
+    record { short = grind (arith, nat_tests); text = text_takes reads_requests bytes q a.1 }
 
 pub request_text_again : (bytes : List ℕ) (q : Request) → IsRequestText bytes q → request_read bytes ≡ Some q
 unfolding request_read
 request_text_again bytes q h =
     let short : length bytes ≤ MAX_REQUEST_LEN = h.short in
     let is_short : nat_le (length bytes) MAX_REQUEST_LEN ≡ true = grind (arith, nat_tests) in
-    rw is_short (text_again exact_request bytes q h.text)
+    rw is_short (text_again reads_requests bytes q h.text)
 
 pub requests_by_form : (bytes : List ℕ) (q : Request) → (request_read bytes ≡ Some q) ↔ IsRequestText bytes q
 requests_by_form bytes q = (request_text_takes bytes q, request_text_again bytes q)

@@ -13,11 +13,13 @@ use Rattle.wire.specs.declared.request.Request.TheVariants.{Join, Change, Show, 
 use Rattle.rules.specs.declared.history.Entry.{Entry}
 use Rattle.rules.specs.declared.history.Entry.TheVariants.{Operation, Join as JoinOf}
 use Rattle.rules.specs.declared.history.Body.{Body}
-use Rattle.rules.specs.declared.history.Body.TheVariants.{New, Set}
+use Rattle.rules.specs.declared.history.Body.TheVariants.{New, Put, DropVersion}
 use Rattle.rules.specs.declared.version.Version.{Version}
+use Rattle.rules.specs.declared.version.Shown.{Shown}
+use Rattle.rules.specs.declared.version.Shown.TheVariants.{Attrs, Gone}
 use Rattle.wire.specs.declared.reply.Reply.{Reply}
 use Rattle.wire.specs.declared.reply.Reply.TheVariants.{Joined, Made, Taken, Versions, Objects, Entries, Left, No}
-use Rattle.wire.specs.Form.{list_form, whole_form, name_form, names_form, value_form, attr_form, attrs_form, version_form, object_form, body_word, body_fields, operation_form, entry_form, request_form, reply_form}
+use Rattle.wire.specs.Form.{list_form, whole_form, name_form, names_form, value_form, attr_form, attrs_form, shown_form, version_form, object_form, body_form, operation_form, entry_form, request_form, reply_form}
 use Rattle.rules.specs.Refusals.{code_of, word_of}
 
 abbrev IsShallow : ℕ → Data → Type 0
@@ -60,8 +62,12 @@ shallow_attr n p = shallow_list n (string p.0 ∷ value_form p.1 ∷ []) (shallo
 shallow_attrs : (n : ℕ) (ps : List Attr) → IsShallow (suc (suc n)) (attrs_form ps)
 shallow_attrs n ps = shallow_list (suc n) (map attr_form ps) (shallow_map (suc n) attr_form (shallow_attr n) ps)
 
+shallow_shown : (s : Shown) → IsShallow 2 (shown_form s)
+shallow_shown (Attrs attrs) = shallow_attrs 0 attrs
+shallow_shown Gone = shallow_text 2 (codes "gone")
+
 shallow_version : (v : Version) → IsShallow 3 (version_form v)
-shallow_version v = shallow_list 2 (names_form v.id ∷ attrs_form v.attrs ∷ []) (shallow_names 0 v.id, (shallow_attrs 0 v.attrs, tt))
+shallow_version v = shallow_list 2 (names_form v.id ∷ shown_form v.shown ∷ []) (shallow_names 0 v.id, (shallow_shown v.shown, tt))
 
 shallow_object : (o : (ℕ × ℕ) × List ℕ) → IsShallow 3 (object_form o)
 shallow_object o = shallow_list 2 (name_form o.0 ∷ string o.1 ∷ []) (shallow_name 1 o.0, (shallow_text 2 o.1, tt))
@@ -69,12 +75,13 @@ shallow_object o = shallow_list 2 (name_form o.0 ∷ string o.1 ∷ []) (shallow
 shallow_fields : (n : ℕ) (s : List ℕ) (ds : List Data) → AllByRecursion (IsShallow n) ds → IsShallow (suc n) (list_form (string s ∷ ds))
 shallow_fields n s ds h = shallow_list n (string s ∷ ds) (shallow_text n s, h)
 
-shallow_body : (b : Body) → AllByRecursion (IsShallow 2) (body_fields b)
+shallow_body : (b : Body) → AllByRecursion (IsShallow 2) (body_form b).1
 shallow_body (New kind attrs) = (shallow_text 2 kind, (shallow_attrs 0 attrs, tt))
-shallow_body (Set name version key value) = (shallow_name 1 name, (shallow_names 0 version, (shallow_text 2 key, (shallow_value 2 value, tt))))
+shallow_body (Put object version pairs) = (shallow_name 1 object, (shallow_names 0 version, (shallow_attrs 0 pairs, tt)))
+shallow_body (DropVersion object version) = (shallow_name 1 object, (shallow_names 0 version, tt))
 
-shallow_operation : (head : Data) (seen : Vector) (b : Body) → IsShallow 2 head → IsShallow 3 (operation_form head seen b)
-shallow_operation head seen b low = shallow_fields 2 (body_word b) (head ∷ names_form seen ∷ body_fields b) (low, (shallow_names 0 seen, shallow_body b))
+shallow_operation : (head : Data) (seen : Vector) (b : Body) → IsShallow 2 head → IsShallow 3 (operation_form head seen (body_form b))
+shallow_operation head seen b low = shallow_fields 2 (body_form b).0 (head ∷ names_form seen ∷ (body_form b).1) (low, (shallow_names 0 seen, shallow_body b))
 
 pub shallow_entry : (e : Entry) → IsShallow 3 (entry_form e)
 shallow_entry (JoinOf site) = shallow_fields 2 (codes "join") (whole_form site ∷ []) (shallow_whole 2 site, tt)

@@ -20,6 +20,6 @@ change_at word ds =
 abbrev pub entry_words : Words Entry
 entry_words = (codes "join", join_at) ∷ []
 
--- the entry whose form a JSON value is
+-- the entry that a JSON value is a form of
 unfoldable pub entry_of : Data → Option Entry
 entry_of = message_in entry_words change_at

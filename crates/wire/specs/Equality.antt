@@ -8,9 +8,7 @@ use Rattle.std.proofs.lemmas.Bool.Decides.{Decides-like, Decides-and}
 use Rattle.std.proofs.lemmas.Slice.Eq.{bytes_eq-Decides, slice_eq-Decides}
 use Rattle.op_names.specs.Names.{Name, same_name}
 use Rattle.op_names.specs.VersionIds.{same_names}
-use Rattle.op_names.specs.Values.{same_value-Decides}
-use Rattle.rules.specs.AttrLists.{Attr, same_attrs}
-use Rattle.rules.specs.Equality.{same_name-Decides, same_entry, same_entry-Decides}
+use Rattle.rules.specs.Equality.{same_name-Decides, same_names-Decides, same_entry, same_entry-Decides, same_shown, same_shown-Decides}
 use Rattle.rules.specs.Refusals.{code_of, refusal_at}
 use Rattle.rules.specs.Texts.{Bytes}
 use Rattle.rules.specs.declared.history.Entry.{Entry}
@@ -26,30 +24,24 @@ pairs_decide : {A B : Type 0} {E : A → A → Bool} {F : B → B → Bool} → 
 pairs_decide first second p q =
     Decides-like _ (λ e i. (e.0 i, e.1 i)) (λ e. (ap (λ r. r.0) e, ap (λ r. r.1) e)) (Decides-and _ _ (first p.0 q.0) (second p.1 q.1))
 
-names_decide : (a b : List Name) → Decides (same_names a b) (a ≡ b)
-names_decide a b = slice_eq-Decides same_name-Decides a b _ refl
-
-attrs_decide : (a b : List Attr) → Decides (same_attrs a b) (a ≡ b)
-attrs_decide a b = slice_eq-Decides (pairs_decide bytes_eq-Decides same_value-Decides) a b _ refl
-
 -- ---- the lists
 
 abbrev pub same_ids : List (List Name) → List (List Name) → Bool
 same_ids = pointwise same_names
 
 pub same_ids-Decides : (a b : List (List Name)) → Decides (same_ids a b) (a ≡ b)
-same_ids-Decides a b = slice_eq-Decides names_decide a b _ refl
+same_ids-Decides a b = slice_eq-Decides same_names-Decides a b _ refl
 
 pub same_ids-equivalence : IsEquivalence same_ids
 same_ids-equivalence = decided same_ids same_ids-Decides
 
 abbrev pub same_version : Version → Version → Bool
-same_version a b = same_names a.id b.id && same_attrs a.attrs b.attrs
+same_version a b = same_names a.id b.id && same_shown a.shown b.shown
 
 same_version-Decides : (a b : Version) → Decides (same_version a b) (a ≡ b)
 same_version-Decides a b =
-    Decides-like _ (λ e i. record { id = e.0 i; attrs = e.1 i }) (λ e. (ap (λ v. v.id) e, ap (λ v. v.attrs) e))
-    (Decides-and _ _ (names_decide a.id b.id) (attrs_decide a.attrs b.attrs))
+    Decides-like _ (λ e i. record { id = e.0 i; shown = e.1 i }) (λ e. (ap (λ v. v.id) e, ap (λ v. v.shown) e))
+    (Decides-and _ _ (same_names-Decides a.id b.id) (same_shown-Decides a.shown b.shown))
 
 abbrev pub same_versions : List Version → List Version → Bool
 same_versions = pointwise same_version
@@ -99,10 +91,10 @@ same_refusal-Decides a b =
     (unsigned_Decides (code_of a) (code_of b))
 
 -- both show the same versions of an object
-abbrev pub same_shown : Reply → Reply → Bool
-same_shown (Versions at object kind versions) (Versions other_at other_object other_kind other_versions) =
+abbrev pub same_listing : Reply → Reply → Bool
+same_listing (Versions at object kind versions) (Versions other_at other_object other_kind other_versions) =
     at == other_at && same_name object other_object && bytes_eq kind other_kind && same_versions versions other_versions
-same_shown _ _ = false
+same_listing _ _ = false
 
 -- both are the same page, of the objects or of the record
 abbrev pub same_page : Reply → Reply → Bool
@@ -116,7 +108,7 @@ abbrev pub same_reply : Reply → Reply → Bool
 same_reply (Joined at site) (Joined other_at other_site) = at == other_at && site == other_site
 same_reply (Made at name) (Made other_at other_name) = at == other_at && same_name name other_name
 same_reply (Taken at ids) (Taken other_at other_ids) = at == other_at && same_ids ids other_ids
-same_reply (Versions at object kind versions) other = same_shown (Versions at object kind versions) other
+same_reply (Versions at object kind versions) other = same_listing (Versions at object kind versions) other
 same_reply (Objects at from total objects) other = same_page (Objects at from total objects) other
 same_reply (Entries at from entries) other = same_page (Entries at from entries) other
 same_reply (Left at) (Left other_at) = at == other_at

@@ -1,5 +1,5 @@
 -- The JSON forms of requests, replies and entries, and of their parts.
-use Rattle.std.specs.Prelude.{◌≡◌, ℕ, ◌^◌, ◌<◌, ◌≤◌, ℤ, pos, negsuc, List, [], ◌∷◌, map, length, codes, Bool, nat_le, true, Some, IsUtf8}
+use Rattle.std.specs.Prelude.{◌≡◌, ℕ, ◌^◌, ◌<◌, ◌≤◌, ℤ, pos, negsuc, List, [], ◌∷◌, map, length, codes, Bool, nat_le, true, Some, IsUtf8, ◌⊎◌}
 use Rattle.std.specs.List.{AllByRecursion}
 use Rattle.serde_json.specs.Data.{Data, number, unsigned, string, array}
 use Rattle.serde_json.specs.Find.{of_integer}
@@ -11,7 +11,7 @@ use Rattle.op_names.specs.Texts.{is_room_name, is_key, is_kind, is_value_text}
 use Rattle.op_names.specs.declared.value.Value.{Value}
 use Rattle.op_names.specs.declared.value.Value.TheVariants.{Number, Text}
 use Rattle.state_vector.specs.Vectors.{Vector, is_vector}
-use Rattle.rules.specs.AttrLists.{Attr, are_attrs}
+use Rattle.rules.specs.AttrLists.{Attr, are_attrs, are_pairs}
 use Rattle.rules.specs.declared.limits.TheConstants.Limits.{MAX_ENTRIES}
 use Rattle.wire.specs.declared.request.TheConstants.{MAX_FROM, MAX_REQUEST_LEN}
 use Rattle.wire.specs.declared.request.Request.{Request}
@@ -19,8 +19,10 @@ use Rattle.wire.specs.declared.request.Request.TheVariants.{Join, Change, Show, 
 use Rattle.rules.specs.declared.history.Entry.{Entry}
 use Rattle.rules.specs.declared.history.Entry.TheVariants.{Operation, Join as JoinOf}
 use Rattle.rules.specs.declared.history.Body.{Body}
-use Rattle.rules.specs.declared.history.Body.TheVariants.{New, Set}
+use Rattle.rules.specs.declared.history.Body.TheVariants.{New, Put, DropVersion}
 use Rattle.rules.specs.declared.version.Version.{Version}
+use Rattle.rules.specs.declared.version.Shown.{Shown}
+use Rattle.rules.specs.declared.version.Shown.TheVariants.{Attrs, Gone}
 use Rattle.rules.specs.Refusals.{code_of, word_of}
 use Rattle.wire.specs.Rising.{rise, attr_before, id_before, version_before}
 use Rattle.wire.specs.declared.reply.Reply.{Reply}
@@ -81,36 +83,48 @@ IsAttr p = (is_key p.0 ≡ true) × IsValue p.1
 abbrev pub AreAttrs : List Attr → Type 0
 AreAttrs attrs = AllByRecursion IsAttr attrs × (are_attrs attrs ≡ true)
 
--- the word that an operation begins with
-abbrev pub body_word : Body → List ℕ
-body_word (New kind attrs) = codes "new"
-body_word (Set name version key value) = codes "set"
+-- the attributes of a put, in range
+abbrev pub ArePairs : List Attr → Type 0
+ArePairs pairs = AllByRecursion IsAttr pairs × (are_pairs pairs ≡ true)
 
--- what an operation does
-abbrev pub body_fields : Body → List Data
-body_fields (New kind attrs) = string kind ∷ attrs_form attrs ∷ []
-body_fields (Set name version key value) =
-    name_form name ∷ names_form version ∷ string key ∷ value_form value ∷ []
+-- the word that an operation begins with, and its last fields, which follow what its author had seen
+abbrev pub WordAndFields : Type 0
+WordAndFields = List ℕ × List Data
+
+-- what an operation does, as it is written
+abbrev pub body_form : Body → WordAndFields
+body_form (New kind attrs) = (codes "new", string kind ∷ attrs_form attrs ∷ [])
+body_form (Put object version pairs) = (codes "put", name_form object ∷ names_form version ∷ attrs_form pairs ∷ [])
+body_form (DropVersion object version) = (codes "drop", name_form object ∷ names_form version ∷ [])
+
+-- what an operation does, in the old form: a put of one pair has its key and its value in no list. All else is as it is written
+abbrev pub old_body_form : Body → WordAndFields
+old_body_form (Put object version (pair ∷ [])) =
+    (codes "set", name_form object ∷ names_form version ∷ string pair.0 ∷ value_form pair.1 ∷ [])
+old_body_form body = body_form body
 
 -- what an operation that is read keeps to
 abbrev pub IsBody : Body → Type 0
 IsBody (New kind attrs) = (is_kind kind ≡ true) × AreAttrs attrs
-IsBody (Set name version key value) =
-    (is_op_name name ≡ true) × IsId version × (is_key key ≡ true) × IsValue value
+IsBody (Put object version pairs) = (is_op_name object ≡ true) × IsId version × ArePairs pairs
+IsBody (DropVersion object version) = (is_op_name object ≡ true) × IsId version
 
 -- an operation: its name or its number, what its author had seen, and what it does
-abbrev pub operation_form : Data → Vector → Body → Data
-operation_form head seen body =
-    list_form (string (body_word body) ∷ head ∷ names_form seen ∷ body_fields body)
+abbrev pub operation_form : Data → Vector → WordAndFields → Data
+operation_form head seen does = list_form (string does.0 ∷ head ∷ names_form seen ∷ does.1)
 
--- the form of a request: a list of its word and its fields
+-- the form of a request, with bodies in these forms: a list of its word and its fields
+abbrev pub request_form_by : (Body → WordAndFields) → Request → Data
+request_form_by of_body (Join room) = list_form (string (codes "join") ∷ string room ∷ [])
+request_form_by of_body (Change seq seen body) = operation_form (whole_form seq) seen (of_body body)
+request_form_by of_body (Show name) = list_form (string (codes "show") ∷ name_form name ∷ [])
+request_form_by of_body (ListObjects from) = list_form (string (codes "list") ∷ whole_form from ∷ [])
+request_form_by of_body (Pull from) = list_form (string (codes "pull") ∷ whole_form from ∷ [])
+request_form_by of_body Leave = list_form (string (codes "leave") ∷ [])
+
+-- the form in which a request is written
 abbrev pub request_form : Request → Data
-request_form (Join room) = list_form (string (codes "join") ∷ string room ∷ [])
-request_form (Change seq seen body) = operation_form (whole_form seq) seen body
-request_form (Show name) = list_form (string (codes "show") ∷ name_form name ∷ [])
-request_form (ListObjects from) = list_form (string (codes "list") ∷ whole_form from ∷ [])
-request_form (Pull from) = list_form (string (codes "pull") ∷ whole_form from ∷ [])
-request_form Leave = list_form (string (codes "leave") ∷ [])
+request_form = request_form_by body_form
 
 -- what a request that is read keeps to
 abbrev pub IsRequest : Request → Type 0
@@ -121,53 +135,86 @@ IsRequest (ListObjects from) = is_from from ≡ true
 IsRequest (Pull from) = is_from from ≡ true
 IsRequest Leave = Unit {0}
 
--- the JSON value has the form of x, which is in range
-pub record HasForm {X : Type 0} (form_of : X → Data) (Fits : X → Type 0) (d : Data) (x : X) : Type 0 where
-  pub form : d ≡ form_of x
+-- the JSON value is a form of x: the one that is written, or the old one
+abbrev pub IsFormBy : {X : Type 0} → ((Body → WordAndFields) → X → Data) → Data → X → Type 0
+IsFormBy form_by d x = (d ≡ form_by body_form x) ⊎ (d ≡ form_by old_body_form x)
+
+-- the JSON value is a form of the request
+abbrev pub IsRequestForm : Data → Request → Type 0
+IsRequestForm = IsFormBy request_form_by
+
+-- the JSON value is a form of x, which is in range
+pub record HasForm {X : Type 0} (IsForm : Data → X → Type 0) (Fits : X → Type 0) (d : Data) (x : X) : Type 0 where
+  pub form : IsForm d x
   pub in_range : Fits x
 
--- the JSON value is that of the request
+-- the JSON value is one of the request
 abbrev pub IsRequestValue : Data → Request → Type 0
-IsRequestValue = HasForm request_form IsRequest
+IsRequestValue = HasForm IsRequestForm IsRequest
 
--- the bytes are a text of x, with any white space and escapes: UTF-8 that is read as the form of x, which is in range
-pub record IsTextOf {X : Type 0} (form_of : X → Data) (Fits : X → Type 0) (bytes : List ℕ) (x : X) : Type 0 where
+-- the bytes are a text of x, with any white space and escapes: UTF-8 that is read as a form of x, which is in range
+pub record IsTextOf {X : Type 0} (IsForm : Data → X → Type 0) (Fits : X → Type 0) (bytes : List ℕ) (x : X) : Type 0 where
   pub utf8 : IsUtf8 bytes
-  pub form : read bytes ≡ Some (form_of x)
+  pub value : Data
+  pub is_read : read bytes ≡ Some value
+  pub form : IsForm value x
   pub in_range : Fits x
 
 -- the bytes are a text of the request, of at most 16,384 bytes
 pub record IsRequestText (bytes : List ℕ) (q : Request) : Type 0 where
   pub short : length bytes ≤ MAX_REQUEST_LEN
-  pub text : IsTextOf request_form IsRequest bytes q
+  pub text : IsTextOf IsRequestForm IsRequest bytes q
 
--- a version: its identifier and its attributes
+-- what is shown of a version: its attributes, or that it is gone
+abbrev pub shown_form : Shown → Data
+shown_form (Attrs attrs) = attrs_form attrs
+shown_form Gone = string (codes "gone")
+
+-- a version: its identifier and what is shown of it
 abbrev pub version_form : Version → Data
-version_form v = list_form (names_form v.id ∷ attrs_form v.attrs ∷ [])
+version_form v = list_form (names_form v.id ∷ shown_form v.shown ∷ [])
 
 -- an object with its kind
 abbrev pub object_form : (ℕ × ℕ) × List ℕ → Data
 object_form o = list_form (name_form o.0 ∷ string o.1 ∷ [])
 
--- the form of a record's entry
+-- the form of a record's entry, with bodies in these forms
+abbrev pub entry_form_by : (Body → WordAndFields) → Entry → Data
+entry_form_by of_body (JoinOf site) = list_form (string (codes "join") ∷ whole_form site ∷ [])
+entry_form_by of_body (Operation o) = operation_form (name_form o.name) o.seen (of_body o.body)
+
+-- the form in which an entry is written
 abbrev pub entry_form : Entry → Data
-entry_form (JoinOf site) = list_form (string (codes "join") ∷ whole_form site ∷ [])
-entry_form (Operation o) = operation_form (name_form o.name) o.seen o.body
+entry_form = entry_form_by body_form
+
+-- the JSON value is a form of the entry
+abbrev pub IsEntryForm : Data → Entry → Type 0
+IsEntryForm = IsFormBy entry_form_by
 
 -- an entry in range
 abbrev pub IsEntry : Entry → Type 0
 IsEntry (JoinOf site) = is_site site ≡ true
 IsEntry (Operation o) = (is_op_name o.name ≡ true) × (is_vector o.seen ≡ true) × IsBody o.body
 
--- the JSON value is that of the entry
+-- the JSON value is one of the entry
 abbrev pub IsEntryValue : Data → Entry → Type 0
-IsEntryValue = HasForm entry_form IsEntry
+IsEntryValue = HasForm IsEntryForm IsEntry
 
 -- the bytes are a text of the entry
 abbrev pub IsEntryText : List ℕ → Entry → Type 0
-IsEntryText = IsTextOf entry_form IsEntry
+IsEntryText = IsTextOf IsEntryForm IsEntry
 
--- the form of a reply: its word, the number of entries before the call, and more
+-- these JSON values are forms of these, one of each
+abbrev pub AreForms : {X : Type 0} → (Data → X → Type 0) → List Data → List X → Type 0
+AreForms IsForm [] [] = Unit {0}
+AreForms IsForm (d ∷ ds) (x ∷ xs) = IsForm d x × AreForms IsForm ds xs
+AreForms IsForm _ _ = ⊥
+
+-- the JSON value is a list of forms of these
+abbrev pub IsListForm : {X : Type 0} → (Data → X → Type 0) → Data → List X → Type 0
+IsListForm IsForm d xs = (ds : List Data) × AreForms IsForm ds xs × (d ≡ list_form ds)
+
+-- the form in which a reply is written: its word, the number of entries before the call, and more
 abbrev pub reply_form : Reply → Data
 reply_form (Joined at site) = list_form (string (codes "joined") ∷ whole_form at ∷ whole_form site ∷ [])
 reply_form (Made at name) = list_form (string (codes "made") ∷ whole_form at ∷ name_form name ∷ [])
@@ -182,6 +229,13 @@ reply_form (Left at) = list_form (string (codes "left") ∷ whole_form at ∷ []
 reply_form (No at refusal) =
     list_form (string (codes "no") ∷ whole_form at ∷ whole_form (code_of refusal) ∷ string (word_of refusal) ∷ [])
 
+-- the JSON value is a form of the reply: the one that is written, but that entries of a page may have their old forms
+abbrev pub IsReplyForm : Data → Reply → Type 0
+IsReplyForm d (Entries at from entries) =
+    (page : Data) × IsListForm IsEntryForm page entries
+    × (d ≡ list_form (string (codes "entries") ∷ whole_form at ∷ whole_form from ∷ page ∷ []))
+IsReplyForm d reply = d ≡ reply_form reply
+
 -- a place in the record, or a number of entries or objects, in range
 abbrev pub is_at : ℕ → Bool
 is_at at = nat_le at MAX_ENTRIES
@@ -190,9 +244,14 @@ is_at at = nat_le at MAX_ENTRIES
 abbrev pub AreShown : List Attr → Type 0
 AreShown attrs = AllByRecursion IsAttr attrs × (rise attr_before attrs ≡ true)
 
+-- what is shown of a version, in range
+abbrev pub IsShown : Shown → Type 0
+IsShown (Attrs attrs) = AreShown attrs
+IsShown Gone = Unit {0}
+
 -- a version in range
 abbrev pub IsVersion : Version → Type 0
-IsVersion v = IsId v.id × AreShown v.attrs
+IsVersion v = IsId v.id × IsShown v.shown
 
 -- an object's versions, in range
 abbrev pub AreVersions : List Version → Type 0
@@ -219,10 +278,10 @@ IsReply (Entries at from entries) = (is_at at ≡ true) × (is_from from ≡ tru
 IsReply (Left at) = is_at at ≡ true
 IsReply (No at refusal) = is_at at ≡ true
 
--- the JSON value is that of the reply
+-- the JSON value is one of the reply
 abbrev pub IsReplyValue : Data → Reply → Type 0
-IsReplyValue = HasForm reply_form IsReply
+IsReplyValue = HasForm IsReplyForm IsReply
 
 -- the bytes are a text of the reply
 abbrev pub IsReplyText : List ℕ → Reply → Type 0
-IsReplyText = IsTextOf reply_form IsReply
+IsReplyText = IsTextOf IsReplyForm IsReply

@@ -8,7 +8,7 @@ use Rattle.op_names.specs.Texts.{is_room_name, is_key, is_kind, is_value_text}
 use Rattle.op_names.specs.declared.value.Value.{Value}
 use Rattle.op_names.specs.declared.value.Value.TheVariants.{Number, Text}
 use Rattle.state_vector.specs.Vectors.{is_vector}
-use Rattle.rules.specs.AttrLists.{Attr, are_attrs}
+use Rattle.rules.specs.AttrLists.{Attr, are_attrs, are_pairs}
 use Rattle.wire.specs.declared.fault.ReadFault.{ReadFault}
 use Rattle.wire.specs.declared.fault.ReadFault.TheVariants.{Bad, NoMemory}
 
@@ -130,6 +130,10 @@ attr_in = two_in key_in value_in
 -- the attributes of a creation
 unfoldable pub attrs_in : Data → Option (List Attr)
 attrs_in = passing are_attrs (list_in attr_in)
+
+-- the attributes of a put
+unfoldable pub pairs_in : Data → Option (List Attr)
+pairs_in = passing are_pairs (list_in attr_in)
 
 -- no more fields
 abbrev pub end_at : List Data → Option ⊤

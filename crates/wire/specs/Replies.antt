@@ -8,6 +8,8 @@ use Rattle.op_names.specs.declared.op_name.TheConstants.{MAX_SITE}
 use Rattle.rules.specs.declared.limits.TheConstants.Limits.{MAX_ENTRIES}
 use Rattle.rules.specs.declared.refusal.Refusal.{Refusal}
 use Rattle.rules.specs.declared.version.Version.{Version}
+use Rattle.rules.specs.declared.version.Shown.{Shown}
+use Rattle.rules.specs.declared.version.Shown.TheVariants.{Attrs, Gone}
 use Rattle.wire.specs.declared.request.TheConstants.{MAX_FROM}
 use Rattle.wire.specs.declared.reply.Reply.{Reply}
 use Rattle.wire.specs.declared.reply.Reply.TheVariants.{Joined, Made, Taken, Versions, Objects, Entries, Left, No}
@@ -24,12 +26,21 @@ unfoldable pub ids_in : Data → Option (List (List (ℕ × ℕ)))
 ids_in = passing (rise id_before) (list_in id_in)
 
 -- the attributes of a version
-unfoldable pub shown_in : Data → Option (List Attr)
-shown_in = passing (rise attr_before) (list_in attr_in)
+unfoldable pub shown_attrs_in : Data → Option (List Attr)
+shown_attrs_in = passing (rise attr_before) (list_in attr_in)
+
+-- what is shown of a version, by whether it is a text
+abbrev gone_or_attrs : Option (List ℕ) → Data → Option Shown
+gone_or_attrs (Some word) d = if bytes_eq word (codes "gone") then Some Gone else None
+gone_or_attrs None d = shown_attrs_in d >>= λ attrs. Some (Attrs attrs)
+
+-- what is shown of a version
+unfoldable pub shown_in : Data → Option Shown
+shown_in d = gone_or_attrs (as_str d) d
 
 -- a version
 unfoldable pub version_in : Data → Option Version
-version_in d = two_in id_in shown_in d >>= λ p. Some (record { id = p.0; attrs = p.1 })
+version_in d = two_in id_in shown_in d >>= λ p. Some (record { id = p.0; shown = p.1 })
 
 -- the versions of an object
 unfoldable pub versions_in : Data → Option (List Version)
@@ -79,7 +90,7 @@ refusal_with code word = refusal_at code >>= λ refusal. if bytes_eq (word_of re
 
 -- a number and a word of one refusal
 unfoldable pub refusal_fields : List Data → Option Refusal
-refusal_fields ds = field_at (whole_in 1 17) (field_at as_str end_at) ds >>= λ p. refusal_with p.0 p.1.0
+refusal_fields ds = field_at (whole_in 1 18) (field_at as_str end_at) ds >>= λ p. refusal_with p.0 p.1.0
 
 -- what follows "no"
 unfoldable pub no_at : List Data → Option Reply
@@ -90,6 +101,6 @@ reply_words =
     (codes "joined", joined_at) ∷ (codes "made", made_at) ∷ (codes "taken", taken_at) ∷ (codes "versions", versions_at)
     ∷ (codes "objects", objects_at) ∷ (codes "entries", entries_at) ∷ (codes "left", left_at) ∷ (codes "no", no_at) ∷ []
 
--- the reply whose form a JSON value is
+-- the reply that a JSON value is a form of
 unfoldable pub reply_of : Data → Option Reply
 reply_of = message_in reply_words no_others

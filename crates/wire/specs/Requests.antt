@@ -37,6 +37,6 @@ request_words =
     (codes "join", join_at) ∷ (codes "show", show_at) ∷ (codes "list", list_at) ∷ (codes "pull", pull_at)
     ∷ (codes "leave", leave_at) ∷ []
 
--- the request whose form a JSON value is
+-- the request that a JSON value is a form of
 unfoldable pub request_of : Data → Option Request
 request_of = message_in request_words change_at

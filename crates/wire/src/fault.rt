@@ -34,6 +34,14 @@ impl<T: Drop> From<AllocFailed<T>> for ReadFault {
     }
 }
 
+impl From<op_names::NoMemory> for ReadFault {
+    ghost from_gives = { λ _ e. e ≡ NoMemory };
+
+    fn from(_fault: op_names::NoMemory) -> ReadFault {
+        ReadFault::NoMemory
+    }
+}
+
 impl From<NameFault> for ReadFault {
     ghost use Rattle.wire.specs.Faults.{of_name};
     ghost use Rattle.std.specs.Prelude.{◌≡◌};

@@ -1,4 +1,5 @@
-//! Requests, replies and entries of a record, and their JSON forms.
+//! Requests, replies and entries of a record, and their JSON forms. A put of one pair is read from
+//! its old form too, which began with the word `set`; what is written is never in it.
 #![tactic(auto)]
 
 mod fault;

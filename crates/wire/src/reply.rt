@@ -1,7 +1,7 @@
 //! What a session is answered.
 
 ghost use Rattle.std.specs.Prelude.{◌≡◌};
-ghost use Rattle.wire.specs.Equality.{same_shown, same_page};
+ghost use Rattle.wire.specs.Equality.{same_listing, same_page};
 
 use crate::lists::{EntryList, IdList, ObjectList, VersionList};
 use op_names::{Kind, OpName};
@@ -21,7 +21,7 @@ pub enum Reply {
         at: u32,
         name: OpName,
     },
-    /// The set is taken, and the object's versions now have these identifiers, rising.
+    /// The change is taken, and the object's versions now have these identifiers, rising.
     Taken {
         at: u32,
         ids: IdList,
@@ -88,7 +88,7 @@ impl PartialEq for Reply {
                     ids: other_ids,
                 },
             ) => *at == *other_at && *ids == *other_ids,
-            (Reply::Versions { .. }, _) => same_shown(self, other),
+            (Reply::Versions { .. }, _) => same_listing(self, other),
             (Reply::Objects { .. } | Reply::Entries { .. }, _) => same_page(self, other),
             (Reply::Left { at }, Reply::Left { at: other_at }) => *at == *other_at,
             (
@@ -110,8 +110,8 @@ impl Eq for Reply {
 }
 
 // Both show the same versions of an object.
-fn same_shown(reply: &Reply, other: &Reply) -> bool
-    ensures { result ≡ same_shown reply.now other.now }
+fn same_listing(reply: &Reply, other: &Reply) -> bool
+    ensures { result ≡ same_listing reply.now other.now }
 {
     match (reply, other) {
         (

@@ -13,7 +13,7 @@ use Rattle.rules.specs.declared.history.Entry.TheVariants.{Join, Operation}
 use Rattle.rules.specs.declared.refusal.Refusal.{Refusal}
 use Rattle.rules.specs.declared.refusal.Refusal.TheVariants.{NotJoined, TooFar}
 use Rattle.rules.specs.declared.limits.LimitValues.{LimitValues}
-use Rattle.rules.specs.Bodies.{is_set_body, kind_in}
+use Rattle.rules.specs.Bodies.{is_change_body, kind_in}
 use Rattle.rules.specs.Operations.{IsHistory, creation_of, is_creation_of, object_of}
 use Rattle.rules.specs.Records.{admits, objects, operations, refusal, sites, IsLegal}
 use Rattle.rules.proofs.Lists.{In, In-filter_back, In-map_back, find_is}
@@ -142,23 +142,23 @@ module _ (room : Room) (sound : IsSound room) where
     operation_in_range : (op : Op) → op.name.0 ≡ site → IsOp op → InRange (operation_answer room op)
     operation_in_range op e range =
         decided_in_range (refusal room.limits room.entries (Operation op)) (Operation op) (operation_reply room op) refl
-        (λ none. (reply_in_range op (is_set_body op.body) e range none, range))
+        (λ none. (reply_in_range op (is_change_body op.body) e range none, range))
 
   shown_in_range : (name : Name) (o : Option Op) → is_op_name name ≡ true → creation_of (operations room.entries) name ≡ o → InRange (reply_alone (shown_by room.entries name o))
   shown_in_range name None range e = refused_in_range _
   shown_in_range name (Some op) range e =
       let c = find_is (is_creation_of name) op (operations room.entries) e in
-      told_in_range _ (at_in_range, range, kind_in_range op (and_parts (not (is_set_body op.body)) _ c.1).0 (ops op c.0), versions_in_range (operations room.entries) history ops name)
+      told_in_range _ (at_in_range, range, kind_in_range op (and_parts (not (is_change_body op.body)) _ c.1).0 (ops op c.0), versions_in_range (operations room.entries) history ops name)
 
   object_in_range : (o : Name × Bytes) → In o (all_objects room.entries) → IsObject o
   object_in_range o m =
       let c = In-map_back (λ (op : Op). (op.name, kind_in op.body)) o (objects room.entries) m in
-      let d = In-filter_back (λ (op : Op). not (is_set_body op.body)) c.0 (operations room.entries) c.1 in
+      let d = In-filter_back (λ (op : Op). not (is_change_body op.body)) c.0 (operations room.entries) c.1 in
       subst IsObject (sym c.2) ((ops c.0 d.0).0, kind_in_range c.0 d.1 (ops c.0 d.0))
 
   total_in_range : is_at (length (objects room.entries)) ≡ true
   total_in_range =
-      let creates : Op → Bool = λ op. not (is_set_body op.body) in
+      let creates : Op → Bool = λ op. not (is_change_body op.body) in
       let counted = length-filter creates (operations room.entries) in
       let fewer = count_by-le-length creates (operations room.entries) in
       let few = length-operations room.entries in

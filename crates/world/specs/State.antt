@@ -32,7 +32,7 @@ SeatsWithin seats count = (session : ℕ) → IfSome (seat_of seats session) (λ
 
 -- what stands at a place past the last room
 abbrev pub no_room : Room
-no_room = empty_room (record { joins = 0; entries = 0; objects = 0; sets = 0; keys = 0; versions = 0; page = 0 })
+no_room = empty_room (record { joins = 0; entries = 0; objects = 0; changes = 0; keys = 0; versions = 0; page = 0 })
 
 -- the room at a place
 abbrev pub rooms_in : List Named → List Room

@@ -5,8 +5,10 @@ import { mkdir } from "node:fs/promises"
 import { createInterface } from "node:readline"
 import { join } from "node:path"
 import { fileURLToPath } from "node:url"
-import { same, holds } from "../../../clients/js/tests/checks.js"
+import { Room } from "../../../clients/js/grace.js"
+import { comes, same, holds } from "../../../clients/js/tests/checks.js"
 import { CUT_BEFORE, PASS, Proxy } from "../../../clients/js/tests/proxy.js"
+import { WebSocket } from "../../../clients/js/tests/websocket.js"
 import { Chromium } from "./chromium.mjs"
 
 const RUN = fileURLToPath(new URL("../run", import.meta.url))
@@ -25,6 +27,10 @@ const BODIES = `Object.fromEntries([...document.querySelectorAll(".version")].ma
 const CARDS = `[...document.querySelectorAll(".card")].map((card) => [card.querySelector("strong").textContent,
   [...card.querySelectorAll("mark")].map((mark) => mark.textContent), card.classList.contains("picked")])`
 const STATE = `document.getElementById("state").textContent`
+// What the panel says: its heading, the objects in its list, and what it says of a deletion.
+const HEADING = `document.querySelector("#panel h2").textContent`
+const LIST = `[...document.querySelectorAll("#panel .list button")].map((one) => one.textContent)`
+const NOTICE = `document.querySelector(".notice")?.innerText.replace(/\\s+/g, " ") ?? null`
 
 let passed = 0
 let failed = 0
@@ -38,6 +44,27 @@ async function serve() {
     server.once("close", () => fail(new Error("the whiteboard's server ended")))
   })
   return { server, address: /http:\S+/.exec(line)[0] }
+}
+
+/** The page's own address, with the server's. */
+const pageOf = async (address) =>
+  new URL((await fetch(address, { redirect: "manual" })).headers.get("Location"), address)
+
+/** A client beside the pages: what it has of the record tells what they did. */
+async function watch(address) {
+  const server = (await pageOf(address)).searchParams.get("server")
+  const room = new Room(server, "people", { connect: (it) => new WebSocket(it), pollMilliseconds: 30 })
+  await comes("a client beside the pages", () => room.state === "open")
+  return room
+}
+
+/** What an act adds to the record, each as its word and what it gives. It may be more than is awaited. */
+async function added(room, count, act) {
+  const start = room.record.length
+  await act()
+  await comes("the entries", () => room.record.length >= start + count)
+  await new Promise((resolve) => setTimeout(resolve, 400))
+  return room.record.slice(start).map(([word, ...rest]) => (word === "drop" ? [word] : [word, rest.at(-1)]))
 }
 
 /** One step: the next ones go on from where it ended. */
@@ -198,7 +225,7 @@ async function toldToPick(third) {
 
 /** A lost connection is told in words, and what is drawn meanwhile is sent once there is one again. */
 async function lostConnection(browser, address, first) {
-  const page = new URL((await fetch(address, { redirect: "manual" })).headers.get("Location"), address)
+  const page = await pageOf(address)
   const proxy = await Proxy.start(new URL(page.searchParams.get("server")).port)
   page.searchParams.set("server", `ws://${proxy.address}/`)
   const second = await browser.open(page.href, 1240, 720)
@@ -219,13 +246,241 @@ async function lostConnection(browser, address, first) {
   proxy.end()
 }
 
+const LAKE = '.version[aria-label^="Rectangle “Lake”"]'
+
+/** How many objects are drawn. */
+const objectsOf = async (page) => new Set((await page.look(VERSIONS)).map(([object]) => object)).size
+
+/** Each thing that a person does is one entry, with all that it changes. */
+async function onePut(first, room) {
+  const act = async (what, count, doIt, wanted) => same(what, await added(room, count, doIt), wanted)
+  const drag = async (from, to) => first.drag(await onScreen(first, from), await onScreen(first, to))
+  await act("a new object", 1, () => draw(first, "rect", [520, 40], [640, 120]), [["new",
+    [["x", 520], ["y", 40], ["width", 120], ["height", 80], ["fill", "#3a86c8"], ["name", ""]]]])
+  await act("a move", 1, () => drag([580, 80], [610, 101]), [["put", [["x", 550], ["y", 61]]]])
+  await act("another size", 1, () => drag([670, 141], [690, 171]), [["put", [["width", 140], ["height", 110]]]])
+  await act("a move on one axis", 1, () => first.key("ArrowRight"), [["put", [["x", 560], ["y", 61]]]])
+  await act("another width", 1, () => first.key("ArrowLeft", 8), [["put", [["width", 130], ["height", 110]]]])
+  await act("a colour", 1, () => first.click('[data-colour="#8d6cab"]'), [["put", [["fill", "#8d6cab"]]]])
+}
+
+/** What another client put there is drawn as far as it can be, and a change of the size makes it plain. */
+async function oddShapes(first, second, room) {
+  const far = room.create("rect", { x: -(2n ** 62n), y: "5,5", width: 2n ** 62n, fill: 7, name: 5n })
+  const turned = room.create("rect", { x: 1100, y: 500, width: -120, height: -80, fill: "#f2b134" })
+  const body = ([site, number]) => `document.querySelector('[data-object="${site},${number}"] .body')`
+  const box = (name) => `["x", "y", "width", "height"].map((key) => ${body(name)}.getAttribute(key))`
+  for (const page of [first, second]) {
+    await page.comes("both", `${body(far.name)} !== null && ${body(turned.name)} !== null`)
+  }
+  same("one far off", await first.look(box(far.name)), ["-100000", "0", "100000", "80"])
+  same("one that is turned", await first.look(box(turned.name)), ["980", "420", "120", "80"])
+  await first.click(`[data-object="${turned.name}"] .body`)
+  const resize = async () => first.drag(await onScreen(first, [1100, 500]), await onScreen(first, [1120, 510]))
+  same("another size", await added(room, 1, resize),
+    [["put", [["x", 980], ["y", 420], ["width", 140], ["height", 90]]]])
+  room.drop(far.name, [])
+  room.drop(turned.name, room.versions(turned.name)[0])
+  for (const page of [first, second]) {
+    await page.comes("both are gone", `${body(far.name)} === null && ${body(turned.name)} === null`)
+  }
+  same("what has the focus", await first.look("document.activeElement.id"), "board")
+}
+
+/** The version that has the focus is deleted by a key, with what the arrows did just before. */
+async function deleteByKey(first, second, room) {
+  const count = await second.look(COUNT)
+  const newest = `[...document.querySelectorAll(".version")].at(-1)`
+  for (const key of ["Delete", "Backspace"]) {
+    await draw(first, "ellipse", [40, 40], [160, 120])
+    await second.comes("the new object", `${COUNT} === ${count + 1}`)
+    await tabTo(first, `document.activeElement === ${newest}`)
+    await first.key("ArrowRight")
+    same(key, await added(room, 1, () => first.key(key)), [["drop"]])
+    for (const page of [first, second]) await page.comes("it is gone", `${COUNT} === ${count}`)
+    same("what has the focus", await first.look("document.activeElement.id"), "board")
+    holds("nothing is selected", (await first.look(HEADING)).startsWith("Objects"))
+  }
+  same("a key more", await added(room, 0, () => first.key("Delete")), [])
+}
+
+/** An object is deleted by its button: where another person has selected it, that ends. */
+async function deleteByButton(first, second, room) {
+  const count = await second.look(COUNT)
+  await draw(first, "rect", [40, 40], [160, 120])
+  await second.comes("the new object", `${COUNT} === ${count + 1}`)
+  await second.press(await onScreen(second, [100, 80]))
+  await second.release(await onScreen(second, [100, 80]))
+  const before = [await first.look(HEADING), await second.look(HEADING)]
+  same("what both have selected", before, ["Rectangle", "Rectangle"])
+  same("the button", await first.look(`document.querySelector('[data-focus="delete"]').textContent`), "Delete")
+  same("what it does", await added(room, 1, () => first.click('[data-focus="delete"]')), [["drop"]])
+  for (const page of [first, second]) {
+    await page.comes("it is gone", `${COUNT} === ${count}`)
+    const { length } = await page.look(LIST)
+    same("what the list has", [await page.look(HEADING), length], [`Objects (${length})`, await objectsOf(page)])
+  }
+}
+
+/** One of two versions is deleted, by one who has seen both: the other one stays, and nothing is said. */
+async function deleteVersion(first, second, room) {
+  const [object] = (await first.look(VERSIONS)).find(([, , , words]) => words.includes("“Lake”"))
+  const old = await first.look(BODIES)
+  await first.click(`${LAKE}[data-letter="A"] .body`)
+  const button = '[data-focus="delete-A"]'
+  same("the button", await first.look(`document.querySelector('${button}').textContent`), "Delete version A")
+  same("what it does", await added(room, 1, () => first.click(button)), [["drop"]])
+  for (const page of [first, second]) {
+    await page.comes("one version", `document.querySelectorAll('${LAKE}').length === 1`)
+    same("what is left", (await page.look(BODIES))[`${object}A`], old[`${object}B`])
+    await page.click(`${LAKE} .body`)
+    same("its words", await page.look(HEADING), "Rectangle “Lake”")
+    same("what is said of a deletion", await page.look(NOTICE), null)
+    same("the cards", await page.look(CARDS), [])
+  }
+}
+
+/** All drag at once what a selector finds: each makes a version. Gives its object. */
+async function allDrag(pages, selector, steps) {
+  const [first] = pages
+  const object = await first.look(`document.querySelector('${selector}').dataset.object`)
+  const from = await first.middleOf(`${selector} .body`)
+  for (const page of pages) await page.press(from)
+  for (const [place, page] of pages.entries()) {
+    const to = [from[0] + steps[place][0], from[1] + steps[place][1]]
+    await page.moveTo(to)
+    await page.release(to)
+  }
+  const versions = `document.querySelectorAll('.version[data-object="${object}"]').length`
+  for (const page of pages) await page.comes("the versions", `${versions} === ${pages.length}`)
+  return object
+}
+
+/** Of three versions one is deleted that a person had picked: she has to pick again. Then she keeps one alone. */
+async function keepOnly(pages, room) {
+  const [first, second, third] = pages
+  const object = await allDrag(pages, '.version[aria-label="Line"]', [[-60, -80], [0, 30], [60, -160]])
+  const version = (letter) => `.version[data-object="${object}"][data-letter="${letter}"]`
+  const old = await second.look(BODIES)
+  await second.click('[data-focus="pick-B"]')
+  same("the buttons", await second.look(`[...document.querySelectorAll(".cards + .actions button")].map((one) =>
+    one.textContent)`), ["Keep only this", "Delete version B", "All objects"])
+  await second.picture(join(PICTURES, "three-versions.png"))
+  const keep = () => second.click('[data-focus="keep-only"]')
+  same("what it does", await added(room, 2, keep), [["drop"], ["drop"]])
+  for (const page of pages) {
+    await page.comes("one version", `document.querySelectorAll('.version[data-object="${object}"]').length === 1`)
+    same("what is left", (await page.look(BODIES))[`${object}A`], old[`${object}B`])
+    same("what is said of a deletion", await page.look(NOTICE), null)
+  }
+  await allDrag(pages, version("A"), [[-60, -80], [0, 30], [60, -160]])
+  await third.click('[data-focus="pick-C"]')
+  const bodies = await second.look(BODIES)
+  await first.click(`${version("C")} .tag`)
+  await first.key("ArrowRight")
+  same("what a key does", await added(room, 1, () => first.key("Delete")), [["drop"]])
+  await third.comes("two versions", `document.querySelectorAll(".card").length === 2`)
+  const { [`${object}C`]: _, ...others } = bodies
+  same("the others", await third.look(BODIES), others)
+  same("what is picked", (await third.look(CARDS)).map(([, , isPicked]) => isPicked), [false, false])
+  same("the buttons", await third.look(`document.querySelector('[data-focus="keep-only"], .delete')`), null)
+  await third.picture(join(PICTURES, "pick-again.png"))
+  await first.click(`${version("A")} .tag`)
+  await first.key("ArrowRight")
+  same("what a key does", await added(room, 1, () => first.key("Delete")), [["drop"]])
+  await third.comes("one version", `document.querySelectorAll('.version[data-object="${object}"]').length === 1`)
+  same("what is left", (await third.look(BODIES))[`${object}A`], bodies[`${object}B`])
+}
+
+/** The first person deletes what the second one is dragging. */
+async function deleteWhileDragged(first, second, grip, [x, y]) {
+  const from = await second.middleOf(grip)
+  const to = [from[0] + x, from[1] + y]
+  await second.press(from)
+  await second.moveTo(to)
+  await first.click(grip)
+  const count = await first.look(COUNT)
+  await first.key("Delete")
+  await first.comes("it is gone", `${COUNT} === ${count - 1}`)
+  await askedForNews()
+  await second.release(to)
+  await first.comes("it is there again", `${COUNT} === ${count}`)
+}
+
+const DELETED = "Somebody deleted this while others changed it. You see it as they changed it. Keep it Delete it too"
+
+/** What was deleted while another person moved it is there, and both are told; then it is kept, and then it goes. */
+async function deletedMeanwhile(first, second, room) {
+  await deleteWhileDragged(first, second, `${LAKE} .body`, [-150, -100])
+  same("what is said", await second.look(NOTICE), DELETED)
+  await second.picture(join(PICTURES, "deleted-meanwhile.png"))
+  await second.click('[data-focus="keep"]')
+  same("what is said to who keeps it", await second.look(NOTICE), null)
+  same("what she has selected", await second.look(HEADING), "Rectangle “Lake”")
+  holds("the list tells it", (await first.look(LIST)).includes("Rectangle “Lake”deleted, and changed"))
+  await first.picture(join(PICTURES, "deleted-in-list.png"))
+  await first.click(`${LAKE} .body`)
+  same("what is said to the other", await first.look(NOTICE), DELETED)
+  const colour = () => first.click('[data-colour="#3a86c8"]')
+  same("a colour", await added(room, 1, colour), [["put", [["fill", "#3a86c8"]]]])
+  await second.comes("the colour", `document.querySelector('${LAKE} .body').getAttribute("fill") === "#3a86c8"`)
+  same("what is said to who keeps it, afterwards", await second.look(NOTICE), null)
+  await deleteWhileDragged(first, second, `${LAKE} .body`, [-80, 20])
+  same("what is said of another deletion", await second.look(NOTICE), DELETED)
+  await first.click(`${LAKE} .body`)
+  same("Delete it too", await added(room, 1, () => first.click('[data-focus="delete-too"]')), [["drop"]])
+  for (const page of [first, second]) {
+    await page.comes("it is gone", `document.querySelector('${LAKE}') === null`)
+    holds("nothing is selected", (await page.look(HEADING)).startsWith("Objects"))
+    holds("it is in no list", (await page.look(LIST)).every((words) => !words.includes("Lake")))
+  }
+}
+
+/** The same of one of two versions: it is told which. Who presses on it all the while goes on with what is left. */
+async function versionDeletedMeanwhile(first, second, third) {
+  const grip = '.version[aria-label^="Ellipse “Moon”"] .tag'
+  const place = await third.middleOf(grip)
+  await third.press(place)
+  await deleteWhileDragged(first, second, grip, [-200, 80])
+  await askedForNews()
+  await third.release(place)
+  const [, letter] = (await second.look(VERSIONS)).find(([, , , words]) => words.startsWith("Ellipse “Moon”"))
+  const words = "Somebody deleted a version while others changed it. What they made of it: " +
+    `version ${letter}. Keep version ${letter} Delete version ${letter} too`
+  same("what is said", await second.look(NOTICE), words)
+  for (const page of [second, third]) {
+    const picked = (await page.look(CARDS)).filter(([, , isPicked]) => isPicked)
+    same("what is picked", picked.map(([one]) => one), [`Version ${letter}`])
+  }
+  await second.picture(join(PICTURES, "version-deleted-meanwhile.png"))
+  await second.click('[data-focus="delete-too"]')
+  await first.comes("it is gone", `document.querySelector('[aria-label*="Moon"]') === null`)
+  for (const page of [first, second]) await page.click('.version[aria-label="Ellipse “Sun”"] .body')
+  same("what is said of the other", [await first.look(NOTICE), await second.look(NOTICE)], [null, null])
+}
+
+/** Who comes late sees what the others see, and nothing of what is gone. */
+async function lateAfterAll(browser, address, first) {
+  const page = await browser.open(address, 1240, 720)
+  await isOpen(page)
+  await page.comes("all versions", `${COUNT} === ${await first.look(COUNT)}`)
+  same("what it shows", await page.look(BODIES), await first.look(BODIES))
+  same("what the list has", (await page.look(LIST)).length, await objectsOf(first))
+  same("faults in the page", page.faults, [])
+  await page.picture(join(PICTURES, "late-after-all.png"))
+}
+
 function faults(...pages) {
   for (const page of pages) same("faults in a page", page.faults, [])
 }
 
 async function all(browser, address) {
-  const [first, second] = await Promise.all([browser.open(address, 1240, 720), browser.open(address, 1240, 720)])
-  await Promise.all([first, second].map(isOpen))
+  // In turn: so the second one's version of what both drag is B, as the README says of the picture.
+  const first = await browser.open(address, 1240, 720)
+  await isOpen(first)
+  const second = await browser.open(address, 1240, 720)
+  await isOpen(second)
+  const room = await watch(address)
   const keep = (page, word) => page.picture(join(PICTURES, `${word}.png`))
   await step("two people draw", () => twoDraw(first, second))
   await keep(second, "drawn")
@@ -255,7 +510,19 @@ async function all(browser, address) {
   })
   await keep(phone, "small")
   await step("a lost connection", () => lostConnection(browser, address, first))
+  await step("each thing done is one entry", () => onePut(first, room))
+  await step("what other clients put there", () => oddShapes(first, second, room))
+  await step("a key deletes", () => deleteByKey(first, second, room))
+  await step("a button deletes", () => deleteByButton(first, second, room))
+  await keep(first, "deleted")
+  await step("one of two versions is deleted", () => deleteVersion(first, second, room))
+  await keep(first, "one-version-left")
+  await step("one of three versions is kept alone", () => keepOnly([first, second, third], room))
+  await step("deleted while another moved it", () => deletedMeanwhile(first, second, room))
+  await step("a version deleted while another moved it", () => versionDeletedMeanwhile(first, second, third))
+  await step("one comes after all", () => lateAfterAll(browser, address, first))
   await step("no page had a fault", () => faults(first, second, third, phone))
+  room.close()
 }
 
 await mkdir(PICTURES, { recursive: true })

@@ -80,7 +80,7 @@ fn full_limits(rt: HostRuntime) {
         joins: 256,
         entries: 16384,
         objects: 512,
-        sets: 1024,
+        changes: 1024,
         keys: 64,
         versions: 32,
         page: 64,

@@ -1,9 +1,9 @@
-//! What is planned to be added: joins, creations and sets.
+//! What is planned to be added: joins, creations and changes.
 
 ghost use Rattle.std.specs.Prelude.{◌≡◌, ◌<◌, false, length, true, IfErr, IfOk, None, OnOk, Some};
 ghost use Rattle.op_names.specs.Names.{is_site};
 ghost use Rattle.rules.specs.declared.history.Entry.TheVariants.{Join};
-ghost use Rattle.rules.specs.Bodies.{is_set_body};
+ghost use Rattle.rules.specs.Bodies.{is_change_body};
 ghost use Rattle.rules.specs.Operations.{object_of};
 ghost use Rattle.state_vector.specs.Vectors.{counts};
 ghost use Rattle.shape.specs.Planned.{IsPlanned};
@@ -17,7 +17,7 @@ use crate::addition::{Addition, Part};
 use crate::fault::AddFault;
 use op_names::{NoMemory, OpName};
 use rules::{Body, Entry, Op, Refusal, SharedOp};
-use shape::{PlannedSet, Shape};
+use shape::{PlannedChange, Shape};
 use std::alloc::Global;
 use std::sync::Arc;
 
@@ -40,8 +40,8 @@ impl Drawing {
 
     /// Plans to add an operation that may come next, whatever it does. The drawing stays as it is.
     /// `Refused` where what it does is not allowed, with the first cause that applies: of a creation
-    /// `TooManyObjects`; of a set `NoSuchObject`, `NoSuchVersion`, `ObjectFull`, `TooManyKeys` or
-    /// `TooManyVersions`. `NoMemory` if an allocation failed.
+    /// `TooManyObjects`; of a change `NoSuchObject`, `NoSuchVersion`, `Gone`, `ObjectFull`,
+    /// `TooManyKeys` or `TooManyVersions`. `NoMemory` if an allocation failed.
     pub fn plan(&mut self, alloc: Global, op: Op) -> Result<Addition, AddFault>
         requires { IsNext self.old.room op }
         ensures planned { IfOk result (IsPlanFor self.old.room op self.new) }
@@ -51,14 +51,14 @@ impl Drawing {
     {
         match &op.body {
             Body::New { .. } => self.plan_creation(alloc, op),
-            Body::Set { .. } => self.plan_set(alloc, op),
+            Body::Put { .. } | Body::DropVersion { .. } => self.plan_change(alloc, op),
         }
     }
 
     /// Plans to add a creation that may come next.
     fn plan_creation(&mut self, alloc: Global, op: Op) -> Result<Addition, AddFault>
         requires next { IsNext self.old.room op }
-        requires creation { is_set_body op.body ≡ false }
+        requires creation { is_change_body op.body ≡ false }
         ensures planned { IfOk result (IsPlanFor self.old.room op self.new) }
         ensures allowed { OnOk result (body_refusal self.old.room op ≡ None) }
         ensures refused { IfErr result (IsRefusal (body_refusal self.old.room op)) }
@@ -74,7 +74,7 @@ impl Drawing {
     /// Plans to add a creation that is allowed.
     fn plan_object(&mut self, alloc: Global, op: SharedOp) -> Result<Addition, NoMemory>
         requires next { IsNext self.old.room op }
-        requires creation { is_set_body op.body ≡ false }
+        requires creation { is_change_body op.body ≡ false }
         requires allowed { body_refusal self.old.room op ≡ None }
         ensures planned { IfOk result (IsPlanFor self.old.room op self.new) }
         ensures room { self.new.room ≡ self.old.room }
@@ -89,10 +89,10 @@ impl Drawing {
         })
     }
 
-    /// Plans to add a set that may come next.
-    fn plan_set(&mut self, alloc: Global, op: Op) -> Result<Addition, AddFault>
+    /// Plans to add a change that may come next.
+    fn plan_change(&mut self, alloc: Global, op: Op) -> Result<Addition, AddFault>
         requires next { IsNext self.old.room op }
-        requires set { is_set_body op.body ≡ true }
+        requires change { is_change_body op.body ≡ true }
         ensures planned { IfOk result (IsPlanFor self.old.room op self.new) }
         ensures allowed { OnOk result (body_refusal self.old.room op ≡ None) }
         ensures refused { IfErr result (IsRefusal (body_refusal self.old.room op)) }
@@ -107,7 +107,7 @@ impl Drawing {
         let entry = op.entry()?;
         Ok(Addition {
             entry,
-            part: Part::Set(op, planned),
+            part: Part::Change(op, planned),
         })
     }
 
@@ -123,10 +123,10 @@ impl Drawing {
         Ok(())
     }
 
-    /// Plans a set that counts the name of its object, on that object.
-    fn plan_at_object(&mut self, alloc: Global, op: SharedOp) -> Result<PlannedSet, AddFault>
+    /// Plans a change that counts the name of its object, on that object.
+    fn plan_at_object(&mut self, alloc: Global, op: SharedOp) -> Result<PlannedChange, AddFault>
         requires next { IsNext self.old.room op }
-        requires set { is_set_body op.body ≡ true }
+        requires change { is_change_body op.body ≡ true }
         requires counted { counts op.seen (object_of op) ≡ true }
         // The plan for the object as it then is.
         ensures shape { IfOk result
@@ -144,6 +144,6 @@ impl Drawing {
         let Some(shape) = self.objects.get_mut(&object_of(&op)) else {
             return Err(AddFault::Refused(Refusal::NoSuchObject));
         };
-        Ok(shape.plan_set(alloc, op)?)
+        Ok(shape.plan_change(alloc, op)?)
     }
 }

@@ -6,7 +6,7 @@ use super::{CREATION, asked, entered, planned, request_of};
 use op_names::{Key, OpName, Value, VersionId};
 use room_core::RoomState;
 use room_lock::{NewRooms, Pass, RoomLedger, RoomRecord, Rooms};
-use rules::{Body, Entry, Limits};
+use rules::{Body, Entry, Limits, Pairs};
 use state_vector::StateVector;
 use std::marker::Brand;
 use std::process::Abort;
@@ -64,7 +64,7 @@ fn first_version(rt: &(impl Abort + AllocGlobal), reply: &Reply) -> VersionId {
     }
 }
 
-/// The key that is set: in most turns one of the site's own, and now and then one that all set.
+/// The key that is put: in most turns one of the site's own, and now and then one that all put.
 fn key_of(rt: &(impl Abort + AllocGlobal), site: u32, turn: u32) -> Key {
     let text = match (turn % 25, site) {
         (0, _) => "x",
@@ -74,8 +74,8 @@ fn key_of(rt: &(impl Abort + AllocGlobal), site: u32, turn: u32) -> Key {
     Key::parse(rt.alloc(), text.as_bytes()).expect(rt, "a key")
 }
 
-/// Shows the object that all sites share, and then sets a key of the first version that it has.
-fn shows_and_sets<P: RoomLedger>(
+/// Shows the object that all sites share, and then puts a value to a key of its first version.
+fn shows_and_puts<P: RoomLedger>(
     rt: &(impl Wait + Abort + AllocGlobal),
     rooms: &Rooms<P>,
     pass: &mut Pass<P>,
@@ -85,22 +85,22 @@ fn shows_and_sets<P: RoomLedger>(
     let shown = rooms.call(rt, rt.alloc(), pass, request_of(rt, r#"["show",[1,1]]"#));
     let version = first_version(rt, &shown.expect(rt, "an answer"));
     counted.go_on(pass.seen());
-    let set = Request::Change {
+    let key = key_of(rt, pass.site(), turn);
+    let put = Request::Change {
         seq: turn.saturating_add(1),
         seen: counted.vector(rt),
-        body: Body::Set {
+        body: Body::Put {
             object: OpName::new(1, 1).expect(rt, "a name"),
             version,
-            key: key_of(rt, pass.site(), turn),
-            value: Value::Number(i64::from(turn)),
+            pairs: Pairs::one(rt.alloc(), key, Value::Number(i64::from(turn))).expect(rt, "memory"),
         },
     };
     match rooms
-        .call(rt, rt.alloc(), pass, set)
+        .call(rt, rt.alloc(), pass, put)
         .expect(rt, "an answer")
     {
         Reply::Taken { .. } => {}
-        _ => panic!(rt; "a refused set"),
+        _ => panic!(rt; "a refused put"),
     }
 }
 
@@ -116,12 +116,12 @@ fn session<P: RoomLedger>(
         operations: [0; 4],
     };
     for turn in 0..100 {
-        shows_and_sets(rt, rooms, &mut pass, &mut counted, turn);
+        shows_and_puts(rt, rooms, &mut pass, &mut counted, turn);
     }
     pass
 }
 
-/// Does a new room take the whole record, of three joins, a creation and 200 sets?
+/// Does a new room take the whole record, of three joins, a creation and 200 puts?
 fn is_taken_whole(rt: &(impl Abort + AllocGlobal), record: &RoomRecord) -> bool {
     let entries = record.entries.as_slice();
     let mut room = RoomState::new(rt.alloc(), Limits::full()).expect(rt, "memory");

@@ -103,7 +103,7 @@ fn numbers_out_of_range(rt: HostRuntime) {
         joins: 9,
         entries: 1,
         objects: 9,
-        sets: 9,
+        changes: 9,
         keys: 9,
         versions: 9,
         page: 9,

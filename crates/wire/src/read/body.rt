@@ -2,12 +2,12 @@
 
 ghost use Rattle.std.specs.Prelude.{map};
 ghost use Rattle.serde_json.specs.View.{view};
-ghost use Rattle.wire.specs.Bodies.{new_at, set_at, body_at};
+ghost use Rattle.wire.specs.Bodies.{new_at, put_at, drop_at, set_at, body_at};
 ghost use Rattle.wire.specs.Reading.{Gives};
 
-use super::part::{attrs_of, id_of, key_of, kind_of, name_of, value_of};
+use super::part::{attrs_of, id_of, key_of, kind_of, name_of, pairs_of, value_of};
 use crate::fault::ReadFault;
-use rules::Body;
+use rules::{Body, Pairs};
 use serde_json::Value;
 use std::alloc::Global;
 
@@ -23,6 +23,36 @@ fn new_of(alloc: Global, fields: &[Value]) -> Result<Body, ReadFault>
     Ok(Body::New { kind, attrs })
 }
 
+#[tactic(auto, unfolding(crate::specs::Bodies::put_at))]
+fn put_of(alloc: Global, fields: &[Value]) -> Result<Body, ReadFault>
+    ensures { Gives (λ body. body) result (put_at (map view fields.now)) }
+{
+    let [object, version, pairs] = fields else {
+        return Err(ReadFault::Bad);
+    };
+    let object = name_of(object)?;
+    let version = id_of(alloc, version)?;
+    let pairs = pairs_of(alloc, pairs)?;
+    Ok(Body::Put {
+        object,
+        version,
+        pairs,
+    })
+}
+
+#[tactic(auto, unfolding(crate::specs::Bodies::drop_at))]
+fn drop_of(alloc: Global, fields: &[Value]) -> Result<Body, ReadFault>
+    ensures { Gives (λ body. body) result (drop_at (map view fields.now)) }
+{
+    let [object, version] = fields else {
+        return Err(ReadFault::Bad);
+    };
+    let object = name_of(object)?;
+    let version = id_of(alloc, version)?;
+    Ok(Body::DropVersion { object, version })
+}
+
+/// A put of one pair, in the old form.
 #[tactic(auto, unfolding(crate::specs::Bodies::set_at))]
 fn set_of(alloc: Global, fields: &[Value]) -> Result<Body, ReadFault>
     ensures { Gives (λ body. body) result (set_at (map view fields.now)) }
@@ -34,11 +64,11 @@ fn set_of(alloc: Global, fields: &[Value]) -> Result<Body, ReadFault>
     let version = id_of(alloc, version)?;
     let key = key_of(alloc, key)?;
     let value = value_of(alloc, value)?;
-    Ok(Body::Set {
+    let pairs = Pairs::one(alloc, key, value)?;
+    Ok(Body::Put {
         object,
         version,
-        key,
-        value,
+        pairs,
     })
 }
 
@@ -49,6 +79,8 @@ pub(super) fn body_of(alloc: Global, word: &str, fields: &[Value]) -> Result<Bod
 {
     match word {
         "new" => new_of(alloc, fields),
+        "put" => put_of(alloc, fields),
+        "drop" => drop_of(alloc, fields),
         "set" => set_of(alloc, fields),
         _ => Err(ReadFault::Bad),
     }

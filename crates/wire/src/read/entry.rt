@@ -72,7 +72,7 @@ impl Part for Arc<Entry> {
     }
 }
 
-/// The entry that the bytes are a text of: UTF-8 that holds one JSON value, the entry's form.
+/// The entry that the bytes are a text of: UTF-8 that holds one JSON value, a form of the entry.
 /// Otherwise `Bad`, or `NoMemory`.
 pub fn read_entry(alloc: Global, bytes: &[u8]) -> Result<Entry, ReadFault>
     ensures ok { IfOk result (IsEntryText bytes.now) }

@@ -4,13 +4,13 @@ ghost use Rattle.std.specs.Prelude.{map, Option, List, ℕ};
 ghost use Rattle.serde_json.specs.Data.{Data};
 ghost use Rattle.serde_json.specs.Find.{as_str};
 ghost use Rattle.serde_json.specs.View.{view};
-ghost use Rattle.wire.specs.Reading.{Gives, items_in, worded_in, integer_in, whole_in, name_in, room_in, pair_in, list_in, seen_in, id_in, key_in, kind_in, value_in, attr_in, attrs_in};
+ghost use Rattle.wire.specs.Reading.{Gives, items_in, worded_in, integer_in, whole_in, name_in, room_in, pair_in, list_in, seen_in, id_in, key_in, kind_in, value_in, attr_in, attrs_in, pairs_in};
 ghost use Rattle.wire.specs.Texts.{json_of, text_in};
 ghost use Rattle.rules.specs.AttrLists.{Attr};
 
 use crate::fault::ReadFault;
 use op_names::{Key, Kind, OpName, RoomName, VersionId};
-use rules::Attrs;
+use rules::{Attrs, Pairs};
 use serde_json::Value;
 use state_vector::StateVector;
 use std::alloc::Global;
@@ -227,4 +227,12 @@ pub(crate) fn attrs_of(alloc: Global, value: &Value) -> Result<Attrs, ReadFault>
 {
     let pairs: Vec<(Key, op_names::Value)> = list_of(alloc, value)?;
     Attrs::from_pairs(pairs).map_err(|_| ReadFault::Bad)
+}
+
+#[tactic(auto, using(crate::proofs::Maps::map_same), unfolding(crate::specs::Reading::pairs_in))]
+pub(crate) fn pairs_of(alloc: Global, value: &Value) -> Result<Pairs, ReadFault>
+    ensures { Gives (λ pairs. pairs) result (pairs_in (view value.now)) }
+{
+    let pairs: Vec<(Key, op_names::Value)> = list_of(alloc, value)?;
+    Pairs::from_pairs(pairs).map_err(|_| ReadFault::Bad)
 }

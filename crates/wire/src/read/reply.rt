@@ -6,7 +6,7 @@ ghost use Rattle.rules.specs.declared.version.Version.{Version as AnyVersion};
 ghost use Rattle.wire.specs.declared.reply.Reply.{Reply as AnyReply};
 ghost use Rattle.wire.specs.Form.{IsReplyText, IsReplyValue};
 ghost use Rattle.wire.specs.Reading.{Gives, whole_in, id_in};
-ghost use Rattle.wire.specs.Replies.{at_in, ids_in, shown_in, version_in, versions_in, object_in, joined_at, made_at, taken_at, versions_at, objects_at, entries_at, left_at, refusal_with, refusal_fields, no_at, reply_of};
+ghost use Rattle.wire.specs.Replies.{at_in, ids_in, shown_attrs_in, shown_in, version_in, versions_in, object_in, joined_at, made_at, taken_at, versions_at, objects_at, entries_at, left_at, refusal_with, refusal_fields, no_at, reply_of};
 ghost use Rattle.wire.specs.Texts.{reply_read};
 
 use super::part::{
@@ -18,7 +18,7 @@ use crate::lists::{EntryList, IdList, ObjectList, VersionList};
 use crate::reply::Reply;
 use crate::request::MAX_FROM;
 use op_names::{Key, Kind, MAX_SITE, OpName, VersionId};
-use rules::{AttrList, Entry, Limits, Refusal, Version};
+use rules::{AttrList, Entry, Limits, Refusal, Shown, Version};
 use serde_json::Value;
 use std::alloc::Global;
 use std::sync::Arc;
@@ -59,13 +59,24 @@ fn ids_of(alloc: Global, value: &Value) -> Result<IdList, ReadFault>
     Ok(IdList::from_vec(ids))
 }
 
-#[tactic(auto, using(crate::proofs::Maps::map_same), unfolding(crate::specs::Replies::shown_in))]
-fn shown_of(alloc: Global, value: &Value) -> Result<AttrList, ReadFault>
-    ensures { Gives (λ attrs. attrs) result (shown_in (view value.now)) }
+#[tactic(auto, using(crate::proofs::Maps::map_same), unfolding(crate::specs::Replies::shown_attrs_in))]
+fn shown_attrs_of(alloc: Global, value: &Value) -> Result<AttrList, ReadFault>
+    ensures { Gives (λ attrs. attrs) result (shown_attrs_in (view value.now)) }
 {
     let attrs: Vec<(Key, op_names::Value)> = list_of(alloc, value)?;
     let attrs = rising(attrs)?;
     Ok(AttrList::from_vec(attrs))
+}
+
+#[tactic(auto, unfolding(crate::specs::Replies::shown_in))]
+fn shown_of(alloc: Global, value: &Value) -> Result<Shown, ReadFault>
+    ensures { Gives (λ shown. shown) result (shown_in (view value.now)) }
+{
+    match value.as_str() {
+        Some("gone") => Ok(Shown::Gone),
+        Some(_) => Err(ReadFault::Bad),
+        None => Ok(Shown::Attrs(shown_attrs_of(alloc, value)?)),
+    }
 }
 
 impl Part for Version {
@@ -77,12 +88,12 @@ impl Part for Version {
 
     #[tactic(auto, unfolding(crate::specs::Replies::version_in, crate::specs::Reading::two_in, crate::specs::Reading::two_at))]
     fn read(alloc: Global, value: &Value) -> Result<Version, ReadFault> {
-        let [id, attrs] = items_of(value)? else {
+        let [id, shown] = items_of(value)? else {
             return Err(ReadFault::Bad);
         };
         let id = id_of(alloc, id)?;
-        let attrs = shown_of(alloc, attrs)?;
-        Ok(Version { id, attrs })
+        let shown = shown_of(alloc, shown)?;
+        Ok(Version { id, shown })
     }
 }
 
@@ -234,7 +245,7 @@ fn no_of(fields: &[Value]) -> Result<Reply, ReadFault>
         return Err(ReadFault::Bad);
     };
     let at = at_of(at)?;
-    let code = whole_of(code, 1, 17)?;
+    let code = whole_of(code, 1, 18)?;
     let word = text_of(word)?;
     let refusal = refusal_with(code, word)?;
     Ok(Reply::No { at, refusal })
@@ -264,7 +275,7 @@ impl Part for Reply {
     }
 }
 
-/// The reply whose form a JSON value is. Otherwise `Bad`, or `NoMemory`.
+/// The reply that a JSON value is a form of. Otherwise `Bad`, or `NoMemory`.
 pub fn reply_of(alloc: Global, value: &Value) -> Result<Reply, ReadFault>
     ensures ok { IfOk result (IsReplyValue (view value.now)) }
     ensures bad { IsErrOf result ReadFault.Bad
@@ -275,7 +286,7 @@ pub fn reply_of(alloc: Global, value: &Value) -> Result<Reply, ReadFault>
     Reply::read(alloc, value)
 }
 
-/// The reply that the bytes are a text of: UTF-8 that holds one JSON value, the reply's form.
+/// The reply that the bytes are a text of: UTF-8 that holds one JSON value, a form of the reply.
 /// Otherwise `Bad`, or `NoMemory`.
 pub fn read_reply(alloc: Global, bytes: &[u8]) -> Result<Reply, ReadFault>
     ensures ok { IfOk result (IsReplyText bytes.now) }

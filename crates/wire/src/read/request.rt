@@ -104,7 +104,7 @@ impl Part for Request {
     }
 }
 
-/// The request whose form a JSON value is. Otherwise `Bad`, or `NoMemory`.
+/// The request that a JSON value is a form of. Otherwise `Bad`, or `NoMemory`.
 pub fn request_of(alloc: Global, value: &Value) -> Result<Request, ReadFault>
     ensures ok { IfOk result (IsRequestValue (view value.now)) }
     ensures bad { IsErrOf result ReadFault.Bad
@@ -126,7 +126,7 @@ fn request_in_bytes(alloc: Global, bytes: &[u8]) -> Result<Request, ReadFault>
 }
 
 /// The request that the bytes are a text of: at most 16,384 bytes of UTF-8 that hold one JSON
-/// value, the request's form. Otherwise `Bad`, or `NoMemory`.
+/// value, a form of the request. Otherwise `Bad`, or `NoMemory`.
 pub fn read_request(alloc: Global, bytes: &[u8]) -> Result<Request, ReadFault>
     ensures ok { IfOk result (IsRequestText bytes.now) }
     ensures bad { IsErrOf result ReadFault.Bad → (q : AnyRequest) → ¬ IsRequestText bytes.now q }

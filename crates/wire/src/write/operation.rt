@@ -1,7 +1,7 @@
 //! Operations as text.
 
 ghost use Rattle.std.specs.Prelude.{OnOk};
-ghost use Rattle.wire.specs.Form.{operation_form};
+ghost use Rattle.wire.specs.Form.{body_form, operation_form};
 ghost use Rattle.wire.specs.Sending.{Sends};
 
 use super::part::Written;
@@ -16,17 +16,19 @@ pub(super) fn send_operation<H: Written, S: Serializer>(
     body: &Body,
     out: &mut S,
 ) -> Result<(), S::Error>
-    ensures { OnOk result (Sends (operation_form (H.form head.now) seen.now body.now)
+    ensures { OnOk result (Sends (operation_form (H.form head.now) seen.now (body_form body.now))
         (S.written out.old) (S.written out.new)) }
 {
     let seen = seen.pairs();
     match body {
         Body::New { kind, attrs } => ("new", head, seen, kind, attrs.pairs()).send(out),
-        Body::Set {
+        Body::Put {
             object,
             version,
-            key,
-            value,
-        } => ("set", head, seen, *object, version, key, value).send(out),
+            pairs,
+        } => ("put", head, seen, *object, version, pairs.pairs()).send(out),
+        Body::DropVersion { object, version } => {
+            ("drop", head, seen, *object, version).send(out)
+        }
     }
 }

@@ -4,11 +4,11 @@ ghost use Rattle.std.specs.Prelude.{◌≡◌, ◌≤◌, ◌∷◌, [], map, So
 ghost use Rattle.serde_json.specs.Data.{Data, string, depth};
 ghost use Rattle.serde_json.specs.Read.{read, max_depth};
 ghost use Rattle.serde_json.specs.Written.{compact_text};
-ghost use Rattle.wire.specs.Form.{list_form, whole_form, name_form, value_form, names_form, version_form};
+ghost use Rattle.wire.specs.Form.{list_form, whole_form, name_form, value_form, names_form, shown_form, version_form};
 ghost use Rattle.wire.specs.Sending.{Sends};
 
 use op_names::{Key, Kind, NoMemory, OpName, VersionId};
-use rules::Version;
+use rules::{Shown, Version};
 use serde::{Described, Serialize, Serializer};
 use serde_json::Number;
 use std::alloc::Global;
@@ -143,21 +143,19 @@ impl<A: Written, B: Written, C: Written, D: Written, E: Written> Written for (A,
     }
 }
 
-impl<A: Written, B: Written, C: Written, D: Written, E: Written, F: Written, G: Written> Written
-    for (A, B, C, D, E, F, G) {
+impl<A: Written, B: Written, C: Written, D: Written, E: Written, F: Written> Written
+    for (A, B, C, D, E, F) {
     ghost form = { λ p. list_form
-        (A.form p.0 ∷ B.form p.1 ∷ C.form p.2 ∷ D.form p.3
-        ∷ E.form p.4 ∷ F.form p.5 ∷ G.form p.6 ∷ []) };
+        (A.form p.0 ∷ B.form p.1 ∷ C.form p.2 ∷ D.form p.3 ∷ E.form p.4 ∷ F.form p.5 ∷ []) };
 
     fn send<S: Serializer>(&self, out: &mut S) -> Result<(), S::Error> {
-        out.begin_seq(Some(7))?;
+        out.begin_seq(Some(6))?;
         self.0.send(out)?;
         self.1.send(out)?;
         self.2.send(out)?;
         self.3.send(out)?;
         self.4.send(out)?;
         self.5.send(out)?;
-        self.6.send(out)?;
         out.end_seq()
     }
 }
@@ -206,10 +204,21 @@ impl Written for op_names::Value {
     }
 }
 
+impl Written for Shown {
+    ghost form = { shown_form };
+
+    fn send<S: Serializer>(&self, out: &mut S) -> Result<(), S::Error> {
+        match self {
+            Shown::Attrs(attrs) => attrs.as_slice().send(out),
+            Shown::Gone => "gone".send(out),
+        }
+    }
+}
+
 impl Written for Version {
     ghost form = { version_form };
 
     fn send<S: Serializer>(&self, out: &mut S) -> Result<(), S::Error> {
-        (&self.id, self.attrs.as_slice()).send(out)
+        (&self.id, &self.shown).send(out)
     }
 }

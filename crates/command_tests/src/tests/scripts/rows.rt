@@ -14,10 +14,10 @@ const CREATED: &str = r#"1 ["join","r"]
 
 const FIVE: &str = r#"2 ["join","r"]
 2 ["joined",2,2]
-1 ["set",2,[[1,1]],[1,1],[],"x",5]
+1 ["put",2,[[1,1]],[1,1],[],[["x",5]]]
 1 ["taken",3,[[]]]"#;
 
-const NINE: &str = r#"2 ["set",1,[[1,1]],[1,1],[],"x",9]
+const NINE: &str = r#"2 ["put",1,[[1,1]],[1,1],[],[["x",9]]]
 2 ["taken",4,[[[1,2]],[[2,1]]]]"#;
 
 const THIRD_SITE: &str = r#"3 ["join","r"]
@@ -37,7 +37,7 @@ pub const LIMITED: &[Example] = &[
             FIVE,
             NINE,
             THIRD_SITE,
-            r#"3 ["set",1,[[1,1]],[1,1],[],"x",1]
+            r#"3 ["put",1,[[1,1]],[1,1],[],[["x",1]]]
 3 ["no",6,15,"too-many-versions"]
 1 ["show",[1,1]]
 1 ["versions",6,[1,1],"rect",[[[[1,2]],[["x",5]]],[[[2,1]],[["x",9]]]]]"#,
@@ -47,13 +47,13 @@ pub const LIMITED: &[Example] = &[
         name: "one set",
         rooms: ROOM,
         limits: LimitValues {
-            sets: 1,
+            changes: 1,
             ..LimitValues::FULL
         },
         parts: &[
             CREATED,
             FIVE,
-            r#"2 ["set",1,[[1,1]],[1,1],[],"x",9]
+            r#"2 ["put",1,[[1,1]],[1,1],[],[["x",9]]]
 2 ["no",4,13,"object-full"]"#,
         ],
     },
@@ -67,7 +67,7 @@ pub const LIMITED: &[Example] = &[
         parts: &[
             CREATED,
             FIVE,
-            r#"2 ["set",1,[[1,1]],[1,1],[],"fill","red"]
+            r#"2 ["put",1,[[1,1]],[1,1],[],[["fill","red"]]]
 2 ["no",4,14,"too-many-keys"]"#,
         ],
     },
@@ -75,7 +75,7 @@ pub const LIMITED: &[Example] = &[
         name: "the first refusal that applies",
         rooms: ROOM,
         limits: LimitValues {
-            sets: 1,
+            changes: 1,
             keys: 1,
             versions: 1,
             ..LimitValues::FULL
@@ -83,9 +83,9 @@ pub const LIMITED: &[Example] = &[
         parts: &[
             CREATED,
             FIVE,
-            r#"2 ["set",1,[[1,1]],[1,1],[[1,2]],"fill","red"]
+            r#"2 ["put",1,[[1,1]],[1,1],[[1,2]],[["fill","red"]]]
 2 ["no",4,12,"no-such-version"]
-2 ["set",1,[[1,1]],[1,1],[],"fill","red"]
+2 ["put",1,[[1,1]],[1,1],[],[["fill","red"]]]
 2 ["no",4,13,"object-full"]
 1 ["show",[1,1]]
 1 ["versions",4,[1,1],"rect",[[[],[["x",5]]]]]"#,
@@ -133,7 +133,7 @@ pub const LIMITED: &[Example] = &[
 2 ["no",2,6,"record-full"]
 1 ["new",2,[[1,1]],"rect",[]]
 1 ["no",2,6,"record-full"]
-1 ["set",2,[[1,1]],[1,1],[],"x",5]
+1 ["put",2,[[1,1]],[1,1],[],[["x",5]]]
 1 ["no",2,6,"record-full"]"#,
         ],
     },
@@ -151,9 +151,9 @@ pub const LIMITED: &[Example] = &[
             r#"1 ["pull",0]
 1 ["entries",5,0,[["join",1],["new",[1,1],[],"rect",[["x",0]]]]]
 1 ["pull",2]
-1 ["entries",5,2,[["join",2],["set",[1,2],[[1,1]],[1,1],[],"x",5]]]
+1 ["entries",5,2,[["join",2],["put",[1,2],[[1,1]],[1,1],[],[["x",5]]]]]
 1 ["pull",4]
-1 ["entries",5,4,[["set",[2,1],[[1,1]],[1,1],[],"x",9]]]"#,
+1 ["entries",5,4,[["put",[2,1],[[1,1]],[1,1],[],[["x",9]]]]]"#,
         ],
     },
     Example {

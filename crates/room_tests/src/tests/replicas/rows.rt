@@ -8,9 +8,9 @@ const CREATED: &str = r#"["join",1] => taken
 ["join",2] => taken
 ["new",[1,1],[],"rect",[["x",0]]] => taken"#;
 
-/// Each site sets the same key.
-const SET: &str = r#"["set",[2,1],[[1,1]],[1,1],[],"x",9] => taken
-["set",[1,2],[[1,1]],[1,1],[],"x",5] => taken"#;
+/// Each site puts another value to one key.
+const PUTS: &str = r#"["put",[2,1],[[1,1]],[1,1],[],[["x",9]]] => taken
+["put",[1,2],[[1,1]],[1,1],[],[["x",5]]] => taken"#;
 
 const SHOWN: &str =
     r#"1 1 => ["versions",5,[1,1],"rect",[[[[1,2]],[["x",5]]],[[[2,1]],[["x",9]]]]]"#;
@@ -19,7 +19,7 @@ pub const EXAMPLES: &[Example] = &[
     Example {
         name: "in another order than the room's",
         limits: LimitValues::FULL,
-        parts: &[CREATED, SET, SHOWN],
+        parts: &[CREATED, PUTS, SHOWN],
     },
     Example {
         name: "without the creation",
@@ -27,7 +27,7 @@ pub const EXAMPLES: &[Example] = &[
         parts: &[
             r#"["join",1] => taken
 ["join",2] => taken
-["set",[2,1],[[1,1]],[1,1],[],"x",9] => early
+["put",[2,1],[[1,1]],[1,1],[],[["x",9]]] => early
 1 1 => ["no",2,11,"no-such-object"]"#,
         ],
     },
@@ -36,9 +36,9 @@ pub const EXAMPLES: &[Example] = &[
         limits: LimitValues::FULL,
         parts: &[
             CREATED,
-            SET,
+            PUTS,
             r#"["join",1] => repeat
-["set",[1,2],[[1,1]],[1,1],[],"x",5] => repeat
+["put",[1,2],[[1,1]],[1,1],[],[["x",5]]] => repeat
 ["new",[1,1],[],"rect",[["x",0]]] => repeat"#,
             SHOWN,
         ],
@@ -57,9 +57,9 @@ pub const EXAMPLES: &[Example] = &[
         limits: LimitValues::FULL,
         parts: &[
             CREATED,
-            r#"["set",[1,3],[[1,2]],[1,1],[],"x",6] => early
-["set",[1,2],[[1,1]],[1,1],[],"x",5] => taken
-["set",[1,3],[[1,2]],[1,1],[],"x",6] => taken"#,
+            r#"["put",[1,3],[[1,2]],[1,1],[],[["x",6]]] => early
+["put",[1,2],[[1,1]],[1,1],[],[["x",5]]] => taken
+["put",[1,3],[[1,2]],[1,1],[],[["x",6]]] => taken"#,
         ],
     },
     Example {
@@ -67,8 +67,8 @@ pub const EXAMPLES: &[Example] = &[
         limits: LimitValues::FULL,
         parts: &[
             CREATED,
-            SET,
-            r#"["set",[1,2],[[1,1],[2,9]],[9,9],[],"y",1] => repeat"#,
+            PUTS,
+            r#"["put",[1,2],[[1,1],[2,9]],[9,9],[],[["y",1]]] => repeat"#,
         ],
     },
     Example {
@@ -76,9 +76,9 @@ pub const EXAMPLES: &[Example] = &[
         limits: LimitValues::FULL,
         parts: &[
             CREATED,
-            r#"["set",[1,2],[],[1,1],[],"x",5] => own-count
-["set",[2,1],[[1,1],[2,1]],[1,1],[],"x",9] => own-count
-["set",[1,2],[[1,2]],[1,1],[],"x",5] => own-count"#,
+            r#"["put",[1,2],[],[1,1],[],[["x",5]]] => own-count
+["put",[2,1],[[1,1],[2,1]],[1,1],[],[["x",9]]] => own-count
+["put",[1,2],[[1,2]],[1,1],[],[["x",5]]] => own-count"#,
         ],
     },
     Example {
@@ -86,7 +86,7 @@ pub const EXAMPLES: &[Example] = &[
         limits: LimitValues::FULL,
         parts: &[
             CREATED,
-            SET,
+            PUTS,
             r#"["join",3] => taken
 ["new",[3,1],[[2,1]],"rect",[]] => not-closed
 ["new",[3,1],[[1,1],[2,1]],"rect",[]] => taken"#,
@@ -97,9 +97,9 @@ pub const EXAMPLES: &[Example] = &[
         limits: LimitValues::FULL,
         parts: &[
             CREATED,
-            r#"["set",[2,1],[],[1,1],[],"x",9] => no-such-object
-["set",[2,1],[[1,1]],[1,1],[[1,2]],"x",9] => no-such-version
-["set",[2,1],[[1,1]],[1,1],[],"x",9] => taken
+            r#"["put",[2,1],[],[1,1],[],[["x",9]]] => no-such-object
+["put",[2,1],[[1,1]],[1,1],[[1,2]],[["x",9]]] => no-such-version
+["put",[2,1],[[1,1]],[1,1],[],[["x",9]]] => taken
 1 1 => ["versions",4,[1,1],"rect",[[[],[["x",9]]]]]"#,
         ],
     },
@@ -111,8 +111,8 @@ pub const PAGES: &[Example] = &[
         name: "a page is taken once",
         limits: LimitValues::FULL,
         parts: &[
-            r#"page ["entries",5,0,[["join",1],["new",[1,1],[],"rect",[["x",0]]],["join",2],["set",[1,2],[[1,1]],[1,1],[],"x",5],["set",[2,1],[[1,1]],[1,1],[],"x",9]]] => from 0 5 of 5
-page ["entries",5,0,[["join",1],["new",[1,1],[],"rect",[["x",0]]],["join",2],["set",[1,2],[[1,1]],[1,1],[],"x",5],["set",[2,1],[[1,1]],[1,1],[],"x",9]]] => place 0 repeat"#,
+            r#"page ["entries",5,0,[["join",1],["new",[1,1],[],"rect",[["x",0]]],["join",2],["put",[1,2],[[1,1]],[1,1],[],[["x",5]]],["put",[2,1],[[1,1]],[1,1],[],[["x",9]]]]] => from 0 5 of 5
+page ["entries",5,0,[["join",1],["new",[1,1],[],"rect",[["x",0]]],["join",2],["put",[1,2],[[1,1]],[1,1],[],[["x",5]]],["put",[2,1],[[1,1]],[1,1],[],[["x",9]]]]] => place 0 repeat"#,
             SHOWN,
             "count => 5",
         ],
@@ -132,10 +132,10 @@ count => 0"#,
         name: "from one place to the next",
         limits: LimitValues::FULL,
         parts: &[
-            r#"page ["entries",5,2,[["join",2],["set",[1,2],[[1,1]],[1,1],[],"x",5],["set",[2,1],[[1,1]],[1,1],[],"x",9]]] => place 1 early
+            r#"page ["entries",5,2,[["join",2],["put",[1,2],[[1,1]],[1,1],[],[["x",5]]],["put",[2,1],[[1,1]],[1,1],[],[["x",9]]]]] => place 1 early
 count => 1
 page ["entries",5,0,[["join",1],["new",[1,1],[],"rect",[["x",0]]]]] => from 0 2 of 5
-page ["entries",5,2,[["join",2],["set",[1,2],[[1,1]],[1,1],[],"x",5],["set",[2,1],[[1,1]],[1,1],[],"x",9]]] => place 0 repeat
+page ["entries",5,2,[["join",2],["put",[1,2],[[1,1]],[1,1],[],[["x",5]]],["put",[2,1],[[1,1]],[1,1],[],[["x",9]]]]] => place 0 repeat
 count => 3"#,
         ],
     },
@@ -143,7 +143,7 @@ count => 3"#,
         name: "a bad entry in the middle",
         limits: LimitValues::FULL,
         parts: &[
-            r#"page ["entries",4,0,[["join",1],["new",[1,1],[],"rect",[["x",0]]],["set",[1,2],[[1,1]],[1,1],[[1,1]],"x",5],["join",2]]] => place 2 no-such-version
+            r#"page ["entries",4,0,[["join",1],["new",[1,1],[],"rect",[["x",0]]],["put",[1,2],[[1,1]],[1,1],[[1,1]],[["x",5]]],["join",2]]] => place 2 no-such-version
 count => 2"#,
         ],
     },
@@ -188,7 +188,7 @@ pub const LIMITED: &[Example] = &[
         parts: &[
             CREATED,
             r#"["join",3] => record-full
-["set",[2,1],[[1,1]],[1,1],[],"x",9] => record-full"#,
+["put",[2,1],[[1,1]],[1,1],[],[["x",9]]] => record-full"#,
         ],
     },
     Example {
@@ -200,15 +200,53 @@ pub const LIMITED: &[Example] = &[
         parts: &[CREATED, r#"["new",[2,1],[],"rect",[]] => too-many-objects"#],
     },
     Example {
-        name: "one set",
+        name: "a put of two keys that conflicts by the second",
+        limits: LimitValues::FULL,
+        parts: &[
+            CREATED,
+            r#"["put",[2,1],[[1,1]],[1,1],[],[["fill","red"],["x",9]]] => taken
+["put",[1,2],[[1,1]],[1,1],[],[["x",5]]] => taken
+1 1 => ["versions",5,[1,1],"rect",[[[[1,2]],[["x",5]]],[[[2,1]],[["fill","red"],["x",9]]]]]"#,
+        ],
+    },
+    Example {
+        name: "a drop, and a put beside it",
+        limits: LimitValues::FULL,
+        parts: &[
+            CREATED,
+            r#"["put",[1,2],[[1,1]],[1,1],[],[["x",5]]] => taken
+["drop",[2,1],[[1,2]],[1,1],[]] => taken
+1 1 => ["versions",5,[1,1],"rect",[[[],"gone"]]]
+["put",[2,2],[[1,2],[2,1]],[1,1],[],[["x",7]]] => gone
+["put",[1,3],[[1,2]],[1,1],[],[["x",6]]] => taken
+1 1 => ["versions",6,[1,1],"rect",[[[[1,3]],[["x",6]]],[[[2,1]],"gone"]]]"#,
+        ],
+    },
+    Example {
+        name: "a version that is gone in a full object",
         limits: LimitValues {
-            sets: 1,
+            changes: 2,
             ..LimitValues::FULL
         },
         parts: &[
             CREATED,
-            r#"["set",[2,1],[[1,1]],[1,1],[],"x",9] => taken
-["set",[1,2],[[1,1]],[1,1],[],"x",5] => object-full
+            r#"["put",[1,2],[[1,1]],[1,1],[],[["x",5]]] => taken
+["drop",[2,1],[[1,2]],[1,1],[]] => taken
+["put",[2,2],[[1,2],[2,1]],[1,1],[],[["x",7]]] => gone
+["put",[1,3],[[1,2]],[1,1],[],[["x",6]]] => object-full"#,
+        ],
+    },
+    Example {
+        name: "one change",
+        limits: LimitValues {
+            changes: 1,
+            ..LimitValues::FULL
+        },
+        parts: &[
+            CREATED,
+            r#"["put",[2,1],[[1,1]],[1,1],[],[["x",9]]] => taken
+["put",[1,2],[[1,1]],[1,1],[],[["x",5]]] => object-full
+["drop",[1,2],[[1,1]],[1,1],[]] => object-full
 1 1 => ["versions",4,[1,1],"rect",[[[],[["x",9]]]]]"#,
         ],
     },
@@ -220,8 +258,11 @@ pub const LIMITED: &[Example] = &[
         },
         parts: &[
             CREATED,
-            r#"["set",[2,1],[[1,1]],[1,1],[],"x",9] => taken
-["set",[1,2],[[1,1]],[1,1],[],"fill","red"] => too-many-keys"#,
+            r#"["put",[2,1],[[1,1]],[1,1],[],[["x",9],["fill","red"]]] => too-many-keys
+["put",[2,1],[[1,1]],[1,1],[],[["x",9]]] => taken
+["put",[1,2],[[1,1]],[1,1],[],[["fill","red"]]] => too-many-keys
+["put",[1,2],[[1,1]],[1,1],[],[["x",5],["fill","red"]]] => too-many-keys
+["drop",[1,2],[[1,1],[2,1]],[1,1],[]] => taken"#,
         ],
     },
     Example {
@@ -232,9 +273,10 @@ pub const LIMITED: &[Example] = &[
         },
         parts: &[
             CREATED,
-            SET,
+            PUTS,
             r#"["join",3] => taken
-["set",[3,1],[[1,1]],[1,1],[],"x",1] => too-many-versions
+["put",[3,1],[[1,1]],[1,1],[],[["x",1]]] => too-many-versions
+["drop",[3,1],[[1,1]],[1,1],[]] => too-many-versions
 1 1 => ["versions",6,[1,1],"rect",[[[[1,2]],[["x",5]]],[[[2,1]],[["x",9]]]]]"#,
         ],
     },

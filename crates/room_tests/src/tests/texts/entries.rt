@@ -12,13 +12,22 @@ fn is_entry_again(rt: &(impl Abort + AllocGlobal), text: &str) {
 /// One entry of each word.
 const ENTRIES: &str = r#"["join",256]
 ["new",[1,1],[],"rect",[["x",0]]]
-["set",[1,2],[[1,1]],[1,1],[],"x",5]"#;
+["put",[1,2],[[1,1]],[1,1],[],[["y",7],["x",5]]]
+["drop",[1,2],[[1,1]],[1,1],[[2,1]]]"#;
 
 #[test]
 fn entries_written_and_read(rt: HostRuntime) {
     for text in ENTRIES.lines() {
         is_entry_again(&rt, text);
     }
+}
+
+#[test]
+fn the_old_form_of_a_put(rt: HostRuntime) {
+    let old = r#"["set",[1,2],[[1,1]],[1,1],[],"x",5]"#;
+    let entry = read_entry(rt.alloc(), old.as_bytes()).expect(&rt, "an entry");
+    let text = write_entry(rt.alloc(), &entry);
+    is_text(&rt, text, r#"["put",[1,2],[[1,1]],[1,1],[],[["x",5]]]"#);
 }
 
 /// What is no entry.
@@ -34,10 +43,14 @@ const NO_ENTRY: &str = r#"[]
 ["new",[1,1],[],"rect"]
 ["new",[1,1],[[2,1],[1,1]],"rect",[]]
 ["new",[1,1],[],"rect",[["x",0],["x",1]]]
-["set",2,[[1,1]],[1,1],[],"x",5]
+["put",2,[[1,1]],[1,1],[],[["x",5]]]
+["put",[1,2],[[1,1]],[1,1],[],[]]
+["put",[1,2],[[1,1]],[1,1],[],[["x",5],["x",6]]]
+["put",[1,2],[[1,0]],[1,1],[],[["x",5]]]
+["drop",2,[[1,1]],[1,1],[]]
+["drop",[1,2],[[1,1]],[1,1],[],[]]
 ["set",[1,2],[[1,1]],[1,1],[],"x"]
 ["set",[1,2],[[1,1]],[1,1],[],"x",5,5]
-["set",[1,2],[[1,0]],[1,1],[],"x",5]
 ["set",[1,2],[[1,1]],[1,1],[],"x",5.0]"#;
 
 #[test]

@@ -4,13 +4,13 @@ use Rattle.std.proofs.lemmas.Bool.{and_from}
 use Rattle.op_names.specs.Names.{Name, is_op_name, is_site, is_seq}
 use Rattle.rules.specs.declared.history.Op.{Op}
 use Rattle.conflict.specs.Indexes.{SiteIndex, KeyIndex}
-use Rattle.places.specs.Sets.{Added, IsAddition, Sets}
+use Rattle.places.specs.Changes.{Added, IsAddition, Changes}
 use Rattle.conflict.specs.Stored.{AreStored}
 use Rattle.conflict.proofs.Rows.{stored_push}
 use Rattle.conflict.proofs.clashes.Clashes.commit.Goals as goal
 
 -- what is stored afterwards, as the fields have it
-stored : (s : Sets) (object : Name) (k k' : List Op) (bases bases' rows rows' : List (List ℕ)) (in_conflict in_conflict' : List ℕ) (sites : SiteIndex) (keys : KeyIndex) (a : Added) (place conflicts : ℕ) → object ≡ s.object → k ≡ s.ops
+stored : (s : Changes) (object : Name) (k k' : List Op) (bases bases' rows rows' : List (List ℕ)) (in_conflict in_conflict' : List ℕ) (sites : SiteIndex) (keys : KeyIndex) (a : Added) (place conflicts : ℕ) → object ≡ s.object → k ≡ s.ops
     → AreStored object k bases rows in_conflict sites keys
     → IsAddition s.object s.ops a → is_op_name a.op.name ≡ true → k' ≡ k ++ a.op ∷ [] → bases' ≡ bases ++ a.base ∷ [] → rows' ≡ rows ++ a.row ∷ []
     → place ≡ length k → conflicts ≡ length a.row → in_conflict' ≡ cond (nat_lt 0 conflicts) (in_conflict ++ place ∷ []) in_conflict
@@ -33,7 +33,7 @@ invariant_of-self c =
     let place : c.len-place.result ≡ length was.ops.items = omega (arith, c.len-place.ensures, was.ops.ok) in
     stored c.args.self.now was.object was.ops.items c.push_reserved.new.self.items was.bases.items c.push_reserved-2.new.self.items was.rows.items c.push_reserved-3.new.self.items
     was.in_conflict.items c.push_if_in_conflict.new.in_conflict.items was.sites was.keys c.args.addition c.len-place.result c.count-conflicts.result
-    (ap (λ (s : Sets). s.object) c.self.view_is) (ap (λ (s : Sets). s.ops) c.self.view_is) c.self.invariant c.requires.ready named
+    (ap (λ (s : Changes). s.object) c.self.view_is) (ap (λ (s : Changes). s.ops) c.self.view_is) c.self.invariant c.requires.ready named
     (c.push_reserved.ensures.items ∙ ap (λ p. was.ops.items ++ p.0 ∷ []) parts)
     (c.push_reserved-2.ensures.items ∙ ap (λ p. was.bases.items ++ p.1 ∷ []) parts)
     (c.push_reserved-3.ensures.items ∙ ap (λ p. was.rows.items ++ p.2 ∷ []) parts)

@@ -3,7 +3,7 @@ use Rattle.std.specs.Prelude.{filter, All}
 use Rattle.std.proofs.lemmas.Result.{IfOk-weaker}
 use Rattle.places.specs.Members.{places}
 use Rattle.conflict.specs.Rows.{conflicts_below, has_earlier_conflict}
-use Rattle.places.specs.Sets.{Sets, clash_of}
+use Rattle.places.specs.Changes.{Changes, clash_of}
 use Rattle.places.proofs.Places.{all_below}
 use Rattle.conflict.proofs.Rows.{rows_length}
 use Rattle.conflict.proofs.InConflict.{all_rows}
@@ -24,5 +24,5 @@ returns c =
     let rows : List (List ℕ) = c.deref.result.now in
     let in_conflict : List ℕ = c.deref-2.result.now in
     IfOk-weaker c.union_of_rows.result _ _ (λ conflicting r.
-    subst (λ (s : Sets). conflicting ≡ filter (conflicts_below (clash_of s.ops) scope (length s.ops)) (places (length s.ops))) c.self.view_is
-    (r ∙ all_rows k c.self.invariant.sets scope rows (c.deref.ensures.value ∙ c.self.invariant.rows_are) in_conflict (c.deref-2.ensures.value ∙ c.self.invariant.in_conflict_are))) c.union_of_rows.ensures
+    subst (λ (s : Changes). conflicting ≡ filter (conflicts_below (clash_of s.ops) scope (length s.ops)) (places (length s.ops))) c.self.view_is
+    (r ∙ all_rows k c.self.invariant.changes scope rows (c.deref.ensures.value ∙ c.self.invariant.rows_are) in_conflict (c.deref-2.ensures.value ∙ c.self.invariant.in_conflict_are))) c.union_of_rows.ensures

@@ -1,7 +1,7 @@
 use Rattle.std.proofs.Common.{◌∙◌, ◌||◌, sym, ap, List, ℕ, Bool}
 use Rattle.std.specs.List.{list_any}
 use Rattle.places.specs.Members.{has}
-use Rattle.places.specs.Sets.{at, base_places}
+use Rattle.places.specs.Changes.{at, base_places}
 use Rattle.conflict.proofs.InConflict.{direct_or_based}
 use Rattle.conflict.proofs.clashes.Clashes.has_direct_conflict.Goals as goal
 

@@ -4,15 +4,15 @@ use Rattle.std.specs.Arc.{arc_value}
 use Rattle.std.specs.Map.{lookup}
 use Rattle.op_names.specs.Names.{Name, same_name}
 use Rattle.rules.specs.Operations.{object_of}
-use Rattle.shape.specs.Faults.{IsRefusal as IsSetRefusal}
+use Rattle.shape.specs.Faults.{IsRefusal as IsChangeRefusal}
 use Rattle.drawing.specs.Additions.{IsNext, body_refusal}
-use Rattle.drawing.specs.Faults.{IsRefusal, of_set}
+use Rattle.drawing.specs.Faults.{IsRefusal, of_change}
 use Rattle.drawing.specs.Room.{room_of}
 use Rattle.drawing.specs.Shown.{ids_with}
 use Rattle.drawing.specs.State.{State}
 use Rattle.drawing.proofs.Refused.{by_object, ids_are, if_err, may_be_asked, not_there, refused_alike}
 use Rattle.drawing.proofs.Replay.{replay_same}
-use Rattle.drawing.proofs.WithSets.{lookup_set}
+use Rattle.drawing.proofs.WithChanges.{lookup_set}
 use Rattle.drawing.proofs.drawing.Drawing.plan_at_object.Goals as goal
 
 pub returns-in_default-clause-refused : goal.returns-in_default-clause-refused
@@ -21,49 +21,49 @@ returns-in_default-clause-refused c =
     let named = c.object_of.ensures ∙ ap object_of c.deref.ensures in
     let none = ap (λ (n : Name). lookup (same_name n) i.objects.entries) (sym named) ∙ sym c.in_default.ensures.value in
     λ n. ap (λ (s : State). body_refusal s.room c.args.op) (sym c.self.view_is)
-    ∙ not_there (room_of i.limits (map arc_value i.entries.items)) c.args.op c.requires.set i.objects.entries i.past.history c.self.invariant c.requires.counted none
+    ∙ not_there (room_of i.limits (map arc_value i.entries.items)) c.args.op c.requires.change i.objects.entries i.past.history c.self.invariant c.requires.counted none
 
-pub plan_set-requires : goal.plan_set-requires
-plan_set-requires c =
+pub plan_change-requires : goal.plan_change-requires
+plan_change-requires c =
     let i = c.self.inside in
     let named = c.object_of.ensures ∙ ap object_of c.deref.ensures in
     let there = ap (λ (n : Name). lookup (same_name n) i.objects.entries) (sym named) ∙ sym c.in-Some.ensures.value in
     let next = subst (λ (s : State). IsNext s.room c.args.op) (sym c.self.view_is) c.requires.next in
-    may_be_asked (room_of i.limits (map arc_value i.entries.items)) c.args.op c.requires.set i.objects.entries i.past.history c.self.invariant c.requires.counted c.in-Some.shape.now there next
+    may_be_asked (room_of i.limits (map arc_value i.entries.items)) c.args.op c.requires.change i.objects.entries i.past.history c.self.invariant c.requires.counted c.in-Some.shape.now there next
 
-pub invariant_of-self-in_err-plan_set : goal.invariant_of-self-in_err-plan_set
-invariant_of-self-in_err-plan_set c =
-    rw (c.get_mut.follows.holds c.plan_set.new.self).0
-    (replay_same _ _ _ c.self.invariant (same_name c.object_of.result) c.in-Some.shape.now c.plan_set.new.self (sym c.in-Some.ensures.value) c.plan_set.ensures.object)
+pub invariant_of-self-in_err-plan_change : goal.invariant_of-self-in_err-plan_change
+invariant_of-self-in_err-plan_change c =
+    rw (c.get_mut.follows.holds c.plan_change.new.self).0
+    (replay_same _ _ _ c.self.invariant (same_name c.object_of.result) c.in-Some.shape.now c.plan_change.new.self (sym c.in-Some.ensures.value) c.plan_change.ensures.object)
 
-pub returns-in_err-plan_set-clause-refused : goal.returns-in_err-plan_set-clause-refused
-returns-in_err-plan_set-clause-refused c =
+pub returns-in_err-plan_change-clause-refused : goal.returns-in_err-plan_change-clause-refused
+returns-in_err-plan_change-clause-refused c =
     let i = c.self.inside in
     let room = room_of i.limits (map arc_value i.entries.items) in
     let named = c.object_of.ensures ∙ ap object_of c.deref.ensures in
     let there = ap (λ (n : Name). lookup (same_name n) i.objects.entries) (sym named) ∙ sym c.in-Some.ensures.value in
-    let fault = c.in_err-plan_set.field-0.0 in
+    let fault = c.in_err-plan_change.field-0.0 in
     let refusal = body_refusal room c.args.op in
-    let is : IsSetRefusal refusal fault = λ n.
-    by_object room c.args.op c.requires.set i.objects.entries i.past.history c.self.invariant c.requires.counted c.in-Some.shape.now there ∙ c.in_err-plan_set.ensures.refused n in
+    let is : IsChangeRefusal refusal fault = λ n.
+    by_object room c.args.op c.requires.change i.objects.entries i.past.history c.self.invariant c.requires.counted c.in-Some.shape.now there ∙ c.in_err-plan_change.ensures.refused n in
     subst (λ (s : State). IfErr c.from_residual.result (IsRefusal (body_refusal s.room c.args.op))) c.self.view_is
-    (if_err c.from_residual.result (λ e. e ≡ of_set fault) (IsRefusal refusal) (λ e given. subst (IsRefusal refusal) (sym given) (refused_alike refusal fault is)) c.from_residual.ensures.1)
+    (if_err c.from_residual.result (λ e. e ≡ of_change fault) (IsRefusal refusal) (λ e given. subst (IsRefusal refusal) (sym given) (refused_alike refusal fault is)) c.from_residual.ensures.1)
 
 pub invariant_of-self-2 : goal.invariant_of-self-2
 invariant_of-self-2 c =
-    rw (c.get_mut.follows.holds c.plan_set.new.self).0
-    (replay_same _ _ _ c.self.invariant (same_name c.object_of.result) c.in-Some.shape.now c.plan_set.new.self (sym c.in-Some.ensures.value) c.plan_set.ensures.object)
+    rw (c.get_mut.follows.holds c.plan_change.new.self).0
+    (replay_same _ _ _ c.self.invariant (same_name c.object_of.result) c.in-Some.shape.now c.plan_change.new.self (sym c.in-Some.ensures.value) c.plan_change.ensures.object)
 
 pub returns-clause-shape : goal.returns-clause-shape
 returns-clause-shape c =
     let i = c.self.inside in
     let named = c.object_of.ensures ∙ ap object_of c.deref.ensures in
-    let after = (c.get_mut.follows.holds c.plan_set.new.self).0 in (
-      c.plan_set.new.self,
-      ap (λ (n : Name). lookup (same_name n) (c.get_mut.follows.lender c.plan_set.new.self).entries) (sym named)
+    let after = (c.get_mut.follows.holds c.plan_change.new.self).0 in (
+      c.plan_change.new.self,
+      ap (λ (n : Name). lookup (same_name n) (c.get_mut.follows.lender c.plan_change.new.self).entries) (sym named)
           ∙ ap (lookup (same_name c.object_of.result)) after
-          ∙ lookup_set (same_name c.object_of.result) c.in-Some.shape.now c.plan_set.new.self i.objects.entries (sym c.in-Some.ensures.value),
-      c.in_ok-plan_set.ensures.planned,
+          ∙ lookup_set (same_name c.object_of.result) c.in-Some.shape.now c.plan_change.new.self i.objects.entries (sym c.in-Some.ensures.value),
+      c.in_ok-plan_change.ensures.planned,
     )
 
 pub returns-clause-ids : goal.returns-clause-ids
@@ -72,8 +72,8 @@ returns-clause-ids c =
     let named = c.object_of.ensures ∙ ap object_of c.deref.ensures in
     let there = ap (λ (n : Name). lookup (same_name n) i.objects.entries) (sym named) ∙ sym c.in-Some.ensures.value in
     let next = subst (λ (s : State). IsNext s.room c.args.op) (sym c.self.view_is) c.requires.next in
-    c.in_ok-plan_set.ensures.ids
-    ∙ ids_are (room_of i.limits (map arc_value i.entries.items)) c.args.op c.requires.set i.objects.entries i.past.history c.self.invariant c.requires.counted c.in-Some.shape.now there next
+    c.in_ok-plan_change.ensures.ids
+    ∙ ids_are (room_of i.limits (map arc_value i.entries.items)) c.args.op c.requires.change i.objects.entries i.past.history c.self.invariant c.requires.counted c.in-Some.shape.now there next
     ∙ ap (λ (s : State). ids_with s.room c.args.op) c.self.view_is
 
 pub returns-clause-allowed : goal.returns-clause-allowed
@@ -82,5 +82,5 @@ returns-clause-allowed c =
     let named = c.object_of.ensures ∙ ap object_of c.deref.ensures in
     let there = ap (λ (n : Name). lookup (same_name n) i.objects.entries) (sym named) ∙ sym c.in-Some.ensures.value in
     ap (λ (s : State). body_refusal s.room c.args.op) (sym c.self.view_is)
-    ∙ by_object (room_of i.limits (map arc_value i.entries.items)) c.args.op c.requires.set i.objects.entries i.past.history c.self.invariant c.requires.counted c.in-Some.shape.now there
-    ∙ c.in_ok-plan_set.ensures.taken
+    ∙ by_object (room_of i.limits (map arc_value i.entries.items)) c.args.op c.requires.change i.objects.entries i.past.history c.self.invariant c.requires.counted c.in-Some.shape.now there
+    ∙ c.in_ok-plan_change.ensures.taken

@@ -1,14 +1,14 @@
 use Rattle.wire.specs.Form.{IsEntryText}
 use Rattle.wire.specs.Texts.{entry_read}
 use Rattle.wire.proofs.ByForm.{given_value, given_none, given_ok, given_bad, text_takes, text_again}
-use Rattle.wire.proofs.Entries.{exact_entry}
+use Rattle.wire.proofs.Entries.{reads_entries}
 use Rattle.wire.proofs.read.entry.read_entry.Goals as goal
 
 pub returns-clause-ok : goal.returns-clause-ok
-returns-clause-ok c = given_ok _ _ (IsEntryText c.args.bytes.now) (text_takes exact_entry c.args.bytes.now) c.read_text.ensures
+returns-clause-ok c = given_ok _ _ (IsEntryText c.args.bytes.now) (text_takes reads_entries c.args.bytes.now) c.read_text.ensures
 
 pub returns-clause-bad : goal.returns-clause-bad
-returns-clause-bad c = given_bad _ _ (IsEntryText c.args.bytes.now) (text_again exact_entry c.args.bytes.now) c.read_text.ensures
+returns-clause-bad c = given_bad _ _ (IsEntryText c.args.bytes.now) (text_again reads_entries c.args.bytes.now) c.read_text.ensures
 
 pub returns-clause-value : goal.returns-clause-value
 unfolding entry_read

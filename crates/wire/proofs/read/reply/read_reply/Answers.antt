@@ -1,14 +1,14 @@
 use Rattle.wire.specs.Form.{IsReplyText}
 use Rattle.wire.specs.Texts.{reply_read}
 use Rattle.wire.proofs.ByForm.{given_value, given_none, given_ok, given_bad, text_takes, text_again}
-use Rattle.wire.proofs.Replies.{exact_reply}
+use Rattle.wire.proofs.Replies.{reads_replies}
 use Rattle.wire.proofs.read.reply.read_reply.Goals as goal
 
 pub returns-clause-ok : goal.returns-clause-ok
-returns-clause-ok c = given_ok _ _ (IsReplyText c.args.bytes.now) (text_takes exact_reply c.args.bytes.now) c.read_text.ensures
+returns-clause-ok c = given_ok _ _ (IsReplyText c.args.bytes.now) (text_takes reads_replies c.args.bytes.now) c.read_text.ensures
 
 pub returns-clause-bad : goal.returns-clause-bad
-returns-clause-bad c = given_bad _ _ (IsReplyText c.args.bytes.now) (text_again exact_reply c.args.bytes.now) c.read_text.ensures
+returns-clause-bad c = given_bad _ _ (IsReplyText c.args.bytes.now) (text_again reads_replies c.args.bytes.now) c.read_text.ensures
 
 pub returns-clause-value : goal.returns-clause-value
 unfolding reply_read

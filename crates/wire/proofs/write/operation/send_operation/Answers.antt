@@ -3,5 +3,8 @@ use Rattle.wire.proofs.write.operation.send_operation.Goals as goal
 pub returns-in-New : goal.returns-in-New
 returns-in-New g c = rw c.in-New.is (rw (c.pairs-seen.ensures.pairs, c.pairs.ensures.pairs) at c.send.ensures)
 
-pub returns-in-Set : goal.returns-in-Set
-returns-in-Set g c = rw c.in-Set.is (rw c.pairs-seen.ensures.pairs at c.send-in-Set.ensures)
+pub returns-in-Put : goal.returns-in-Put
+returns-in-Put g c = rw c.in-Put.is (rw (c.pairs-seen.ensures.pairs, c.pairs-in-Put.ensures.pairs) at c.send-in-Put.ensures)
+
+pub returns-in-DropVersion : goal.returns-in-DropVersion
+returns-in-DropVersion g c = rw c.in-DropVersion.is (rw c.pairs-seen.ensures.pairs at c.send-in-DropVersion.ensures)

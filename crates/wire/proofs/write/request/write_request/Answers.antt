@@ -1,4 +1,4 @@
-use Rattle.std.proofs.Common.{arith}
+use Rattle.std.proofs.Common.{inl, refl, arith}
 use Rattle.std.proofs.lemmas.Result.{IfOk-weaker}
 use Rattle.std.proofs.lemmas.Str.{IsUtf8-string_bytes}
 use Rattle.wire.proofs.Shallow.{shallow_request}
@@ -10,5 +10,5 @@ returns-clause-is_read c =
     IfOk-weaker c.compact.result _ _
     (λ text again in_range short. record {
       short = short;
-      text = record { utf8 = IsUtf8-string_bytes text; form = again (omega arith); in_range = in_range };
+      text = record { utf8 = IsUtf8-string_bytes text; value = _; is_read = again (omega arith); form = inl refl; in_range = in_range };
     }) c.compact.ensures.reads_back

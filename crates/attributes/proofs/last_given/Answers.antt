@@ -1,0 +1,29 @@
+use Rattle.std.proofs.Common.{◌≡◌, ◌<◌, ◌+◌, ◌-◌, ◌∙◌, ℕ, List, arith, ap, length, map, sym, subst, take}
+use Rattle.std.specs.Prelude.{All}
+use Rattle.std.proofs.lemmas.List.{get_or_default}
+use Rattle.rules.specs.declared.history.Op.{Op}
+use Rattle.rules.specs.AttrLists.{Attr}
+use Rattle.rules.specs.Bodies.{pairs_in}
+use Rattle.places.specs.Changes.{at, nothing}
+use Rattle.attributes.specs.Pairs.{given_backwards, with_all}
+use Rattle.attributes.proofs.Members.{given_more}
+use Rattle.attributes.proofs.Pairs.{with_all-append}
+use Rattle.attributes.proofs.last_given.Goals as goal
+
+pub loop-index-preserved : goal.loop-index-preserved
+loop-index-preserved c =
+    let k : List Op = c.args.ops.now in
+    let members : List ℕ = c.in_ok-places.places.items in
+    let before : List Attr = c.loop-index.pairs.items in
+    let place : ℕ = c.index.result.now in
+    let i : ℕ = c.loop-index.index - 1 in
+    let next : i + 1 ≡ c.loop-index.index = omega (arith, c.loop-index-test.true) in
+    let below : i < length members = omega (arith, c.loop-index-test.true, c.loop-index.auto.index, c.len-index.ensures) in
+    let there : place < length k = subst (λ p. p < length k) (sym c.index.ensures) (subst (All (λ p. p < length k)) (sym c.in_ok-places.ensures) c.requires i place below) in
+    let op : c.deref.result.now ≡ at k place = c.deref.ensures ∙ c.index-ops-place.is ∙ get_or_default k place c.index-ops-place.result nothing there in
+    let earlier : List Attr = given_backwards (map (at k) (take i members)) in
+    ap (λ attrs. with_all attrs earlier) (c.in_ok-add_given.ensures ∙ ap (λ (o : Op). with_all before (pairs_in o.body)) op)
+    ∙ sym (with_all-append before (pairs_in (at k place).body) earlier)
+    ∙ ap (with_all before) (sym (given_more k members i place below c.index.ensures))
+    ∙ ap (λ n. with_all before (given_backwards (map (at k) (take n members)))) next
+    ∙ c.loop-index.invariant

@@ -1,0 +1,21 @@
+use Rattle.std.proofs.Common.{◌≡◌, ◌∙◌, ◌||◌, ap, get_or, [], List, ℕ}
+use Rattle.std.proofs.lemmas.Result.{on_ok_weaker}
+use Rattle.std.proofs.lemmas.List.{get_or_default}
+use Rattle.places.specs.Members.{has}
+use Rattle.conflict.specs.Indexes.{OfKey, KeyIndex, key_at}
+use Rattle.places.proofs.WordPlaces.{has-with_all}
+use Rattle.conflict.proofs.Keyed.{puts_with}
+use Rattle.conflict.proofs.by_key.ByKey.insert_puts.Goals as goal
+
+pub returns-in-Some : goal.returns-in-Some
+returns-in-Some c =
+    let index = c.args.self.now in
+    let old : List ℕ = c.args.members.now in
+    let entry : c.index.result.now ≡ key_at index.keys c.in-Some.i =
+    c.index.ensures ∙ ap (λ (s : KeyIndex). get_or s.keys c.in-Some.i c.index.result.now) c.self.view_is ∙ get_or_default index.keys c.in-Some.i c.index.result.now (key_at [] 0) c.in-Some.ensures.0 in
+    let own : c.behind-self.inside.places ≡ (key_at index.keys c.in-Some.i).places = ap (λ (o : OfKey). o.places) (c.behind-self.view_is ∙ entry) in
+    on_ok_weaker c.insert_all.result
+    (λ e ops p w b. ap (λ (ps : List ℕ). has ps p) e ∙ has-with_all old c.behind-self.inside.places p
+    ∙ ap (λ (ps : List ℕ). has old p || has ps p) own
+    ∙ ap (λ h. has old p || h) (puts_with ops index w c.args.key.now c.in-Some.i p c.in-Some.ensures.0 c.in-Some.ensures.1 b))
+    c.insert_all.ensures.ok

@@ -1,8 +1,0 @@
-use Rattle.std.proofs.Common.{sym, ap, ◌∙◌}
-use Rattle.state_vector.specs.Vectors.{counts}
-use Rattle.drawing.proofs.Refused.{not_counted}
-use Rattle.drawing.proofs.drawing.Drawing.plan_set.Goals as goal
-
-pub returns-then-not-has-clause-refused : goal.returns-then-not-has-clause-refused
-returns-then-not-has-clause-refused c =
-    λ n. not_counted c.args.self.now.room c.args.op c.requires.set (ap (counts c.args.op.seen) (sym c.object_of.ensures) ∙ sym c.has.ensures ∙ c.if-not-has.true)

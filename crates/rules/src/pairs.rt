@@ -1,0 +1,128 @@
+//! The attributes that a put gives.
+
+ghost use Rattle.std.specs.Prelude.{◌≡◌, [], ◌∷◌, List, true, false, IfOk, OnErr, OnOk};
+ghost use Rattle.std.specs.List.{list_any};
+ghost use Rattle.std.specs.Result.{result_err};
+ghost use Rattle.std.specs.Cmp.Rules.{comparing};
+ghost use Rattle.std.proofs.Common.{rules};
+ghost use Rattle.op_names.specs.Values.{same_value-equivalence};
+ghost use Rattle.rules.specs.AttrLists.{Attr, gives_another, do_pairs_differ, same_attrs, pairs_fault, are_pairs};
+
+use crate::attrs::{copy_pairs, repeated_key};
+use op_names::{Key, NoMemory, Value};
+use std::alloc::Global;
+use std::marker::Model;
+use thiserror::Error;
+
+/// Why a list is none of the attributes of a put, the first cause that applies in this order.
+#[derive(Clone, Copy, Debug, PartialEq, Eq, Error)]
+pub enum PairsFault {
+    #[error("there is no attribute")]
+    Empty,
+    #[error("there are more than 16 attributes")]
+    TooMany,
+    /// The first place, from 0, whose key stands at an earlier place too.
+    #[error("the key at place {0} stands earlier too")]
+    Repeated(usize),
+}
+
+/// The attributes of a put: 1 to 16, no key twice, in the order that they were given.
+#[derive(Debug, Drop)]
+pub struct Pairs {
+    pairs: Vec<(Key, Value)>,
+}
+
+impl Model for Pairs {
+    ghost Value = { List Attr };
+
+    ghost view = { λ pairs. pairs.pairs.items };
+
+    ghost invariant = { λ pairs. are_pairs pairs.pairs.items ≡ true };
+}
+
+/// Does one of the pairs give the key a value other than this one?
+fn give_another(pairs: &[(Key, Value)], key: &Key, value: &Value) -> bool
+    ensures { result ≡ gives_another key.now value.now pairs.now }
+{
+    pairs.iter().any(|pair| pair.0 == *key && *value != pair.1)
+}
+
+/// Does one of the first pairs have a key to which the second ones give another value?
+fn do_differ(first: &[(Key, Value)], second: &[(Key, Value)]) -> bool
+    ensures { result ≡ list_any (λ pair. gives_another pair.0 pair.1 second.now) first.now }
+{
+    first
+        .iter()
+        .any(|pair| give_another(second, &pair.0, &pair.1))
+}
+
+impl Pairs {
+    /// These pairs, in their order. Otherwise `Empty` of none, `TooMany` above 16, or the first
+    /// `Repeated` key. Takes no memory.
+    #[tactic(auto, unfolding(crate::specs::AttrLists::pairs_fault))]
+    pub fn from_pairs(pairs: Vec<(Key, Value)>) -> Result<Pairs, PairsFault>
+        ensures ok { IfOk result (λ given. given ≡ pairs.items) }
+        ensures fault { result_err result ≡ pairs_fault pairs.items }
+        ensures range { OnOk result (are_pairs pairs.items ≡ true) }
+        ensures refused { OnErr result (are_pairs pairs.items ≡ false) }
+    {
+        if pairs.is_empty() {
+            return Err(PairsFault::Empty);
+        }
+        if pairs.len() > 16 {
+            return Err(PairsFault::TooMany);
+        }
+        match repeated_key(&pairs) {
+            Some(place) => Err(PairsFault::Repeated(place)),
+            None => Ok(Pairs { pairs }),
+        }
+    }
+
+    /// One pair alone.
+    #[tactic(auto, unfolding(crate::specs::AttrLists::pairs_fault))]
+    pub fn one(alloc: Global, key: Key, value: Value) -> Result<Pairs, NoMemory>
+        ensures { IfOk result (λ pairs. pairs ≡ (key, value) ∷ []) }
+    {
+        let mut pairs = Vec::with_capacity(alloc, 1)?;
+        pairs.push((key, value))?;
+        Ok(Pairs { pairs })
+    }
+
+    /// The pairs of a key and a value, in the order that they were given.
+    pub fn pairs(&self) -> &[(Key, Value)]
+        ensures pairs { result.now ≡ self.now }
+        ensures range { are_pairs self.now ≡ true }
+    {
+        &self.pairs
+    }
+
+    /// Do these and the others give some key different values?
+    pub fn differ(&self, others: &Pairs) -> bool
+        ensures { result ≡ do_pairs_differ self.now others.now }
+    {
+        let others = others.pairs();
+        do_differ(self.pairs(), others)
+    }
+
+    /// Other ones that are equal.
+    pub fn copy(&self, alloc: Global) -> Result<Pairs, NoMemory>
+        ensures { IfOk result (λ pairs. pairs ≡ self.now) }
+    {
+        let pairs = copy_pairs(alloc, &self.pairs)?;
+        Ok(Pairs { pairs })
+    }
+}
+
+impl PartialEq for Pairs {
+    ghost eq = { same_attrs };
+
+    ghost laws = { Prim.search (comparing, same_value-equivalence, rules) };
+
+    fn eq(&self, other: &Pairs) -> bool {
+        self.pairs.as_slice() == other.pairs.as_slice()
+    }
+}
+
+impl Eq for Pairs {
+    ghost laws = { Prim.search (comparing, same_value-equivalence, rules) };
+}

@@ -1,5 +1,5 @@
 -- The index of changes by key: with one change more, and which changes it leaves to be compared.
-use Rattle.std.proofs.Common.{◌≡◌, ℕ, suc, ◌+◌, ◌<◌, ◌≤◌, Bool, true, false, not, ◌||◌, ◌⊎◌, List, [], ◌∷◌, ◌++◌, length, set, refl, sym, ap, ◌∙◌, subst, inl, inr, arith, eqb, get_or, drop, drop-cons, map}
+use Rattle.std.proofs.Common.{◌≡◌, ℕ, suc, ◌+◌, ◌<◌, ◌≤◌, Bool, true, false, ◌||◌, ◌⊎◌, List, [], ◌∷◌, ◌++◌, length, set, refl, sym, ap, ◌∙◌, subst, inl, inr, arith, eqb, get_or, drop, drop-cons, map}
 use Rattle.std.specs.Prelude.{filter, bytes_eq, is_some, MatchBool}
 use Rattle.std.specs.List.{list_any}
 use Rattle.std.proofs.lemmas.Bool.{true≢false, cases_eq, cases_lt, or_cases, or_left, or_right, eq-eqb, eqb-true, false_from_ne_true}
@@ -18,7 +18,7 @@ use Rattle.rules.proofs.Relation.{same_answer}
 use Rattle.rules.proofs.Reordered.{same_key_is, same_key_itself}
 use Rattle.places.specs.Members.{has, with_place, places}
 use Rattle.places.specs.Changes.{at, nothing}
-use Rattle.conflict.specs.Indexes.{OfKey, KeyIndex, AreByKey, IsUnder, key_at, gives, of_key, of_others, is_drop_at, is_drop_or_gives, with_drop}
+use Rattle.conflict.specs.Indexes.{OfKey, KeyIndex, AreByKey, IsUnder, key_at, gives, of_key, is_drop_at, is_drop_or_gives, with_drop}
 use Rattle.places.proofs.Places.{In-places, in_if_has, has_if_in, has-filter, below, left_next, put_next}
 use Rattle.places.proofs.WordPlaces.{has-with_place}
 use Rattle.places.proofs.ChangesAt.{at_in, at_push, place_of}
@@ -328,9 +328,6 @@ module _ (k : List Op) (index : KeyIndex) (w : AreByKey k index) where
 
 -- ---- which changes are left to be compared
 
-pub others_are : (k : List Op) (pairs : List Attr) (n : ℕ) (found : List ℕ) → ((p : ℕ) → p < n → has found p ≡ is_drop_or_gives k pairs p) → filter (λ p. not (has found p)) (places n) ≡ of_others k pairs n
-others_are k pairs n found h = filter_agree (λ p. not (has found p)) (λ p. not (is_drop_or_gives k pairs p)) (places n) (λ p m. ap not (h p (below n p m)))
-
 -- what is at odds with a put is a drop, or gives one of its keys a value
 at_odds_found : (object : Name) (version : List Name) (pairs : List Attr) (body : Body) → are_at_odds (Put object version pairs) body ≡ true → (is_drop_body body || list_any (λ pair. gives pair.0 body) pairs) ≡ true
 at_odds_found object version pairs body e = elim (or_cases (differ_on_a_key (Put object version pairs) body) (is_one_a_drop (Put object version pairs) body) e) [
@@ -347,17 +344,14 @@ at_odds_found object version pairs body e = elim (or_cases (differ_on_a_key (Put
     one_is object version pairs (Put other_object other_version other_pairs) e = absurd (true≢false (sym e))
     one_is object version pairs (DropVersion other_object other_version) e = refl
 
--- the others are at odds with none
-pub candidates_same : (k : List Op) (object : Name) (version : List Name) (pairs : List Attr) (n : ℕ) (others unknown candidates : List ℕ) → others ≡ of_others k pairs n
-    → candidates ≡ filter (λ x. not (has others x)) unknown
+-- where all that are at odds with it are found, the places that are found lack none of them
+pub candidates_same : (k : List Op) (object : Name) (version : List Name) (pairs : List Attr) (found unknown candidates : List ℕ)
+    → ((p : ℕ) → In p unknown → is_drop_or_gives k pairs p ≡ true → has found p ≡ true) → candidates ≡ filter (has found) unknown
     → filter (λ p. are_at_odds (Put object version pairs) (at k p).body) candidates ≡ filter (λ p. are_at_odds (Put object version pairs) (at k p).body) unknown
-candidates_same k object version pairs n others unknown candidates e r =
+candidates_same k object version pairs found unknown candidates all r =
     let at_odds : ℕ → Bool = λ p. are_at_odds (Put object version pairs) (at k p).body in
     ap (filter at_odds) r
-    ∙ filter_inner at_odds (λ x. not (has others x)) unknown (λ x m t.
-    ap not (false_from_ne_true (has others x) (λ h.
-    let b = In-filter_back (λ p. not (is_drop_or_gives k pairs p)) x (places n) (subst (λ (l : List ℕ). In x l) e (in_if_has others x h)) in
-    true≢false (sym b.1 ∙ ap not (at_odds_found object version pairs (at k x).body t)))))
+    ∙ filter_inner at_odds (has found) unknown (λ x m t. all x m (at_odds_found object version pairs (at k x).body t))
 
 -- a creation is at odds with nothing
 pub new_at_odds : (kind : Bytes) (attrs : List Attr) (body : Body) → are_at_odds (New kind attrs) body ≡ false

@@ -1,5 +1,5 @@
 -- Indexes of the first changes on an object: their places by the sites that they come from, and by the keys that they give values; and the drops.
-use Rattle.std.specs.Prelude.{◌≡◌, ℕ, ◌+◌, ◌<◌, ◌≤◌, set, MatchOption, Option, Bool, true, not, ◌||◌, List, [], ◌∷◌, ◌++◌, ◌==◌, nat_le, map, filter, length, slice_index_or, bytes_eq}
+use Rattle.std.specs.Prelude.{◌≡◌, ℕ, ◌+◌, ◌<◌, ◌≤◌, set, MatchOption, Option, Bool, true, ◌||◌, List, [], ◌∷◌, ◌++◌, ◌==◌, nat_le, map, filter, length, slice_index_or, bytes_eq}
 use Rattle.std.specs.List.{list_any}
 use Rattle.std.specs.List.Sorted.{IsNonDecreasingBy}
 use Rattle.op_names.specs.Names.{Name}
@@ -147,7 +147,3 @@ pub record AreByKey (k : List Op) (index : KeyIndex) : Type 0 where
 -- is the change at a place a drop, or does it give a key of these pairs a value?
 abbrev pub is_drop_or_gives : List Op → List Attr → ℕ → Bool
 is_drop_or_gives k pairs place = is_drop_at k place || list_any (λ pair. of_key k pair.0 place) pairs
-
--- the places of the others of the first n changes
-abbrev pub of_others : List Op → List Attr → ℕ → List ℕ
-of_others k pairs n = filter (λ place. not (is_drop_or_gives k pairs place)) (places n)

@@ -7,7 +7,7 @@ ghost use Rattle.rules.specs.declared.history.Op.{Op};
 ghost use Rattle.rules.specs.Bodies.{is_drop_body, pairs_in};
 ghost use Rattle.places.specs.Members.{has, with_place};
 ghost use Rattle.places.specs.Changes.{at};
-ghost use Rattle.conflict.specs.Indexes.{gives, is_drop_at, is_drop_or_gives, key_at, of_key, of_others, with_drop, with_key_at, with_new_key, AreByKey, IsPlaceOf, IsUnder};
+ghost use Rattle.conflict.specs.Indexes.{gives, is_drop_at, is_drop_or_gives, key_at, of_key, with_drop, with_key_at, with_new_key, AreByKey, IsPlaceOf, IsUnder};
 
 use op_names::{Key, NoMemory, Value};
 use places::Members;
@@ -321,13 +321,33 @@ impl ByKey {
         Ok(found)
     }
 
-    /// The places of the changes in it that are no drops and give none of the keys a value.
-    pub(crate) fn others(&self, alloc: Global, pairs: &[(Key, Value)]) -> Result<Members, NoMemory>
-        ensures { IfOk result (λ others. (ops : List Op) → AreByKey ops self.now
-            → others ≡ of_others ops pairs.now self.now.len) }
+    /// Puts in the places of the changes that aren't in it, where there are so many in all.
+    fn insert_last(&self, count: u32, members: &mut Members) -> Result<(), NoMemory>
+        ensures kept { OnOk result ((place : ℕ) → has members.old place ≡ true
+            → has members.new place ≡ true) }
+        ensures last { OnOk result ((place : ℕ) → self.now.len ≤ place → place < count
+            → has members.new place ≡ true) }
     {
-        let first = Members::first_places(alloc, self.len)?;
-        let found = self.drops_and_puts(alloc, pairs)?;
-        first.without(alloc, &found)
+        for place in self.len..count {
+            members.insert(place)?;
+        }
+        Ok(())
+    }
+
+    /// The places of the changes, so many in all, that are drops, that give one of the keys a value, or
+    /// that aren't in it. One look-up a key.
+    pub(crate) fn at_odds_perhaps(
+        &self,
+        alloc: Global,
+        count: u32,
+        pairs: &[(Key, Value)],
+    ) -> Result<Members, NoMemory>
+        ensures { IfOk result (λ found. (ops : List Op) (place : ℕ) → AreByKey ops self.now
+            → place < count → is_drop_or_gives ops pairs.now place ≡ true
+            → has found place ≡ true) }
+    {
+        let mut found = self.drops_and_puts(alloc, pairs)?;
+        self.insert_last(count, &mut found)?;
+        Ok(found)
     }
 }

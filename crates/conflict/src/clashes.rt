@@ -298,8 +298,9 @@ impl Clashes {
     {
         match body {
             Body::Put { pairs, .. } => {
-                let others = self.keys.others(alloc, pairs.pairs())?;
-                unknown.without(alloc, &others)
+                let count = self.ops.len() as u32;
+                let found = self.keys.at_odds_perhaps(alloc, count, pairs.pairs())?;
+                unknown.intersection(alloc, &found)
             }
             Body::DropVersion { .. } => unknown.copy(alloc),
             Body::New { .. } => Ok(Members::empty(alloc)),

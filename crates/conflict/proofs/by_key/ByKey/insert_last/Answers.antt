@@ -1,0 +1,17 @@
+use Rattle.std.proofs.Common.{◌≡◌, ℕ, ◌∙◌, ◌||◌, ap, arith, eqb, inl, inr}
+use Rattle.std.proofs.lemmas.Bool.{cases_lt, eq-eqb, or_left, or_right}
+use Rattle.places.specs.Members.{has}
+use Rattle.places.proofs.WordPlaces.{has-with_place}
+use Rattle.conflict.proofs.by_key.ByKey.insert_last.Goals as goal
+
+pub loop-place-preserved : goal.loop-place-preserved
+loop-place-preserved c =
+    let before = c.loop-place.members in
+    let place = c.loop-place.place in
+    let is : (q : ℕ) → has c.insert.new.self q ≡ (has before q || eqb place q) = λ q. ap (λ m. has m q) c.in_ok-insert.ensures.ok ∙ has-with_place place before q in (
+      λ q h. is q ∙ or_left (has before q) (eqb place q) (c.loop-place.invariant.0 q h),
+      λ q low high. elim (cases_lt q place) [
+        | inl l ↦ is q ∙ or_left (has before q) (eqb place q) (c.loop-place.invariant.1 q low l)
+        | inr g ↦ is q ∙ or_right (has before q) (eqb place q) (eq-eqb place q (omega (arith, high, g)))
+      ],
+    )

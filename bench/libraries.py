@@ -1,7 +1,8 @@
 #!/usr/bin/env python3
 """Measures libraries by themselves, and prints tables in Markdown. `threads`: how many calls a second threads
 make of rooms behind locks, all in one room and each in rooms of its own, and how many as many programs of one
-thread make at once, which is what the machine can do. `replicas`: what a page costs a replica, at the start and
+thread make at once, which is what the machine can do. `sites`: what a join, a coming back and a call cost in a
+room of few entries and in one of many, in nanoseconds, the median of 9 rounds. `replicas`: what a page costs a replica, at the start and
 at the end of a record of 16,000 entries. The programs in bench/ are proved and built over a copy of the tree.
 With threads each figure is the median of the 20 rounds that the program makes, with replicas the best of five."""
 
@@ -20,6 +21,7 @@ from tree_copy import copy_of_tree
 
 PROGRAMS = {
     "threads": ("lock_bench", "op_names state_vector rules wire room_core room_lock"),
+    "sites": ("site_bench", "op_names state_vector rules wire room_lock"),
     "replicas": ("replica_bench", "op_names state_vector rules wire room_core late_join"),
 }
 
@@ -59,6 +61,19 @@ def threads():
             print(f"| {count} | {rates['one', count]:,.0f} | {rates['apart', count]:,.0f} | {alone:,.0f} |")
 
 
+def sites():
+    times = collections.defaultdict(list)
+    with program(*PROGRAMS["sites"]) as path:
+        [lines] = lines_of(path)
+    for kind, entries, nanos in lines:
+        times[int(kind), int(entries)].append(int(nanos))
+    print("| | In a room of 100 entries | In one of 16,000 |")
+    print("|---|---|---|")
+    for kind, name in enumerate(("a join and its leave", "a coming back and its leave", "a list of objects")):
+        few, many = (statistics.median(times[kind, entries]) for entries in (100, 16_000))
+        print(f"| {name} | {few:,.0f} | {many:,.0f} ({many / few:.2f}) |")
+
+
 def replicas():
     least = {}
     with program(*PROGRAMS["replicas"]) as path:
@@ -73,7 +88,7 @@ def replicas():
 
 
 def main():
-    measures = {"threads": threads, "replicas": replicas}
+    measures = {"threads": threads, "sites": sites, "replicas": replicas}
     for name in sys.argv[1:] or measures:
         measures[name]()
 

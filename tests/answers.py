@@ -8,18 +8,19 @@ BAD_MESSAGE = '["no",0,1,"bad-message"]'
 NO_SUCH_ROOM = '["no",0,4,"no-such-room"]'
 
 REPLIES = {
-    "join": "joined", "new": "made", "put": "taken", "drop": "taken", "set": "taken", "show": "versions",
-    "list": "objects", "pull": "entries", "leave": "left",
+    "join": "joined", "back": "back", "new": "made", "put": "taken", "drop": "taken", "set": "taken",
+    "show": "versions", "list": "objects", "pull": "entries", "leave": "left",
 }
 WORDS = dict(enumerate((
     "bad-message", "not-joined", "already-joined", "no-such-room", "room-full", "record-full", "wrong-seq",
     "own-count", "ahead", "not-closed", "no-such-object", "no-such-version", "object-full", "too-many-keys",
-    "too-many-versions", "too-many-objects", "too-far", "gone",
+    "too-many-versions", "too-many-objects", "too-far", "gone", "no-such-site", "site-in-use",
 ), start=1))
 INSIDE = {
-    "join": {3}, "new": {6, 7, 8, 9, 10, 16}, "put": {*range(6, 16), 18}, "drop": {*range(6, 14), 15, 18},
+    "join": {3}, "back": {3}, "new": {6, 7, 8, 9, 10, 16}, "put": {*range(6, 16), 18}, "drop": {*range(6, 14), 15, 18},
     "set": {*range(6, 16), 18}, "show": {11}, "list": {17}, "pull": {17}, "leave": set(),
 }
+OUTSIDE = {"join": {4, 5, 6}, "back": {4, 19, 20}}
 
 
 class NoAnswer(Exception):
@@ -44,7 +45,7 @@ def refusals(word, is_inside):
     """The codes by which a request with this word may be refused, but for 1."""
     if is_inside:
         return INSIDE[word]
-    return {4, 5, 6} if word == "join" else {2}
+    return OUTSIDE.get(word, {2})
 
 
 def must_answer(data, is_inside, text):
@@ -61,6 +62,6 @@ def must_answer(data, is_inside, text):
         fits = reply[3:] == [WORDS.get(code)] and (code == 1 or code in refusals(word, is_inside))
         fits = fits and (code > 4 or reply[1] == 0)
     else:
-        fits = reply[0] == REPLIES[word] and is_inside == (word != "join")
+        fits = reply[0] == REPLIES[word] and is_inside == (word not in OUTSIDE)
     if not fits:
         raise NoAnswer(f"{data!r:.200} is answered {text:.200}, {'inside' if is_inside else 'outside'} a room")

@@ -107,6 +107,43 @@ AFTER_JOIN = [
     ('[1,["leave"],["left",3]]\n[1,["leave"],["left",2]]', "bad transcript line 3"),
 ]
 
+# What comes after the join of site 1 where a site comes back, and the verdict. Over the record's first 1, 2, 4 and 5
+# entries site 1 has made 0, 1, 2 and 2 operations; site 2 joins third, and has made its one with the fifth.
+BACK = '[1,["back","r",1],["back",5,1,2]]'
+BACKS = [
+    (BACK, "holds"),
+    ('[1,["back","zz",1],["back",1,1,0]]', "holds"),
+    ('[1,["back","r",1],["back",2,1,1]]', "holds"),
+    ('[2,["back","r",2],["back",4,2,0]]', "holds"),
+    ('[2,["back","r",2],["back",5,2,1]]', "holds"),
+    (f"{BACK}\n{BACK}", "holds"),
+    ('[1,["back","r",1],["back",1,1,0]]\n[1,["new",1,[],"rect",[["x",0]]],["made",1,[1,1]]]', "holds"),
+    (f'[1,["new",1,[],"rect",[["x",0]]],["made",1,[1,1]]]\n[1,["back","r",1],["back",2,1,1]]\n{LEFT}', "holds"),
+    ('[1,["back","r",1],["back",5,1,1]]', "wrong reply line 2"),
+    ('[1,["back","r",1],["back",5,1,3]]', "wrong reply line 2"),
+    ('[1,["back","r",1],["back",3,1,2]]', "wrong reply line 2"),
+    ('[2,["back","r",2],["back",4,2,1]]', "wrong reply line 2"),
+    ('[1,["back","r",1],["back",5,2,2]]', "wrong reply line 2"),
+    ('[2,["back","r",2],["back",2,2,0]]', "bad transcript line 2"),
+    ('[3,["back","r",3],["back",5,3,0]]', "bad transcript line 2"),
+    ('[1,["back","r",1],["back",0,1,0]]', "bad transcript line 2"),
+    ('[1,["back","r",1],["back",6,1,2]]', "bad transcript line 2"),
+    (f'{BACK}\n[1,["leave"],["left",4]]', "bad transcript line 3"),
+    (f'{LEFT}\n[1,["back","r",1],["back",4,1,2]]', "bad transcript line 3"),
+    ('[1,["new",1,[],"rect",[["x",0]]],["made",1,[1,1]]]\n[1,["back","r",1],["back",1,1,0]]', "bad transcript line 3"),
+    ('[1,["back","r",2],["back",5,2,1]]', "bad transcript line 2"),
+    ('[1,["back","r",2],["back",5,1,2]]', "bad transcript line 2"),
+    ('[1,["back","r",1],["joined",0,1]]', "bad transcript line 2"),
+    ('[1,["back","r",1],["left",5]]', "bad transcript line 2"),
+    ('[1,["join","r"],["back",5,1,2]]', "bad transcript line 2"),
+    ('[1,["leave"],["back",5,1,2]]', "bad transcript line 2"),
+    ('[1,["back","r",1],["no",0,3,"already-joined"]]', "bad transcript line 2"),
+    ('[1,["back","r",1],["no",5,19,"no-such-site"]]', "bad transcript line 2"),
+    ('[1,["back","r",1],["no",5,20,"site-in-use"]]', "bad transcript line 2"),
+    ('[1,["leave"],["no",5,19,"no-such-site"]]', "bad transcript line 2"),
+    ('[1,["leave"],["no",5,20,"site-in-use"]]', "bad transcript line 2"),
+]
+
 
 def ended(lines, end):
     """A text in which each line ends so."""
@@ -190,6 +227,9 @@ REQUESTS = [
     (3, '["set",4,[[1,2],[2,1],[3,3]],[1,1],[[2,1],[3,2]],"x",1]', 0),
     (3, '["show",[1,1]]', 0),
     (3, '["leave"]', 0),
+    (3, '["back","r",3]', 0),
+    (3, '["show",[1,1]]', 0),
+    (3, '["leave"]', 0),
 ]
 
 
@@ -235,7 +275,7 @@ TESTS = [
     *((f"{name}: {line}", partial(other_entry, number, other, line)) for name, number, other, line in OTHER_ENTRIES),
     *((f"{name}: {line}", partial(other_line, number, other, line)) for name, number, other, line in OTHER_LINES),
     *((f"a join, then {lines!r}: {line}", partial(is_told, RECORD, [TRANSCRIPT[0], *lines.split("\n")], line))
-      for lines, line in AFTER_JOIN),
+      for lines, line in [*AFTER_JOIN, *BACKS]),
     *((f"{name}: {line}", partial(files, record, transcript, line)) for name, record, transcript, line in FILES),
     ("a true transcript holds", partial(is_told, RECORD, TRANSCRIPT, "holds")),
     ("files that aren't there", no_files),

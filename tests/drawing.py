@@ -3,10 +3,30 @@ of an object, or makes an object, or asks for something else."""
 
 import json
 import random
+import time
 
 KEYS = ["x", "y", "fill"]
 VALUES = [1, 2, "red"]
 TRIES = 5
+# Between two tries to come back as a site that somebody is in as, in seconds.
+AGAIN = 0.01
+
+
+class NotBack(Exception):
+    """A site can't be come back as."""
+
+
+def comes_back(told, room, site, seconds=60):
+    """Comes back to a room as a site, as soon as its old session is over: the number of the site's operations. `told`
+    gives the reply to a request as a value."""
+    bound = time.monotonic() + seconds
+    while True:
+        reply = told(["back", room, site])
+        if reply[0] == "back" and reply[2] == site:
+            return reply[3]
+        if reply[2:] != [20, "site-in-use"] or time.monotonic() > bound:
+            raise NotBack(f"who comes back as site {site} of room {room} is told {reply}")
+        time.sleep(AGAIN)
 
 
 class Drawer:
@@ -27,6 +47,11 @@ class Drawer:
     def join(self, room):
         """Joins a room."""
         self.site = self.told(["join", room])[2]
+
+    def comes_back(self, room, site):
+        """Comes back to a room as a site: the number of the site's operations."""
+        self.site = site
+        return comes_back(self.told, room, site)
 
     def goes_on_from(self, other):
         """Holds what another client of its room had pulled, as a client does that comes back."""

@@ -74,7 +74,7 @@ def changed_frame(session):
 def true_frame(session, place):
     """The frame of a true session at this place: a join, operations, a question and a close."""
     if place == 0:
-        return session.frame(["join", session.room()])
+        return session.frame(session.entering())
     if place == 4:
         return session.frame(session.source.choice((["show", [1, 1]], ["pull", 0], ["list", 0])))
     if place == 5:
@@ -173,6 +173,20 @@ def reads_nothing(session):
     session.flood(request * LATE, FLOOD)
 
 
+def comes_and_goes(session):
+    """A session that leaves, and comes back as its site or as any other, which somebody may be in as."""
+    session.open()
+    session.ask(session.entering())
+    for _ in range(session.source.randrange(1, 6)):
+        told = session.client.told
+        own = ["back", told.room, told.site] if told.room else session.entering()
+        session.ask(session.entering())
+        session.ask(["leave"])
+        session.ask(session.source.choice((own, session.entering())))
+        session.ask(session.next_request())
+    ends_well_or_not(session)
+
+
 def no_requests(session):
     """Messages that are no requests: each is answered bad-message."""
     session.open()
@@ -210,6 +224,7 @@ KINDS = [
     ("a frame cut short", half_frame),
     ("much asked, and read late", reads_late),
     ("much asked, and never read", reads_nothing),
+    ("a site that is left and come back as", comes_and_goes),
     ("messages that are no requests", no_requests),
     ("rooms that aren't there", no_room),
 ]

@@ -17,6 +17,8 @@ from websocket_client import BINARY, CLOSE, PING, PONG, TEXT, Ended, closing, he
 WAIT = 60
 # How long a session that reads nothing waits for the server to take more.
 STUCK = 0.2
+# In a room in which others draw the sites from this one on are hostile ones.
+FIRST_SITE = 3
 HANDSHAKE_FAILED = "handshake failed"
 STREAM_FAULT = "stream fault"
 # What a close may say in an answer: RFC 6455 lets these codes be sent. Others are answered by 1002, or, where
@@ -28,9 +30,9 @@ FIELD = re.compile(rb"(?m)^([!-9;-~]+):[ \t]*([^\r\n]*?)[ \t]*\r?$")
 
 
 def may_add(request):
-    """Whether the bytes may be a request that adds an entry."""
+    """Whether the bytes may be a request that adds an entry, or says as which site later ones do."""
     value = request_of(request)
-    return value is not None and len(value) > 1 and value[0] in ("join", "new", "put", "drop")
+    return value is not None and len(value) > 1 and value[0] in ("join", "back", "new", "put", "drop")
 
 
 class HostileTold(Told):
@@ -88,10 +90,19 @@ class HostileSession:
         """The name of a room to join, now and then one in which others draw."""
         return self.source.choice(self.rooms.shared if self.source.random() < 0.03 else self.rooms.hostile)
 
+    def entering(self):
+        """A request to join a room, or to come back to one as any site but those of who draws there."""
+        room = self.room()
+        if self.source.random() < 0.6:
+            return ["join", room]
+        # A few sites are asked for often, so that some are in use.
+        end = self.source.choice((FIRST_SITE + 5, 257))
+        return ["back", room, self.source.randrange(FIRST_SITE if room in self.rooms.shared else 1, end)]
+
     def enter(self):
-        """Most sessions join a room, and some of them draw in it."""
+        """Most sessions enter a room, and some of them draw in it."""
         if self.source.random() < 0.8:
-            self.ask(["join", self.room()])
+            self.ask(self.entering())
         for _ in range(self.source.randrange(3)):
             self.ask(self.next_request())
 
@@ -99,11 +110,10 @@ class HostileSession:
 
     def next_request(self):
         """What an honest client of this session could ask next: to make an object, and then to set it."""
-        count = len(self.client.told.places)
-        site = self.client.told.site or 1
-        if count < 2:
+        site, made = self.client.told.site or 1, self.client.told.made
+        if made == 0:
             return ["new", 1, [], "rect", [["x", 0]]]
-        return ["put", count, [[site, count - 1]], [site, 1], [], [["x", self.source.randrange(9)]]]
+        return ["put", made + 1, [[site, made]], [site, 1], [], [["x", self.source.randrange(9)]]]
 
     def frame(self, request, opcode=None):
         """The frame of a request, a value or bytes."""

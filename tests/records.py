@@ -1,6 +1,7 @@
 """What clients were told, and whether the records that the program prints are that."""
 
 import collections
+import itertools
 import json
 
 
@@ -24,14 +25,20 @@ def entry_of(site, request):
     return [word, [site, seq], *rest]
 
 
+# Which reply of all clients came before which: a site may be that of several clients, one after the other.
+ORDER = itertools.count()
+
+
 class Told:
     """The requests of one client, in order, with the replies: `lines` has each room with the text of a line of a
-    transcript."""
+    transcript, and its place in the order of all replies."""
 
     def __init__(self):
         self.waiting = collections.deque()
         self.room = None
         self.site = None
+        # How many operations its site made.
+        self.made = 0
         self.hung_up = False
         self.places = []
         self.lines = []
@@ -47,18 +54,22 @@ class Told:
         request, reply = self.waiting.popleft(), json.loads(text)
         if compact(reply) != text:
             raise Differs(f"a reply that isn't the compact text of its value: {text:.200}")
-        if reply[0] == "no" and reply[2] < 5:
+        if reply[0] == "no" and not 5 <= reply[2] <= 18:
             return
         request = json.loads(request)
-        if reply[0] == "joined":
+        if reply[0] in ("joined", "back"):
             self.room, self.site = request[1], reply[2]
+            self.made = reply[3] if reply[0] == "back" else 0
         elif request[0] == "join":
             return
-        self.lines.append((self.room, f"[{compact(self.site)},{compact(request)},{text}]"))
+        self.lines.append((self.room, f"[{compact(self.site)},{compact(request)},{text}]", next(ORDER)))
         if reply[0] in ("joined", "made", "taken"):
             self.places.append((self.room, reply[1], compact(entry_of(self.site, request))))
+        if reply[0] in ("made", "taken"):
+            self.made += 1
         if reply[0] == "left":
             self.room = self.site = None
+            self.made = 0
 
     def may_have_added(self, room):
         """The entries that requests with no reply may have added in this room, by a site of any number
@@ -67,6 +78,8 @@ class Told:
         for request in map(json.loads, self.waiting):
             if request[0] == "join" and request[1] == room and not sites:
                 sites = range(1, 257)
+            if request[0] == "back" and request[1] == room and not sites:
+                sites = request[2:3]
             if request[0] in ("join", "new", "put", "drop", "set"):
                 yield [compact(entry_of(site, request)) for site in sites]
 
@@ -118,5 +131,6 @@ def compare_record(room, record, clients):
 
 
 def transcript_of(room, clients):
-    """The lines that tell what the clients in this room were told, client by client."""
-    return [line for told in clients for name, line in told.lines if name == room]
+    """The lines that tell what the clients in this room were told, in the order of the replies."""
+    lines = [line for told in clients for line in told.lines if line[0] == room]
+    return [line for _, line, _ in sorted(lines, key=lambda line: line[2])]

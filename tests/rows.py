@@ -207,6 +207,64 @@ TO_ANOTHER_ROOM = TWO_ROOMS + """
 1 ["show",[3,1]] -> ["no",3,11,"no-such-object"]
 """
 
+BACK = ONE_PUT + """
+3 ["back","r",1] -> ["no",4,20,"site-in-use"]
+3 ["show",[1,1]] -> ["no",0,2,"not-joined"]
+1 ["leave"] -> ["left",4]
+3 ["back","r",1] -> ["back",4,1,2]
+1 ["back","r",1] -> ["no",4,20,"site-in-use"]
+3 ["put",2,[[1,1]],[1,1],[],[["x",6]]] -> ["no",4,7,"wrong-seq"]
+3 ["put",3,[[1,2]],[1,1],[],[["x",6]]] -> ["taken",4,[[]]]
+2 ["pull",3] -> ["entries",5,3,[["put",[1,2],[[1,1]],[1,1],[],[["x",5]]],["put",[1,3],[[1,2]],[1,1],[],[["x",6]]]]]
+2 ["leave"] -> ["left",5]
+1 ["back","r",2] -> ["back",5,2,0]
+1 ["put",1,[[1,1]],[1,1],[],[["x",9]]] -> ["taken",5,[[[1,2],[1,3]],[[2,1]]]]
+1 ["leave"] -> ["left",6]
+1 ["back","r",2] -> ["back",6,2,1]
+2 ["join","r"] -> ["joined",6,3]
+3 ["leave"] -> ["left",7]
+3 ["back","r",1] -> ["back",7,1,3]
+"""
+NOT_BACK = ONE_PUT + """
+1 ["back","r",1] -> ["no",0,3,"already-joined"]
+1 ["back","r",2] -> ["no",0,3,"already-joined"]
+1 ["back","zz",9] -> ["no",0,3,"already-joined"]
+1 ["back","r",257] -> ["no",0,1,"bad-message"]
+3 ["back","r",0] -> ["no",0,1,"bad-message"]
+3 ["back","r",257] -> ["no",0,1,"bad-message"]
+3 ["back","zz",257] -> ["no",0,1,"bad-message"]
+3 ["back","R",1] -> ["no",0,1,"bad-message"]
+3 ["back","",1] -> ["no",0,1,"bad-message"]
+3 ["back","r"] -> ["no",0,1,"bad-message"]
+3 ["back","r",1,2] -> ["no",0,1,"bad-message"]
+3 ["back","r","1"] -> ["no",0,1,"bad-message"]
+3 ["back","r",1.0] -> ["no",0,1,"bad-message"]
+3 ["back",1,"r"] -> ["no",0,1,"bad-message"]
+3 ["back","zz",1] -> ["no",0,4,"no-such-room"]
+3 ["back","zz",9] -> ["no",0,4,"no-such-room"]
+3 ["back","r",3] -> ["no",4,19,"no-such-site"]
+3 ["back","r",256] -> ["no",4,19,"no-such-site"]
+3 ["back","r",2] -> ["no",4,20,"site-in-use"]
+2 ["leave"] -> ["left",4]
+2 ["back","r",3] -> ["no",4,19,"no-such-site"]
+3  [ "back" , "r" , 2 ]  -> ["back",4,2,0]
+3 ["pull",4] -> ["entries",4,4,[]]
+"""
+BACK_IN_TWO_ROOMS = TWO_ROOMS + """
+5 ["back","a",3] -> ["no",2,19,"no-such-site"]
+5 ["back","a",2] -> ["no",2,20,"site-in-use"]
+3 ["leave"] -> ["left",2]
+5 ["back","b",2] -> ["no",2,20,"site-in-use"]
+5 ["back","a",2] -> ["back",2,2,0]
+3 ["back","a",2] -> ["no",2,20,"site-in-use"]
+4 ["new",1,[],"rect",[]] -> ["made",2,[2,1]]
+4 ["leave"] -> ["left",3]
+3 ["back","b",2] -> ["back",3,2,1]
+4 ["back","a",1] -> ["no",2,20,"site-in-use"]
+5 ["show",[2,1]] -> ["no",2,11,"no-such-object"]
+3 ["show",[2,1]] -> ["versions",3,[2,1],"rect",[[[],[]]]]
+"""
+
 TWO_KEYS = ONE_PUT + """
 2 ["put",1,[[1,1]],[1,1],[],[["x",5],["fill","red"]]] -> ["taken",4,[[]]]
 1 ["show",[1,1]] -> ["versions",5,[1,1],"rect",[[[],[["fill","red"],["x",5]]]]]
@@ -290,7 +348,10 @@ ROWS = [
     ("one of two versions is dropped", ONE_OF_TWO_DROPPED),
     ("two drop the same version", DROPPED_TWICE),
     ("two rooms in turn", IN_TURN),
-    ("a client leaves, and comes back to another room under a new site", TO_ANOTHER_ROOM),
+    ("a client leaves, and joins another room under a new site", TO_ANOTHER_ROOM),
+    ("clients come back as sites that nobody is in as", BACK),
+    ("clients that can't come back", NOT_BACK),
+    ("clients come back to two rooms", BACK_IN_TWO_ROOMS),
 ]
 
 

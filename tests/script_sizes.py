@@ -93,6 +93,21 @@ def longest_vector():
     same("the last replies", replies[-2:], [["taken", 512, [[]]], ["no", 513, 5, "room-full"]])
 
 
+def all_sites():
+    """Who comes back to a room that gave out its 256 sites is let in as any that nobody is in as."""
+    joins = [f'{site} ["join","r"]' for site in range(1, 257)]
+    asked = ['257 ["join","r"]', '257 ["back","r",256]', '256 ["leave"]', '257 ["back","r",256]',
+             '257 ["new",1,[],"rect",[]]', '256 ["back","r",256]', '7 ["leave"]', '256 ["back","r",7]',
+             '256 ["pull",256]']
+    replies = replies_to([*joins, *asked])
+    same("the last join", replies[255], ["joined", 255, 256])
+    same("the last replies", replies[256:], [
+        ["no", 256, 5, "room-full"], ["no", 256, 20, "site-in-use"], ["left", 256], ["back", 256, 256, 0],
+        ["made", 256, [256, 1]], ["no", 257, 20, "site-in-use"], ["left", 257], ["back", 257, 7, 0],
+        ["entries", 257, 256, [["new", [256, 1], [], "rect", []]]],
+    ])
+
+
 def longest_attributes():
     """A creation of the longest kind with 16 attributes, each of the longest key and text, in Latin and other
     letters; one byte or one attribute more is no request."""
@@ -118,7 +133,7 @@ def most_keys():
 
 
 def full_room():
-    """A room of 16,384 entries takes no more, and shows them and its 512 objects, 64 a page."""
+    """A room of 16,384 entries takes no more, and shows them and its 512 objects, 64 a page, also to who comes back."""
     lines = ['1 ["join","r"]', '1 ["new",1,[],"rect",[]]']
     lines += [f'1 ["new",{seq},[[1,{seq - 1}]],"rect",[]]' for seq in range(2, 514)]
     lines += [f'1 ["put",{seq},[[1,{seq - 1}]],[1,{seq % 512 + 1}],[],[["x",{seq}]]]' for seq in range(513, 16384)]
@@ -126,7 +141,13 @@ def full_room():
         '2 ["join","r"]', '1 ["new",16384,[[1,16383]],"rect",[]]', '1 ["put",16384,[[1,16383]],[1,1],[],[["x",1]]]',
         '1 ["show",[1,1]]', '1 ["list",511]', '1 ["pull",16384]', '1 ["list",100]', '1 ["pull",16000]',
     ]
-    replies = replies_to([*lines, *asked])
+    backs = ['2 ["back","r",2]', '2 ["back","r",1]', '1 ["leave"]', '2 ["back","r",1]', '2 ["pull",16384]']
+    replies = replies_to([*lines, *asked, *backs])
+    same("who comes back", replies[-5:], [
+        ["no", 16384, 19, "no-such-site"], ["no", 16384, 20, "site-in-use"], ["left", 16384],
+        ["back", 16384, 1, 16383], ["entries", 16384, 16384, []],
+    ])
+    del replies[-5:]
     same("the 513th creation", replies[513], ["no", 513, 16, "too-many-objects"])
     full = ["no", 16384, 6, "record-full"]
     same("the last replies", replies[-8:-2], [
@@ -142,6 +163,7 @@ TESTS = [
     ("32 versions", most_versions),
     ("32 versions and 1,024 puts", most_versions_and_sets),
     ("a vector of 256 sites", longest_vector),
+    ("a room with all its sites", all_sites),
     ("the longest attributes", longest_attributes),
     ("64 keys", most_keys),
     ("a full room", full_room),

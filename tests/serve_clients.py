@@ -9,16 +9,18 @@ from records import compact
 from serving import ROOT, Server, Wrong, free_address, same
 
 CLIENT = ROOT / "clients/python/grace_client.py"
-COMMANDS = "the commands are show, new KIND [KEY VALUE].., put OBJECT VERSION KEY VALUE.. and drop OBJECT VERSION"
+COMMANDS = (
+    "the commands are show, site, new KIND [KEY VALUE].., put OBJECT VERSION KEY VALUE.. and drop OBJECT VERSION"
+)
 
 
 class Terminal:
     """Somebody who draws from a terminal, and what the room told them."""
 
-    def __init__(self, server):
+    def __init__(self, server, *words):
         self.told = server.another().told
         self.process = subprocess.Popen(
-            [sys.executable, CLIENT, server.name, "r"],
+            [sys.executable, CLIENT, server.name, "r", *words],
             stdin=subprocess.PIPE, stdout=subprocess.PIPE, text=True,
         )
 
@@ -85,6 +87,41 @@ def two_terminals():
         server.finish()
 
 
+def comes_back():
+    """Who comes back as a site goes on with its numbers, and looks before she changes what was there."""
+    with Server(5, 5) as server:
+        first = Terminal(server)
+        first.types("new rect x 0")
+        first.types("site", "1")
+        second = Terminal(server)
+        second.types("show", "1 rect version 1 x=0")
+        second.types("put 1 1 x 9")
+        for terminal in second, first:
+            terminal.types("show", "1 rect version 1 x=9")
+        first.types("put 1 1 x 5")
+        first.ends()
+        third = Terminal(server, "--site", "1")
+        third.types("site", "1")
+        third.types("put 1 1 x 7", "there is no object 1")
+        third.types("new line")
+        third.types("show", "1 rect version 1 x=5", "2 line version 1")
+        third.types("put 1 1 x 7")
+        for site, refusal in (("1", "20 site-in-use: somebody is in"), ("3", "19 no-such-site: the room has let in no")):
+            server.another()
+            cannot_begin(1, f"refused: {refusal}", server.name, "r", "--site", site)
+        third.ends()
+        second.ends()
+        first.was_told(["join", "r"], ["joined", 0, 1])
+        first.was_told(["new", 1, [], "rect", [["x", 0]]], ["made", 1, [1, 1]])
+        second.was_told(["join", "r"], ["joined", 2, 2])
+        second.was_told(["put", 1, [[1, 1]], [1, 1], [], [["x", 9]]], ["taken", 3, [[]]])
+        first.was_told(["put", 2, [[1, 1], [2, 1]], [1, 1], [], [["x", 5]]], ["taken", 4, [[]]])
+        third.was_told(["back", "r", 1], ["back", 5, 1, 2])
+        third.was_told(["new", 3, [[1, 2], [2, 1]], "line", []], ["made", 5, [1, 3]])
+        third.was_told(["put", 4, [[1, 3], [2, 1]], [1, 1], [], [["x", 7]]], ["taken", 6, [[]]])
+        server.finish()
+
+
 def cannot_begin(status, line, *words):
     """The client ends with this status, and with this as its last line."""
     command = [sys.executable, CLIENT, *words]
@@ -140,6 +177,7 @@ def as_module():
 
 TESTS = [
     ("two clients in Python", two_terminals),
+    ("the client in Python comes back", comes_back),
     ("the client in Python as a module", as_module),
     ("the client in Python where nobody listens", nobody_there),
     ("the client in Python with a room that isn't there", no_room),

@@ -11,7 +11,7 @@ from answers import BAD_MESSAGE, must_answer
 from drawing import Drawer
 from frame_reader import LONGEST_MESSAGE
 from hostile_kinds import KINDS
-from hostile_session import WAIT, HostileSession
+from hostile_session import STREAM_FAULT, WAIT, HostileSession
 from records import compact, compare_record, entry_of, split_rooms, transcript_of
 from serve_crowds import Crowd
 from serving import Server, Wrong, same, verdict
@@ -23,6 +23,8 @@ ATTACKERS = 24
 # An honest client makes so many changes, spread over the hostile connections, and asks for something now and then.
 CHANGES = 120
 PAUSE = 0.15
+# How often an honest client comes back by another connection.
+BACKS = 5
 # Rooms that honest clients share with hostile sessions; those of hostile sessions, which are full soon, and of the
 # loud ones; rooms of honest clients alone; and the room of those who come at the end.
 Rooms = collections.namedtuple("Rooms", "shared hostile loud")
@@ -38,7 +40,10 @@ SAMPLE = 0.05
 FAULTS = 10
 # From so many connections on, hostile sessions must have been answered each of these.
 MANY = 2000
-HEARD = {"joined", "made", "taken", "bad-message", "not-joined", "no-such-room", "room-full"}
+HEARD = {
+    "joined", "back", "made", "taken", "left", "bad-message", "not-joined", "already-joined", "no-such-room",
+    "room-full", "no-such-site", "site-in-use",
+}
 
 
 class Progress:
@@ -70,15 +75,35 @@ class Progress:
 
 
 class Honest:
-    """A client that draws, and checks each reply by what it was told before."""
+    """A client that draws, and checks each reply by what it was told before. `test` makes its connections."""
 
-    def __init__(self, client, number, room):
-        self.client = client
+    def __init__(self, test, number, room):
+        self.test = test
+        self.connect()
         self.at = -1
         self.own = {}
-        client.socket.settimeout(WAIT)
         self.drawer = Drawer(self.ask, number)
         self.drawer.join(room)
+
+    def connect(self):
+        """Opens a connection."""
+        self.client = self.test.connect()
+        self.client.is_over = False
+        self.client.socket.settimeout(WAIT)
+        self.client.open()
+
+    def comes_back(self):
+        """Ends its connection, by a close or without a word, and comes back as its site by another one. It has made
+        what it was told, and nobody else has made anything as its site."""
+        room = self.client.told.room
+        if self.drawer.source.random() < 0.5:
+            self.client.close()
+        else:
+            self.test.causes[self.client.session] = {STREAM_FAULT}
+            self.client.say(["pull", 0])
+            self.client.hang_up()
+        self.connect()
+        same("the operations", self.drawer.comes_back(room, self.drawer.site), len(self.own) - 1)
 
     def ask(self, request):
         """The text of the reply, which may answer the request and tells of nothing that is past."""
@@ -106,7 +131,7 @@ class Honest:
         fill the room and its objects; and the questions that are made to be refused."""
         if request[1:2] in ([9999], [[256, 1]]):
             return {7, 11, 17}
-        return {"new": {16}, "put": {13, 15}, "drop": {13, 15}}.get(request[0], set())
+        return {"new": {16}, "put": {13, 15}, "drop": {13, 15}, "back": {20}}.get(request[0], set())
 
     def look_at_page(self, start, reply):
         """The page begins where it was asked to, and has the own changes and no others of the own site."""
@@ -120,7 +145,10 @@ class Honest:
         """Makes so many changes while the hostile connections go on, and asks for something between. Most of them
         are accepted."""
         accepted = 0
+        backs = [changes * time_ // (BACKS + 1) for time_ in range(1, BACKS + 1)]
         for turn in range(changes):
+            for _ in range(backs.count(turn)):
+                self.comes_back()
             self.looks_on(lambda: progress.done * changes < turn * progress.total, progress.is_over)
             accepted += self.drawer.does(self.drawer.next_operation())
         self.looks_on(lambda: True, progress.is_over)
@@ -143,7 +171,8 @@ class Hostile:
     def __init__(self, seed, connections):
         self.seed, self.connections = seed, connections
         rooms = [*APART, *sum(ROOMS, []), LAST]
-        sessions = WORKERS + DRAWERS + connections + WORKERS
+        self.honest = DRAWERS * (1 + BACKS)
+        sessions = WORKERS + self.honest + connections + WORKERS
         self.server = Server(sessions, WORKERS, rooms, idle=IDLE, patience=PATIENCE)
         self.progress = Progress(connections)
         self.connecting = threading.Lock()
@@ -189,7 +218,7 @@ class Hostile:
 
     # ---- the hostile connections, and who draws meanwhile
 
-    def connect(self, receive_buffer):
+    def connect(self, receive_buffer=None):
         """A further connection. They are numbered in the order in which they are made."""
         with self.connecting:
             client = self.server.connect(receive_buffer=receive_buffer)
@@ -201,7 +230,7 @@ class Hostile:
         crowd = Crowd()
         for number in range(DRAWERS):
             room = (ROOMS.shared + APART)[number % 4]
-            honest = Honest(self.server.client(), f"{self.seed} {number}", room)
+            honest = Honest(self, f"{self.seed} {number}", room)
             crowd.start(honest.draws, self.progress, max(1, min(CHANGES, self.connections // 10)))
         crowd.start(self.progress.sample, self.server)
         attackers = Crowd()
@@ -261,7 +290,7 @@ class Hostile:
 
     def all_at_once(self):
         """A client for each worker, all of which have asked before any reads its reply."""
-        before = WORKERS + DRAWERS + self.connections
+        before = WORKERS + self.honest + self.connections
         same("the connections before", len(self.server.clients), before)
         try:
             self.ask_at_once()
@@ -277,7 +306,7 @@ class Hostile:
         self.answered_at_once(clients, lambda client: ["new", 1, [], "rect", [["x", client.told.site]]], "made")
         self.answered_at_once(clients, lambda client: ["show", [client.told.site, 1]], "versions")
         for client in clients:
-            _, line = client.told.lines[-1]
+            _, line, _ = client.told.lines[-1]
             same("what is shown", json.loads(line)[2][4], [[[], [["x", client.told.site]]]])
             client.close()
 

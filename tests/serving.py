@@ -1,6 +1,7 @@
 """The program under test as a process, and its clients, which keep what they asked and were told. At its end
 all that the program printed is compared with that."""
 
+import json
 import os
 import pathlib
 import queue
@@ -135,6 +136,10 @@ class Client(Connection):
         self.say(request, opcode)
         return self.hear()
 
+    def reply_to(self, request):
+        """The reply to a request, as a value."""
+        return json.loads(self.ask(request))
+
     def asks(self, request, reply, opcode=TEXT):
         """Asks, and must be told this."""
         text = self.ask(request, opcode)
@@ -181,6 +186,11 @@ class OtherClient:
         self.told.asked(compact(["join", room]))
         self.told.answered(compact(["joined", at, site]))
 
+    def was_back(self, room, at, site, made):
+        """It comes back to a room as a site that made so many operations, and is told this."""
+        self.told.asked(compact(["back", room, site]))
+        self.told.answered(compact(["back", at, site, made]))
+
 
 # ---- the server
 
@@ -194,7 +204,7 @@ def pump(stream, lines):
 
 class Server:
     """`grace serve` on a free port, for so many sessions. After the last of them it has `patience` seconds to come
-    to its end."""
+    to its end, and the checker at least as many for each room."""
 
     def __init__(self, sessions=1, workers=4, rooms=("r",), idle=None, patience=SECONDS):
         self.sessions = sessions
@@ -291,7 +301,8 @@ class Server:
         for room, record in records.items():
             compare_record(room, record, told)
             if "check" in COMMANDS:
-                same(f"the verdict of room {room}", verdict(record, transcript_of(room, told)), (0, "holds\n"))
+                given = verdict(record, transcript_of(room, told), max(3 * SECONDS, self.patience))
+                same(f"the verdict of room {room}", given, (0, "holds\n"))
         return records
 
     def output(self):

@@ -13,7 +13,7 @@ import { exact, writeText } from "./json_text.js"
 
 /** What a room or an object takes at most. */
 export const LIMITS = Object.freeze({
-  entries: 16384, objects: 512, changes: 1024, keys: 64, versions: 32, attributes: 16, messageBytes: 16384,
+  sites: 256, entries: 16384, objects: 512, changes: 1024, keys: 64, versions: 32, attributes: 16, messageBytes: 16384,
 })
 
 const LEAST = -(2n ** 63n)
@@ -41,12 +41,14 @@ const WORDS = {
   "too-many-objects": "The room has as many objects as it may have.",
   "too-far": "The room has less in it than this client has seen. It is a new one.",
   "gone": "Somebody deleted this version. Choose another one.",
+  "no-such-site": "The room doesn't know the site that this client was. It is a new one.",
+  "site-in-use": "Somebody is in the room as the site that this client was.",
   "closed": "The room was closed before the server had the change.",
   "withdrawn": "The change was built on one that the server refused.",
-  "another-room": "The server was started anew, and the room is empty or another one. The change is lost.",
+  "another-room": "The room was begun anew, and the change isn't in it.",
   "too-long": "The change is too long for one message.",
 }
-const CODES = Object.keys(WORDS).slice(0, 18)
+const CODES = Object.keys(WORDS).slice(0, 20)
 
 /** A change or a join that the server or this library refused. It changed nothing. */
 export class Refused extends Error {

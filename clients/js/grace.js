@@ -14,7 +14,8 @@
  *
  * Values are texts, and whole numbers of 64 bits: a `Number` where that is exact (up to 2^53 - 1 either way), else a
  * `BigInt`. An object takes 1,024 changes with 64 keys, and has at most 32 versions; `LIMITS` has these and the others.
- * Each connection uses up one of the 256 sites of a room for good, also when the library comes back after a lost one.
+ * Who joins a room uses up one of its 256 sites for good. After a lost connection the library comes back as the site
+ * that it was, and with the option `storage` a page that is loaded anew does.
  */
 
 import { Connection, Lost } from "./connection.js"
@@ -24,6 +25,7 @@ import {
   requestOf,
 } from "./forms.js"
 import { readText, writeText } from "./json_text.js"
+import { Kept } from "./kept.js"
 
 export { Drawing, LIMITS, Lost, ProtocolFault, Refused, Version, entryOf, isSameId, operationOf, readText, writeText }
 
@@ -39,26 +41,38 @@ export { Drawing, LIMITS, Lost, ProtocolFault, Refused, Version, entryOf, isSame
  *   does. Where it isn't given, the global `WebSocket` is taken, which browsers have, and node from version 22 on
  * @property {number} [pollMilliseconds] how long to wait before asking for news again: 300
  * @property {number} [replyMilliseconds] after how long without a reply a connection counts as lost: 15,000
- * @property {number} [settleMilliseconds] how long a change on the way may take to reach the server, after the
- *   connection that it was sent on was lost: 250
+ * @property {number} [backMilliseconds] how long to try to come back as the old site where its old session isn't over
+ *   yet: 5,000. Then the client joins as a new one
  * @property {number[]} [retryMilliseconds] the waits before the first, second, .. try to connect again; the last
  *   stands for all others
+ * @property {boolean | import("./kept.js").Storage} [storage] where to keep the site, the record and the changes that
+ *   aren't answered, by server and room, so that a page that is loaded anew goes on as its old site: true for the
+ *   browser's `sessionStorage`, which each tab has of its own, or another storage that does as that does. No two
+ *   clients may use one at a time for the same room. Otherwise nothing is kept
  */
 
 const DEFAULTS = {
   connect: (address) => new WebSocket(address),
   pollMilliseconds: 300,
   replyMilliseconds: 15000,
-  settleMilliseconds: 250,
+  backMilliseconds: 5000,
   retryMilliseconds: [100, 500, 1000, 2000, 5000],
+  storage: false,
 }
 
 const NO_WEB_SOCKET = "There is no global WebSocket here. Hand in the option connect, as in " +
   "new Room(address, name, { connect: (address) => new WebSocket(address) }) with the WebSocket of a library."
 
-// A connection that stood for so long begins the waits for the next one from the first. Each connection that joins
-// uses up a site of the room, so one that breaks again and again must not be tried too often.
+const RENEWED = "The room was begun anew: what you had of it isn't in it any more. It can be kept as a text."
+const STILL_IN = "The room still has the connection before this one. Trying again."
+const NO_WAY_IN = "You can't come back as the site that you were now, and the room is too full for a new one."
+
+// A connection that stood for so long begins the waits for the next one from the first: one that breaks again and again
+// must not be tried too often.
 const STEADY_MILLISECONDS = 5000
+
+// Between two tries to come back as a site that somebody is in as.
+const BACK_AGAIN_MILLISECONDS = 100
 
 /** A change of this client: a new object, a put, or a drop. */
 export class Change {
@@ -67,7 +81,7 @@ export class Change {
 
   constructor(operation) {
     this.#operation = operation
-    /** Whether it was sent. What was sent and not answered is looked up in the record before it is sent again. */
+    /** Whether it was sent. After a lost connection it is looked up, and sent again where it wasn't taken. */
     this.isSent = false
     /**
      * Fulfilled once the server took it. Rejected with `Refused` where it was refused, or withdrawn with one that it
@@ -78,7 +92,7 @@ export class Change {
     this.done.catch(() => {})
   }
 
-  /** The operation as it is to be sent, or was. After a lost connection it may get another name. @type {Operation} */
+  /** The operation as it is to be sent, or was. As another site's it gets another name. @type {Operation} */
   get operation() {
     return this.#operation
   }
@@ -113,12 +127,16 @@ export class Change {
  *   operations of this client that got another name, a list of `[old, new]`.
  * - `state`, with `{ state, words }`: the connection.
  * - `refusal`, with `{ refusal, change }`: a change was refused, and what it did is taken back.
+ * - `renewed`, with `{ words, text }`: the server was started anew, and has another room of this name. What this client
+ *   had of the old one is shown no more; `text` has it, a line for each entry of its record and then for each change
+ *   that wasn't answered.
  */
 export class Room {
   #address
   #name
   #options
-  #listeners = { change: new Set(), state: new Set(), refusal: new Set() }
+  #kept
+  #listeners = { change: new Set(), state: new Set(), refusal: new Set(), renewed: new Set() }
   #state = "connecting"
   #words = "Connecting."
   #site = null
@@ -127,8 +145,12 @@ export class Room {
   // How many entries of the record are shown, and how many the server has at least.
   #shown = 0
   #length = 0
+  // Whether it isn't certain yet which site this client is: nothing is shown meanwhile.
+  #isEntering = false
   #order = new Map()
   #pending = []
+  // Own changes that the server took, and that the record doesn't have yet as far as it was pulled.
+  #taken = []
   // The names under which operations of own earlier sites were sent in the end, by the codes of their first names.
   #sentAs = new Map()
   #holds = 0
@@ -150,8 +172,13 @@ export class Room {
     this.#address = address
     this.#name = name
     this.#options = { ...DEFAULTS, ...options }
+    this.#kept = new Kept(storageOf(this.#options.storage), address, name)
+    this.#goOn()
     // After this turn, so that listeners can be set before.
-    Promise.resolve().then(() => this.#run())
+    Promise.resolve().then(() => {
+      if (this.#drawing.names().length > 0) this.#tellChange(this.#drawing.names().map(codeOf))
+      this.#run()
+    })
   }
 
   // ---- looking
@@ -166,7 +193,7 @@ export class Room {
     return this.#words
   }
 
-  /** The site that this client is in the room, null before it is in; another one after each lost connection. */
+  /** The site that this client is in the room, null before it is in; another one where it can't come back as that. */
   get site() {
     return this.#site
   }
@@ -227,7 +254,7 @@ export class Room {
 
   /**
    * Calls a listener from now on.
-   * @param {"change" | "state" | "refusal"} event @param {(news: any) => void} listener
+   * @param {"change" | "state" | "refusal" | "renewed"} event @param {(news: any) => void} listener
    * @returns {() => void} ends it
    */
   on(event, listener) {
@@ -307,7 +334,10 @@ export class Room {
     return new Promise((resolve) => this.#settled.push(resolve))
   }
 
-  /** Closes the connection for good. Changes that the server hasn't answered are given up: await `settled` before. */
+  /**
+   * Closes the connection for good. Changes that the server hasn't answered are given up: await `settled` before. Where
+   * there is a storage they are kept, and the next `Room` that goes on from there sends them.
+   */
   close() {
     this.#end("The room was closed.")
   }
@@ -343,6 +373,7 @@ export class Room {
     const change = new Change(operation)
     this.#draw(change, operation)
     this.#pending.push(change)
+    this.#keepChanges()
     if (this.#state === "open") this.#wake()
     this.#tellChange([codeOf(operation.object)])
     return change
@@ -402,8 +433,12 @@ export class Room {
         await this.#serve().finally(() => (tries = Date.now() - start < STEADY_MILLISECONDS ? tries : 0))
       } catch (fault) {
         this.#connection?.close()
-        if (!(fault instanceof Lost)) return this.#end(fault.message)
         if (this.#isClosing) return
+        if (!(fault instanceof Lost)) {
+          // With what is kept the next client would meet the same fault.
+          if (fault.word !== "no-such-room") this.#kept.clear()
+          return this.#end(fault.message)
+        }
         this.#become("waiting", `${fault.message} Trying again.`)
         const { retryMilliseconds } = this.#options
         await this.#rest(retryMilliseconds[Math.min(tries++, retryMilliseconds.length - 1)], null)
@@ -411,18 +446,69 @@ export class Room {
     }
   }
 
-  /** Connects, joins, and learns what the record has more, and of the changes that were on the way. */
+  /** Connects, comes in, and learns what the record has more, and of the changes that were on the way. */
   async #connect() {
     this.#become("connecting", "Connecting.")
     this.#connection = new Connection(this.#options.connect(this.#address), this.#options.replyMilliseconds)
     await this.#connection.opened()
-    const [, at, site] = await this.#ask(["join", this.#name], "joined")
+    this.#isEntering = true
+    if (!(await this.#comeBack())) await this.#join()
+    this.#isEntering = false
+    this.#show()
+    this.#become("open", `In the room as site ${this.#site}.`)
+  }
+
+  /** Comes back as the site that this client was: whether it is that again, with all that the site has made. */
+  async #comeBack() {
+    const back = this.#site === null ? null : await this.#askBack()
+    if (back === null) return false
+    const [, at, , made] = back
+    this.#length = at
+    const hasRecord = this.#record.length > 0
+    if (await this.#isRenewed(at)) this.#renew()
+    else {
+      while (this.#record.length < this.#length) await this.#pull()
+      const next = this.#pending[0]?.name[1] ?? this.#drawing.count(this.#site) + 1
+      // Otherwise somebody else was in as this site meanwhile, and made what this client hasn't seen.
+      if (!hasRecord || next === made + 1) return true
+    }
+    await this.#ask(["leave"], "left")
+    return false
+  }
+
+  /** The room's answer to who comes back, or null where it lets nobody in as the old site. */
+  async #askBack() {
+    const end = Date.now() + this.#options.backMilliseconds
+    for (;;) {
+      try {
+        return await this.#ask(["back", this.#name, this.#site], "back")
+      } catch (fault) {
+        if (fault.word === "no-such-site") this.#renew()
+        else if (fault.word !== "site-in-use") throw fault
+        if (this.#site === null || Date.now() >= end) return null
+      }
+      if (this.#words !== STILL_IN) this.#become("connecting", STILL_IN)
+      await this.#rest(BACK_AGAIN_MILLISECONDS, this.#connection)
+    }
+  }
+
+  /** Joins as a new site. */
+  async #join() {
+    const [, at, site] = await this.#askJoin()
     this.#length = at + 1
-    if (this.#pending[0]?.isSent) await this.#rest(this.#options.settleMilliseconds, this.#connection)
-    await this.#compare()
+    if (await this.#isRenewed(at)) this.#renew()
     while (this.#record.length < this.#length) await this.#pull()
     this.#enter(site)
-    this.#become("open", `In the room as site ${site}.`)
+  }
+
+  /** The room's answer to a join. Where the room is full, who was in as a site can only wait for that. */
+  async #askJoin() {
+    try {
+      return await this.#ask(["join", this.#name], "joined")
+    } catch (fault) {
+      const isFull = fault.word === "room-full" || fault.word === "record-full"
+      throw isFull && this.#site !== null ? new Lost(NO_WAY_IN) : fault
+    }
   }
 
   /** Answers what there is to do until the connection is lost. */
@@ -468,7 +554,10 @@ export class Room {
       const [, at] = await this.#ask(requestOf(operation), operation.word === "new" ? "made" : "taken")
       this.#length = Math.max(this.#length, at + 1)
       if (at === this.#record.length) this.#take([entryOf(operation)])
-      else this.#accept(operation.name)
+      else if (!this.#isClosing) {
+        this.#taken.push(change)
+        this.#settleFirst()
+      }
     } catch (fault) {
       if (!(fault instanceof Refused) || this.#isClosing) throw fault
       this.#takeBack(change, fault)
@@ -489,55 +578,114 @@ export class Room {
   }
 
   /**
-   * Looks whether the server still has the record that was pulled: a server that was started anew has another one.
-   * The last operation tells, since it says who had seen what.
+   * Whether the server has another record than the one that was pulled, as one that was started anew has. The last
+   * operation tells, since it says who had seen what.
+   * @param {number} at how many entries there were when this client came in
    */
-  async #compare() {
-    if (this.#record.length === 0) return
-    if (this.#length <= this.#record.length) return this.#forget()
+  async #isRenewed(at) {
+    if (at < this.#record.length) return true
+    if (this.#record.length === 0) return false
     const last = Math.max(0, this.#record.findLastIndex(([word]) => word !== "join"))
     const held = this.#record.slice(last)
     const page = await this.#page(last)
-    const isSame = (entry, place) => place >= held.length || writeText(entry) === writeText(held[place])
-    if (!page.every(isSame)) this.#forget()
+    return page.some((entry, place) => place < held.length && writeText(entry) !== writeText(held[place]))
   }
 
-  /** Drops all that is held of a room that is no more. */
-  #forget() {
-    const gone = this.#drawing.names().map(codeOf)
-    const pending = this.#pending.splice(0)
-    this.#record = []
-    this.#shown = 0
-    this.#order.clear()
-    this.#sentAs.clear()
-    this.#drawing = new Drawing()
+  /** Drops all that is held of a room that is no more, and tells it. */
+  #renew() {
+    const entries = [...this.#record, ...this.#ownBehindRecord()]
+    const pending = this.#pending
+    const gone = this.#dropAll()
     this.#tellChange(gone)
+    this.#tell("renewed", { words: RENEWED, text: entries.map((entry) => `${writeText(entry)}\n`).join("") })
     this.#giveUp(pending, new Refused("another-room"))
     this.#tellSettled()
   }
 
+  /** Holds nothing of a room any more, and keeps nothing: the objects that were shown. */
+  #dropAll() {
+    const gone = this.#drawing.names().map(codeOf)
+    this.#site = null
+    this.#record = []
+    this.#pending = []
+    this.#taken = []
+    this.#shown = 0
+    this.#length = 0
+    this.#order.clear()
+    this.#sentAs.clear()
+    this.#drawing = new Drawing()
+    this.#kept.clear()
+    return gone
+  }
+
+  /** Goes on from what a client before this one kept, if there is something. */
+  #goOn() {
+    try {
+      const kept = this.#kept.read()
+      if (kept === null) return this.#kept.clear()
+      this.#site = kept.site
+      this.#record = kept.record
+      this.#show()
+      for (const operation of kept.changes.map(operationOf)) {
+        const [site, number] = operation.name
+        if (site !== this.#site) throw new ProtocolFault("a change of another site is kept")
+        // It came into the record after it was kept.
+        if (number <= this.#drawing.count(site)) continue
+        const change = new Change(operation)
+        this.#draw(change, operation)
+        change.isSent = true
+        this.#pending.push(change)
+      }
+    } catch {
+      // It is damaged: then nothing is kept.
+      this.#dropAll()
+    }
+  }
+
+  /** The entries of own changes that the record doesn't have, as far as it was pulled. */
+  #ownBehindRecord() {
+    return [...this.#taken, ...this.#pending].map(({ operation }) => entryOf(operation))
+  }
+
+  #keepChanges() {
+    this.#kept.keepChanges(this.#ownBehindRecord())
+  }
+
   /** Takes the next entries of the record, and shows them where nothing holds them back. */
   #take(entries) {
+    // Who goes on from what is kept may write there now.
+    if (this.#isClosing) return
+    const from = this.#record.length
     for (const entry of entries) {
       const operation = operationOf(entry)
       this.#record.push(entry)
-      if (operation !== null) this.#accept(operation.name)
+      if (operation !== null) this.#accept(entryOf(operation))
     }
+    this.#kept.keepRecord(this.#record, from)
     this.#show()
   }
 
-  /** A change that the server has: nothing more is to be done for it. */
-  #accept(name) {
-    const [first] = this.#pending
-    if (first === undefined || !first.isSent || codeOf(first.name) !== codeOf(name)) return
-    this.#pending.shift()
+  /** The record has this entry: where it is the next own change, nothing more is to be done for that. */
+  #accept(entry) {
+    const isIt = (change) => change !== undefined && writeText(entryOf(change.operation)) === writeText(entry)
+    if (isIt(this.#pending[0])) this.#settleFirst()
+    else if (isIt(this.#taken[0])) {
+      this.#taken.shift()
+      this.#keepChanges()
+    }
+  }
+
+  /** The server has the first change that wasn't answered. */
+  #settleFirst() {
+    const first = this.#pending.shift()
+    this.#keepChanges()
     first.resolve()
     this.#tellSettled()
   }
 
   /** Shows the record as far as it was pulled, unless there is a hold. */
   #show() {
-    if (this.#holds > 0 || !this.hasNews) return
+    if (this.#isEntering || this.#holds > 0 || !this.hasNews) return
     const changed = []
     for (; this.#shown < this.#record.length; this.#shown++) {
       const operation = operationOf(this.#record[this.#shown])
@@ -556,8 +704,8 @@ export class Room {
     const [first] = this.#pending
     const old = this.#site
     this.#site = site
+    this.#kept.keepSite(site)
     if (first !== undefined) this.#rename(old, first.name[1], this.#pending)
-    this.#show()
   }
 
   /** Takes back a refused change, and those behind it that were built on it. */
@@ -589,6 +737,7 @@ export class Room {
       this.#draw(change, renamed(old, names, site, first - 1))
       changed.push(codeOf(change.object))
     }
+    this.#keepChanges()
     this.#tellChange(changed, [...names].map(([code, name]) => [nameOf(code), name]))
   }
 
@@ -619,4 +768,15 @@ function renamed(operation, names, site, taken) {
   const seen = [...counts].filter(([, count]) => count > 0).sort(([one], [other]) => one - other)
   const version = operation.version && idOf(operation.version.map((old) => codeOf(anew(old))))
   return { ...operation, name, seen, object: anew(operation.object), version }
+}
+
+/** The storage that the option names, or null. @param {Options["storage"]} option */
+function storageOf(option) {
+  if (option !== true) return option || null
+  try {
+    return globalThis.sessionStorage ?? null
+  } catch {
+    // The browser lets the page have none.
+    return null
+  }
 }

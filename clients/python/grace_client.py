@@ -1,13 +1,15 @@
 #!/usr/bin/env python3
-"""Draws in a room from a terminal: grace_client.py ADDRESS ROOM. Lines of standard input:
+"""Draws in a room from a terminal: grace_client.py ADDRESS ROOM [--site SITE]. Lines of standard input:
 
     show                             looks at the room, and prints each version of each object
+    site                             prints the site that this client is
     new KIND [KEY VALUE]..           creates an object
     put OBJECT VERSION KEY VALUE..   gives a version of an object these attributes, in one step
     drop OBJECT VERSION              deletes a version of an object
 
-OBJECT and VERSION count from 1, as the last show did. A VALUE is a whole number where it reads as one, otherwise a text. At the end of its
-input it closes the session; it ends with status 1 where the server or the room can't be had. As a module it offers
+OBJECT and VERSION count from 1, as the last show did. A VALUE is a whole number where it reads as one, otherwise a
+text. With --site it comes back as a site that it was before, otherwise it joins as a new one. At the end of its input
+it closes the session; it ends with status 1 where the server, the room or the site can't be had. As a module it offers
 `Connection` and `Room`. Needs Python's standard library alone."""
 
 import argparse
@@ -19,6 +21,11 @@ import struct
 import sys
 
 TEXT, CLOSE = 1, 8
+# What two refusals tell a person.
+WORDS = {
+    19: "the room has let in no such site; if you were it, the room was begun anew",
+    20: "somebody is in the room as this site, perhaps your own old session; try again once that is over",
+}
 
 
 class Connection:
@@ -85,30 +92,42 @@ class Mistake(Exception):
 class Room:
     """A room as one site sees it: the front of its record that was looked at, and its objects then."""
 
-    def __init__(self, connection, name):
+    def __init__(self, connection, name, site=None):
+        """Joins the room of this name as a new site, or comes back as this one."""
         self.connection = connection
-        self.site = self.ask(["join", name])[2]
-        self.seq = 0
         self.record = []
         self.objects = []
+        if site is None:
+            self.site, self.seq = self.ask(["join", name])[2], 0
+        else:
+            _, _, self.site, self.seq = self.ask(["back", name, site])
+            # A next operation counts all that the site's own ones counted.
+            self.pull()
 
     def ask(self, request):
         """The reply to a request that was not refused."""
         reply = self.connection.ask(request)
         if reply[0] == "no":
-            raise Refused(f"{reply[2]} {reply[3]}")
+            words = f": {WORDS[reply[2]]}" if reply[2] in WORDS else ""
+            raise Refused(f"{reply[2]} {reply[3]}{words}")
         return reply
+
+    def pull(self):
+        """Pulls what the record has more."""
+        at = None
+        while at != len(self.record):
+            _, at, _, entries = self.ask(["pull", len(self.record)])
+            self.record += entries
 
     def look(self):
         """Looks at all objects. What the record has then counts as seen; it does not change while a person
         chooses a version."""
         ats = None
         while ats != {len(self.record)}:
-            _, at, _, entries = self.ask(["pull", len(self.record)])
-            self.record += entries
+            self.pull()
             names = [entry[1] for entry in self.record if entry[0] == "new"]
             replies = [self.ask(["show", name]) for name in names]
-            ats = {at, *(reply[1] for reply in replies)}
+            ats = {len(self.record), *(reply[1] for reply in replies)}
         self.objects = [reply[2:] for reply in replies]
 
     def seen(self):
@@ -186,6 +205,8 @@ def carry_out(room, words):
     match words:
         case ["show"]:
             room.show()
+        case ["site"]:
+            print(room.site)
         case ["new", kind, *pairs]:
             room.new(kind, attributes_of(pairs))
         case ["put", number, version, _, *_]:
@@ -193,7 +214,8 @@ def carry_out(room, words):
         case ["drop", number, version]:
             room.drop(number_of(number), number_of(version))
         case _:
-            raise Mistake("the commands are show, new KIND [KEY VALUE].., put OBJECT VERSION KEY VALUE.. and drop OBJECT VERSION")
+            raise Mistake("the commands are show, site, new KIND [KEY VALUE].., put OBJECT VERSION KEY VALUE.. and "
+                          "drop OBJECT VERSION")
 
 
 def draw(room):
@@ -208,10 +230,11 @@ def draw(room):
         sys.stdout.flush()
 
 
-def run(connection, name):
-    """Draws in the room of this name, and closes the session: None, or why the room can't be had."""
+def run(connection, name, site):
+    """Draws in the room of this name, as a new site or as this one, and closes the session: None, or why the room
+    can't be had."""
     try:
-        draw(Room(connection, name))
+        draw(Room(connection, name, site))
         return None
     except Refused as refusal:
         return f"grace_client.py: refused: {refusal}"
@@ -231,9 +254,10 @@ def main():
     parser = argparse.ArgumentParser(description="Draws in a room from a terminal, by lines of standard input.")
     parser.add_argument("address", metavar="ADDRESS", type=address_of, help="of the server, as 127.0.0.1:7000")
     parser.add_argument("room", metavar="ROOM", help="the name of the room")
+    parser.add_argument("--site", type=int, help="the site to come back as, from 1 to 256; otherwise a new one")
     words = parser.parse_args()
     try:
-        sys.exit(run(Connection(*words.address), words.room))
+        sys.exit(run(Connection(*words.address), words.room, words.site))
     except OSError as fault:
         sys.exit(f"grace_client.py: {fault}")
 

@@ -1,6 +1,6 @@
 /**
  * A whiteboard for several people on a GRACE room. The page's address names the server and the room:
- * `?server=ws://localhost:7000/&room=drawing`.
+ * `?server=ws://localhost:7000/&room=drawing`. A page that is loaded anew goes on as the site that it was.
  */
 
 import { LIMITS, Refused, Room } from "../../clients/js/grace.js"
@@ -31,8 +31,22 @@ function say(words) {
   setTimeout(() => line.remove(), WORDS_MILLISECONDS)
 }
 
+/** Tells that the room was begun anew, and offers what the page had of it as a file, until the person closes that. */
+function tellRenewed({ words, text }) {
+  const href = URL.createObjectURL(new Blob([text], { type: "text/plain" }))
+  const keep = html("a", { href, download: `${roomName}.record`, textContent: "Save the old drawing's record" })
+  const notice = html("section", { className: "notice" }, html("p", { textContent: words }))
+  const close = () => {
+    notice.remove()
+    URL.revokeObjectURL(href)
+  }
+  const button = html("button", { type: "button", textContent: "Close", onclick: close })
+  notice.append(html("div", { className: "actions" }, keep, button))
+  part("renewed").append(notice)
+}
+
 function start() {
-  const room = new Room(query.get("server") ?? `ws://${location.hostname}:7000/`, roomName)
+  const room = new Room(query.get("server") ?? `ws://${location.hostname}:7000/`, roomName, { storage: true })
   const board = new Board(room, part("board"))
   const page = pageOf(room, board)
   page.panel = new Panel(board, part("panel"), page)
@@ -44,6 +58,7 @@ function start() {
   })
   room.on("state", page.tellState)
   room.on("refusal", ({ refusal }) => say(refusal.message))
+  room.on("renewed", tellRenewed)
   addEventListener("beforeunload", (event) => room.pending.length > 0 && event.preventDefault())
   addEventListener("pagehide", () => room.close())
   makeTools(page)

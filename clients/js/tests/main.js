@@ -6,6 +6,7 @@ import { TESTS as rows } from "./rows.js"
 import { TESTS as histories } from "./random_histories.js"
 import { TESTS as rooms } from "./rooms.js"
 import { TESTS as reconnecting } from "./reconnecting.js"
+import { TESTS as loading } from "./loading_anew.js"
 
 // No test may take longer, whatever it waits for. The histories may: a slow program has much to do there.
 const SECONDS = 180
@@ -25,7 +26,7 @@ build()
 const words = process.argv.slice(2)
 let passed = 0
 let failed = 0
-for (const [name, test] of [...rows, ...numbers, ...histories, ...rooms, ...reconnecting]) {
+for (const [name, test] of [...rows, ...numbers, ...histories, ...rooms, ...reconnecting, ...loading]) {
   if (words.length > 0 && !words.some((word) => name.includes(word))) continue
   const start = performance.now()
   const seconds = () => `${((performance.now() - start) / 1000).toFixed(1)} s`

@@ -1,8 +1,10 @@
 /** The program under test: the one that the variable GRACE names, or the repository's own. */
 
 import { spawn, spawnSync } from "node:child_process"
+import { mkdtempSync, rmSync, writeFileSync } from "node:fs"
 import { createServer } from "node:net"
-import { resolve } from "node:path"
+import { tmpdir } from "node:os"
+import { join, resolve } from "node:path"
 import { fileURLToPath } from "node:url"
 
 const ROOT = fileURLToPath(new URL("../../..", import.meta.url))
@@ -40,6 +42,18 @@ export function script(rooms, lines) {
     })
     program.stdin.end(lines.map((line) => `${line}\n`).join(""))
   })
+}
+
+/** What `grace check` says of a record's text. */
+export function verdictOf(record) {
+  const folder = mkdtempSync(join(tmpdir(), "record-"))
+  try {
+    const file = join(folder, "record")
+    writeFileSync(file, record)
+    return spawnSync(PROGRAM, ["check", file, "/dev/null"], { encoding: "utf8" }).stdout.trim()
+  } finally {
+    rmSync(folder, { recursive: true })
+  }
 }
 
 /** `grace serve` on a free port, in the room `r`. It is ended by `end`. */

@@ -70,7 +70,7 @@ function textOf(whole, { payload }) {
   return Buffer.from(payload.map((byte, place) => byte ^ key[place % 4])).toString()
 }
 
-/** A proxy on a port of its own. */
+/** A proxy on a port of its own. New connections go to the server at `port`. */
 export class Proxy {
   /** What is to be done with a message, by its text: one of the words above. */
   whatToDo = () => PASS
@@ -79,8 +79,9 @@ export class Proxy {
 
   static async start(port) {
     const proxy = new Proxy()
+    proxy.port = port
     proxy.server = createServer({ noDelay: true }, (client) => {
-      const pair = new Pair(client, port, (text) => proxy.#decide(text))
+      const pair = new Pair(client, proxy.port, (text) => proxy.#decide(text))
       proxy.#pairs.add(pair)
       client.on("close", () => proxy.#pairs.delete(pair))
     })

@@ -1,19 +1,19 @@
 /** Lost connections: no change is lost, and none is made twice. */
 
 import { comes, holds, numbersFrom, same } from "./checks.js"
-import { Server } from "./program.js"
+import { Server, verdictOf } from "./program.js"
 import { CUT_AFTER, CUT_BEFORE, CUT_LATE, PASS, Proxy } from "./proxy.js"
 import { agree, enter, shown } from "./rooms.js"
 
 /** Runs a test with a server, a proxy before it, a client through the proxy and one past it. */
-function cut(test) {
+export function cut(test) {
   return async () => {
     const server = await Server.start()
     const proxy = await Proxy.start(server.port)
     const rooms = []
     try {
       for (const address of [proxy.address, server.address]) {
-        rooms.push(await enter(address, { settleMilliseconds: 500 }))
+        rooms.push(await enter(address))
       }
       return await test(proxy, ...rooms, server)
     } finally {
@@ -24,16 +24,17 @@ function cut(test) {
   }
 }
 
-const operations = ({ record }) => record.filter(([word]) => word !== "join")
+export const operations = ({ record }) => record.filter(([word]) => word !== "join")
+export const sitesOf = ({ record }) => record.filter(([word]) => word === "join").map(([, site]) => site)
 
-/** Each request in turn is cut off, before or after it reached the server. */
+/** Each request in turn is cut off, before or after it reached the server. The client stays the same site. */
 const cutOnce = (what) => async (proxy, room, other) => {
   proxy.cutOnce('["new"', what)
   const made = room.create("rect", { x: 0 })
   await made.done
   await comes("it is back", () => room.state === "open")
-  same("the site", room.site, 3)
-  same("the object's name", made.name, [what === CUT_AFTER ? 1 : 3, 1])
+  same("the site", room.site, 1)
+  same("the object's name", made.name, [1, 1])
   proxy.cutOnce('["put"', what)
   const put = room.put(made.name, [], { x: 5, y: 7 })
   const behind = room.set(made.name, put.version, "fill", "red")
@@ -46,9 +47,9 @@ const cutOnce = (what) => async (proxy, room, other) => {
   same("the dropped one", room.versions(line.name).map(({ isGone }) => isGone), [true])
   proxy.cutOnce('["pull"', what)
   await comes("a pull was cut", () => proxy.cuts === 4)
-  proxy.cutOnce('["join"', what)
+  proxy.cutOnce('["back"', what)
   proxy.cut()
-  await comes("a join was cut", () => proxy.cuts === 5)
+  await comes("a coming back was cut", () => proxy.cuts === 5)
   await comes("it is back", () => room.state === "open")
   room.set(made.name, [], "x", 6)
   await agree(room, other)
@@ -59,17 +60,26 @@ const cutOnce = (what) => async (proxy, room, other) => {
   const one = [[[], [["fill", "red"], ["x", 6], ["y", 7]]]]
   same("what both show", [shown(room, made.name), shown(other, made.name)], [one, one])
   same("the refusals", room.refused, [])
+  same("the sites", sitesOf(other), [1, 2])
   return `the record: ${other.record.length} entries, 5 cuts`
 }
 
-/** A change that was still on its way when its connection was lost is waited for. */
+/** A join whose reply is lost has used up a site that nobody knows; one that didn't come hasn't. */
+const joinCut = (what) => async (proxy) => {
+  proxy.cutOnce('["join"', what)
+  const late = await enter(proxy.address)
+  same("the site", late.site, what === CUT_AFTER ? 4 : 3)
+  late.close()
+}
+
+/** A change that was still on its way when its connection was lost is waited for: its session isn't over before. */
 async function onItsWay(proxy, room, other) {
   proxy.cutOnce('["new"', CUT_LATE)
   const made = room.create("rect")
   await made.done
   await agree(room, other)
   same("the object", [made.name, operations(other).length], [[1, 1], 1])
-  same("the site", room.site, 3)
+  same("the site", [room.site, sitesOf(other)], [1, [1, 2]])
 }
 
 /** What is drawn while there is no connection is sent when there is one again; what others did then conflicts. */
@@ -89,12 +99,11 @@ async function drawnApart(proxy, room, other) {
   room.on("change", (news) => news.renamed.forEach(([old, name]) => renamed.set(`${old}`, `${name}`)))
   proxy.whatToDo = () => PASS
   await agree(room, other)
-  const site = room.site
-  same("the new names", [...renamed], [["1,2", `${site},1`], ["1,3", `${site},2`], ["1,4", `${site},3`]])
-  const two = [[[[2, 1]], [["x", 9]]], [[put.name], [["x", 5]]]]
+  same("the names", [[...renamed], put.name, second.name], [[], [1, 2], [1, 3]])
+  const two = [[[[1, 2]], [["x", 5]]], [[[2, 1]], [["x", 9]]]]
   same("what both show", [shown(room, made.name), shown(other, made.name)], [two, two])
   same("what became of the version", room.successors(made.name, looked).map(({ id }) => id), [[put.name]])
-  same("the objects", [room.objects(), other.objects()], Array(2).fill([[1, 1], [site, 2]]))
+  same("the objects", [room.objects(), other.objects()], Array(2).fill([[1, 1], [1, 3]]))
   same("the second", shown(other, second.name), [[[], [["y", 1]]]])
 }
 
@@ -132,6 +141,7 @@ async function byChance(proxy, room, other, server) {
   const values = changes.filter(([word]) => word !== "drop").map((entry) => entry.at(-1)[0][1])
   same("the values, each once", [...values].sort((one, next) => one - next), wanted)
   same("the drops", dropped.length, drops)
+  same("the sites", sitesOf(other), [1, 2])
   const late = await enter(server.address)
   for (const object of other.objects()) {
     same(`object ${object}`, [shown(room, object), shown(late, object)], Array(2).fill(shown(other, object)))
@@ -142,8 +152,10 @@ async function byChance(proxy, room, other, server) {
   return `${wanted.length} values, ${drops} drops, ${proxy.cuts} cuts, ${other.record.length} entries`
 }
 
-/** A server that was started anew has another room: what is held of the old one is dropped, and that is told. */
+/** A server that was started anew has another room: what is held of the old one is dropped, and told with its text. */
 async function anotherRoom(proxy, room, other, server) {
+  const told = []
+  room.on("renewed", (news) => told.push(news))
   const made = room.create("rect")
   await agree(room, other)
   other.close()
@@ -154,17 +166,49 @@ async function anotherRoom(proxy, room, other, server) {
   await comes("the refusal", () => room.refused.length > 0)
   await comes("it is back", () => room.state === "open")
   same("the refusal", [room.refused, await lost.done.catch(({ word }) => word)], [["another-room"], "another-room"])
+  const lines = [
+    '["join",1]', '["join",2]', '["new",[1,1],[],"rect",[]]', '["put",[1,2],[[1,1]],[1,1],[],[["x",1]]]', "",
+  ]
+  same("what is told", told.map(({ text }) => text), [lines.join("\n")])
+  same("the verdict on it", verdictOf(told[0].text), "holds")
+  holds("it is told in words", told[0].words.startsWith("The room was begun anew"))
   same("what is left", [room.objects(), room.record, room.has(made.name)], [[], [["join", 1]], false])
   const anew = room.create("line")
   await anew.done
   same("a new object", [room.objects(), room.record.length], [[[1, 1]], 2])
 }
 
+/** The new room may have the old site, too: it is another client's. */
+async function anothersSite(proxy, room, other, server) {
+  const told = []
+  room.on("renewed", ({ text }) => told.push(text))
+  await room.create("rect").done
+  await comes("the record", () => room.record.length === 3)
+  proxy.whatToDo = () => CUT_BEFORE
+  other.close()
+  await server.end()
+  await server.listen(10)
+  const first = await enter(server.address)
+  for (const kind of ["line", "line", "line"]) await first.create(kind).done
+  first.close()
+  proxy.whatToDo = () => PASS
+  await comes("it is told", () => told.length > 0)
+  await comes("it is back", () => room.state === "open")
+  same("what is told", told, ['["join",1]\n["join",2]\n["new",[1,1],[],"rect",[]]\n'])
+  same("the site", room.site, 2)
+  same("the objects", room.objects().map((name) => [name, room.kind(name)]), [1, 2, 3].map((seq) => [[1, seq], "line"]))
+  await room.create("rect").done
+  same("the record", room.record.at(-1), ["new", [2, 1], [[1, 3]], "rect", []])
+}
+
 export const TESTS = [
   ["cut before the server had it", cut(cutOnce(CUT_BEFORE))],
   ["cut after the server had it", cut(cutOnce(CUT_AFTER))],
+  ["a join that was cut before the server had it", cut(joinCut(CUT_BEFORE))],
+  ["a join that was cut after the server had it", cut(joinCut(CUT_AFTER))],
   ["on its way when it was cut", cut(onItsWay)],
   ["drawn without a connection", cut(drawnApart)],
   ["cuts by chance", cut(byChance)],
   ["a server that was started anew", cut(anotherRoom)],
+  ["a server that was started anew, with another's site", cut(anothersSite)],
 ]

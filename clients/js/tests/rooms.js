@@ -7,12 +7,13 @@ import { WebSocket } from "./websocket.js"
 
 const OPTIONS = {
   connect: (address) => new WebSocket(address),
-  pollMilliseconds: 20, settleMilliseconds: 50, retryMilliseconds: [10, 20, 50],
+  pollMilliseconds: 20, retryMilliseconds: [10, 20, 50],
 }
 
-/** A client in the room, with the refusals that it was told. */
-export async function enter(address, options = {}) {
+/** A client in the room, with the refusals that it was told. `connecting` is called with it before it connects. */
+export async function enter(address, { connecting = () => {}, ...options } = {}) {
   const room = new Room(`ws://${address}/`, "r", { ...OPTIONS, ...options })
+  connecting(room)
   room.refused = []
   room.on("refusal", ({ refusal }) => room.refused.push(refusal.word))
   await comes("a client is in the room", () => room.state === "open")

@@ -6,6 +6,7 @@ use Rattle.std.proofs.lemmas.List.{length-map}
 use Rattle.std.proofs.lemmas.Option.{slice_get_cases, slice_get_past}
 use Rattle.rules.specs.declared.history.Entry.{Entry}
 use Rattle.rules.specs.Equality.{same_entry, same_entry-Decides}
+use Rattle.wire.specs.declared.reply.Reply.{Reply}
 use Rattle.wire.specs.Equality.{same_reply, same_reply-Decides}
 use Rattle.room_core.specs.Answers.{Outcome}
 use Rattle.room_core.proofs.Seen.{some_same}
@@ -19,6 +20,14 @@ same_if_there there wanted x y r is_x is_y test = (
   (λ yes. is_x ∙ ap Some ((same_entry-Decides x y).0 (sym test ∙ yes)) ∙ sym is_y),
   (λ same. test ∙ (same_entry-Decides x y).1 (some_same (sym is_x ∙ same ∙ is_y))),
 )
+
+flipped : (b differs : Bool) → differs ≡ not b → b ≡ not differs
+flipped true differs e = sym (ap not e)
+flipped false differs e = sym (ap not e)
+
+-- whether the planned reply, which is read as this one, differs from what was told
+pub compared : (reply planned told : Reply) (differs : Bool) → reply ≡ planned → differs ≡ not (same_reply reply told) → same_reply planned told ≡ not differs
+compared reply planned told differs is test = ap (λ (x : Reply). same_reply x told) (sym is) ∙ flipped (same_reply reply told) differs test
 
 -- another reply is none that was given
 pub not_given : (r : List Entry) (outcome : Outcome) (line : TranscriptLine) → same_reply outcome.0 line.reply ≡ false → IsTrue false ↔ IsGiven r outcome line

@@ -1,10 +1,12 @@
 -- True transcripts of a record.
-use Rattle.std.specs.Prelude.{◌≡◌, ◌≤◌, ◌+◌, Bool, true, ◌==◌, List, All, take, length, slice_get, if◌then◌else◌}
+use Rattle.std.specs.Prelude.{◌≡◌, ◌≤◌, ◌+◌, ℕ, Bool, true, false, ◌==◌, List, All, take, length, slice_get, if◌then◌else◌}
 use Rattle.std.specs.List.{AllPairs}
 use Rattle.rules.specs.declared.history.Entry.{Entry}
 use Rattle.rules.specs.Records.{sites}
 use Rattle.room_core.specs.Room.{Room, full_room}
-use Rattle.room_core.specs.Answers.{Outcome, answer, join_answer, has_site}
+use Rattle.room_core.specs.Answers.{Outcome, answer, back_reply, join_answer, has_site, reply_alone}
+use Rattle.wire.specs.declared.request.Request.{Request}
+use Rattle.wire.specs.declared.request.Request.TheVariants.{Join, Back}
 use Rattle.transcript.specs.declared.line.TranscriptLine.{TranscriptLine}
 use Rattle.transcript.specs.Lines.{is_join, at_of, adds}
 use Rattle.transcript.specs.Order.{IsInOrder, IsNext}
@@ -13,9 +15,16 @@ use Rattle.transcript.specs.Order.{IsInOrder, IsNext}
 abbrev pub room_at : List Entry → TranscriptLine → Room
 room_at r line = full_room (take (at_of line.reply) r)
 
--- what the rules answer to a line's request, and the entry that is added if there is one
+-- What the rules answer to a site's request, and the entry that is added if there is one. Nobody is in as a site that
+-- comes back.
+abbrev pub due_to : Room → ℕ → Request → Outcome
+due_to room site (Join name) = join_answer room
+due_to room site (Back name asked) = reply_alone (back_reply room false site)
+due_to room site asks = answer room site asks
+
+-- what the rules answer to a line's request
 abbrev pub due : Room → TranscriptLine → Outcome
-due room line = if is_join line.request then join_answer room else answer room line.site line.request
+due room line = due_to room line.site line.request
 
 -- who asks: of a join the next site, of another request one that has joined
 abbrev pub has_asker : Room → TranscriptLine → Bool

@@ -14,6 +14,7 @@ use rules::Entry;
 use std::alloc::Global;
 use std::sync::Arc;
 use transcript::{TranscriptLine, adds, at_of, is_join};
+use wire::Request;
 
 /// Has whoever asks for something else than to join joined?
 fn may_ask(room: &RoomState, line: &TranscriptLine) -> bool
@@ -41,11 +42,14 @@ fn plan_line(
 ) -> Result<Planned, NoMemory>
     ensures { Plans room.old room.new (due room.old.room line.now) result }
 {
-    if is_join(&line.request) {
-        return room.plan_join(alloc);
+    match &line.request {
+        Request::Join { .. } => room.plan_join(alloc),
+        Request::Back { .. } => Ok(Planned::of_reply(room.back(line.site, false))),
+        request => {
+            let request = request.copy(alloc)?;
+            room.plan(alloc, line.site, request)
+        }
     }
-    let request = line.request.copy(alloc)?;
-    room.plan(alloc, line.site, request)
 }
 
 /// Does the record have this entry in this place, or none where there is none?

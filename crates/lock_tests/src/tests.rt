@@ -1,13 +1,14 @@
 //! Rooms that threads ask.
 
 mod apart;
+mod back;
 mod closed;
 mod many;
 mod refused;
 mod told;
 
-use op_names::RoomName;
-use room_lock::{Joined, NewRooms, Pass, RoomLedger, Rooms};
+use op_names::{NoMemory, RoomName};
+use room_lock::{Entrance, NewRooms, Pass, RoomLedger, Rooms};
 use rules::Limits;
 use std::process::Abort;
 use std::sync::Wait;
@@ -39,12 +40,39 @@ fn entered<P: RoomLedger>(
     rooms: &Rooms<P>,
     name: &str,
 ) -> Pass<P> {
-    match rooms
-        .join(rt, rt.alloc(), &room_name(rt, name))
-        .expect(rt, "memory")
-    {
-        Joined::Entered(pass, _) => pass,
-        Joined::Refused(_) => panic!(rt; "a refused join"),
+    match rooms.join(rt, rt.alloc(), &room_name(rt, name)) {
+        Ok(Entrance::Entered(pass, _)) => pass,
+        Ok(Entrance::Refused(_)) => panic!(rt; "a refused join"),
+        Err(NoMemory) => panic!(rt; "no memory"),
+    }
+}
+
+/// The pass of somebody who comes back as this site of the room.
+fn returned<P: RoomLedger>(
+    rt: &(impl Wait + Abort + AllocGlobal),
+    rooms: &Rooms<P>,
+    name: &str,
+    site: u32,
+) -> Pass<P> {
+    match rooms.back(rt, rt.alloc(), &room_name(rt, name), site) {
+        Ok(Entrance::Entered(pass, _)) => pass,
+        Ok(Entrance::Refused(_)) => panic!(rt; "a refused coming back"),
+        Err(NoMemory) => panic!(rt; "no memory"),
+    }
+}
+
+/// Hands the pass back, and gives the text of the reply.
+fn left<P: RoomLedger>(
+    rt: &(impl Wait + Abort + AllocGlobal),
+    rooms: &Rooms<P>,
+    pass: Pass<P>,
+) -> String {
+    match rooms.hand_back(rt, pass) {
+        Ok(reply) => write_reply(rt.alloc(), &reply).expect(rt, "memory"),
+        Err(pass) => {
+            pass.give_up();
+            panic!(rt; "a pass that isn't taken back")
+        }
     }
 }
 

@@ -6,11 +6,12 @@ use Rattle.rules.specs.declared.history.Op.{Op}
 use Rattle.rules.specs.declared.history.Entry.{Entry}
 use Rattle.rules.specs.declared.history.Entry.TheVariants.{Join, Operation}
 use Rattle.rules.specs.declared.refusal.Refusal.{Refusal}
-use Rattle.rules.specs.declared.refusal.Refusal.TheVariants.{NotJoined}
+use Rattle.rules.specs.declared.refusal.Refusal.TheVariants.{NotJoined, NoSuchSite, SiteInUse}
 use Rattle.rules.specs.declared.version.Version.{Version}
 use Rattle.rules.specs.Bodies.{is_change_body, kind_in}
 use Rattle.rules.specs.Operations.{IsHistory, creation_of, changes_on}
 use Rattle.rules.specs.Conflicts.{conflict}
+use Rattle.rules.specs.Admission.{count_at_site}
 use Rattle.rules.specs.Records.{operations, refusal, sites, IsLegal}
 use Rattle.rules.specs.Versions.{groups, versions}
 use Rattle.rules.proofs.Once.{HasNoRepeats-from_Once}
@@ -21,10 +22,10 @@ use Rattle.rules.proofs.Versions.{groups_once, each_shown, identifiers_rise}
 use Rattle.wire.specs.declared.request.Request.{Request}
 use Rattle.wire.specs.declared.request.Request.TheVariants as request
 use Rattle.wire.specs.declared.reply.Reply.{Reply}
-use Rattle.wire.specs.declared.reply.Reply.TheVariants.{Joined, Made, Taken, Versions, Objects, Entries, No}
+use Rattle.wire.specs.declared.reply.Reply.TheVariants.{Joined, Returned, Made, Taken, Versions, Objects, Entries, No}
 use Rattle.drawing.specs.Room.{Room}
 use Rattle.drawing.specs.Shown.{shown_by as shown_by_creation}
-use Rattle.room_core.specs.Answers.{entry_or_refusal, join_answer, operation_answer, operation_reply, site_answer, has_site, answer, reply_alone}
+use Rattle.room_core.specs.Answers.{back_reply, entry_or_refusal, join_answer, operation_answer, operation_reply, site_answer, has_site, answer, reply_alone}
 use Rattle.room_core.specs.Shown.{AreVersionsOf, HasObject}
 
 -- the versions of a history are its groups
@@ -53,6 +54,9 @@ module _ (room : Room) (at : ℕ) (object : Name) (kind : Bytes) (vs : List Vers
 
   joined_not : (n site : ℕ) → Joined n site ≡ Versions at object kind vs → ⊥
   joined_not n site e = cc
+
+  returned_not : (n site seq : ℕ) → Returned n site seq ≡ Versions at object kind vs → ⊥
+  returned_not n site seq e = cc
 
   taken_not : (n : ℕ) (ids : List (List Name)) → Taken n ids ≡ Versions at object kind vs → ⊥
   taken_not n ids e = cc
@@ -90,6 +94,10 @@ module _ (room : Room) (at : ℕ) (object : Name) (kind : Bytes) (vs : List Vers
   unfolding join_answer
   join_shows e = decided_not (refusal room.limits room.entries (Join (sites room.entries + 1))) (Join (sites room.entries + 1)) (Joined (length room.entries) (sites room.entries + 1)) (joined_not _ _) e
 
+  -- nor does a coming back
+  pub back_shows : (in_use : Bool) (site : ℕ) → back_reply room in_use site ≡ Versions at object kind vs → ⊥
+  back_shows in_use site e = either_not (has_site room site) _ _ (λ first. either_not in_use _ _ (refused_not _ _) (returned_not _ _ _) first) (refused_not _ _) e
+
   -- nor does an operation
   operation_shows : (op : Op) {added : Option Entry} → (operation_answer room op).0 ≡ Versions at object kind vs → IsShownBy room at object kind vs added
   operation_shows op e =
@@ -98,6 +106,7 @@ module _ (room : Room) (at : ℕ) (object : Name) (kind : Bytes) (vs : List Vers
 
   site_shows : (site : ℕ) (asks : Request) → (site_answer room site asks).0 ≡ Versions at object kind vs → IsShownBy room at object kind vs (site_answer room site asks).1
   site_shows site (request.Join name) e = absurd cc
+  site_shows site (request.Back name other) e = absurd cc
   site_shows site (request.Change seq seen b) e = operation_shows (record { name = (site, seq); seen = seen; body = b }) e
   site_shows site (request.Show name) e = shown_by name (creation_of (operations room.entries) name) refl e
   site_shows site (request.List from) e = absurd (either_not _ _ _ (refused_not _ _) (objects_not _ _ _ _) e)

@@ -7,14 +7,15 @@ use Rattle.rules.specs.declared.history.Body.{Body}
 use Rattle.rules.specs.declared.history.Entry.{Entry}
 use Rattle.rules.specs.declared.history.Entry.TheVariants.{Join, Operation}
 use Rattle.rules.specs.declared.refusal.Refusal.{Refusal}
-use Rattle.rules.specs.declared.refusal.Refusal.TheVariants.{NotJoined, AlreadyJoined, TooFar}
+use Rattle.rules.specs.declared.refusal.Refusal.TheVariants.{NotJoined, AlreadyJoined, NoSuchSite, SiteInUse, TooFar}
 use Rattle.rules.specs.Bodies.{is_change_body}
-use Rattle.rules.specs.Records.{objects, sites, refusal, admits}
+use Rattle.rules.specs.Admission.{count_at_site}
+use Rattle.rules.specs.Records.{objects, operations, sites, refusal, admits}
 use Rattle.drawing.specs.Room.{Room, all_objects, with_entry}
 use Rattle.drawing.specs.Shown.{ids_with, shown}
 use Rattle.wire.specs.declared.request.Request.{Request}
 use Rattle.wire.specs.declared.reply.Reply.{Reply}
-use Rattle.wire.specs.declared.reply.Reply.TheVariants.{Joined, Made, Taken, Objects, Entries, Left, No}
+use Rattle.wire.specs.declared.reply.Reply.TheVariants.{Joined, Returned, Made, Taken, Objects, Entries, Left, No}
 
 -- a reply, and the entry that is added if there is one
 abbrev pub Outcome : Type 0
@@ -75,6 +76,7 @@ pull_reply room from =
 -- the answer to a request of a site that has joined
 abbrev pub site_answer : Room → ℕ → Request → Outcome
 site_answer room site (Request.Join name) = reply_alone (No 0 AlreadyJoined)
+site_answer room site (Request.Back name other) = reply_alone (No 0 AlreadyJoined)
 site_answer room site (Request.Change seq seen body) = operation_answer room (operation_by site seq seen body)
 site_answer room site (Request.Show object) = reply_alone (show_reply room object)
 site_answer room site (Request.List from) = reply_alone (list_reply room from)
@@ -84,6 +86,11 @@ site_answer room site Request.Leave = reply_alone (Left (length room.entries))
 -- is it the number of a site that has joined
 abbrev pub has_site : Room → ℕ → Bool
 has_site room site = nat_le 1 site && nat_le site (sites room.entries)
+
+-- the answer to whoever is in no room and comes back as this site, as which somebody may be in: nothing is added
+abbrev pub back_reply : Room → Bool → ℕ → Reply
+back_reply room in_use site = let at = length room.entries in
+    if has_site room site then (if in_use then No at SiteInUse else Returned at site (count_at_site (operations room.entries) site)) else No at NoSuchSite
 
 -- The answer to a request of whoever claims to be this site. A room knows neither its name nor who has left: who may
 -- ask it, and by what name, is said where sessions are.

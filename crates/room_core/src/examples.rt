@@ -5,16 +5,16 @@
 
 #![tactic(auto, unfolding(state_vector::specs::Vectors::vector_fault, rules::specs::Operations::known, rules::specs::Operations::changes_on, rules::specs::Groups::groups_of, rules::specs::Groups::group_named, rules::specs::Groups::identifier, rules::specs::Conflicts::base, rules::specs::Conflicts::conflict, rules::specs::Versions::attributes, rules::specs::Versions::groups, rules::specs::Versions::shown_of, rules::specs::Versions::version_of, rules::specs::Versions::versions, rules::specs::Records::refusal, crate::specs::Answers::answer))]
 
-ghost use Rattle.std.specs.Prelude.{◌≡◌, [], ◌∷◌, Some, None, codes};
+ghost use Rattle.std.specs.Prelude.{◌≡◌, [], ◌∷◌, Some, None, codes, true, false};
 ghost use Rattle.rules.specs.declared.history.Body.TheVariants.{Put, DropVersion};
 ghost use Rattle.rules.specs.declared.history.Entry.TheVariants.{Join as Joins};
-ghost use Rattle.rules.specs.declared.refusal.Refusal.TheVariants.{NotJoined, AlreadyJoined, NoSuchObject, NoSuchVersion, Gone, TooFar};
+ghost use Rattle.rules.specs.declared.refusal.Refusal.TheVariants.{NotJoined, AlreadyJoined, NoSuchObject, NoSuchVersion, Gone, TooFar, NoSuchSite, SiteInUse};
 ghost use Rattle.rules.specs.Limits.{full_limits};
 ghost use Rattle.rules.specs.Examples.{x, red, puts, drops, version, gone, creation_alone, one_put, two_puts, three_sites, one_drop};
-ghost use Rattle.wire.specs.declared.request.Request.TheVariants.{Join, Change, Show, Pull, Leave, List as ListObjects};
-ghost use Rattle.wire.specs.declared.reply.Reply.TheVariants.{Taken, Versions, Objects, Entries, Left, No};
+ghost use Rattle.wire.specs.declared.request.Request.TheVariants.{Join, Back, Change, Show, Pull, Leave, List as ListObjects};
+ghost use Rattle.wire.specs.declared.reply.Reply.TheVariants.{Returned, Taken, Versions, Objects, Entries, Left, No};
 ghost use Rattle.room_core.specs.Room.{full_room};
-ghost use Rattle.room_core.specs.Answers.{answer};
+ghost use Rattle.room_core.specs.Answers.{answer, back_reply};
 
 /// A put that is taken is answered by the identifiers of all versions, and added to the record.
 pub fn puts_are_taken()
@@ -84,4 +84,13 @@ pub fn who_may_ask()
     ensures not_joined { answer (full_room two_puts) 3 Leave ≡ (No 0 NotJoined, None) }
     ensures already_joined { answer (full_room two_puts) 2 (Join (codes "r"))
         ≡ (No 0 AlreadyJoined, None) }
+    ensures already_back { answer (full_room two_puts) 2 (Back (codes "r") 1)
+        ≡ (No 0 AlreadyJoined, None) }
+{}
+
+/// Who comes back as a site that nobody is in as is told how many operations it has made.
+pub fn who_may_come_back()
+    ensures free { back_reply (full_room two_puts) false 1 ≡ Returned 5 1 2 }
+    ensures in_use { back_reply (full_room two_puts) true 1 ≡ No 5 SiteInUse }
+    ensures no_such_site { back_reply (full_room two_puts) false 3 ≡ No 5 NoSuchSite }
 {}

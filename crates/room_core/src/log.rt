@@ -12,8 +12,7 @@ use std::marker::Model;
 use std::sync::Arc;
 
 /// A site's part in a room: what it has seen of the record, and the entries that it added. Only
-/// `RoomState::enter` makes one, and only `RoomState::call` and `RoomState::call_from_front` change
-/// it.
+/// `RoomState::enter` makes one, and only `RoomState::call` changes it.
 #[derive(Drop)]
 pub struct Log {
     site: u32,

@@ -44,7 +44,7 @@ impl Planned {
     }
 
     /// A reply that changes nothing.
-    pub(crate) fn of_reply(reply: Reply) -> Planned
+    pub fn of_reply(reply: Reply) -> Planned
         ensures reply { result.reply ≡ reply }
         ensures addition { result.addition ≡ None }
     {

@@ -7,7 +7,7 @@ ghost use Rattle.rules.specs.Records.{is_join, sites, IsLegal};
 ghost use Rattle.wire.specs.declared.reply.Reply.TheVariants.{No};
 ghost use Rattle.drawing.specs.Additions.{IsReady as CanBeAdded};
 ghost use Rattle.room_core.specs.Room.{with_entry, empty_room};
-ghost use Rattle.room_core.specs.Answers.{join_answer, answer, site_answer, has_site, room_after};
+ghost use Rattle.room_core.specs.Answers.{join_answer, back_reply, answer, site_answer, has_site, room_after};
 ghost use Rattle.room_core.specs.Plans.{entry_added, IsAdmitted, IsReady, Plans};
 
 mod accepted;
@@ -72,6 +72,31 @@ impl RoomState {
         Ok(self.commit(planned))
     }
 
+    /// The answer to whoever comes back as this site. `in_use` says whether somebody is in as it.
+    /// `NoSuchSite` where so many sites haven't joined, then `SiteInUse`. The room stays as it is.
+    pub fn back(&self, site: u32, in_use: bool) -> Reply
+        ensures { result ≡ back_reply self.now.room in_use site }
+    {
+        let at = self.drawing.len();
+        if site == 0 || site > self.sites() {
+            return Reply::No {
+                at,
+                refusal: Refusal::NoSuchSite,
+            };
+        }
+        if in_use {
+            return Reply::No {
+                at,
+                refusal: Refusal::SiteInUse,
+            };
+        }
+        Reply::Returned {
+            at,
+            site,
+            seq: self.drawing.past().count(site),
+        }
+    }
+
     /// Plans the answer to a request of whoever claims to be this site. The room stays as it is.
     #[tactic(auto, unfolding(crate::specs::Answers::answer))]
     pub fn plan(&mut self, alloc: Global, site: u32, request: Request) -> Result<Planned, NoMemory>
@@ -94,7 +119,9 @@ impl RoomState {
         ensures { Plans self.old self.new (site_answer self.old.room site request) result }
     {
         match request {
-            Request::Join { .. } => Ok(Planned::of_reply(outside_refusal(Refusal::AlreadyJoined))),
+            Request::Join { .. } | Request::Back { .. } => {
+                Ok(Planned::of_reply(outside_refusal(Refusal::AlreadyJoined)))
+            }
             Request::Change { seq, seen, body } => {
                 self.plan_operation(alloc, site, seq, seen, body)
             }

@@ -1,7 +1,9 @@
 pub mod Fronts
 pub mod Names
 pub mod Answers
+pub mod Shelves
+pub mod Shares
+pub mod Closed
 pub mod Balance
 pub mod Replies
 pub mod Standing
-pub mod OfRecord

@@ -1,29 +1,36 @@
 -- What holds of a closed room.
-use Rattle.std.specs.Prelude.{◌≡◌, ℕ, All, Bool, List, bytes_eq, filter, length, sum_by}
+use Rattle.std.specs.Prelude.{◌≡◌, ◌≤◌, ℕ, All, List, Some, length, map, sum_by}
+use Rattle.std.specs.List.{range_with_len}
 use mathlib.Core.List.{IsPrefix}
-use Rattle.op_names.specs.Texts.{Bytes}
 use Rattle.rules.specs.declared.history.Entry.{Entry}
 use Rattle.rules.specs.declared.limits.LimitValues.{LimitValues}
-use Rattle.rules.specs.Records.{IsLegal}
-use Rattle.room_core.specs.Logs.{entries_of}
-use Rattle.room_lock.specs.Passes.{PassView}
+use Rattle.rules.specs.Records.{sites, IsLegal}
+use Rattle.room_lock.specs.Kept.{count_of_site}
+use Rattle.room_lock.specs.Passes.{PartView}
+use Rattle.room_lock.specs.Shelves.{Shelf}
 
--- is it a pass of the room of this name
-abbrev pub is_pass_of : Bytes → PassView → Bool
-is_pass_of name pass = bytes_eq pass.room name
+abbrev pub site_of : PartView → ℕ
+site_of part = part.site
 
-abbrev pub passes_of : Bytes → List PassView → List PassView
-passes_of name passes = filter (is_pass_of name) passes
+abbrev pub share_of : PartView → ℕ
+share_of part = part.share
 
--- the record begins with what the pass has seen, and what it added are all that its site has there, in order
-abbrev pub IsOfRecord : List Entry → PassView → Type 0
-IsOfRecord r pass = IsPrefix pass.log.seen r × (pass.log.added ≡ entries_of pass.log.site r)
+-- it has seen as many entries of its site as its share
+abbrev pub HasItsEntries : PartView → Type 0
+HasItsEntries part = part.share ≤ count_of_site part.site part.seen
 
-abbrev pub share_of : PassView → ℕ
-share_of pass = pass.share
+-- the record begins with what the part has seen, and its share is how many entries its site has there
+pub record IsOfRecord (r : List Entry) (part : PartView) : Type 0 where
+  pub seen : IsPrefix part.seen r
+  pub added : part.share ≡ count_of_site part.site r
 
--- a room's record is legal and one with all of its passes, whose shares add up to its length: so each entry is one of theirs
-pub record IsClosed (limits : LimitValues) (r : List Entry) (passes : List PassView) : Type 0 where
+-- all parts of these sites are there, and their shares add up to the length of the record
+abbrev pub IsComplete : List Entry → Shelf → Type 0
+IsComplete r shelf = (parts : List PartView) × (map Some parts ≡ shelf) × (sum_by share_of parts ≡ length r)
+
+-- A room's record is legal, and these are the parts of all its sites, in order, whose shares add up to its length: so each entry is one of theirs.
+pub record IsClosed (limits : LimitValues) (r : List Entry) (parts : List PartView) : Type 0 where
   pub legal : IsLegal limits r
-  pub seen : All (IsOfRecord r) passes
-  pub whole : sum_by share_of passes ≡ length r
+  pub sites_are : map site_of parts ≡ range_with_len 1 (sites r)
+  pub of_record : All (IsOfRecord r) parts
+  pub whole : sum_by share_of parts ≡ length r

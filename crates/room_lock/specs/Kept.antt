@@ -1,5 +1,5 @@
--- What rooms and passes keep, each time a room's lock is free.
-use Rattle.std.specs.Prelude.{◌≡◌, ℕ, ◌+◌, List, Some, length, slice_get}
+-- What rooms and parts keep, each time a room's lock is free.
+use Rattle.std.specs.Prelude.{◌≡◌, ◌≤◌, ℕ, ◌+◌, List, Some, count_by, length, slice_get}
 use Rattle.logbook.specs.Pages.{Book}
 use Rattle.rules.specs.declared.history.Entry.{Entry}
 use Rattle.rules.specs.declared.limits.LimitValues.{LimitValues}
@@ -7,13 +7,15 @@ use Rattle.rules.specs.declared.limits.TheConstants.Limits.{MAX_ENTRIES}
 use Rattle.rules.specs.Records.{sites}
 use Rattle.shared_history.specs.Beginnings.{Beginning}
 use Rattle.room_core.specs.Room.{Room}
-use Rattle.room_core.specs.Logs.{Seen}
+use Rattle.room_core.specs.Logs.{is_of_site}
+use Rattle.room_lock.specs.Shelves.{Shelf, IsShelfOf}
 use Rattle.room_lock.specs.declared.room.TheConstants.{SPARE_PARTS}
 
--- a room: its place among the rooms, and its record
+-- a room: its place among the rooms, its record, and the parts of the sites that nobody is in as
 pub record Placed : Type 0 where
   pub place : ℕ
   pub entries : List Entry
+  pub shelf : Shelf
 
 -- what was seen of a history, and an amount that stands on parts of a ledger
 pub record Held : Type 0 where
@@ -26,17 +28,23 @@ abbrev pub IsBeginningAt : List Book → ℕ → Beginning → List Entry → Ty
 IsBeginningAt books place front entries = (slice_get books place ≡ Some front.history) × (front.entries ≡ entries)
 
 -- The history of the room's place is its record; the room's share and the record are together as much as a record may have;
--- each site that has joined has got a part.
-pub record IsRoomKept (books : List Book) (limits : LimitValues) (place : ℕ) (room : Room) (held : Held) (spare_parts spare_amount : ℕ) : Type 0 where
+-- each site that has joined has got a part of the ledger, and has a place on the shelf.
+pub record IsRoomKept (books : List Book) (limits : LimitValues) (place : ℕ) (room : Room) (held : Held) (spare_parts spare_amount : ℕ) (shelf : Shelf) : Type 0 where
   pub written : IsBeginningAt books place held.front room.entries
   pub limits_are : room.limits ≡ limits
   pub one_part : held.parts ≡ 1
   pub balanced : held.amount + length room.entries ≡ MAX_ENTRIES
   pub parts_left : spare_parts + sites room.entries ≡ SPARE_PARTS
   pub spare_is_empty : spare_amount ≡ 0
+  pub shelved : IsShelfOf place room.entries shelf
 
--- what a pass has seen is a beginning of the history of its room's place, and its share is what it added
-pub record IsPassKept (books : List Book) (place : ℕ) (log : Seen) (held : Held) : Type 0 where
-  pub seen : IsBeginningAt books place held.front log.seen
+-- how many of the entries are of a site
+abbrev pub count_of_site : ℕ → List Entry → ℕ
+count_of_site site r = count_by (is_of_site site) r
+
+-- what was seen is a beginning of the history of the room's place; the share is what was added, which is of the site and was seen
+pub record IsPartKept (books : List Book) (place site added : ℕ) (held : Held) : Type 0 where
+  pub history : slice_get books place ≡ Some held.front.history
   pub one_part : held.parts ≡ 1
-  pub paid : held.amount ≡ length log.added
+  pub paid : held.amount ≡ added
+  pub own : added ≤ count_of_site site held.front.entries

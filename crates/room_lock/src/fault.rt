@@ -3,16 +3,19 @@
 ghost use Rattle.std.specs.Prelude.{◌≡◌};
 ghost use Rattle.room_lock.specs.declared.fault.CloseFault.TheVariants as close_fault;
 
+use crate::ledger::RoomLedger;
+use crate::part::Part;
 use op_names::{NoMemory, RoomName};
 use rules::Entry;
 use std::sync::Arc;
 use thiserror::Error;
 
-/// A closed room's record.
+/// A closed room's record, and the parts of all its sites, in order.
 #[derive(Drop)]
-pub struct RoomRecord {
+pub struct RoomRecord<P: RoomLedger> {
     pub room: RoomName,
     pub entries: Vec<Arc<Entry>>,
+    pub parts: Vec<Part<P>>,
 }
 
 /// Why rooms can't be closed.
@@ -20,11 +23,7 @@ pub struct RoomRecord {
 pub enum CloseFault {
     #[error("out of memory")]
     NoMemory,
-    /// The first pass of the room that doesn't agree with its record, by its site; or a pass of no
-    /// room of these.
-    #[error("a pass of site {site} is not of its room's record")]
-    Torn { room: RoomName, site: u32 },
-    /// A pass of the room is absent.
+    /// A pass of the first such room wasn't handed back.
     #[error("a pass is missing")]
     Missing { room: RoomName },
 }

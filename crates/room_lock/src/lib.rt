@@ -1,23 +1,26 @@
 //! Rooms behind locks. Threads call them through passes, and each room keeps one record, which all of
-//! its passes have seen beginnings of.
+//! its passes have seen beginnings of. A room keeps the parts of the sites that nobody is in as.
 #![tactic(auto)]
 
 mod account;
 mod closing;
+mod entrance;
 mod fault;
 mod histories;
-mod joined;
 pub mod laws;
 mod ledger;
 mod making;
+mod part;
 mod pass;
 mod room;
 mod rooms;
+mod shelf;
 
+pub use entrance::Entrance;
 pub use fault::{CloseFault, RoomRecord};
-pub use joined::Joined;
 pub use ledger::RoomLedger;
 pub use making::NewRooms;
+pub use part::Part;
 pub use pass::Pass;
 pub use room_core::CallFault;
 pub use rooms::Rooms;

@@ -1,42 +1,47 @@
 //! A room under its lock.
 
-ghost use Rattle.std.specs.Prelude.{◌≡◌, ◌+◌, ◌<◌, ◌≤◌, ◌↔◌, Err, IfOk, OnOk, OnErr, Some, slice_get, map};
+ghost use Rattle.std.specs.Prelude.{◌≡◌, ◌⊎◌, ◌+◌, ◌<◌, ◌≤◌, ◌↔◌, Err, None, Some, IfErr, IfOk, OnOk, OnErr, false, true, slice_get, length, map, option_map};
 ghost use Rattle.std.specs.Arc.{arc_value};
 ghost use Rattle.rules.specs.Records.{IsLegal, sites};
 ghost use Rattle.rules.specs.declared.limits.TheConstants.Limits.{MAX_ENTRIES, MAX_JOINS};
 ghost use Rattle.room_core.specs.declared.fault.CallFault.TheVariants as call_fault;
 ghost use Rattle.room_core.specs.Answers.{join_answer, answer, room_after};
-ghost use Rattle.room_core.specs.Logs.{first_difference};
-ghost use Rattle.room_lock.specs.Closing.{IsClosed, passes_of};
-ghost use Rattle.room_lock.specs.Told.{IsCallOver, IsJoinOver, IsRefusalOver, room_of};
+ghost use Rattle.room_core.specs.Logs.{first_difference, none_or_one};
+ghost use Rattle.room_lock.specs.Closing.{IsClosed, IsComplete};
+ghost use Rattle.room_lock.specs.declared.fault.CloseFault.TheVariants as close_fault;
+ghost use Rattle.room_lock.specs.Shelves.{is_away, part_of, with_at};
+ghost use Rattle.room_lock.specs.Told.{IsBackOver, IsBackRefusalOver, IsCallOver, IsJoinOver, IsLeaveOver, IsRefusalOver, room_of};
 
 use crate::account::Account;
 use crate::closing::added_together;
+use crate::entrance::Entrance;
 use crate::fault::{CloseFault, RoomRecord};
 use crate::histories::Opened;
-use crate::joined::Joined;
 use crate::ledger::RoomLedger;
+use crate::part::Part;
 use crate::pass::Pass;
+use crate::shelf::{all_parts, put_part, take_part};
 use op_names::{NoMemory, RoomName};
 use room_core::{CallFault, RoomState};
-use rules::Limits;
+use rules::{Entry, Limits};
 use std::alloc::Global;
 use std::marker::Model;
-use std::sync::Wait;
 use std::sync::ledger::Share;
+use std::sync::{Arc, Wait};
 use wire::{Reply, Request};
 
-/// The most parts that passes of a room get: one for each site that may join.
+/// The most parts of the ledger that sites of a room get: one for each that may join.
 pub(crate) const SPARE_PARTS: u64 = 257;
 
-/// What lies under a room's lock: the room, its history with the room's share, and a spare part for
-/// each pass that may still come.
+/// What lies under a room's lock: the room, its history with the room's share, a spare part of the
+/// ledger for each site that may still join, and the parts of the sites that nobody is in as.
 #[derive(Drop)]
 pub(crate) struct Room<P: RoomLedger> {
     state: RoomState,
     account: Account<P>,
     spare: Share<P>,
     place: usize,
+    shelf: Vec<Option<Part<P>>>,
 }
 
 impl<P: RoomLedger> Model for Room<P> {
@@ -44,14 +49,15 @@ impl<P: RoomLedger> Model for Room<P> {
 
     ghost Value = { Placed };
 
-    ghost view = { λ r. record { place = r.place; entries = r.state.room.entries } };
+    ghost view = { λ r. record { place = r.place; entries = r.state.room.entries; shelf = r.shelf.items } };
 
-    ghost invariant = { λ r.
-        IsRoomKept P.books P.limits r.place r.state.room r.account r.spare.parts r.spare.amount };
+    ghost invariant = { λ r. IsRoomKept P.books P.limits r.place r.state.room
+        r.account r.spare.parts r.spare.amount r.shelf.items };
 }
 
 impl<P: RoomLedger> Room<P> {
-    ghost use Rattle.room_lock.specs.Joins.{IfEntered, IfRefused};
+    ghost use Rattle.room_lock.specs.Entrances.{IfEntered, IfRefused};
+    ghost use Rattle.wire.specs.declared.request.Request.TheVariants.{Leave};
 
     /// An empty room at a place, with its share and its spare parts out of the rest.
     pub(crate) fn new(
@@ -84,6 +90,7 @@ impl<P: RoomLedger> Room<P> {
             },
             spare,
             place,
+            shelf: Vec::new(alloc),
         })
     }
 
@@ -108,10 +115,9 @@ impl<P: RoomLedger> Room<P> {
         rt: &impl Wait,
         alloc: Global,
         name: &RoomName,
-    ) -> Result<Joined<P>, NoMemory>
+    ) -> Result<Entrance<P>, NoMemory>
         ensures entered { IfOk result (IfEntered (λ pass reply.
-            IsJoinOver P.limits self.old.entries pass reply
-            × (pass.room ≡ name.now) × (pass.place ≡ self.old.place))) }
+            IsJoinOver P.limits self.old.entries pass reply × (pass.room ≡ name.now))) }
         ensures refused { IfOk result (IfRefused (IsRefusalOver P.limits self.old.entries)) }
         ensures written { let room = room_of P.limits self.old.entries
             in OnOk result (self.new.entries ≡ (room_after room (join_answer room)).entries) }
@@ -119,23 +125,55 @@ impl<P: RoomLedger> Room<P> {
         ensures err { OnErr result (self.new ≡ self.old) }
     {
         let room = name.copy(alloc)?;
-        let (log, reply) = self.state.enter(alloc)?;
+        self.shelf.reserve(1)?;
+        let had = self.state.entries().len();
+        let reply = self.state.join(alloc)?;
         show_size(&self.state);
-        let Some(log) = log else {
-            return Ok(Joined::Refused(reply));
+        let Some(join) = self.state.entries().get(had) else {
+            return Ok(Entrance::Refused(reply));
         };
         let mut share = self.spare.split_off(1, 0);
-        self.account.add(rt, &mut share, log.added().first());
-        Ok(Joined::Entered(
-            Pass {
-                room,
-                place: self.place,
-                log,
-                front: self.account.front().copy(),
-                share,
-            },
-            reply,
-        ))
+        self.account.add(rt, &mut share, Some(join));
+        self.shelf.push_reserved(None);
+        let part = Part {
+            place: self.place,
+            site: self.state.sites(),
+            front: self.account.front().copy(),
+            added: 1,
+            share,
+        };
+        Ok(Entrance::Entered(Pass { room, part }, reply))
+    }
+
+    /// Lets somebody in again as this site, where its part is here.
+    pub(crate) fn back(
+        &mut self,
+        alloc: Global,
+        name: &RoomName,
+        site: u32,
+    ) -> Result<Entrance<P>, NoMemory>
+        ensures entered { IfOk result (IfEntered (λ pass reply. (was : _)
+            × (part_of self.old.shelf site ≡ Some was)
+            × IsBackOver P.limits self.old.entries site pass reply
+            × (pass.part.share ≡ was.share) × (pass.room ≡ name.now))) }
+        ensures refused { IfOk result
+            (IfRefused (IsBackRefusalOver P.limits self.old.entries site)) }
+        ensures in_use { IfOk result (IfRefused (λ reply. part_of self.old.shelf site ≡ None)) }
+        ensures shelf { OnOk result (self.new.shelf ≡ with_at self.old.shelf site None) }
+        ensures entries { self.new.entries ≡ self.old.entries }
+        ensures place { self.new.place ≡ self.old.place }
+        ensures err { OnErr result (self.new ≡ self.old) }
+    {
+        let room = name.copy(alloc)?;
+        show_size(&self.state);
+        match take_part(&mut self.shelf, site) {
+            Some(mut part) => {
+                part.front = self.account.front().copy();
+                let reply = self.state.back(site, false);
+                Ok(Entrance::Entered(Pass { room, part }, reply))
+            }
+            None => Ok(Entrance::Refused(self.state.back(site, true))),
+        }
     }
 
     /// Answers a request of the pass's site. `Torn` where what the pass has seen is not the beginning
@@ -147,66 +185,112 @@ impl<P: RoomLedger> Room<P> {
         pass: &mut Pass<P>,
         request: Request,
     ) -> Result<Reply, CallFault>
-        requires { pass.old.place ≡ self.old.place }
+        requires { pass.old.part.place ≡ self.old.place }
         ensures answer { IfOk result
             (IsCallOver P.limits self.old.entries pass.old pass.new request) }
         ensures written { let room = room_of P.limits self.old.entries
-            in let outcome = answer room pass.old.log.site request
+            in let outcome = answer room pass.old.part.site request
             in OnOk result (self.new.entries ≡ (room_after room outcome).entries) }
         ensures place { self.new.place ≡ self.old.place }
         ensures torn { (place : _) → (result ≡ Err (call_fault.Torn place))
-            ↔ (first_difference self.old.entries pass.old.log.seen ≡ Some place) }
+            ↔ (first_difference self.old.entries pass.old.part.seen ≡ Some place) }
         ensures err { OnErr result ((self.new ≡ self.old) × (pass.new ≡ pass.old)) }
     {
-        if let Some(place) = self.torn_place(pass) {
+        if let Some(place) = self.torn_place(&pass.part) {
             return Err(CallFault::Torn { place });
         }
-        let had = pass.log.added().len();
-        let reply = self.state.call_from_front(alloc, &mut pass.log, request)?;
+        let part = &mut pass.part;
+        let had = self.state.entries().len();
+        let reply = self.state.answer(alloc, part.site, request)?;
         show_size(&self.state);
-        let own = pass.log.added().get(had);
-        self.account.add(rt, &mut pass.share, own);
-        pass.front = self.account.front().copy();
+        let own = self.state.entries().get(had);
+        part.added += count_of(own);
+        self.account.add(rt, &mut part.share, own);
+        part.front = self.account.front().copy();
         Ok(reply)
     }
 
-    /// Gives the room up for its record, where these have all passes of the room of this name among
-    /// them. Otherwise `Torn` with the site of the first that is not of the record, or `Missing` where
-    /// one is absent.
-    pub(crate) fn close(self, name: RoomName, passes: &[Pass<P>]) -> Result<RoomRecord, CloseFault>
+    /// Takes a pass back, whose site leaves. Gives it back where what it has seen is not the beginning
+    /// of the record, or nobody was in as its site.
+    pub(crate) fn hand_back(&mut self, pass: Pass<P>) -> Result<Reply, Pass<P>>
+        requires { pass.part.place ≡ self.old.place }
+        ensures answer { IfOk result (IsLeaveOver P.limits self.old.entries pass.part) }
+        ensures shelf { OnOk result
+            (self.new.shelf ≡ with_at self.old.shelf pass.part.site (Some pass.part)) }
+        ensures entries { self.new.entries ≡ self.old.entries }
+        ensures place { self.new.place ≡ self.old.place }
+        ensures refused { IfErr result (λ back. (back ≡ pass)
+            × (first_difference self.old.entries pass.part.seen ≡ None
+            → is_away self.old.shelf pass.part.site ≡ false)) }
+        ensures err { OnErr result (self.new ≡ self.old) }
+    {
+        let at = self.state.entries().len() as u32;
+        show_size(&self.state);
+        if self.torn_place(&pass.part).is_some() {
+            return Err(pass);
+        }
+        let Pass { room, part } = pass;
+        match put_part(&mut self.shelf, part) {
+            Ok(()) => Ok(Reply::Left { at }),
+            Err(part) => Err(Pass { room, part }),
+        }
+    }
+
+    /// Gives the room up for its record and the parts of its sites. `Missing` where a site's pass wasn't
+    /// handed back; otherwise `NoMemory`.
+    pub(crate) fn close(self, alloc: Global, name: RoomName) -> Result<RoomRecord<P>, CloseFault>
         ensures name { IfOk result (λ one. one.room ≡ name) }
         ensures entries { IfOk result (λ one. map arc_value one.entries.items ≡ self.entries) }
-        ensures closed { OnOk result (IsClosed P.limits self.entries (passes_of name passes.now)) }
-        ensures refused { OnErr result
-            (¬ (IsClosed P.limits self.entries (passes_of name passes.now))) }
+        ensures parts { IfOk result (λ one. map Some one.parts.items ≡ self.shelf) }
+        ensures closed { IfOk result (λ one. IsClosed P.limits self.entries one.parts.items) }
+        ensures missing { IfErr result (λ why. (why ≡ close_fault.NoMemory)
+            ⊎ ((why ≡ close_fault.Missing name) × ¬ (IsComplete self.entries self.shelf))) }
     {
         let Room {
             state,
             account: _,
             spare: _,
             place: _,
+            shelf,
         } = self;
         show_size(&state);
-        match added_together(&state, &name, passes) {
-            Err(site) => Err(CloseFault::Torn { room: name, site }),
-            Ok(added) if added == state.entries().len() as u128 => Ok(RoomRecord {
-                room: name,
-                entries: state.into_entries(),
-            }),
-            Ok(_) => Err(CloseFault::Missing { room: name }),
+        let Some(parts) = all_parts(alloc, shelf)? else {
+            return Err(CloseFault::Missing { room: name });
+        };
+        if added_together(parts.as_slice()) != state.entries().len() as u128 {
+            return Err(CloseFault::Missing { room: name });
         }
+        Ok(RoomRecord {
+            room: name,
+            entries: state.into_entries(),
+            parts,
+        })
     }
 
-    /// The first place at which what the pass has seen is not the record's. Takes no time that grows
+    /// The first place at which what the part has seen is not the record's. Takes no time that grows
     /// with either: both are beginnings of one history.
-    fn torn_place(&self, pass: &Pass<P>) -> Option<usize>
-        requires { pass.now.place ≡ self.now.place }
-        ensures { result ≡ first_difference self.now.entries pass.now.log.seen }
+    fn torn_place(&self, part: &Part<P>) -> Option<usize>
+        requires { part.now.place ≡ self.now.place }
+        ensures { result ≡ first_difference self.now.entries part.now.seen }
     {
-        let (record, seen) = (self.state.entries().len(), pass.log.seen().len());
-        pass.front.shorter_begins_longer(self.account.front());
-        self.account.front().shorter_begins_longer(&pass.front);
-        if seen <= record { None } else { Some(record) }
+        let record = self.state.entries().len();
+        part.front.shorter_begins_longer(self.account.front());
+        self.account.front().shorter_begins_longer(&part.front);
+        if part.front.len() <= record as u64 {
+            None
+        } else {
+            Some(record)
+        }
+    }
+}
+
+/// 1 where there is an entry.
+fn count_of(own: Option<&Arc<Entry>>) -> u32
+    ensures { result ≡ length (none_or_one (option_map (λ e. arc_value e.now) own.entry)) }
+{
+    match own {
+        Some(_) => 1,
+        None => 0,
     }
 }
 

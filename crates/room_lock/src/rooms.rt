@@ -1,15 +1,15 @@
 //! The rooms.
 
-ghost use Rattle.std.specs.Prelude.{◌≡◌, ◌↔◌, All, Contains, IfOk, IsNone, OnErr, Ok, map};
+ghost use Rattle.std.specs.Prelude.{◌≡◌, ◌↔◌, All, Contains, IfErr, IfOk, IsNone, OnErr, Ok, map};
 ghost use Rattle.std.specs.Arc.{arc_value};
 ghost use Rattle.rules.specs.declared.refusal.Refusal.TheVariants.{NoSuchRoom};
 ghost use Rattle.wire.specs.declared.reply.Reply.TheVariants.{No};
-ghost use Rattle.room_lock.specs.Closing.{IsClosed, passes_of};
-ghost use Rattle.room_lock.specs.Told.{IsCall, IsJoin, IsRefusal};
+ghost use Rattle.room_lock.specs.Closing.{IsClosed};
+ghost use Rattle.room_lock.specs.Told.{IsBack, IsBackRefusal, IsCall, IsJoin, IsLeave, IsRefusal};
 
 use crate::closing::close_all;
+use crate::entrance::Entrance;
 use crate::fault::{CloseFault, RoomRecord};
-use crate::joined::Joined;
 use crate::ledger::RoomLedger;
 use crate::pass::Pass;
 use crate::room::Room;
@@ -58,8 +58,8 @@ fn held<'a, T>(rt: &impl Wait, room: &'a Mutex<T>) -> MutexGuard<'a, T> {
 }
 
 impl<P: RoomLedger> Rooms<P> {
-    ghost use Rattle.room_lock.specs.Joins.{IfEntered, IfRefused};
-    ghost use Rattle.room_lock.specs.declared.joined.Joined.TheVariants.{Refused};
+    ghost use Rattle.room_lock.specs.Entrances.{IfEntered, IfRefused};
+    ghost use Rattle.room_lock.specs.declared.entrance.Entrance.TheVariants.{Refused};
 
     /// The room of this name, behind its lock.
     fn room(&self, name: &RoomName) -> Option<&Mutex<Room<P>>>
@@ -73,13 +73,13 @@ impl<P: RoomLedger> Rooms<P> {
 
     /// Lets the next site of the room of this name in, where the room's limits allow it: its pass with
     /// the reply, or the reply that refuses. The rules say both, on what was the room's record then.
-    /// Waits for the room's lock. Linear in the record.
+    /// Waits for the room's lock. Takes the same time whatever the size of the record.
     pub fn join(
         &self,
         rt: &impl Wait,
         alloc: Global,
         name: &RoomName,
-    ) -> Result<Joined<P>, NoMemory>
+    ) -> Result<Entrance<P>, NoMemory>
         ensures entered { IfOk result (IfEntered (λ pass reply.
             IsJoin P.limits pass reply × (pass.room ≡ name.now))) }
         ensures refused { Contains self.now name.now
@@ -87,17 +87,38 @@ impl<P: RoomLedger> Rooms<P> {
         ensures unknown { ¬ (Contains self.now name.now) → result ≡ Ok (Refused (No 0 NoSuchRoom)) }
     {
         let Some(room) = self.room(name) else {
-            return Ok(Joined::Refused(Reply::No {
-                at: 0,
-                refusal: Refusal::NoSuchRoom,
-            }));
+            return Ok(Entrance::Refused(no_such_room()));
         };
         held(rt, room).enter(rt, alloc, name)
     }
 
+    /// Lets somebody in again as this site of the room of this name, where the site has joined and
+    /// nobody is in as it: the site's pass with the reply, which has then seen the room's whole record;
+    /// or the reply that refuses. The rules say both, on what was the room's record then. Waits for the
+    /// room's lock. Takes the same time whatever the size of the record.
+    pub fn back(
+        &self,
+        rt: &impl Wait,
+        alloc: Global,
+        name: &RoomName,
+        site: u32,
+    ) -> Result<Entrance<P>, NoMemory>
+        ensures entered { IfOk result (IfEntered (λ pass reply.
+            IsBack P.limits site pass reply × (pass.room ≡ name.now))) }
+        ensures refused { Contains self.now name.now
+            → IfOk result (IfRefused (IsBackRefusal P.limits site)) }
+        ensures unknown { ¬ (Contains self.now name.now) → result ≡ Ok (Refused (No 0 NoSuchRoom)) }
+    {
+        let Some(room) = self.room(name) else {
+            return Ok(Entrance::Refused(no_such_room()));
+        };
+        held(rt, room).back(alloc, name, site)
+    }
+
     /// Answers a request of the pass's site. Then the pass has seen the room's whole record. Otherwise
     /// the pass stays, and it is `NoMemory`, or `Torn` for a pass of other rooms than these. Waits for
-    /// the room's lock. Beside the answer it is linear in what the pass has not seen.
+    /// the room's lock. Beside the answer it takes the same time whatever the size of the record. A
+    /// leave is answered, and the pass stays: `hand_back` takes it.
     pub fn call(
         &self,
         rt: &impl Wait,
@@ -112,10 +133,27 @@ impl<P: RoomLedger> Rooms<P> {
             return Err(CallFault::Torn { place: 0 });
         };
         let mut room = held(rt, room);
-        if room.place() != pass.place {
+        if room.place() != pass.part.place {
             return Err(CallFault::Torn { place: 0 });
         }
         room.call(rt, alloc, pass, request)
+    }
+
+    /// Takes a pass back, and answers as a leave of its site is answered. Somebody can then come back as
+    /// the site. A pass of other rooms than these is given back. Takes no memory. Waits for the room's
+    /// lock.
+    pub fn hand_back(&self, rt: &impl Wait, pass: Pass<P>) -> Result<Reply, Pass<P>>
+        ensures answer { IfOk result (IsLeave P.limits pass) }
+        ensures back { IfErr result (λ back. back ≡ pass) }
+    {
+        let Some(room) = self.room(&pass.room) else {
+            return Err(pass);
+        };
+        let mut room = held(rt, room);
+        if room.place() != pass.part.place {
+            return Err(pass);
+        }
+        room.hand_back(pass)
     }
 
     /// Lends the room of this name to `f`, and gives its answer, or `None` where there is no such room.
@@ -134,22 +172,25 @@ impl<P: RoomLedger> Rooms<P> {
     }
 }
 
+/// The refusal where no room has the name.
+fn no_such_room() -> Reply
+    ensures { result ≡ No 0 NoSuchRoom }
+{
+    Reply::No {
+        at: 0,
+        refusal: Refusal::NoSuchRoom,
+    }
+}
+
 impl<P: RoomLedger> Rooms<P> {
-    /// Gives up rooms and passes for the rooms' records, in order. Each record is legal, and one with
-    /// all passes of its room. `Torn` for a pass of no room of these; otherwise, in the first room
-    /// where it is so, `Torn` for a pass that is not of the record, or `Missing` where a pass is
-    /// absent; otherwise `NoMemory`. Linear in each room's record for each of its passes.
-    pub fn close(self, alloc: Global, passes: Vec<Pass<P>>) -> Result<Vec<RoomRecord>, CloseFault>
+    /// Gives up the rooms for their records, in order, each with the parts of its sites. Each record is
+    /// legal, and one with all parts of its room. `Missing` for the first room of which a pass wasn't
+    /// handed back; otherwise `NoMemory`. Linear in the number of sites.
+    pub fn close(self, alloc: Global) -> Result<Vec<RoomRecord<P>>, CloseFault>
         ensures names { IfOk result (λ records. map (λ one. one.room) records.items ≡ self) }
         ensures closed { IfOk result (λ records. All (λ one. IsClosed P.limits
-            (map arc_value one.entries.items) (passes_of one.room passes.items)) records.items) }
+            (map arc_value one.entries.items) one.parts.items) records.items) }
     {
-        if let Some(stray) = passes.iter().find(|pass| self.room(pass.room()).is_none()) {
-            return Err(CloseFault::Torn {
-                room: stray.room().copy(alloc)?,
-                site: stray.site(),
-            });
-        }
-        close_all(alloc, self.rooms, &passes)
+        close_all(alloc, self.rooms)
     }
 }

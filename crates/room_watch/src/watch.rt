@@ -3,8 +3,8 @@
 use byte_streams::Uninterrupted;
 use commands::Fault;
 use late_join::{FeedFault, Replica, TakeFault};
-use op_names::{NoMemory, OpName, RoomName};
-use rules::Limits;
+use op_names::{MAX_SITE, NoMemory, OpName, RoomName};
+use rules::{Limits, Refusal};
 use std::alloc::{AllocError, Global};
 use std::io::{Read, Write};
 use std::net::{Net, OpenStream, TcpStream};
@@ -113,6 +113,40 @@ fn ask<S: Read + Write + Drop, K: MaskKeys + Drop>(
     next_text(socket)
 }
 
+/// Sends a request, and gives the reply.
+fn replied<S: Read + Write + Drop, K: MaskKeys + Drop>(
+    alloc: Global,
+    socket: &mut WebSocket<S, K>,
+    request: &Request,
+) -> Result<Reply, WatchFault> {
+    let text = ask(alloc, socket, request)?;
+    Ok(read_reply(alloc, text.as_bytes())?)
+}
+
+/// Comes back as the first site of the room that nobody is in as. Tells whether there is one.
+fn come_back<S: Read + Write + Drop, K: MaskKeys + Drop>(
+    alloc: Global,
+    socket: &mut WebSocket<S, K>,
+    room: &RoomName,
+) -> Result<bool, WatchFault> {
+    for site in 1..=MAX_SITE {
+        let room = room.copy(alloc)?;
+        match replied(alloc, socket, &Request::Back { room, site })? {
+            Reply::Returned { .. } => return Ok(true),
+            Reply::No {
+                refusal: Refusal::SiteInUse,
+                ..
+            } => {}
+            Reply::No {
+                refusal: Refusal::NoSuchSite,
+                ..
+            } => return Ok(false),
+            _ => return Err(WatchFault::Session),
+        }
+    }
+    Ok(false)
+}
+
 /// Joins the room of this name.
 fn join<S: Read + Write + Drop, K: MaskKeys + Drop>(
     alloc: Global,
@@ -120,11 +154,22 @@ fn join<S: Read + Write + Drop, K: MaskKeys + Drop>(
     room: &RoomName,
 ) -> Result<(), WatchFault> {
     let room = room.copy(alloc)?;
-    let text = ask(alloc, socket, &Request::Join { room })?;
-    match read_reply(alloc, text.as_bytes())? {
+    match replied(alloc, socket, &Request::Join { room })? {
         Reply::Joined { .. } => Ok(()),
         _ => Err(WatchFault::Session),
     }
+}
+
+/// Is let into the room of this name: as a site that nobody is in as, otherwise as its next site.
+fn enter<S: Read + Write + Drop, K: MaskKeys + Drop>(
+    alloc: Global,
+    socket: &mut WebSocket<S, K>,
+    room: &RoomName,
+) -> Result<(), WatchFault> {
+    if come_back(alloc, socket, room)? {
+        return Ok(());
+    }
+    join(alloc, socket, room)
 }
 
 /// A replica of the whole record, page by page.
@@ -174,8 +219,7 @@ fn leave<S: Read + Write + Drop, K: MaskKeys + Drop>(
     alloc: Global,
     socket: &mut WebSocket<S, K>,
 ) -> Result<(), WatchFault> {
-    let text = ask(alloc, socket, &Request::Leave)?;
-    let Reply::Left { .. } = read_reply(alloc, text.as_bytes())? else {
+    let Reply::Left { .. } = replied(alloc, socket, &Request::Leave)? else {
         return Err(WatchFault::Session);
     };
     socket.close(Some(CloseFrame {
@@ -192,10 +236,11 @@ fn leave<S: Read + Write + Drop, K: MaskKeys + Drop>(
     Err(WatchFault::Session)
 }
 
-/// Joins the room of this name over a stream, takes its record into a replica, writes what the replica
-/// shows of each object, a line each in the order of the record, leaves, and closes the session. The
-/// lines are written at once, when all of them are there. `Session` where the stream fails or the
-/// server answers what it should not, a refusal among it; `Write`; `NoMemory`.
+/// Enters the room of this name over a stream, takes its record into a replica, writes what the
+/// replica shows of each object, a line each in the order of the record, leaves, and closes the
+/// session. It comes back as the first site that nobody is in as, and joins where there is none.
+/// The lines are written at once, when all of them are there. `Session` where the stream fails or
+/// the server answers what it should not, a refusal to let it in among it; `Write`; `NoMemory`.
 pub fn watch_over<R, S, W>(
     rt: &R,
     alloc: Global,
@@ -214,7 +259,7 @@ where
         Err(HandshakeError::Failure(fault)) => return Err(fault.into()),
         Err(HandshakeError::Interrupted(_handshake)) => return Err(WatchFault::Session),
     };
-    join(alloc, &mut socket, room)?;
+    enter(alloc, &mut socket, room)?;
     let replica = pulled(alloc, &mut socket)?;
     let lines = lines_of(alloc, &replica)?;
     if output.write_all(lines.as_bytes()).is_err() || output.flush().is_err() {

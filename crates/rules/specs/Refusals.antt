@@ -2,7 +2,7 @@
 use Rattle.std.specs.Prelude.{ℕ, List, [], ◌∷◌, codes, Option, ◌==◌}
 use Rattle.std.specs.List.{find}
 use Rattle.rules.specs.declared.refusal.Refusal.{Refusal}
-use Rattle.rules.specs.declared.refusal.Refusal.TheVariants.{BadMessage, NotJoined, AlreadyJoined, NoSuchRoom, RoomFull, RecordFull, WrongSeq, OwnCount, Ahead, NotClosed, NoSuchObject, NoSuchVersion, ObjectFull, TooManyKeys, TooManyVersions, TooManyObjects, TooFar, Gone}
+use Rattle.rules.specs.declared.refusal.Refusal.TheVariants.{BadMessage, NotJoined, AlreadyJoined, NoSuchRoom, RoomFull, RecordFull, WrongSeq, OwnCount, Ahead, NotClosed, NoSuchObject, NoSuchVersion, ObjectFull, TooManyKeys, TooManyVersions, TooManyObjects, TooFar, Gone, NoSuchSite, SiteInUse}
 
 abbrev pub code_of : Refusal → ℕ
 code_of BadMessage = 1
@@ -23,6 +23,8 @@ code_of TooManyVersions = 15
 code_of TooManyObjects = 16
 code_of TooFar = 17
 code_of Gone = 18
+code_of NoSuchSite = 19
+code_of SiteInUse = 20
 
 abbrev pub word_of : Refusal → List ℕ
 word_of BadMessage = codes "bad-message"
@@ -43,9 +45,11 @@ word_of TooManyVersions = codes "too-many-versions"
 word_of TooManyObjects = codes "too-many-objects"
 word_of TooFar = codes "too-far"
 word_of Gone = codes "gone"
+word_of NoSuchSite = codes "no-such-site"
+word_of SiteInUse = codes "site-in-use"
 
 abbrev all_refusals : List Refusal
-all_refusals = BadMessage ∷ NotJoined ∷ AlreadyJoined ∷ NoSuchRoom ∷ RoomFull ∷ RecordFull ∷ WrongSeq ∷ OwnCount ∷ Ahead ∷ NotClosed ∷ NoSuchObject ∷ NoSuchVersion ∷ ObjectFull ∷ TooManyKeys ∷ TooManyVersions ∷ TooManyObjects ∷ TooFar ∷ Gone ∷ []
+all_refusals = BadMessage ∷ NotJoined ∷ AlreadyJoined ∷ NoSuchRoom ∷ RoomFull ∷ RecordFull ∷ WrongSeq ∷ OwnCount ∷ Ahead ∷ NotClosed ∷ NoSuchObject ∷ NoSuchVersion ∷ ObjectFull ∷ TooManyKeys ∷ TooManyVersions ∷ TooManyObjects ∷ TooFar ∷ Gone ∷ NoSuchSite ∷ SiteInUse ∷ []
 
 -- the refusal with this number
 abbrev pub refusal_at : ℕ → Option Refusal

@@ -23,6 +23,8 @@ pub enum Refusal {
     TooManyObjects,
     TooFar,
     Gone,
+    NoSuchSite,
+    SiteInUse,
 }
 
 impl Refusal {
@@ -51,6 +53,8 @@ impl Refusal {
             Refusal::TooManyObjects => 16,
             Refusal::TooFar => 17,
             Refusal::Gone => 18,
+            Refusal::NoSuchSite => 19,
+            Refusal::SiteInUse => 20,
         }
     }
 
@@ -77,6 +81,8 @@ impl Refusal {
             Refusal::TooManyObjects => "too-many-objects",
             Refusal::TooFar => "too-far",
             Refusal::Gone => "gone",
+            Refusal::NoSuchSite => "no-such-site",
+            Refusal::SiteInUse => "site-in-use",
         }
     }
 
@@ -103,6 +109,8 @@ impl Refusal {
             16 => Some(Refusal::TooManyObjects),
             17 => Some(Refusal::TooFar),
             18 => Some(Refusal::Gone),
+            19 => Some(Refusal::NoSuchSite),
+            20 => Some(Refusal::SiteInUse),
             _ => None,
         }
     }

@@ -1,61 +1,65 @@
 -- One message of a session, and the reply to it.
-use Rattle.std.specs.Prelude.{◌≡◌, ◌⊎◌, ℕ, Bool, true, false, not, List, [], ◌∷◌, ◌++◌, Contains, MatchBool, MatchOption}
+use Rattle.std.specs.Prelude.{◌≡◌, ◌⊎◌, ℕ, List, Some, None, Contains, MatchOption}
 use Rattle.op_names.specs.Texts.{Bytes}
 use Rattle.rules.specs.declared.limits.LimitValues.{LimitValues}
 use Rattle.rules.specs.declared.refusal.Refusal.{Refusal}
 use Rattle.rules.specs.declared.refusal.Refusal.TheVariants.{BadMessage, NotJoined, AlreadyJoined, NoSuchRoom}
 use Rattle.wire.specs.declared.request.Request.{Request}
+use Rattle.wire.specs.declared.request.Request.TheVariants.{Join, Back, Leave}
 use Rattle.wire.specs.declared.reply.Reply.{Reply}
-use Rattle.wire.specs.declared.reply.Reply.TheVariants.{Left, No}
-use Rattle.wire.specs.Joining.{joined_name}
+use Rattle.wire.specs.declared.reply.Reply.TheVariants.{No}
 use Rattle.wire.specs.Texts.{request_read, reply_text}
 use Rattle.room_lock.specs.Passes.{PassView}
-use Rattle.room_lock.specs.Told.{IsCall, IsJoin, IsRefusal}
+use Rattle.room_lock.specs.Told.{IsBack, IsBackRefusal, IsCall, IsJoin, IsLeave, IsRefusal}
 use Rattle.sessions.specs.Sessions.{SessionView}
-
--- is it the reply that puts a session out of its room
-abbrev pub is_left : Reply → Bool
-is_left (Left at) = true
-is_left _ = false
 
 -- the session itself refuses, and stays as it is
 abbrev pub IsRefused : Refusal → SessionView → SessionView → Reply → Type 0
 IsRefused refusal old new reply = (reply ≡ No 0 refusal) × (new ≡ old)
 
--- A call by the last pass: the reply is the one of its room, and no other pass changes. The session stays in the room, unless the reply
--- puts it out.
-pub record IsCallOfLast (limits : LimitValues) (old new : SessionView) (request : Request) (reply : Reply) : Type 0 where
-  pub others : List PassView
-  pub was : PassView
-  pub now : PassView
-  pub passes_were : old.passes ≡ others ++ was ∷ []
-  pub passes_are : new.passes ≡ others ++ now ∷ []
-  pub call : IsCall limits was now request reply
-  pub inside : new.inside ≡ not (is_left reply)
+-- a call by the session's pass, which it keeps
+abbrev pub IsCallBy : LimitValues → PassView → SessionView → Request → Reply → Type 0
+IsCallBy limits was new request reply = (now : PassView) × IsCall limits was now request reply × (new ≡ Some now)
 
--- a join that was let in: a new pass, of the room of this name, is the last, and the session is in that room
-pub record IsLetIn (limits : LimitValues) (name : Bytes) (old new : SessionView) (reply : Reply) : Type 0 where
-  pub pass : PassView
-  pub passes_are : new.passes ≡ old.passes ++ pass ∷ []
-  pub join : IsJoin limits pass reply
-  pub room : pass.room ≡ name
-  pub inside : new.inside ≡ true
+-- a leave: the session's pass is handed back, and the session is in no room
+abbrev pub IsLeaveBy : LimitValues → PassView → SessionView → Reply → Type 0
+IsLeaveBy limits was new reply = IsLeave limits was reply × (new ≡ None)
 
--- a join that was not: the room of this name refuses it, or there is none; and the session stays as it is
-pub record IsTurnedAway (limits : LimitValues) (names : List Bytes) (name : Bytes) (old new : SessionView) (reply : Reply) : Type 0 where
-  pub known : Contains names name → IsRefusal limits reply
+-- somebody was let in: the session has the pass, of the room of this name
+abbrev pub IsLetIn : (PassView → Reply → Type 0) → Bytes → SessionView → Reply → Type 0
+IsLetIn Holds name new reply = (pass : PassView) × Holds pass reply × (pass.room ≡ name) × (new ≡ Some pass)
+
+-- nobody was: the room of this name refuses it, or there is none; and the session stays in no room
+pub record IsTurnedAway (Holds : Reply → Type 0) (names : List Bytes) (name : Bytes) (new : SessionView) (reply : Reply) : Type 0 where
+  pub known : Contains names name → Holds reply
   pub unknown : ¬ (Contains names name) → reply ≡ No 0 NoSuchRoom
-  pub same : new ≡ old
+  pub same : new ≡ None
 
-abbrev pub IsJoinBy : LimitValues → List Bytes → Bytes → SessionView → SessionView → Reply → Type 0
-IsJoinBy limits names name old new reply = IsLetIn limits name old new reply ⊎ IsTurnedAway limits names name old new reply
+-- a join, and a coming back as a site
+abbrev pub IsJoinBy : LimitValues → List Bytes → Bytes → SessionView → Reply → Type 0
+IsJoinBy limits names name new reply = IsLetIn (IsJoin limits) name new reply ⊎ IsTurnedAway (IsRefusal limits) names name new reply
 
--- The answer to a request of a session, to join a room or another one. In a room a session can't join, and in none it can do nothing else.
+abbrev pub IsBackBy : LimitValues → List Bytes → Bytes → ℕ → SessionView → Reply → Type 0
+IsBackBy limits names name site new reply =
+    IsLetIn (IsBack limits site) name new reply ⊎ IsTurnedAway (IsBackRefusal limits site) names name new reply
+
+-- the answer to a request of a session that is in a room: it can't be let into one
+abbrev pub IsAnswerInside : LimitValues → PassView → SessionView → Request → Reply → Type 0
+IsAnswerInside limits was new (Join name) reply = IsRefused AlreadyJoined (Some was) new reply
+IsAnswerInside limits was new (Back name site) reply = IsRefused AlreadyJoined (Some was) new reply
+IsAnswerInside limits was new Leave reply = IsLeaveBy limits was new reply
+IsAnswerInside limits was new request reply = IsCallBy limits was new request reply
+
+-- and of one that is in none: it can do nothing else
+abbrev pub IsAnswerOutside : LimitValues → List Bytes → SessionView → Request → Reply → Type 0
+IsAnswerOutside limits names new (Join name) reply = IsJoinBy limits names name new reply
+IsAnswerOutside limits names new (Back name site) reply = IsBackBy limits names name site new reply
+IsAnswerOutside limits names new request reply = IsRefused NotJoined None new reply
+
+-- the answer to a request of a session
 abbrev pub IsAnswer : LimitValues → List Bytes → SessionView → SessionView → Request → Reply → Type 0
-IsAnswer limits names old new request reply =
-    MatchOption (joined_name request)
-    (MatchBool old.inside (IsCallOfLast limits old new request reply) (IsRefused NotJoined old new reply))
-    (λ name. MatchBool old.inside (IsRefused AlreadyJoined old new reply) (IsJoinBy limits names name old new reply))
+IsAnswer limits names (Some was) new request reply = IsAnswerInside limits was new request reply
+IsAnswer limits names None new request reply = IsAnswerOutside limits names new request reply
 
 -- the answer to a message
 abbrev pub IsTurn : LimitValues → List Bytes → SessionView → SessionView → Bytes → Reply → Type 0

@@ -21,7 +21,7 @@ pub enum Cause {
     StreamFault,
     #[error("out of memory")]
     NoMemory,
-    /// A pass of it is not of the rooms.
+    /// Its pass is not of the rooms.
     #[error("torn from its room")]
     Torn,
 }

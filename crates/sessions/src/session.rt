@@ -1,39 +1,34 @@
 //! A session: the messages of one client, one after the other.
 
-ghost use Rattle.std.specs.Prelude.{◌≡◌, ◌⊎◌, IfErr, IfOk, OnErr, None, [], false, string_bytes, true};
+ghost use Rattle.std.specs.Prelude.{◌≡◌, ◌⊎◌, IfErr, IfOk, OnErr, Ok, Err, None, Some, option_map, string_bytes};
 ghost use Rattle.wire.specs.declared.reply.Reply.TheVariants.{No};
-ghost use Rattle.wire.specs.Joining.{joined_name};
+ghost use Rattle.wire.specs.Texts.{reply_text};
+ghost use Rattle.room_lock.specs.Entrances.{IfEntered, IfRefused};
 ghost use Rattle.sessions.specs.declared.cause.Cause.TheVariants as cause;
-ghost use Rattle.sessions.specs.Turns.{is_left, IsAnswer, IsCallOfLast, IsJoinBy, IsTextOfTurn, IsTurn, MayStand};
+ghost use Rattle.sessions.specs.Turns.{IsAnswer, IsAnswerInside, IsAnswerOutside, IsBackBy, IsCallBy, IsJoinBy, IsLeaveBy, IsTextOfTurn, IsTurn, MayStand};
 
 use crate::cause::Cause;
 use crate::gate::Gate;
 use crate::host::Host;
-use op_names::RoomName;
-use room_lock::{CallFault, Joined, Pass, RoomLedger};
+use op_names::{NoMemory, RoomName};
+use room_lock::{CallFault, Entrance, Pass, RoomLedger};
 use std::alloc::Global;
 use std::marker::Model;
 use std::sync::Wait;
 use wire::{ReadFault, Refusal, Reply, Request, read_request, write_reply};
 
-/// A session: whether it is in a room, and the passes that it got, of which the last is its part in
-/// that room.
-#[derive(Drop)]
+/// A session, with its pass where it is in a room. It can't be dropped: `end` hands the pass back.
 pub struct Session<P: RoomLedger> {
     number: u32,
-    inside: bool,
-    passes: Vec<Pass<P>>,
+    pass: Option<Pass<P>>,
 }
 
 impl<P: RoomLedger> Model for Session<P> {
-    ghost use Rattle.std.specs.Prelude.{◌≡◌, ◌<◌, length, true};
     ghost use Rattle.sessions.specs.Sessions.{SessionView};
 
     ghost Value = { SessionView };
 
-    ghost view = { λ s. record { inside = s.inside; passes = s.passes.items } };
-
-    ghost invariant = { λ s. s.inside ≡ true → 0 < length s.passes.items };
+    ghost view = { λ s. s.pass };
 }
 
 /// A refusal that the session makes itself.
@@ -43,162 +38,234 @@ fn own_refusal(refusal: Refusal) -> Reply
     Reply::No { at: 0, refusal }
 }
 
-/// Is it the reply that puts a session out of its room?
-fn is_left(reply: &Reply) -> bool
-    ensures { result ≡ is_left reply.now }
-{
-    matches!(reply, Reply::Left { .. })
-}
-
 impl<P: RoomLedger> Session<P> {
     /// A session of this number, in no room.
-    pub fn new(alloc: Global, number: u32) -> Session<P>
-        ensures inside { result.inside ≡ false }
-        ensures passes { result.passes ≡ [] }
+    pub fn new(number: u32) -> Session<P>
+        ensures { result ≡ None }
+    {
+        Session { number, pass: None }
+    }
+
+    /// A session of this number, in the pass's room.
+    fn inside(number: u32, pass: Pass<P>) -> Session<P>
+        ensures { result ≡ Some pass }
     {
         Session {
             number,
-            inside: false,
-            passes: Vec::new(alloc),
+            pass: Some(pass),
         }
     }
 
-    /// Is it in a room?
-    pub fn inside(&self) -> bool
-        ensures { result ≡ self.now.inside }
+    /// Its pass, where it is in a room.
+    pub fn pass(&self) -> Option<&Pass<P>>
+        ensures { option_map (λ pass. pass.now) result ≡ self.now }
     {
-        self.inside
+        self.pass.as_ref()
     }
 
-    /// The passes that it got, in order.
-    pub fn passes(&self) -> &[Pass<P>]
-        ensures { result.now ≡ self.now.passes }
-    {
-        self.passes.as_slice()
-    }
-
-    /// Gives the session up for its passes. Where there are none, the list has no memory either: a
-    /// refused join has reserved some, and lists are kept to the end of a run.
-    pub fn into_passes(self) -> Vec<Pass<P>>
-        ensures { result.items ≡ self.passes }
-    {
-        let mut passes = self.passes;
-        if passes.is_empty() {
-            passes.shrink_to_fit();
+    /// Ends the session: its site is free for who comes back.
+    pub fn end<R: Wait, G>(self, host: &Host<'_, P, R, G>) {
+        let Session { number: _, pass } = self;
+        if let Some(pass) = pass
+            && let Err(stray) = host.rooms.hand_back(host.rt, pass)
+        {
+            stray.give_up();
         }
-        passes
     }
 
-    /// Answers one message by the text of its reply. The session itself refuses what is no request, a
-    /// join from within a room, and anything else from without. Otherwise a room answers, by the last
-    /// pass or by a join that gives a new one; that is the one call of the rooms. `NoMemory` where
-    /// memory was refused, and then the call may stand, if only the text could not be made; `Torn`
-    /// where the last pass is of other rooms. No pass is lost.
+    /// Answers one message by the text of its reply, and gives the session as it then is. The session
+    /// itself refuses what is no request, a join or a coming back from within a room, and anything else
+    /// from without. Otherwise a room answers, and that is the one call of the rooms: a join or a coming
+    /// back may give a pass, a leave hands it back, and all else is asked by it. `NoMemory` where memory
+    /// was refused, and then the call may stand, if only the text could not be made; `Torn` where the
+    /// pass is of other rooms.
     pub fn message<R: Wait, G: Gate>(
-        &mut self,
+        self,
         host: &Host<'_, P, R, G>,
         bytes: &[u8],
-    ) -> Result<String, Cause>
-        ensures ok { IfOk result (λ text.
-            IsTextOfTurn P.limits host.now.rooms.now self.old self.new bytes.now (string_bytes text)) }
-        ensures err { OnErr result (MayStand P.limits host.now.rooms.now self.old self.new bytes.now) }
-        ensures cause { IfErr result (λ why. (why ≡ cause.NoMemory)
-            ⊎ ((why ≡ cause.Torn) × (self.new ≡ self.old))) }
+    ) -> (Session<P>, Result<String, Cause>)
+        ensures ok { IfOk result.1 (λ text.
+            IsTextOfTurn P.limits host.now.rooms.now self result.0 bytes.now (string_bytes text)) }
+        ensures err { OnErr result.1 (MayStand P.limits host.now.rooms.now self result.0 bytes.now) }
+        ensures cause { IfErr result.1 (λ why. (why ≡ cause.NoMemory)
+            ⊎ ((why ≡ cause.Torn) × (result.0 ≡ self))) }
     {
-        let reply = self.answer(host, bytes)?;
-        let text = write_reply(host.alloc, &reply)?;
-        Ok(text)
+        let (after, reply) = self.answer(host, bytes);
+        (after, text_of(host.alloc, reply))
     }
 
     /// The reply to a message; on `Err` nothing is changed.
     fn answer<R: Wait, G: Gate>(
-        &mut self,
+        self,
         host: &Host<'_, P, R, G>,
         bytes: &[u8],
-    ) -> Result<Reply, Cause>
-        ensures ok { IfOk result (IsTurn P.limits host.now.rooms.now self.old self.new bytes.now) }
-        ensures err { OnErr result (self.new ≡ self.old) }
-        ensures cause { IfErr result (λ why. (why ≡ cause.NoMemory) ⊎ (why ≡ cause.Torn)) }
+    ) -> (Session<P>, Result<Reply, Cause>)
+        ensures ok { IfOk result.1 (IsTurn P.limits host.now.rooms.now self result.0 bytes.now) }
+        ensures err { OnErr result.1 (result.0 ≡ self) }
+        ensures cause { IfErr result.1 (λ why. (why ≡ cause.NoMemory) ⊎ (why ≡ cause.Torn)) }
     {
         match read_request(host.alloc, bytes) {
             Ok(request) => self.ask(host, request),
-            Err(ReadFault::Bad) => Ok(own_refusal(Refusal::BadMessage)),
-            Err(ReadFault::NoMemory) => Err(Cause::NoMemory),
+            Err(ReadFault::Bad) => (self, Ok(own_refusal(Refusal::BadMessage))),
+            Err(ReadFault::NoMemory) => (self, Err(Cause::NoMemory)),
         }
     }
 
     /// The reply to a request; on `Err` nothing is changed.
     fn ask<R: Wait, G: Gate>(
-        &mut self,
+        self,
         host: &Host<'_, P, R, G>,
         request: Request,
-    ) -> Result<Reply, Cause>
-        ensures ok { IfOk result (IsAnswer P.limits host.now.rooms.now self.old self.new request) }
-        ensures err { OnErr result (self.new ≡ self.old) }
-        ensures cause { IfErr result (λ why. (why ≡ cause.NoMemory) ⊎ (why ≡ cause.Torn)) }
+    ) -> (Session<P>, Result<Reply, Cause>)
+        ensures ok { IfOk result.1 (IsAnswer P.limits host.now.rooms.now self result.0 request) }
+        ensures err { OnErr result.1 (result.0 ≡ self) }
+        ensures cause { IfErr result.1 (λ why. (why ≡ cause.NoMemory) ⊎ (why ≡ cause.Torn)) }
     {
-        if self.inside {
-            if request.joined_name().is_some() {
-                return Ok(own_refusal(Refusal::AlreadyJoined));
-            }
-            return self.call(host, request);
-        }
-        match request.joined_name() {
-            Some(name) => self.join(host, name),
-            None => Ok(own_refusal(Refusal::NotJoined)),
+        let Session { number, pass } = self;
+        match pass {
+            Some(pass) => ask_inside(host, number, pass, request),
+            None => ask_outside(host, number, &request),
         }
     }
+}
 
-    /// Joins the room of this name; on `Err` nothing is changed.
-    fn join<R: Wait, G: Gate>(
-        &mut self,
-        host: &Host<'_, P, R, G>,
-        name: &RoomName,
-    ) -> Result<Reply, Cause>
-        requires { self.old.inside ≡ false }
-        ensures ok { IfOk result (IsJoinBy P.limits host.now.rooms.now name.now self.old self.new) }
-        ensures err { OnErr result (self.new ≡ self.old) }
-        ensures cause { IfErr result (λ why. why ≡ cause.NoMemory) }
-    {
-        if self.passes.reserve(1).is_err() {
-            return Err(Cause::NoMemory);
-        }
-        host.gate.before_call(self.number);
-        let joined = host.rooms.join(host.rt, host.alloc, name);
-        host.gate.after_call(self.number);
-        match joined? {
-            Joined::Entered(pass, reply) => {
-                self.passes.push_reserved(pass);
-                self.inside = true;
-                Ok(reply)
-            }
-            Joined::Refused(reply) => Ok(reply),
-        }
+/// The text of a reply, if there is one.
+fn text_of(alloc: Global, reply: Result<Reply, Cause>) -> Result<String, Cause>
+    ensures ok { IfOk result (λ text. (told : _) × (reply ≡ Ok told)
+        × (string_bytes text ≡ reply_text told)) }
+    ensures err { IfErr result (λ why. (why ≡ cause.NoMemory) ⊎ (reply ≡ Err why)) }
+{
+    let text = write_reply(alloc, &reply?)?;
+    Ok(text)
+}
+
+/// The reply to a request from within the pass's room; on `Err` the session keeps the pass as it was.
+fn ask_inside<P: RoomLedger, R: Wait, G: Gate>(
+    host: &Host<'_, P, R, G>,
+    number: u32,
+    pass: Pass<P>,
+    request: Request,
+) -> (Session<P>, Result<Reply, Cause>)
+    ensures ok { IfOk result.1 (IsAnswerInside P.limits pass result.0 request) }
+    ensures err { OnErr result.1 (result.0 ≡ Some pass) }
+    ensures cause { IfErr result.1 (λ why. (why ≡ cause.NoMemory) ⊎ (why ≡ cause.Torn)) }
+{
+    match request {
+        Request::Join { .. } | Request::Back { .. } => (
+            Session::inside(number, pass),
+            Ok(own_refusal(Refusal::AlreadyJoined)),
+        ),
+        Request::Leave => leave(host, number, pass),
+        request => call(host, number, pass, request),
     }
+}
 
-    /// Asks the room by the last pass; on `Err` nothing is changed.
-    fn call<R: Wait, G: Gate>(
-        &mut self,
-        host: &Host<'_, P, R, G>,
-        request: Request,
-    ) -> Result<Reply, Cause>
-        requires { self.old.inside ≡ true }
-        ensures ok { IfOk result (IsCallOfLast P.limits self.old self.new request) }
-        ensures err { OnErr result (self.new ≡ self.old) }
-        ensures cause { IfErr result (λ why. (why ≡ cause.NoMemory) ⊎ (why ≡ cause.Torn)) }
-    {
-        let last = self.passes.len() - 1;
-        let pass = &mut self.passes[last];
-        host.gate.before_call(self.number);
-        let reply = host.rooms.call(host.rt, host.alloc, pass, request);
-        host.gate.after_call(self.number);
-        match reply {
-            Ok(reply) => {
-                self.inside = !is_left(&reply);
-                Ok(reply)
-            }
-            Err(CallFault::Torn { place: _ }) => Err(Cause::Torn),
-            Err(CallFault::NoMemory) => Err(Cause::NoMemory),
-        }
+/// The reply to a request from within no room; on `Err` the session stays there.
+fn ask_outside<P: RoomLedger, R: Wait, G: Gate>(
+    host: &Host<'_, P, R, G>,
+    number: u32,
+    request: &Request,
+) -> (Session<P>, Result<Reply, Cause>)
+    ensures ok { IfOk result.1
+        (IsAnswerOutside P.limits host.now.rooms.now result.0 request.now) }
+    ensures err { OnErr result.1 (result.0 ≡ None) }
+    ensures cause { IfErr result.1 (λ why. why ≡ cause.NoMemory) }
+{
+    match request {
+        Request::Join { room } => join(host, number, room),
+        Request::Back { room, site } => back(host, number, room, *site),
+        _ => (Session::new(number), Ok(own_refusal(Refusal::NotJoined))),
+    }
+}
+
+/// Joins the room of this name.
+fn join<P: RoomLedger, R: Wait, G: Gate>(
+    host: &Host<'_, P, R, G>,
+    number: u32,
+    name: &RoomName,
+) -> (Session<P>, Result<Reply, Cause>)
+    ensures ok { IfOk result.1 (IsJoinBy P.limits host.now.rooms.now name.now result.0) }
+    ensures err { OnErr result.1 (result.0 ≡ None) }
+    ensures cause { IfErr result.1 (λ why. why ≡ cause.NoMemory) }
+{
+    host.gate.before_call(number);
+    let joined = host.rooms.join(host.rt, host.alloc, name);
+    host.gate.after_call(number);
+    enter(number, joined)
+}
+
+/// Comes back as this site of the room of this name.
+fn back<P: RoomLedger, R: Wait, G: Gate>(
+    host: &Host<'_, P, R, G>,
+    number: u32,
+    name: &RoomName,
+    site: u32,
+) -> (Session<P>, Result<Reply, Cause>)
+    ensures ok { IfOk result.1 (IsBackBy P.limits host.now.rooms.now name.now site result.0) }
+    ensures err { OnErr result.1 (result.0 ≡ None) }
+    ensures cause { IfErr result.1 (λ why. why ≡ cause.NoMemory) }
+{
+    host.gate.before_call(number);
+    let returned = host.rooms.back(host.rt, host.alloc, name, site);
+    host.gate.after_call(number);
+    enter(number, returned)
+}
+
+/// The session after an entrance, with the reply.
+fn enter<P: RoomLedger>(
+    number: u32,
+    entrance: Result<Entrance<P>, NoMemory>,
+) -> (Session<P>, Result<Reply, Cause>)
+    ensures entered { IfOk entrance (IfEntered (λ pass reply.
+        (result.1 ≡ Ok reply) × (result.0 ≡ Some pass))) }
+    ensures refused { IfOk entrance (IfRefused (λ reply.
+        (result.1 ≡ Ok reply) × (result.0 ≡ None))) }
+    ensures err { OnErr entrance ((result.1 ≡ Err cause.NoMemory) × (result.0 ≡ None)) }
+{
+    match entrance {
+        Ok(Entrance::Entered(pass, reply)) => (Session::inside(number, pass), Ok(reply)),
+        Ok(Entrance::Refused(reply)) => (Session::new(number), Ok(reply)),
+        Err(NoMemory) => (Session::new(number), Err(Cause::NoMemory)),
+    }
+}
+
+/// Asks the room by the pass; on `Err` the session keeps it as it was.
+fn call<P: RoomLedger, R: Wait, G: Gate>(
+    host: &Host<'_, P, R, G>,
+    number: u32,
+    mut pass: Pass<P>,
+    request: Request,
+) -> (Session<P>, Result<Reply, Cause>)
+    ensures ok { IfOk result.1 (IsCallBy P.limits pass result.0 request) }
+    ensures err { OnErr result.1 (result.0 ≡ Some pass) }
+    ensures cause { IfErr result.1 (λ why. (why ≡ cause.NoMemory) ⊎ (why ≡ cause.Torn)) }
+{
+    host.gate.before_call(number);
+    let reply = host.rooms.call(host.rt, host.alloc, &mut pass, request);
+    host.gate.after_call(number);
+    let reply = match reply {
+        Ok(reply) => Ok(reply),
+        Err(CallFault::Torn { place: _ }) => Err(Cause::Torn),
+        Err(CallFault::NoMemory) => Err(Cause::NoMemory),
+    };
+    (Session::inside(number, pass), reply)
+}
+
+/// Hands the pass back; on `Err` the session keeps it.
+fn leave<P: RoomLedger, R: Wait, G: Gate>(
+    host: &Host<'_, P, R, G>,
+    number: u32,
+    pass: Pass<P>,
+) -> (Session<P>, Result<Reply, Cause>)
+    ensures ok { IfOk result.1 (IsLeaveBy P.limits pass result.0) }
+    ensures err { OnErr result.1 (result.0 ≡ Some pass) }
+    ensures cause { IfErr result.1 (λ why. why ≡ cause.Torn) }
+{
+    host.gate.before_call(number);
+    let left = host.rooms.hand_back(host.rt, pass);
+    host.gate.after_call(number);
+    match left {
+        Ok(reply) => (Session::new(number), Ok(reply)),
+        Err(pass) => (Session::inside(number, pass), Err(Cause::Torn)),
     }
 }

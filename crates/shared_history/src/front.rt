@@ -58,6 +58,13 @@ pub fn open() -> (History, Front)
 }
 
 impl Front {
+    /// How many entries the beginning has.
+    pub fn len(&self) -> u64
+        ensures { result ≡ length self.now.entries }
+    {
+        self.count
+    }
+
     /// Another front that has seen the same.
     pub fn copy(&self) -> Front
         ensures { result ≡ self.now }

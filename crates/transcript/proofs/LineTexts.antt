@@ -18,8 +18,8 @@ use Rattle.wire.proofs.ByForm.{texts_by_form, one_value}
 use Rattle.transcript.specs.declared.line.TranscriptLine.{TranscriptLine}
 use Rattle.transcript.specs.Lines.{go_together, IsLineForm, IsLine, IsLineText, line_with, line_at, line_of, line_read}
 
-with_takes : (site : ℕ) (request : Request) (reply : Reply) (line : TranscriptLine) → line_with site request reply ≡ Some line → (go_together request reply ≡ true) × (record { site = site; request = request; reply = reply } ≡ line)
-with_takes site request reply line e = cond_some (go_together request reply) (record { site = site; request = request; reply = reply }) line e
+with_takes : (site : ℕ) (request : Request) (reply : Reply) (line : TranscriptLine) → line_with site request reply ≡ Some line → (go_together site request reply ≡ true) × (record { site = site; request = request; reply = reply } ≡ line)
+with_takes site request reply line e = cond_some (go_together site request reply) (record { site = site; request = request; reply = reply }) line e
 
 line_takes : (d : Data) (line : TranscriptLine) → line_of d ≡ Some line → IsLine line × IsLineForm d line
 unfolding line_of line_at

@@ -4,7 +4,7 @@ ghost use Rattle.std.specs.Prelude.{◌≡◌, ◌≤◌};
 ghost use Rattle.serde_json.specs.View.{view};
 ghost use Rattle.wire.specs.Reading.{Gives};
 ghost use Rattle.rules.specs.declared.limits.TheConstants.Limits.{MAX_ENTRIES};
-ghost use Rattle.transcript.specs.Lines.{adds, at_of, entries_after, is_join, is_joined, is_answer, go_together, line_with, line_of, line_read};
+ghost use Rattle.transcript.specs.Lines.{adds, at_of, entries_after, is_join, is_joined, is_returned, is_answer, go_together, line_with, line_of, line_read};
 
 use op_names::MAX_SITE;
 use serde_json::Value;
@@ -14,7 +14,8 @@ use wire::{ReadFault, Reply, Request, items_of, json_of, reply_of, request_of, w
 /// What a site asked, and what it was answered.
 #[derive(Drop)]
 pub struct TranscriptLine {
-    /// The site, from 1 to 256; of a join the one that it was given.
+    /// The site, from 1 to 256: of a join the one that it was given, of a back the one that it
+    /// asks for.
     pub site: u32,
     pub request: Request,
     pub reply: Reply,
@@ -34,24 +35,33 @@ fn is_joined(reply: &Reply) -> bool
     matches!(reply, Reply::Joined { .. })
 }
 
-/// Is it what a room answers to a site that has joined: no refusal of the codes 1 to 4?
+/// Does it let a site in again?
+fn is_returned(reply: &Reply) -> bool
+    ensures { result ≡ is_returned reply.now }
+{
+    matches!(reply, Reply::Returned { .. })
+}
+
+/// Is it what a room answers to a site that is in? It doesn't let the site in again, and is no
+/// refusal of the codes 1 to 4, 19 and 20.
 fn is_answer(reply: &Reply) -> bool
     ensures { result ≡ is_answer reply.now }
 {
     match reply {
-        Reply::No { refusal, .. } => refusal.code() > 4,
+        Reply::Returned { .. } => false,
+        Reply::No { refusal, .. } => refusal.code() > 4 && refusal.code() < 19,
         _ => true,
     }
 }
 
-/// May this request and this reply stand in one line?
-fn go_together(request: &Request, reply: &Reply) -> bool
-    ensures { result ≡ go_together request.now reply.now }
+/// May this site's request and this reply stand in one line?
+fn go_together(site: u32, request: &Request, reply: &Reply) -> bool
+    ensures { result ≡ go_together site request.now reply.now }
 {
-    if is_join(request) {
-        is_joined(reply)
-    } else {
-        is_answer(reply)
+    match request {
+        Request::Join { .. } => is_joined(reply),
+        Request::Back { site: asked, .. } => *asked == site && is_returned(reply),
+        _ => is_answer(reply),
     }
 }
 
@@ -71,6 +81,7 @@ pub fn at_of(reply: &Reply) -> u32
 {
     match reply {
         Reply::Joined { at, .. }
+        | Reply::Returned { at, .. }
         | Reply::Made { at, .. }
         | Reply::Taken { at, .. }
         | Reply::Versions { at, .. }
@@ -97,7 +108,7 @@ pub(crate) fn entries_after(reply: &Reply) -> u32
 fn line_with(site: u32, request: Request, reply: Reply) -> Result<TranscriptLine, ReadFault>
     ensures { Gives (λ line. line) result (line_with site request reply) }
 {
-    if go_together(&request, &reply) {
+    if go_together(site, &request, &reply) {
         Ok(TranscriptLine {
             site,
             request,

@@ -10,19 +10,19 @@ use Rattle.serde_json.specs.Find.{as_str}
 use Rattle.rules.specs.AttrLists.{Attr}
 use Rattle.rules.specs.Refusals.{code_of, word_of, refusal_at}
 use Rattle.rules.specs.declared.refusal.Refusal.{Refusal}
-use Rattle.rules.specs.declared.refusal.Refusal.TheVariants.{BadMessage, NotJoined, AlreadyJoined, NoSuchRoom, RoomFull, RecordFull, WrongSeq, OwnCount, Ahead, NotClosed, NoSuchObject, NoSuchVersion, ObjectFull, TooManyKeys, TooManyVersions, TooManyObjects, TooFar, Gone}
+use Rattle.rules.specs.declared.refusal.Refusal.TheVariants.{BadMessage, NotJoined, AlreadyJoined, NoSuchRoom, RoomFull, RecordFull, WrongSeq, OwnCount, Ahead, NotClosed, NoSuchObject, NoSuchVersion, ObjectFull, TooManyKeys, TooManyVersions, TooManyObjects, TooFar, Gone, NoSuchSite, SiteInUse}
 use Rattle.rules.specs.declared.history.Entry.{Entry}
 use Rattle.rules.specs.declared.version.Version.{Version}
 use Rattle.rules.specs.declared.version.Shown.{Shown}
 use Rattle.rules.specs.declared.version.Shown.TheVariants.{Attrs, Gone as ShownGone}
 use Rattle.wire.specs.declared.request.TheConstants.{MAX_FROM}
 use Rattle.wire.specs.declared.reply.Reply.{Reply}
-use Rattle.wire.specs.declared.reply.Reply.TheVariants.{Joined, Made, Taken, Versions, Objects, Entries, Left, No}
+use Rattle.wire.specs.declared.reply.Reply.TheVariants.{Joined, Returned, Made, Taken, Versions, Objects, Entries, Left, No}
 use Rattle.wire.specs.Rising.{rise, attr_before, id_before, version_before}
 use Rattle.wire.specs.Form.{list_form, whole_form, name_form, names_form, attrs_form, shown_form, version_form, object_form, AreIds, AreShown, IsShown, IsVersion, AreVersions, IsObject, entry_form, AreForms, IsEntry, IsEntryForm, IsListForm, IsReply, IsReplyForm, reply_form}
 use Rattle.wire.specs.Reading.{◌>>=◌, field_at, end_at, whole_in, natural_in, list_in, no_others, by_word}
 use Rattle.wire.specs.Entries.{entry_of}
-use Rattle.wire.specs.Replies.{at_in, ids_in, shown_attrs_in, shown_in, version_in, versions_in, object_in, joined_at, made_at, taken_at, versions_at, objects_at, entries_at, left_at, refusal_with, refusal_fields, no_at, reply_words, reply_of}
+use Rattle.wire.specs.Replies.{at_in, ids_in, shown_attrs_in, shown_in, version_in, versions_in, object_in, joined_at, returned_at, made_at, taken_at, versions_at, objects_at, entries_at, left_at, refusal_with, refusal_fields, no_at, reply_words, reply_of}
 use Rattle.wire.proofs.Exact.{IsExact, ReadsForms, AreExact, reads_list, field_some, bind_some, some_is, exact_list, exact_passing, exact_two, exact_made, exact_text, exact_whole, exact_end, exact_field, IsWordOf, word_of_fields, no_other_word, message_takes, message_again}
 use Rattle.wire.proofs.PartForms.{exact_site, exact_from, exact_at, exact_name, exact_id, exact_kind, exact_attr}
 use Rattle.wire.proofs.Entries.{reads_entries}
@@ -120,12 +120,14 @@ refusal_again TooManyVersions = refl
 refusal_again TooManyObjects = refl
 refusal_again TooFar = refl
 refusal_again Gone = refl
+refusal_again NoSuchSite = refl
+refusal_again SiteInUse = refl
 
 fields_take : (ds : List Data) (r : Refusal) → refusal_fields ds ≡ Some r → Unit {0} × (ds ≡ whole_form (code_of r) ∷ string (word_of r) ∷ [])
 unfolding refusal_fields
 fields_take ds r e =
-    let a = bind_some (field_at (whole_in 1 18) (field_at as_str end_at) ds) (λ p. refusal_with p.0 p.1.0) r e in
-    let b = (exact_field (exact_whole 1 18) (exact_field exact_text exact_end)).takes ds a.0 a.1 in
+    let a = bind_some (field_at (whole_in 1 20) (field_at as_str end_at) ds) (λ p. refusal_with p.0 p.1.0) r e in
+    let b = (exact_field (exact_whole 1 20) (exact_field exact_text exact_end)).takes ds a.0 a.1 in
     let c = refusal_takes a.0.0 a.0.1.0 r a.2 in
     (tt, b.1 ∙ rw (c.0, c.1) refl)
 
@@ -140,6 +142,12 @@ IsReplyWord = IsWordOf IsReplyForm IsReply
 joined_word : IsReplyWord (codes "joined", joined_at)
 unfolding joined_at
 joined_word = word_of_fields (exact_field exact_at (exact_field exact_site exact_end)) (codes "joined") (λ p. Joined p.0 p.1.0) (λ p fit. ((fit.0, fit.1.0), refl))
+
+returned_word : IsReplyWord (codes "back", returned_at)
+unfolding returned_at
+returned_word =
+    word_of_fields (exact_field exact_at (exact_field exact_site (exact_field exact_at exact_end))) (codes "back")
+    (λ p. Returned p.0 p.1.0 p.1.1.0) (λ p fit. ((fit.0, fit.1.0, fit.1.1.0), refl))
 
 made_word : IsReplyWord (codes "made", made_at)
 unfolding made_at
@@ -198,9 +206,12 @@ unfolding reply_of
 again_by d word ds r form e = ap reply_of form ∙ message_again reply_words no_others word ds ∙ e
 
 reply_again : (d : Data) (r : Reply) → IsReplyForm d r → IsReply r → reply_of d ≡ Some r
-unfolding joined_at made_at taken_at versions_at objects_at entries_at left_at no_at
+unfolding joined_at returned_at made_at taken_at versions_at objects_at entries_at left_at no_at
 reply_again d (Joined at site) form fit =
     again_by d (codes "joined") (whole_form at ∷ whole_form site ∷ []) _ form (rw (exact_at.again at fit.0, exact_site.again site fit.1) refl)
+reply_again d (Returned at site seq) form fit =
+    again_by d (codes "back") (whole_form at ∷ whole_form site ∷ whole_form seq ∷ []) _ form
+    (rw (exact_at.again at fit.0, exact_site.again site fit.1, exact_at.again seq fit.2) refl)
 reply_again d (Made at name) form fit =
     again_by d (codes "made") (whole_form at ∷ name_form name ∷ []) _ form (rw (exact_at.again at fit.0, exact_name.again name fit.1) refl)
 reply_again d (Taken at ids) form fit =
@@ -221,7 +232,7 @@ reply_again d (No at refusal) form fit =
 pub reads_replies : ReadsForms Reply reply_of IsReplyForm IsReply
 unfolding reply_of
 reads_replies = record {
-  takes = message_takes IsReplyForm IsReply reply_words no_others (joined_word, (made_word, (taken_word, (versions_word, (objects_word, (entries_word, (left_word, (no_word, tt)))))))) no_other_word;
+  takes = message_takes IsReplyForm IsReply reply_words no_others (joined_word, (returned_word, (made_word, (taken_word, (versions_word, (objects_word, (entries_word, (left_word, (no_word, tt))))))))) no_other_word;
   again = reply_again;
 }
 
@@ -234,6 +245,7 @@ each_written (e ∷ es) = (inl refl, each_written es)
 -- the form that is written is a form
 pub written_reply : (r : Reply) → IsReplyForm (reply_form r) r
 written_reply (Joined at site) = refl
+written_reply (Returned at site seq) = refl
 written_reply (Made at name) = refl
 written_reply (Taken at ids) = refl
 written_reply (Versions at name kind versions) = refl

@@ -6,13 +6,13 @@ use Rattle.state_vector.specs.Vectors.{Vector}
 use Rattle.rules.specs.declared.history.Body.{Body}
 use Rattle.rules.specs.declared.history.Body.TheVariants.{New, Put, DropVersion}
 use Rattle.wire.specs.declared.request.Request.{Request}
-use Rattle.wire.specs.declared.request.Request.TheVariants.{Join, Change, Show, Pull, Leave, List as ListObjects}
+use Rattle.wire.specs.declared.request.Request.TheVariants.{Join, Back, Change, Show, Pull, Leave, List as ListObjects}
 use Rattle.wire.specs.Form.{list_form, whole_form, name_form, names_form, WordAndFields, body_form, old_body_form, request_form_by, IsRequest, IsRequestForm}
 use Rattle.wire.specs.Reading.{by_word, whole_in}
 use Rattle.wire.specs.Bodies.{operation_at}
-use Rattle.wire.specs.Requests.{join_at, change_at, show_at, list_at, pull_at, leave_at, request_words, request_of}
+use Rattle.wire.specs.Requests.{join_at, back_at, change_at, show_at, list_at, pull_at, leave_at, request_words, request_of}
 use Rattle.wire.proofs.Exact.{ReadsForms, bind_some, some_is, exact_end, exact_field, IsWordOf, word_of_fields, message_takes, message_again}
-use Rattle.wire.proofs.PartForms.{exact_seq, exact_from, exact_name, exact_room}
+use Rattle.wire.proofs.PartForms.{exact_seq, exact_site, exact_from, exact_name, exact_room}
 use Rattle.wire.proofs.Bodies.{AreReadAgain, body_again, old_body_again, operation_takes, operation_again, AreAlone, old_alone, from_any}
 
 abbrev IsRequestWord : List ℕ × (List Data → Option Request) → Type 0
@@ -21,6 +21,10 @@ IsRequestWord = IsWordOf IsRequestForm IsRequest
 join_word : IsRequestWord (codes "join", join_at)
 unfolding join_at
 join_word = word_of_fields (exact_field exact_room exact_end) (codes "join") (λ p. Join p.0) (λ p fit. (fit.0, inl refl))
+
+back_word : IsRequestWord (codes "back", back_at)
+unfolding back_at
+back_word = word_of_fields (exact_field exact_room (exact_field exact_site exact_end)) (codes "back") (λ p. Back p.0 p.1.0) (λ p fit. ((fit.0, fit.1.0), inl refl))
 
 change_word : (word : List ℕ) → IsRequestWord (word, change_at word)
 unfolding change_at
@@ -65,8 +69,9 @@ unfolding change_at
 change_again of_body again seq seen body fit = rw (operation_again exact_seq of_body again (seq, (seen, body)) fit.0 fit.1 fit.2) refl
 
 request_again : (of_body : Body → WordAndFields) → AreReadAgain of_body → AreAlone request_words change_at of_body → (q : Request) → IsRequest q → request_of (request_form_by of_body q) ≡ Some q
-unfolding join_at show_at list_at pull_at leave_at
+unfolding join_at back_at show_at list_at pull_at leave_at
 request_again of_body again alone (Join room) fit = again_by (codes "join") (string room ∷ []) _ (rw (exact_room.again room fit) refl)
+request_again of_body again alone (Back room site) fit = again_by (codes "back") (string room ∷ whole_form site ∷ []) _ (rw (exact_room.again room fit.0, exact_site.again site fit.1) refl)
 request_again of_body again alone (Change seq seen body) fit =
     let fields = whole_form seq ∷ names_form seen ∷ (of_body body).1 in
     again_by (of_body body).0 fields _ (alone body fields ∙ change_again of_body again seq seen body fit)
@@ -78,7 +83,7 @@ request_again of_body again alone Leave fit = again_by (codes "leave") [] _ refl
 pub reads_requests : ReadsForms Request request_of IsRequestForm IsRequest
 unfolding request_of
 reads_requests = record {
-  takes = message_takes IsRequestForm IsRequest request_words change_at (join_word, (show_word, (list_word, (pull_word, (leave_word, tt))))) change_word;
+  takes = message_takes IsRequestForm IsRequest request_words change_at (join_word, (back_word, (show_word, (list_word, (pull_word, (leave_word, tt)))))) change_word;
   again = λ d q form fit.
       from_any request_form_by request_of d q form (request_again body_form body_again change_alone q fit)
       (request_again old_body_form old_body_again (old_alone request_words change_at change_alone (λ ds. refl)) q fit);

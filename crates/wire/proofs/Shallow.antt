@@ -9,7 +9,7 @@ use Rattle.op_names.specs.declared.value.Value.TheVariants.{Number, Text}
 use Rattle.state_vector.specs.Vectors.{Vector}
 use Rattle.rules.specs.AttrLists.{Attr}
 use Rattle.wire.specs.declared.request.Request.{Request}
-use Rattle.wire.specs.declared.request.Request.TheVariants.{Join, Change, Show, Pull, Leave, List as ListObjects}
+use Rattle.wire.specs.declared.request.Request.TheVariants.{Join, Back, Change, Show, Pull, Leave, List as ListObjects}
 use Rattle.rules.specs.declared.history.Entry.{Entry}
 use Rattle.rules.specs.declared.history.Entry.TheVariants.{Operation, Join as JoinOf}
 use Rattle.rules.specs.declared.history.Body.{Body}
@@ -18,7 +18,7 @@ use Rattle.rules.specs.declared.version.Version.{Version}
 use Rattle.rules.specs.declared.version.Shown.{Shown}
 use Rattle.rules.specs.declared.version.Shown.TheVariants.{Attrs, Gone}
 use Rattle.wire.specs.declared.reply.Reply.{Reply}
-use Rattle.wire.specs.declared.reply.Reply.TheVariants.{Joined, Made, Taken, Versions, Objects, Entries, Left, No}
+use Rattle.wire.specs.declared.reply.Reply.TheVariants.{Joined, Returned, Made, Taken, Versions, Objects, Entries, Left, No}
 use Rattle.wire.specs.Form.{list_form, whole_form, name_form, names_form, value_form, attr_form, attrs_form, shown_form, version_form, object_form, body_form, operation_form, entry_form, request_form, reply_form}
 use Rattle.rules.specs.Refusals.{code_of, word_of}
 
@@ -89,6 +89,7 @@ shallow_entry (Operation o) = shallow_operation (name_form o.name) o.seen o.body
 
 pub shallow_request : (q : Request) → IsShallow 3 (request_form q)
 shallow_request (Join room) = shallow_fields 2 (codes "join") (string room ∷ []) (shallow_text 2 room, tt)
+shallow_request (Back room site) = shallow_fields 2 (codes "back") (string room ∷ whole_form site ∷ []) (shallow_text 2 room, (shallow_whole 2 site, tt))
 shallow_request (Change seq seen body) = shallow_operation (whole_form seq) seen body (shallow_whole 2 seq)
 shallow_request (ListObjects from) = shallow_fields 2 (codes "list") (whole_form from ∷ []) (shallow_whole 2 from, tt)
 shallow_request (Pull from) = shallow_fields 2 (codes "pull") (whole_form from ∷ []) (shallow_whole 2 from, tt)
@@ -97,6 +98,7 @@ shallow_request Leave = shallow_fields 2 (codes "leave") [] tt
 
 pub shallow_reply : (r : Reply) → IsShallow 5 (reply_form r)
 shallow_reply (Joined at site) = shallow_fields 4 (codes "joined") (whole_form at ∷ whole_form site ∷ []) (shallow_whole 4 at, (shallow_whole 4 site, tt))
+shallow_reply (Returned at site seq) = shallow_fields 4 (codes "back") (whole_form at ∷ whole_form site ∷ whole_form seq ∷ []) (shallow_whole 4 at, (shallow_whole 4 site, (shallow_whole 4 seq, tt)))
 shallow_reply (Made at name) = shallow_fields 4 (codes "made") (whole_form at ∷ name_form name ∷ []) (shallow_whole 4 at, (shallow_name 3 name, tt))
 shallow_reply (Taken at ids) =
     shallow_fields 4 (codes "taken") (whole_form at ∷ list_form (map names_form ids) ∷ []) (shallow_whole 4 at, (shallow_list 3 (map names_form ids) (shallow_map 3 names_form (shallow_names 1) ids), tt))

@@ -16,7 +16,7 @@ use Rattle.rules.specs.declared.refusal.Refusal.{Refusal}
 use Rattle.rules.specs.declared.refusal.Refusal.TheVariants.{BadMessage}
 use Rattle.rules.specs.declared.version.Version.{Version}
 use Rattle.wire.specs.declared.reply.Reply.{Reply}
-use Rattle.wire.specs.declared.reply.Reply.TheVariants.{Joined, Made, Taken, Versions, Objects, Entries, Left, No}
+use Rattle.wire.specs.declared.reply.Reply.TheVariants.{Joined, Returned, Made, Taken, Versions, Objects, Entries, Left, No}
 
 -- pairs are equal where both their parts are
 pairs_decide : {A B : Type 0} {E : A → A → Bool} {F : B → B → Bool} → ((x y : A) → Decides (E x y) (x ≡ y)) → ((x y : B) → Decides (F x y) (x ≡ y))
@@ -106,6 +106,7 @@ same_page _ _ = false
 
 abbrev pub same_reply : Reply → Reply → Bool
 same_reply (Joined at site) (Joined other_at other_site) = at == other_at && site == other_site
+same_reply (Returned at site seq) (Returned other_at other_site other_seq) = at == other_at && site == other_site && seq == other_seq
 same_reply (Made at name) (Made other_at other_name) = at == other_at && same_name name other_name
 same_reply (Taken at ids) (Taken other_at other_ids) = at == other_at && same_ids ids other_ids
 same_reply (Versions at object kind versions) other = same_listing (Versions at object kind versions) other
@@ -118,6 +119,9 @@ same_reply _ _ = false
 pub same_reply-Decides : (a b : Reply) → Decides (same_reply a b) (a ≡ b)
 same_reply-Decides (Joined at site) (Joined other_at other_site) =
     Decides-like _ (λ e i. Joined (e.0 i) (e.1 i)) (λ e. (cc, cc)) (Decides-and _ _ (unsigned_Decides at other_at) (unsigned_Decides site other_site))
+same_reply-Decides (Returned at site seq) (Returned other_at other_site other_seq) =
+    Decides-like _ (λ e i. Returned (e.0.0 i) (e.0.1 i) (e.1 i)) (λ e. ((cc, cc), cc))
+    (Decides-and _ _ (Decides-and _ _ (unsigned_Decides at other_at) (unsigned_Decides site other_site)) (unsigned_Decides seq other_seq))
 same_reply-Decides (Made at name) (Made other_at other_name) =
     Decides-like _ (λ e i. Made (e.0 i) (e.1 i)) (λ e. (cc, cc)) (Decides-and _ _ (unsigned_Decides at other_at) (same_name-Decides name other_name))
 same_reply-Decides (Taken at ids) (Taken other_at other_ids) =

@@ -15,7 +15,7 @@ use Rattle.rules.specs.AttrLists.{Attr, are_attrs, are_pairs}
 use Rattle.rules.specs.declared.limits.TheConstants.Limits.{MAX_ENTRIES}
 use Rattle.wire.specs.declared.request.TheConstants.{MAX_FROM, MAX_REQUEST_LEN}
 use Rattle.wire.specs.declared.request.Request.{Request}
-use Rattle.wire.specs.declared.request.Request.TheVariants.{Join, Change, Show, Pull, Leave, List as ListObjects}
+use Rattle.wire.specs.declared.request.Request.TheVariants.{Join, Back, Change, Show, Pull, Leave, List as ListObjects}
 use Rattle.rules.specs.declared.history.Entry.{Entry}
 use Rattle.rules.specs.declared.history.Entry.TheVariants.{Operation, Join as JoinOf}
 use Rattle.rules.specs.declared.history.Body.{Body}
@@ -26,7 +26,7 @@ use Rattle.rules.specs.declared.version.Shown.TheVariants.{Attrs, Gone}
 use Rattle.rules.specs.Refusals.{code_of, word_of}
 use Rattle.wire.specs.Rising.{rise, attr_before, id_before, version_before}
 use Rattle.wire.specs.declared.reply.Reply.{Reply}
-use Rattle.wire.specs.declared.reply.Reply.TheVariants.{Joined, Made, Taken, Versions, Objects, Entries, Left, No}
+use Rattle.wire.specs.declared.reply.Reply.TheVariants.{Joined, Returned, Made, Taken, Versions, Objects, Entries, Left, No}
 
 -- a JSON list of these values
 abbrev pub list_form : List Data → Data
@@ -116,6 +116,7 @@ operation_form head seen does = list_form (string does.0 ∷ head ∷ names_form
 -- the form of a request, with bodies in these forms: a list of its word and its fields
 abbrev pub request_form_by : (Body → WordAndFields) → Request → Data
 request_form_by of_body (Join room) = list_form (string (codes "join") ∷ string room ∷ [])
+request_form_by of_body (Back room site) = list_form (string (codes "back") ∷ string room ∷ whole_form site ∷ [])
 request_form_by of_body (Change seq seen body) = operation_form (whole_form seq) seen (of_body body)
 request_form_by of_body (Show name) = list_form (string (codes "show") ∷ name_form name ∷ [])
 request_form_by of_body (ListObjects from) = list_form (string (codes "list") ∷ whole_form from ∷ [])
@@ -129,6 +130,7 @@ request_form = request_form_by body_form
 -- what a request that is read keeps to
 abbrev pub IsRequest : Request → Type 0
 IsRequest (Join room) = is_room_name room ≡ true
+IsRequest (Back room site) = (is_room_name room ≡ true) × (is_site site ≡ true)
 IsRequest (Change seq seen body) = (is_seq seq ≡ true) × (is_vector seen ≡ true) × IsBody body
 IsRequest (Show name) = is_op_name name ≡ true
 IsRequest (ListObjects from) = is_from from ≡ true
@@ -217,6 +219,7 @@ IsListForm IsForm d xs = (ds : List Data) × AreForms IsForm ds xs × (d ≡ lis
 -- the form in which a reply is written: its word, the number of entries before the call, and more
 abbrev pub reply_form : Reply → Data
 reply_form (Joined at site) = list_form (string (codes "joined") ∷ whole_form at ∷ whole_form site ∷ [])
+reply_form (Returned at site seq) = list_form (string (codes "back") ∷ whole_form at ∷ whole_form site ∷ whole_form seq ∷ [])
 reply_form (Made at name) = list_form (string (codes "made") ∷ whole_form at ∷ name_form name ∷ [])
 reply_form (Taken at ids) = list_form (string (codes "taken") ∷ whole_form at ∷ list_form (map names_form ids) ∷ [])
 reply_form (Versions at name kind versions) =
@@ -268,6 +271,7 @@ IsObject o = (is_op_name o.0 ≡ true) × (is_kind o.1 ≡ true)
 -- a reply in range
 abbrev pub IsReply : Reply → Type 0
 IsReply (Joined at site) = (is_at at ≡ true) × (is_site site ≡ true)
+IsReply (Returned at site seq) = (is_at at ≡ true) × (is_site site ≡ true) × (is_at seq ≡ true)
 IsReply (Made at name) = (is_at at ≡ true) × (is_op_name name ≡ true)
 IsReply (Taken at ids) = (is_at at ≡ true) × AreIds ids
 IsReply (Versions at name kind versions) =

@@ -4,7 +4,7 @@ pub mod Rising
 pub mod Reading
 pub mod Bodies
 pub mod Requests
-pub mod Joining
+pub mod Entering
 pub mod Entries
 pub mod Replies
 pub mod Equality

@@ -12,7 +12,7 @@ use Rattle.rules.specs.declared.version.Shown.{Shown}
 use Rattle.rules.specs.declared.version.Shown.TheVariants.{Attrs, Gone}
 use Rattle.wire.specs.declared.request.TheConstants.{MAX_FROM}
 use Rattle.wire.specs.declared.reply.Reply.{Reply}
-use Rattle.wire.specs.declared.reply.Reply.TheVariants.{Joined, Made, Taken, Versions, Objects, Entries, Left, No}
+use Rattle.wire.specs.declared.reply.Reply.TheVariants.{Joined, Returned, Made, Taken, Versions, Objects, Entries, Left, No}
 use Rattle.wire.specs.Rising.{rise, attr_before, id_before, version_before}
 use Rattle.wire.specs.Reading.{◌>>=◌, passing, list_in, two_in, end_at, field_at, whole_in, name_in, id_in, kind_in, attr_in, Words, no_others, message_in}
 use Rattle.wire.specs.Entries.{entry_of}
@@ -54,6 +54,10 @@ object_in = two_in name_in kind_in
 unfoldable pub joined_at : List Data → Option Reply
 joined_at ds = field_at at_in (field_at (whole_in 1 MAX_SITE) end_at) ds >>= λ p. Some (Joined p.0 p.1.0)
 
+-- what follows "back"
+unfoldable pub returned_at : List Data → Option Reply
+returned_at ds = field_at at_in (field_at (whole_in 1 MAX_SITE) (field_at at_in end_at)) ds >>= λ p. Some (Returned p.0 p.1.0 p.1.1.0)
+
 -- what follows "made"
 unfoldable pub made_at : List Data → Option Reply
 made_at ds = field_at at_in (field_at name_in end_at) ds >>= λ p. Some (Made p.0 p.1.0)
@@ -90,7 +94,7 @@ refusal_with code word = refusal_at code >>= λ refusal. if bytes_eq (word_of re
 
 -- a number and a word of one refusal
 unfoldable pub refusal_fields : List Data → Option Refusal
-refusal_fields ds = field_at (whole_in 1 18) (field_at as_str end_at) ds >>= λ p. refusal_with p.0 p.1.0
+refusal_fields ds = field_at (whole_in 1 20) (field_at as_str end_at) ds >>= λ p. refusal_with p.0 p.1.0
 
 -- what follows "no"
 unfoldable pub no_at : List Data → Option Reply
@@ -98,8 +102,9 @@ no_at ds = field_at at_in refusal_fields ds >>= λ p. Some (No p.0 p.1)
 
 abbrev pub reply_words : Words Reply
 reply_words =
-    (codes "joined", joined_at) ∷ (codes "made", made_at) ∷ (codes "taken", taken_at) ∷ (codes "versions", versions_at)
-    ∷ (codes "objects", objects_at) ∷ (codes "entries", entries_at) ∷ (codes "left", left_at) ∷ (codes "no", no_at) ∷ []
+    (codes "joined", joined_at) ∷ (codes "back", returned_at) ∷ (codes "made", made_at) ∷ (codes "taken", taken_at)
+    ∷ (codes "versions", versions_at) ∷ (codes "objects", objects_at) ∷ (codes "entries", entries_at)
+    ∷ (codes "left", left_at) ∷ (codes "no", no_at) ∷ []
 
 -- the reply that a JSON value is a form of
 unfoldable pub reply_of : Data → Option Reply

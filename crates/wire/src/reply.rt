@@ -16,6 +16,12 @@ pub enum Reply {
         at: u32,
         site: u32,
     },
+    /// The session is this site of the room again, which has made so many creations and changes.
+    Returned {
+        at: u32,
+        site: u32,
+        seq: u32,
+    },
     /// The object of this name is created.
     Made {
         at: u32,
@@ -74,6 +80,14 @@ impl PartialEq for Reply {
                     site: other_site,
                 },
             ) => *at == *other_at && *site == *other_site,
+            (
+                Reply::Returned { at, site, seq },
+                Reply::Returned {
+                    at: other_at,
+                    site: other_site,
+                    seq: other_seq,
+                },
+            ) => *at == *other_at && *site == *other_site && *seq == *other_seq,
             (
                 Reply::Made { at, name },
                 Reply::Made {

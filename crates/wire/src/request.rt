@@ -20,6 +20,11 @@ pub enum Request {
     Join {
         room: RoomName,
     },
+    /// To be let into a room again, as a site of it.
+    Back {
+        room: RoomName,
+        site: u32,
+    },
     /// To add an operation, as the site's of this number.
     Change {
         seq: u32,
@@ -43,14 +48,15 @@ pub enum Request {
 }
 
 impl Request {
-    ghost use Rattle.wire.specs.Joining.{joined_name};
+    ghost use Rattle.wire.specs.Entering.{room_to_enter};
 
-    /// The name of the room that it asks to join, if it asks to join one.
-    pub fn joined_name(&self) -> Option<&RoomName>
-        ensures { option_map (λ name. name.now) result ≡ joined_name self.now }
+    /// The name of the room that it asks to be let into, for the first time or again.
+    pub fn room_to_enter(&self) -> Option<&RoomName>
+        ensures { option_map (λ name. name.now) result ≡ room_to_enter self.now }
     {
         match self {
             Request::Join { room } => Some(room),
+            Request::Back { room, site: _ } => Some(room),
             Request::Change { .. } => None,
             Request::Show { .. } => None,
             Request::List { .. } => None,
@@ -58,6 +64,7 @@ impl Request {
             Request::Leave => None,
         }
     }
+
     /// Another one that is equal.
     pub fn copy(&self, alloc: Global) -> Result<Request, NoMemory>
         ensures { IfOk result (λ request. request ≡ self.now) }
@@ -65,6 +72,10 @@ impl Request {
         match self {
             Request::Join { room } => Ok(Request::Join {
                 room: room.copy(alloc)?,
+            }),
+            Request::Back { room, site } => Ok(Request::Back {
+                room: room.copy(alloc)?,
+                site: *site,
             }),
             Request::Change { seq, seen, body } => Ok(Request::Change {
                 seq: *seq,

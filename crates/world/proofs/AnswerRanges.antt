@@ -11,23 +11,25 @@ use Rattle.rules.specs.declared.history.Op.{Op}
 use Rattle.rules.specs.declared.history.Entry.{Entry}
 use Rattle.rules.specs.declared.history.Entry.TheVariants.{Join, Operation}
 use Rattle.rules.specs.declared.refusal.Refusal.{Refusal}
-use Rattle.rules.specs.declared.refusal.Refusal.TheVariants.{NotJoined, TooFar}
+use Rattle.rules.specs.declared.refusal.Refusal.TheVariants.{NotJoined, NoSuchSite, SiteInUse, TooFar}
 use Rattle.rules.specs.declared.limits.LimitValues.{LimitValues}
 use Rattle.rules.specs.Bodies.{is_change_body, kind_in}
 use Rattle.rules.specs.Operations.{IsHistory, creation_of, is_creation_of, object_of}
+use Rattle.rules.specs.Admission.{count_at_site}
 use Rattle.rules.specs.Records.{admits, objects, operations, refusal, sites, IsLegal}
 use Rattle.rules.proofs.Lists.{In, In-filter_back, In-map_back, find_is}
-use Rattle.rules.proofs.Records.{kept_by_admitted, legal_push, length-operations, operations-push, sites-join, sites-operation}
+use Rattle.rules.proofs.Records.{kept_by_admitted, legal_push, length-operations, count_at_site-length, operations-push, sites-join, sites-operation}
 use Rattle.rules.proofs.Conditions.{room_for_join, room_for_operation}
 use Rattle.rules.proofs.Founded.{history_if_legal}
 use Rattle.wire.specs.declared.request.Request.{Request}
 use Rattle.wire.specs.declared.request.Request.TheVariants as request
 use Rattle.wire.specs.declared.reply.Reply.{Reply}
-use Rattle.wire.specs.declared.reply.Reply.TheVariants.{Joined, Made, Taken, Objects, Entries, No}
+use Rattle.wire.specs.declared.reply.Reply.TheVariants.{Joined, Returned, Made, Taken, Versions, Objects, Entries, Left, No}
 use Rattle.wire.specs.Form.{IsEntry, IsObject, IsReply, IsRequest, is_at, is_from}
 use Rattle.room_core.specs.Room.{Room, all_objects, with_entry}
 use Rattle.drawing.specs.Shown.{ids_with, shown_by}
 use Rattle.room_core.specs.Answers.{Outcome, answer, entry_or_refusal, has_site, join_answer, operation_answer, operation_reply, page, site_answer, reply_alone}
+use Rattle.world.specs.Alone.{outside_answer, move_of}
 use Rattle.world.specs.Steps.{asker_answer}
 use Rattle.world.proofs.Ranges.{IsOp, all_if, all_take, all_drop, all_push, ops_in_range, kind_in_range, versions_in_range, ids_in_range}
 
@@ -126,6 +128,13 @@ module _ (room : Room) (sound : IsSound room) where
         let most = site_at_most in
         and_from (leb 1 site) (leb site 256) low (le-leb site 256 (omega (arith, high, most)))
 
+    back_by : (used : Bool) → InRange (reply_alone (cond used (No (length room.entries) SiteInUse) (Returned (length room.entries) site (count_at_site (operations room.entries) site))))
+    back_by true = refused_in_range SiteInUse
+    back_by false =
+        let few = count_at_site-length room.entries site in
+        let most = at_most in
+        told_in_range _ (at_in_range, site_in_range, le-leb (count_at_site (operations room.entries) site) 16384 (omega (arith, few, most)))
+
     history_with : (op : Op) → op.name.0 ≡ site → IsOp op → refusal room.limits room.entries (Operation op) ≡ None → IsHistory (operations room.entries ++ op ∷ [])
     history_with op e range none =
         let joined : leb 1 op.name.0 && leb op.name.0 (sites room.entries) ≡ true = ap (λ s. leb 1 s && leb s (sites room.entries)) e ∙ has in
@@ -178,6 +187,7 @@ module _ (room : Room) (sound : IsSound room) where
 
   answer_of_site : (site : ℕ) → has_site room site ≡ true → (asks : Request) → IsRequest asks → InRange (site_answer room site asks)
   answer_of_site site has (request.Join name) range = lone_in_range _
+  answer_of_site site has (request.Back name other) range = lone_in_range _
   answer_of_site site has (request.Change seq seen body) range =
       operation_in_range site has (record { name = (site, seq); seen = seen; body = body }) refl
       (and_from (is_site site) (is_seq seq) (site_in_range site has) range.0, range.1, range.2)
@@ -194,9 +204,23 @@ module _ (room : Room) (sound : IsSound room) where
   unfolding answer
   full_answer_in_range site asks range = of_anyone (has_site room site) site refl asks range
 
-  pub answer_in_range : (who : Option ℕ) (asks : Request) → IsRequest asks → InRange (asker_answer room who asks)
-  answer_in_range None asks range = join_in_range
-  answer_in_range (Some site) asks range = full_answer_in_range site asks range
+  back_in_range : (has used : Bool) (site : ℕ) → has_site room site ≡ has
+      → InRange (reply_alone (cond has (cond used (No (length room.entries) SiteInUse) (Returned (length room.entries) site (count_at_site (operations room.entries) site))) (No (length room.entries) NoSuchSite)))
+  back_in_range true used site has = back_by site has used
+  back_in_range false used site has = refused_in_range NoSuchSite
+
+  outside_in_range : (in_use : ℕ → Bool) (asks : Request) → InRange (outside_answer room in_use asks)
+  outside_in_range in_use (request.Join name) = join_in_range
+  outside_in_range in_use (request.Back name site) = back_in_range (has_site room site) (in_use site) site refl
+  outside_in_range in_use (request.Change seq seen body) = lone_in_range NotJoined
+  outside_in_range in_use (request.Show name) = lone_in_range NotJoined
+  outside_in_range in_use (request.List from) = lone_in_range NotJoined
+  outside_in_range in_use (request.Pull from) = lone_in_range NotJoined
+  outside_in_range in_use request.Leave = lone_in_range NotJoined
+
+  pub answer_in_range : (in_use : ℕ → Bool) (who : Option ℕ) (asks : Request) → IsRequest asks → InRange (asker_answer room in_use who asks)
+  answer_in_range in_use None asks range = outside_in_range in_use asks
+  answer_in_range in_use (Some site) asks range = full_answer_in_range site asks range
 
   pub still_in_range : (added : Option Entry) → IfSome added IsEntry → AllByRecursion IsEntry (with_entry room added).entries
   still_in_range None range = sound.entries
@@ -208,3 +232,20 @@ pub in_range_after : {T E : Type 0} (r : Result T E) (room planned after : Room)
 in_range_after (Ok x) room planned after added sound range same made kept =
     subst (λ (room : Room). AllByRecursion IsEntry room.entries) (sym (made ∙ ap (λ (room : Room). with_entry room added) same)) (still_in_range room sound added range)
 in_range_after (Err y) room planned after added sound range same made kept = subst (λ (room : Room). AllByRecursion IsEntry room.entries) (sym (kept ∙ same)) sound.entries
+
+-- where a reply in range puts its session, if it puts it anywhere
+site_at_most_by : (site other : ℕ) → is_site site ≡ true → Some (Some site) ≡ Some (Some other) → other ≤ 256
+site_at_most_by site other range e =
+    let same : site ≡ other = cc in
+    leb-true other 256 (and_parts (leb 1 other) (leb other 256) (subst (λ s. is_site s ≡ true) same range)).1
+
+pub moved_in_range : (reply : Reply) (site : ℕ) → IsReply reply → move_of reply ≡ Some (Some site) → site ≤ 256
+moved_in_range (Joined at other) site range e = site_at_most_by other site range.1 e
+moved_in_range (Returned at other seq) site range e = site_at_most_by other site range.1 e
+moved_in_range (Made at name) site range e = absurd (cc)
+moved_in_range (Taken at ids) site range e = absurd (cc)
+moved_in_range (Versions at name kind vs) site range e = absurd (cc)
+moved_in_range (Objects at from total page) site range e = absurd (cc)
+moved_in_range (Entries at from page) site range e = absurd (cc)
+moved_in_range (Left at) site range e = absurd (cc)
+moved_in_range (No at why) site range e = absurd (cc)

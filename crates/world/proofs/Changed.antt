@@ -6,21 +6,24 @@ use Rattle.std.proofs.lemmas.Bool.{eq-eqb, eqb-true, eqb-false}
 use Rattle.std.proofs.lemmas.List.{get_or-set_same, get_or-set_other, length-map}
 use Rattle.wire.specs.declared.request.Request.{Request}
 use Rattle.wire.specs.declared.reply.Reply.{Reply}
+use Rattle.wire.specs.Entering.{room_to_enter}
 use Rattle.wire.specs.Texts.{request_read}
 use Rattle.room_core.specs.Room.{Room, with_entry}
 use Rattle.room_core.specs.Answers.{Outcome}
 use Rattle.world.specs.declared.seats.Seat.{Seat}
 use Rattle.world.specs.declared.seats.Asker.{Asker}
-use Rattle.wire.specs.Joining.{joined_name}
-use Rattle.world.specs.Alone.{Message, Alone, outside_answer, answer_to, move_of, after_move, after_reply, alone_answer, alone_after}
+use Rattle.world.specs.Alone.{Message, Alone, no_site, answer_to, move_of, after_move, after_reply, use_after, alone_answer, alone_after}
 use Rattle.world.specs.Rooms.{Rooms, place_of, named_place, owner_from, owner_of, after_at, rooms_after}
-use Rattle.world.specs.State.{State, Named, names_in, names_of, seat_of, no_room, rooms_in, room_at, site_at, alone_at, rooms_of, SeatsWithin}
-use Rattle.world.specs.Steps.{asker_answer, asker_of, seat_in, IsMoved}
+use Rattle.world.specs.State.{State, Named, names_in, names_of, seat_of, no_room, rooms_in, room_at, is_used, uses_in, use_at, site_at, alone_at, rooms_of, SeatsWithin}
+use Rattle.world.specs.Steps.{asker_answer, place_answer, asker_of, seat_in, IsMoved}
 use Rattle.world.proofs.Places.{place_of_within}
 use Rattle.world.proofs.SeatMaps.{seat_within}
 
-pub alone_same : (a b : Alone) → a.room ≡ b.room → a.site_of ≡ b.site_of → a ≡ b
-alone_same a b e f = ap (λ r. record { room = r; site_of = a.site_of }) e ∙ ap (λ (g : ℕ → Option ℕ). record { room = b.room; site_of = g }) f
+pub alone_same : (a b : Alone) → a.room ≡ b.room → a.site_of ≡ b.site_of → a.in_use ≡ b.in_use → a ≡ b
+alone_same a b e f g =
+    ap (λ r. record { room = r; site_of = a.site_of; in_use = a.in_use }) e
+    ∙ ap (λ (h : ℕ → Option ℕ). record { room = b.room; site_of = h; in_use = a.in_use }) f
+    ∙ ap (λ (h : ℕ → Bool). record { room = b.room; site_of = b.site_of; in_use = h }) g
 
 pub rooms_same : (a b : Rooms) → a.inside ≡ b.inside → a.alone ≡ b.alone → a ≡ b
 rooms_same a b e f = ap (λ (i : ℕ → Option ℕ). record { inside = i; alone = a.alone }) e ∙ ap (λ (g : ℕ → Alone). record { inside = b.inside; alone = g }) f
@@ -74,6 +77,7 @@ module _ (state new : State) (message : Message) (place : ℕ) (outcome : Outcom
     (apart : (other : ℕ) → eqb place other ≡ false → site_at other (seat_of state.seats message.session) ≡ None)
     (is_answer : alone_answer (alone_at state place) message ≡ outcome)
     (rooms : rooms_in new.rooms ≡ set (rooms_in state.rooms) place (with_entry (room_at state.rooms place) outcome.1))
+    (uses : uses_in new.rooms ≡ set (uses_in state.rooms) place (use_after outcome.0 (site_at place (seat_of state.seats message.session)) (use_at state.rooms place)))
     (seats : IsMoved state.seats new.seats outcome.0 message.session place)
   where
     inside_is : (rooms_of new).inside ≡ (after_at (rooms_of state) message (Some place)).inside
@@ -86,13 +90,18 @@ module _ (state new : State) (message : Message) (place : ℕ) (outcome : Outcom
         ∙ get_or-set_same (rooms_in state.rooms) place _ no_room (rw (length-map state.rooms (λ room. room.room)) within)
         ∙ ap (λ (o : Outcome). with_entry (room_at state.rooms place) o.1) (sym is_answer))
         (fun_ext (λ s. ap (site_at place) (seats s) ∙ site_at-moved place outcome.0 message.session (seat_of state.seats) s
-        ∙ ap (λ (o : Outcome). after_reply o.0 (λ site. site) message.session (alone_at state place).site_of s) (sym is_answer))))
+        ∙ ap (λ (o : Outcome). after_reply o.0 (λ site. site) message.session (alone_at state place).site_of s) (sym is_answer)))
+        (ap (λ (uses : List (ℕ → Bool)). get_or uses place no_site) uses
+        ∙ get_or-set_same (uses_in state.rooms) place _ no_site (rw (length-map state.rooms (λ room. is_used room.in_use)) within)
+        ∙ ap (λ (o : Outcome). use_after o.0 (site_at place (seat_of state.seats message.session)) (use_at state.rooms place)) (sym is_answer)))
 
     there : (q : ℕ) → eqb place q ≡ false → alone_at new q ≡ alone_at state q
     there q ne = alone_same _ _
         (ap (λ (rooms : List Room). get_or rooms q no_room) rooms
         ∙ get_or-set_other (rooms_in state.rooms) place q _ no_room (λ e. eqb-false place q ne (sym e)))
         (fun_ext (λ s. ap (site_at q) (seats s) ∙ site_at_other-moved place q outcome.0 message.session (seat_of state.seats) s ne (apart q ne)))
+        (ap (λ (uses : List (ℕ → Bool)). get_or uses q no_site) uses
+        ∙ get_or-set_other (uses_in state.rooms) place q _ no_site (λ e. eqb-false place q ne (sym e)))
 
     each : (b : Bool) (q : ℕ) → eqb place q ≡ b → alone_at new q ≡ cond b (alone_after (alone_at state place) message) (alone_at state q)
     each true q e = here q (eqb-true place q e)
@@ -107,10 +116,10 @@ module _ (state new : State) (message : Message) (place : ℕ) (outcome : Outcom
 pub record Asks (names : List (List ℕ)) (session : ℕ) (seat : Option Seat) (request : Request) (asker : Asker) : Type 0 where
   pub session_is : asker.session ≡ session
   pub owner : owner_from (option_map (λ (s : Seat). s.place) seat) (named_place names (Some request)) ≡ Some asker.place
-  pub answer : (room : Room) → answer_to room (site_at asker.place seat) (Some request) ≡ asker_answer room asker.site request
+  pub site : site_at asker.place seat ≡ asker.site
   pub apart : (other : ℕ) → eqb asker.place other ≡ false → site_at other seat ≡ None
 
-asks_in : (names : List (List ℕ)) (session : ℕ) (request : Request) (name : List ℕ) (o : Option ℕ) (asker : Asker) → joined_name request ≡ Some name → place_of names name ≡ o
+asks_in : (names : List (List ℕ)) (session : ℕ) (request : Request) (name : List ℕ) (o : Option ℕ) (asker : Asker) → room_to_enter request ≡ Some name → place_of names name ≡ o
     → option_map (λ place. record { session = session; place = place; site = None }) o ≡ Some asker → Asks names session None request asker
 asks_in names session request name None asker e f g = absurd (cc)
 asks_in names session request name (Some place) asker e f g =
@@ -118,25 +127,30 @@ asks_in names session request name (Some place) asker e f g =
     subst (λ a. Asks names session None request a) same (record {
       session_is = refl;
       owner = ap (option_and_then (place_of names)) e ∙ f;
-      answer = λ room. ap (outside_answer room) e;
+      site = refl;
       apart = λ other ne. refl;
     })
 
-asks_by : (names : List (List ℕ)) (session : ℕ) (request : Request) (o : Option (List ℕ)) (asker : Asker) → joined_name request ≡ o
+asks_by : (names : List (List ℕ)) (session : ℕ) (request : Request) (o : Option (List ℕ)) (asker : Asker) → room_to_enter request ≡ o
     → option_map (λ place. record { session = session; place = place; site = None }) (option_and_then (place_of names) o) ≡ Some asker → Asks names session None request asker
 asks_by names session request None asker e g = absurd (cc)
 asks_by names session request (Some name) asker e g = asks_in names session request name (place_of names name) asker e refl g
 
 asks_of : (names : List (List ℕ)) (session : ℕ) (seat : Option Seat) (request : Request) (asker : Asker) → asker_of names session seat request ≡ Some asker → Asks names session seat request asker
-asks_of names session None request asker e = asks_by names session request (joined_name request) asker refl e
+asks_of names session None request asker e = asks_by names session request (room_to_enter request) asker refl e
 asks_of names session (Some seat) request asker e =
     let same : record { session = session; place = seat.place; site = Some seat.site } ≡ asker = cc in
     subst (λ a. Asks names session (Some seat) request a) same (record {
       session_is = refl;
       owner = refl;
-      answer = λ room. rw (eq-eqb seat.place seat.place refl) refl;
+      site = rw (eq-eqb seat.place seat.place refl) refl;
       apart = λ other ne. ap (λ b. cond b (Some seat.site) None) ne;
     })
+
+-- a request is answered by who asks
+by_asker : (room : Room) (in_use : ℕ → Bool) (who : Option ℕ) (request : Request) → answer_to room in_use who (Some request) ≡ asker_answer room in_use who request
+by_asker room in_use None request = refl
+by_asker room in_use (Some site) request = refl
 
 module _ (state : State) (message : Message) (request : Request)
     (is_request : request_read message.bytes ≡ Some request)
@@ -153,15 +167,22 @@ module _ (state : State) (message : Message) (request : Request)
         pub owner_is : owner_of (names_of state) (rooms_of state) message ≡ Some asker.place
         owner_is = owner_by (Some asker.place) asks.owner
 
-        pub answer_is : alone_answer (alone_at state asker.place) message ≡ asker_answer (room_at state.rooms asker.place) asker.site request
-        answer_is = ap (answer_to (room_at state.rooms asker.place) (site_at asker.place (seat_of state.seats message.session))) is_request ∙ asks.answer (room_at state.rooms asker.place)
+        pub answer_is : alone_answer (alone_at state asker.place) message ≡ place_answer state.rooms asker.place asker.site request
+        answer_is =
+            let room = room_at state.rooms asker.place in
+            let in_use = use_at state.rooms asker.place in
+            let who = site_at asker.place (seat_of state.seats message.session) in
+            ap (answer_to room in_use who) is_request ∙ by_asker room in_use who request ∙ ap (λ w. asker_answer room in_use w request) asks.site
 
         pub asked_after : (new : State) → asker.place < length state.rooms
-            → rooms_in new.rooms ≡ set (rooms_in state.rooms) asker.place (with_entry (room_at state.rooms asker.place) (asker_answer (room_at state.rooms asker.place) asker.site request).1)
-            → IsMoved state.seats new.seats (asker_answer (room_at state.rooms asker.place) asker.site request).0 asker.session asker.place
+            → rooms_in new.rooms ≡ set (rooms_in state.rooms) asker.place (with_entry (room_at state.rooms asker.place) (place_answer state.rooms asker.place asker.site request).1)
+            → uses_in new.rooms ≡ set (uses_in state.rooms) asker.place (use_after (place_answer state.rooms asker.place asker.site request).0 asker.site (use_at state.rooms asker.place))
+            → IsMoved state.seats new.seats (place_answer state.rooms asker.place asker.site request).0 asker.session asker.place
             → rooms_of new ≡ rooms_after (names_of state) (rooms_of state) message
-        asked_after new within rooms seats =
-            rooms_of-changed state new message asker.place (asker_answer (room_at state.rooms asker.place) asker.site request) within asks.apart answer_is rooms (rw asks.session_is at seats)
+        asked_after new within rooms uses seats =
+            let outcome = place_answer state.rooms asker.place asker.site request in
+            let used = subst (λ who. uses_in new.rooms ≡ set (uses_in state.rooms) asker.place (use_after outcome.0 who (use_at state.rooms asker.place))) (sym asks.site) uses in
+            rooms_of-changed state new message asker.place outcome within asks.apart answer_is rooms used (rw asks.session_is at seats)
             ∙ ap (after_at (rooms_of state) message) (sym owner_is)
 
 -- whoever asks a room asks one that is there
@@ -179,7 +200,7 @@ within_by rooms session request (Some name) asker g = within_at rooms session na
 
 pub asker_within : (state : State) (session : ℕ) (seat : Option Seat) (request : Request) (asker : Asker) → SeatsWithin state.seats (length state.rooms) → seat_of state.seats session ≡ seat
     → asker_of (names_of state) session seat request ≡ Some asker → asker.place < length state.rooms
-asker_within state session None request asker h e f = within_by state.rooms session request (joined_name request) asker f
+asker_within state session None request asker h e f = within_by state.rooms session request (room_to_enter request) asker f
 asker_within state session (Some seat) request asker h e f =
     let same : record { session = session; place = seat.place; site = Some seat.site } ≡ asker = cc in
     subst (λ (a : Asker). a.place < length state.rooms) same (seat_within _ _ session seat h e)

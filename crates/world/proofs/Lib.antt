@@ -1,7 +1,10 @@
 pub mod Places
+pub mod UsedSites
+pub mod Moves
 pub mod SeatMaps
 pub mod Changed
 pub mod Runs
+pub mod Seated
 pub mod Lines
 pub mod Transcript
 pub mod LineForms

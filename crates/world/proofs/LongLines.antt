@@ -10,7 +10,7 @@ use Rattle.wire.specs.Lines.{lines_of, onto_first}
 use Rattle.wire.specs.declared.reply.Reply.TheVariants.{No}
 use Rattle.wire.specs.Texts.{request_read, reply_text, reply_read}
 use Rattle.room_core.specs.Shown.{HasObject}
-use Rattle.world.specs.Alone.{Message, message_of, Alone, answer_to, after_reply, alone_reply, alone_after}
+use Rattle.world.specs.Alone.{Message, message_of, Alone, answer_to, after_reply, use_after, alone_reply, alone_after}
 use Rattle.world.specs.Rooms.{Rooms, named_place, lone_answer, owner_from, owner_of, reply_at, after_at, reply_to, rooms_after}
 use Rattle.world.specs.State.{State, names_of, rooms_of}
 use Rattle.world.specs.Script.{message_in, text_for, rooms_for, lines_out, lines_end, output_of, HasNoBreak}
@@ -27,7 +27,7 @@ unfolding request_read
 no_request bytes long = rw (lt-leb (length bytes) 16384 long) refl
 
 alone_bad : (alone : Alone) (m : Message) → request_read m.bytes ≡ None → alone_reply alone m ≡ No 0 BadMessage
-alone_bad alone m e = ap (λ r. (answer_to alone.room (alone.site_of m.session) r).0) e
+alone_bad alone m e = ap (λ r. (answer_to alone.room alone.in_use (alone.site_of m.session) r).0) e
 
 pub bad_reply : (names : List (List ℕ)) (rooms : Rooms) (m : Message) → request_read m.bytes ≡ None → reply_to names rooms m ≡ No 0 BadMessage
 bad_reply names rooms m e = elim (rooms.inside m.session) as (λ o. reply_at rooms m (owner_from o (named_place names (request_read m.bytes))) ≡ No 0 BadMessage) [
@@ -36,7 +36,9 @@ bad_reply names rooms m e = elim (rooms.inside m.session) as (λ o. reply_at roo
 ]
 
 alone_kept : (alone : Alone) (m : Message) → request_read m.bytes ≡ None → alone_after alone m ≡ alone
-alone_kept alone m e = alone_same _ _ (rw e refl) (ap (λ r. after_reply r (λ site. site) m.session alone.site_of) (alone_bad alone m e))
+alone_kept alone m e =
+    let bad = alone_bad alone m e in
+    alone_same _ _ (rw e refl) (ap (λ r. after_reply r (λ site. site) m.session alone.site_of) bad) (ap (λ r. use_after r (alone.site_of m.session) alone.in_use) bad)
 
 kept_at : (b : Bool) (rooms : Rooms) (m : Message) (place other : ℕ) → eqb place other ≡ b → request_read m.bytes ≡ None → cond b (alone_after (rooms.alone place) m) (rooms.alone other) ≡ rooms.alone other
 kept_at true rooms m place other t e = alone_kept (rooms.alone place) m e ∙ ap rooms.alone (eqb-true place other t)

@@ -1,11 +1,14 @@
 -- The place of a name.
-use Rattle.std.proofs.Common.{sym, ◌≡◌, ℕ, ◌+◌, ◌<◌, List, [], ◌∷◌, length, get_or, set, zero, suc, Option, Some, None, ltb, cond, not, position, refl, ap, ◌∙◌, bytes_eq, arith}
+use Rattle.std.proofs.Common.{sym, ◌≡◌, ℕ, ◌+◌, ◌<◌, List, [], ◌∷◌, length, get_or, set, zero, suc, Option, Some, None, ltb, Bool, cond, not, position, refl, ap, ◌∙◌, bytes_eq, arith}
 use Rattle.std.specs.List.{position_or_len}
 use Rattle.std.proofs.lemmas.List.{map-set, length-map}
 use Rattle.std.proofs.lemmas.List.Quantifiers.{position-Some}
 use Rattle.room_core.specs.Room.{Room}
+use Rattle.wire.specs.declared.request.Request.{Request}
+use Rattle.world.specs.Alone.{use_after}
 use Rattle.world.specs.Rooms.{place_of}
-use Rattle.world.specs.State.{Named, names_in, rooms_in, room_at}
+use Rattle.world.specs.State.{Named, names_in, rooms_in, room_at, is_used, uses_in, use_at}
+use Rattle.world.specs.Steps.{asker_answer, place_answer}
 
 -- one room is replaced by another of its name
 pub names_set : (rooms : List Named) (i : ℕ) (old new : Named) → old ≡ get_or rooms i old → new.name ≡ old.name → names_in (set rooms i new) ≡ names_in rooms
@@ -20,6 +23,22 @@ pub room_at_read : (rooms : List Named) (i : ℕ) (room : Named) → i < length 
 room_at_read [] i room lt e = absurd (omega arith)
 room_at_read (r ∷ rs) zero room lt e = ap (λ (x : Named). x.room) e
 room_at_read (r ∷ rs) (suc i) room lt e = room_at_read rs i room (omega arith) e
+
+use_at_read : (rooms : List Named) (i : ℕ) (room : Named) → i < length rooms → room ≡ get_or rooms i room → is_used room.in_use ≡ use_at rooms i
+use_at_read [] i room lt e = absurd (omega arith)
+use_at_read (r ∷ rs) zero room lt e = ap (λ (x : Named). is_used x.in_use) e
+use_at_read (r ∷ rs) (suc i) room lt e = use_at_read rs i room (omega arith) e
+
+-- the sites in use, once the room at a place has answered
+pub uses_after : (rooms : List Named) (i : ℕ) (old new : Named) (who : Option ℕ) (request : Request) → i < length rooms → old ≡ get_or rooms i old
+    → is_used new.in_use ≡ use_after (asker_answer old.room (is_used old.in_use) who request).0 who (is_used old.in_use)
+    → uses_in (set rooms i new) ≡ set (uses_in rooms) i (use_after (place_answer rooms i who request).0 who (use_at rooms i))
+uses_after rooms i old new who request lt e f =
+    map-set (λ (room : Named). is_used room.in_use) rooms i new
+    ∙ ap (set (uses_in rooms) i)
+    (f
+    ∙ ap (λ room. use_after (asker_answer room (is_used old.in_use) who request).0 who (is_used old.in_use)) (room_at_read rooms i old lt e)
+    ∙ ap (λ (in_use : ℕ → Bool). use_after (asker_answer (room_at rooms i) in_use who request).0 who in_use) (use_at_read rooms i old lt e))
 
 -- the names stand in the rooms' order
 first_of : (rooms : List Named) (name : List ℕ) → position_or_len (λ room. bytes_eq room.name name) rooms ≡ position_or_len (λ other. bytes_eq other name) (names_in rooms)

@@ -77,7 +77,7 @@ end_step : (names : List (List ℕ)) (place : ℕ) (rooms : Rooms) (message : Me
 end_step names place rooms message all None ih = ih
 end_step names place rooms message all (Some owner) ih = end_by (eqb owner place) rooms message owner place _ _ refl ih
 
-end_law : (names : List (List ℕ)) (place : ℕ) (rooms : Rooms) (all : List Message) → EndAt names place rooms all
+pub end_law : (names : List (List ℕ)) (place : ℕ) (rooms : Rooms) (all : List Message) → EndAt names place rooms all
 end_law names place rooms [] = refl
 end_law names place rooms (message ∷ all) = end_step names place rooms message all (owner_of names rooms message) (end_law names place (rooms_after names rooms message) all)
 

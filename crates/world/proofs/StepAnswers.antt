@@ -15,10 +15,10 @@ use Rattle.room_core.specs.Answers.{Outcome}
 use Rattle.room_core.specs.Shown.{HasObject}
 use Rattle.room_core.proofs.Shows.{IsShownBy, has_if_shown}
 use Rattle.world.specs.declared.seats.Asker.{Asker}
-use Rattle.world.specs.Alone.{Message, alone_answer, alone_after}
+use Rattle.world.specs.Alone.{Message, use_after, alone_answer, alone_after}
 use Rattle.world.specs.Rooms.{Rooms, owner_of, reply_at, after_at, reply_to, rooms_after}
-use Rattle.world.specs.State.{State, names_of, rooms_in, room_at, seat_of, alone_at, rooms_of}
-use Rattle.world.specs.Steps.{asker_answer, asker_of, IsTextOf, RepliesTo}
+use Rattle.world.specs.State.{State, names_of, rooms_in, room_at, uses_in, use_at, seat_of, alone_at, rooms_of}
+use Rattle.world.specs.Steps.{place_answer, asker_of, IsTextOf, RepliesTo}
 use Rattle.world.specs.Shown.{OwnerHasObject, ShowsGroups}
 use Rattle.world.specs.Run.{IsAnswer}
 use Rattle.world.proofs.Changed.{owner_is, answer_is, asked_after}
@@ -28,13 +28,13 @@ use Rattle.world.proofs.RoomShows.{room_shows}
 -- the room at a place, which the message is of, answers with versions
 module _ (state : State) (message : Message) (place : ℕ) (who : Option ℕ) (asks : Request)
     (owner : owner_of (names_of state) (rooms_of state) message ≡ Some place)
-    (is_answer : alone_answer (alone_at state place) message ≡ asker_answer (room_at state.rooms place) who asks)
+    (is_answer : alone_answer (alone_at state place) message ≡ place_answer state.rooms place who asks)
     (legal : IsLegal (room_at state.rooms place).limits (room_at state.rooms place).entries)
     (at : ℕ) (object : Name) (kind : Bytes) (vs : List Version)
-    (is_shown : (asker_answer (room_at state.rooms place) who asks).0 ≡ Versions at object kind vs)
+    (is_shown : (place_answer state.rooms place who asks).0 ≡ Versions at object kind vs)
   where
-    by_room : IsShownBy (room_at state.rooms place) at object kind vs (asker_answer (room_at state.rooms place) who asks).1
-    by_room = room_shows (room_at state.rooms place) at object kind vs who asks is_shown
+    by_room : IsShownBy (room_at state.rooms place) at object kind vs (place_answer state.rooms place who asks).1
+    by_room = room_shows (room_at state.rooms place) at object kind vs (use_at state.rooms place) who asks is_shown
 
     same_room : ((rooms_after (names_of state) (rooms_of state) message).alone place).room ≡ room_at state.rooms place
     same_room =
@@ -56,12 +56,12 @@ module _ (state : State) (message : Message) (place : ℕ) (who : Option ℕ) (a
 -- the text is read as the answer of the room that the message is of
 owner_shows : (state : State) (message : Message) (place : ℕ) (who : Option ℕ) (asks : Request) (text : List ℕ)
     → owner_of (names_of state) (rooms_of state) message ≡ Some place
-    → alone_answer (alone_at state place) message ≡ asker_answer (room_at state.rooms place) who asks
+    → alone_answer (alone_at state place) message ≡ place_answer state.rooms place who asks
     → IsLegal (room_at state.rooms place).limits (room_at state.rooms place).entries
-    → reply_read text ≡ Some (asker_answer (room_at state.rooms place) who asks).0
+    → reply_read text ≡ Some (place_answer state.rooms place who asks).0
     → ShowsGroups (names_of state) (rooms_of state) message text
 owner_shows state message place who asks text owner is_answer legal is_read at object kind vs e =
-    let same : (asker_answer (room_at state.rooms place) who asks).0 ≡ Versions at object kind vs = cc in
+    let same : (place_answer state.rooms place who asks).0 ≡ Versions at object kind vs = cc in
     owner_has_object state message place who asks owner is_answer legal at object kind vs same
 
 -- a text that is read as a refusal shows nothing
@@ -93,22 +93,23 @@ pub room_answer : (state : State) (message : Message) (request : Request) (is_re
     → asker.place < length state.rooms
     → IsLegal (room_at state.rooms asker.place).limits (room_at state.rooms asker.place).entries
     → names_of new ≡ names_of state
-    → RepliesTo asker (asker_answer (room_at state.rooms asker.place) asker.site request).0 text state.seats new.seats
-    → rooms_in new.rooms ≡ set (rooms_in state.rooms) asker.place (with_entry (room_at state.rooms asker.place) (asker_answer (room_at state.rooms asker.place) asker.site request).1)
+    → RepliesTo asker (place_answer state.rooms asker.place asker.site request).0 text state.seats new.seats
+    → rooms_in new.rooms ≡ set (rooms_in state.rooms) asker.place (with_entry (room_at state.rooms asker.place) (place_answer state.rooms asker.place asker.site request).1)
+    → uses_in new.rooms ≡ set (uses_in state.rooms) asker.place (use_after (place_answer state.rooms asker.place asker.site request).0 asker.site (use_at state.rooms asker.place))
     → IsAnswer state message text new
-room_answer state message request is_request asker found new text within legal names replies rooms =
+room_answer state message request is_request asker found new text within legal names replies rooms uses =
     let owner = owner_is state message request is_request asker found in
     let answer = answer_is state message request is_request asker found in
-    let is_reply : reply_to (names_of state) (rooms_of state) message ≡ (asker_answer (room_at state.rooms asker.place) asker.site request).0 =
+    let is_reply : reply_to (names_of state) (rooms_of state) message ≡ (place_answer state.rooms asker.place asker.site request).0 =
     ap (reply_at (rooms_of state) message) owner ∙ ap (λ (o : Outcome). o.0) answer in
     record {
       is_text = replies.is_text ∙ ap reply_text (sym is_reply);
       is_read = replies.is_read ∙ ap Some (sym is_reply);
       shown = owner_shows state message asker.place asker.site request text owner answer legal replies.is_read;
-      rooms = asked_after state message request is_request asker found new within rooms replies.moves;
+      rooms = asked_after state message request is_request asker found new within rooms uses replies.moves;
       names = names;
     }
 
-pub if_ok_and : {T E Q : Type 0} (r : Result T E) (P R : T → Type 0) → ((x : T) → P x → Q → R x) → IfOk r P → OnOk r Q → IfOk r R
-if_ok_and (Ok x) P R f p q = f x p q
-if_ok_and (Err y) P R f p q = tt
+pub if_ok_and : {T E Q S : Type 0} (r : Result T E) (P R : T → Type 0) → ((x : T) → P x → Q → S → R x) → IfOk r P → OnOk r Q → OnOk r S → IfOk r R
+if_ok_and (Ok x) P R f p q s = f x p q s
+if_ok_and (Err y) P R f p q s = tt

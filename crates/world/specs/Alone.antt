@@ -1,13 +1,13 @@
 -- One room alone, and the sessions in it.
-use Rattle.std.specs.Prelude.{ℕ, ◌==◌, List, [], ◌∷◌, Option, Some, None, option_map, if◌then◌else◌}
+use Rattle.std.specs.Prelude.{ℕ, ◌==◌, Bool, true, false, List, [], ◌∷◌, Option, Some, None, option_map, if◌then◌else◌}
 use Rattle.rules.specs.declared.refusal.Refusal.TheVariants.{BadMessage, NotJoined}
 use Rattle.wire.specs.declared.request.Request.{Request}
+use Rattle.wire.specs.declared.request.Request.TheVariants.{Join, Back}
 use Rattle.wire.specs.declared.reply.Reply.{Reply}
-use Rattle.wire.specs.declared.reply.Reply.TheVariants.{Joined, Left, No}
-use Rattle.wire.specs.Joining.{joined_name}
+use Rattle.wire.specs.declared.reply.Reply.TheVariants.{Joined, Returned, Left, No}
 use Rattle.wire.specs.Texts.{request_read, reply_text}
 use Rattle.room_core.specs.Room.{Room, with_entry}
-use Rattle.room_core.specs.Answers.{Outcome, join_answer, answer}
+use Rattle.room_core.specs.Answers.{Outcome, reply_alone, join_answer, back_reply, answer}
 
 -- a message: a session's number, and bytes
 pub record Message : Type 0 where
@@ -17,25 +17,32 @@ pub record Message : Type 0 where
 abbrev pub message_of : ℕ → List ℕ → Message
 message_of session bytes = record { session = session; bytes = bytes }
 
--- the answer to somebody who is not in the room, whose request asks to join by a name or is another one
-abbrev pub outside_answer : Room → Option (List ℕ) → Outcome
-outside_answer room (Some name) = join_answer room
-outside_answer room None = (No 0 NotJoined, None)
+-- the answer to a request of somebody who is in no room, where these sites of this room are in use: to join it, to come back as a site, or another one
+abbrev pub outside_answer : Room → (ℕ → Bool) → Request → Outcome
+outside_answer room in_use (Join name) = join_answer room
+outside_answer room in_use (Back name site) = reply_alone (back_reply room (in_use site) site)
+outside_answer room in_use _ = reply_alone (No 0 NotJoined)
 
 -- the answer to a message in a room, of a site of the room or of nobody there
-abbrev pub answer_to : Room → Option ℕ → Option Request → Outcome
-answer_to room who None = (No 0 BadMessage, None)
-answer_to room None (Some request) = outside_answer room (joined_name request)
-answer_to room (Some site) (Some request) = answer room site request
+abbrev pub answer_to : Room → (ℕ → Bool) → Option ℕ → Option Request → Outcome
+answer_to room in_use who None = reply_alone (No 0 BadMessage)
+answer_to room in_use None (Some request) = outside_answer room in_use request
+answer_to room in_use (Some site) (Some request) = answer room site request
 
--- a room alone: its record, and the site of each session that is in it
+-- a room alone: its record, the site of each session that is in it, and whether somebody is in as a site
 pub record Alone : Type 0 where
   pub room : Room
   pub site_of : ℕ → Option ℕ
+  pub in_use : ℕ → Bool
+
+-- no site is in use
+abbrev pub no_site : ℕ → Bool
+no_site site = false
 
 -- where a reply puts its session, if it moves it: at a site of the room, or out of it
 abbrev pub move_of : Reply → Option (Option ℕ)
 move_of (Joined at site) = Some (Some site)
+move_of (Returned at site seq) = Some (Some site)
 move_of (Left at) = Some None
 move_of _ = None
 
@@ -48,9 +55,20 @@ after_move (Some site) given session old other = if session == other then option
 abbrev pub after_reply : {A : Type 0} → Reply → (ℕ → A) → ℕ → (ℕ → Option A) → ℕ → Option A
 after_reply reply given session old other = after_move (move_of reply) given session old other
 
+-- is somebody in as this site, after a move of a session that was in as one or in none
+abbrev pub use_after_move : Option (Option ℕ) → Option ℕ → (ℕ → Bool) → ℕ → Bool
+use_after_move None was in_use site = in_use site
+use_after_move (Some (Some now)) was in_use site = if now == site then true else in_use site
+use_after_move (Some None) None in_use site = in_use site
+use_after_move (Some None) (Some was) in_use site = if was == site then false else in_use site
+
+-- and after a reply to it
+abbrev pub use_after : Reply → Option ℕ → (ℕ → Bool) → ℕ → Bool
+use_after reply was in_use site = use_after_move (move_of reply) was in_use site
+
 -- the answer to a message of the room, and the room after it
 abbrev pub alone_answer : Alone → Message → Outcome
-alone_answer alone message = answer_to alone.room (alone.site_of message.session) (request_read message.bytes)
+alone_answer alone message = answer_to alone.room alone.in_use (alone.site_of message.session) (request_read message.bytes)
 
 abbrev pub alone_reply : Alone → Message → Reply
 alone_reply alone message = (alone_answer alone message).0
@@ -59,6 +77,7 @@ abbrev pub alone_after : Alone → Message → Alone
 alone_after alone message = record {
   room = with_entry alone.room (alone_answer alone message).1;
   site_of = after_reply (alone_reply alone message) (λ site. site) message.session alone.site_of;
+  in_use = use_after (alone_reply alone message) (alone.site_of message.session) alone.in_use;
 }
 
 -- the texts of the replies to the room's messages, one after the other, and the room after them all

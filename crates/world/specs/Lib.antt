@@ -6,3 +6,4 @@ pub mod Run
 pub mod Script
 pub mod Answered
 pub mod Shown
+pub mod Seated

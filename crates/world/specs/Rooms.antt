@@ -5,7 +5,7 @@ use Rattle.rules.specs.declared.refusal.Refusal.TheVariants.{BadMessage, NotJoin
 use Rattle.wire.specs.declared.request.Request.{Request}
 use Rattle.wire.specs.declared.reply.Reply.{Reply}
 use Rattle.wire.specs.declared.reply.Reply.TheVariants.{No}
-use Rattle.wire.specs.Joining.{joined_name}
+use Rattle.wire.specs.Entering.{room_to_enter}
 use Rattle.wire.specs.Texts.{request_read, reply_text}
 use Rattle.world.specs.Alone.{Message, Alone, after_reply, alone_reply, alone_after}
 
@@ -18,12 +18,12 @@ pub record Rooms : Type 0 where
   pub inside : ℕ → Option ℕ
   pub alone : ℕ → Alone
 
--- the room that a request of somebody in no room is of: the one that it asks to join
+-- the room that a request of somebody in no room is of: the one that it asks to be let into
 abbrev pub named_place : List (List ℕ) → Option Request → Option ℕ
 named_place names None = None
-named_place names (Some request) = option_and_then (place_of names) (joined_name request)
+named_place names (Some request) = option_and_then (place_of names) (room_to_enter request)
 
--- the room that a message is of: the one that its session is in, or else the one that it asks to join
+-- the room that a message is of: the one that its session is in, or else the one that it asks to be let into
 abbrev pub owner_from : Option ℕ → Option ℕ → Option ℕ
 owner_from (Some place) named = Some place
 owner_from None named = named
@@ -38,7 +38,7 @@ lone_refusal None = NotJoined
 
 abbrev pub lone_answer : Option Request → Reply
 lone_answer None = No 0 BadMessage
-lone_answer (Some request) = No 0 (lone_refusal (joined_name request))
+lone_answer (Some request) = No 0 (lone_refusal (room_to_enter request))
 
 abbrev pub lone_reply : Message → Reply
 lone_reply message = lone_answer (request_read message.bytes)

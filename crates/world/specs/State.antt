@@ -1,16 +1,18 @@
 -- A world as contracts see it.
-use Rattle.std.specs.Prelude.{ℕ, ◌<◌, IfSome, ◌==◌, List, [], map, Option, Some, None, option_map, slice_index_or, if◌then◌else◌}
+use Rattle.std.specs.Prelude.{ℕ, ◌+◌, ◌<◌, IfSome, ◌==◌, Bool, false, List, [], map, Option, Some, None, option_map, slice_index_or, replicate, if◌then◌else◌}
 use Rattle.std.specs.Map.{lookup}
+use Rattle.op_names.specs.declared.op_name.TheConstants.{MAX_SITE}
 use Rattle.rules.specs.declared.limits.LimitValues.{LimitValues}
 use Rattle.room_core.specs.Room.{Room, empty_room}
 use Rattle.world.specs.declared.seats.Seat.{Seat}
-use Rattle.world.specs.Alone.{Alone}
+use Rattle.world.specs.Alone.{Alone, no_site}
 use Rattle.world.specs.Rooms.{Rooms}
 
--- a room under its name
+-- a room under its name, and for each site whether somebody is in as it
 pub record Named : Type 0 where
   pub name : List ℕ
   pub room : Room
+  pub in_use : List Bool
 
 -- a world: its rooms in order, and the seat of each session that is in one
 pub record State : Type 0 where
@@ -41,6 +43,21 @@ rooms_in rooms = map (λ room. room.room) rooms
 abbrev pub room_at : List Named → ℕ → Room
 room_at rooms place = slice_index_or (rooms_in rooms) place no_room
 
+-- is somebody in as a site, by such a list
+abbrev pub is_used : List Bool → ℕ → Bool
+is_used in_use site = slice_index_or in_use site false
+
+-- the list where nobody is in
+unfoldable pub no_sites : List Bool
+no_sites = replicate (MAX_SITE + 1) false
+
+-- the sites in use, of the room at a place
+abbrev pub uses_in : List Named → List (ℕ → Bool)
+uses_in rooms = map (λ room. is_used room.in_use) rooms
+
+abbrev pub use_at : List Named → ℕ → ℕ → Bool
+use_at rooms place = slice_index_or (uses_in rooms) place no_site
+
 abbrev pub site_at : ℕ → Option Seat → Option ℕ
 site_at place None = None
 site_at place (Some seat) = if seat.place == place then Some seat.site else None
@@ -49,6 +66,7 @@ abbrev pub alone_at : State → ℕ → Alone
 alone_at state place = record {
   room = room_at state.rooms place;
   site_of = λ session. site_at place (seat_of state.seats session);
+  in_use = use_at state.rooms place;
 }
 
 abbrev pub rooms_of : State → Rooms
@@ -59,7 +77,7 @@ rooms_of state = record {
 
 -- rooms of these names, and nobody in them
 abbrev pub empty_rooms : List (List ℕ) → LimitValues → List Named
-empty_rooms names limits = map (λ name. record { name = name; room = empty_room limits }) names
+empty_rooms names limits = map (λ name. record { name = name; room = empty_room limits; in_use = no_sites }) names
 
 abbrev pub new_world : List (List ℕ) → LimitValues → State
 new_world names limits = record { rooms = empty_rooms names limits; seats = [] }

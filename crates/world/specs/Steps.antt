@@ -1,22 +1,26 @@
 -- Helpers of proofs: what a step gives, in its parts.
-use Rattle.std.specs.Prelude.{ℕ, ◌≡◌, List, Option, Some, None, option_map}
+use Rattle.std.specs.Prelude.{ℕ, ◌≡◌, Bool, List, Option, Some, None, option_map}
 use Rattle.wire.specs.declared.request.Request.{Request}
 use Rattle.wire.specs.declared.reply.Reply.{Reply}
 use Rattle.wire.specs.Texts.{reply_text, reply_read}
 use Rattle.room_core.specs.Room.{Room}
-use Rattle.room_core.specs.Answers.{Outcome, join_answer, answer}
+use Rattle.room_core.specs.Answers.{Outcome, answer}
 use Rattle.world.specs.declared.seats.Seat.{Seat}
 use Rattle.world.specs.declared.seats.Asker.{Asker}
-use Rattle.world.specs.Alone.{after_reply}
+use Rattle.world.specs.Alone.{after_reply, outside_answer}
 use Rattle.world.specs.Rooms.{named_place}
-use Rattle.world.specs.State.{seat_of}
+use Rattle.world.specs.State.{Named, room_at, use_at, seat_of}
 
--- the answer of a room to a request of a site, or to a session that joins
-abbrev pub asker_answer : Room → Option ℕ → Request → Outcome
-asker_answer room None request = join_answer room
-asker_answer room (Some site) request = answer room site request
+-- the answer of a room to a request of a site, or to one of a session that is in no room
+abbrev pub asker_answer : Room → (ℕ → Bool) → Option ℕ → Request → Outcome
+asker_answer room in_use None request = outside_answer room in_use request
+asker_answer room in_use (Some site) request = answer room site request
 
--- who asks, and which room: a session that has a seat, or one that asks to join a room
+-- and of the room at a place
+abbrev pub place_answer : List Named → ℕ → Option ℕ → Request → Outcome
+place_answer rooms place who request = asker_answer (room_at rooms place) (use_at rooms place) who request
+
+-- who asks, and which room: a session that has a seat, or one that asks to be let into a room
 abbrev pub asker_of : List (List ℕ) → ℕ → Option Seat → Request → Option Asker
 asker_of names session (Some seat) request = Some (record { session = session; place = seat.place; site = Some seat.site })
 asker_of names session None request = option_map (λ place. record { session = session; place = place; site = None }) (named_place names (Some request))

@@ -7,7 +7,7 @@ ghost use Rattle.op_names.specs.Repeats.{first_repeat};
 ghost use Rattle.rules.specs.declared.refusal.Refusal.{Refusal};
 ghost use Rattle.wire.specs.Texts.{request_read};
 ghost use Rattle.wire.specs.declared.reply.Reply.TheVariants.{No};
-ghost use Rattle.wire.specs.Joining.{joined_name};
+ghost use Rattle.wire.specs.Entering.{room_to_enter};
 ghost use Rattle.world.specs.Alone.{message_of};
 ghost use Rattle.world.specs.Rooms.{place_of, lone_refusal};
 ghost use Rattle.world.specs.State.{State, names_in, names_of, room_at, new_world};
@@ -19,6 +19,7 @@ pub mod laws;
 mod named_room;
 mod script;
 mod seats;
+mod sites;
 
 pub use fault::ScriptFault;
 use named_room::{NamedRoom, answer_at, empty_rooms, place_of};
@@ -68,7 +69,7 @@ fn refusal_text(alloc: Global, refusal: Refusal) -> Result<String, NoMemory>
     write_reply(alloc, &Reply::No { at: 0, refusal })
 }
 
-/// Who asks, and which room: a session that has a seat, or one that asks to join a room.
+/// Who asks, and which room: a session that has a seat, or one that asks to be let into a room.
 fn asker_of(
     rooms: &[NamedRoom],
     session: u32,
@@ -84,7 +85,7 @@ fn asker_of(
             site: Some(site),
         });
     }
-    let name = request.joined_name()?;
+    let name = request.room_to_enter()?;
     let place = place_of(rooms, name)?;
     Some(Asker {
         session,
@@ -95,9 +96,9 @@ fn asker_of(
 
 /// Why a request is refused that is of no room.
 fn lone_refusal(request: &Request) -> Refusal
-    ensures { result ≡ lone_refusal (joined_name request.now) }
+    ensures { result ≡ lone_refusal (room_to_enter request.now) }
 {
-    match request.joined_name() {
+    match request.room_to_enter() {
         Some(_name) => Refusal::NoSuchRoom,
         None => Refusal::NotJoined,
     }
@@ -135,9 +136,9 @@ impl World {
     }
 
     /// Answers a message of a session: the text of the reply, which is the room's that the session
-    /// is in or asks to join. Where it shows an object, its versions are the maximal compatible
-    /// groups of its operations, by the record of that room. `NoMemory` where memory was refused,
-    /// and then nothing is changed.
+    /// is in or asks to be let into. Where it shows an object, its versions are the maximal
+    /// compatible groups of its operations, by the record of that room. `NoMemory` where memory was
+    /// refused, and then nothing is changed.
     pub fn step(&mut self, alloc: Global, session: u32, bytes: &[u8]) -> Result<String, NoMemory>
         ensures answer { let message = message_of session bytes.now in
             IfOk result (λ text. IsAnswer self.old message (string_bytes text) self.new) }

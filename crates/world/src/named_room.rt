@@ -7,24 +7,27 @@ ghost use Rattle.wire.specs.Form.{IsReply, IsRequest};
 ghost use Rattle.room_core.specs.Room.{with_entry};
 ghost use Rattle.room_core.specs.Plans.{IsReady, Plans, entry_added};
 ghost use Rattle.world.specs.Rooms.{place_of};
-ghost use Rattle.world.specs.State.{Named, names_in, rooms_in, room_at, empty_rooms};
-ghost use Rattle.world.specs.Steps.{asker_answer, RepliesTo};
+ghost use Rattle.world.specs.Alone.{outside_answer, use_after};
+ghost use Rattle.world.specs.State.{Named, names_in, rooms_in, room_at, is_used, uses_in, use_at, empty_rooms};
+ghost use Rattle.world.specs.Steps.{asker_answer, place_answer, RepliesTo};
 
-use crate::seats::{Asker, Seat, move_seat};
+use crate::seats::{Asker, Seat, move_of, move_seat};
+use crate::sites::SitesInUse;
 use op_names::{NoMemory, RoomName};
 use room_core::{Planned, RoomState};
-use rules::{Entry, Limits};
+use rules::{Entry, Limits, Refusal};
 use std::alloc::Global;
 use std::collections::BTreeMap;
 use std::marker::Model;
 use std::sync::Arc;
-use wire::{Request, write_reply};
+use wire::{Reply, Request, write_reply};
 
 /// A room under its name.
 #[derive(Drop)]
 pub(crate) struct NamedRoom {
     name: RoomName,
     state: RoomState,
+    in_use: SitesInUse,
 }
 
 impl Model for NamedRoom {
@@ -34,7 +37,7 @@ impl Model for NamedRoom {
 
     ghost Value = { Named };
 
-    ghost view = { λ r. record { name = r.name; room = r.state.room } };
+    ghost view = { λ r. record { name = r.name; room = r.state.room; in_use = r.in_use } };
 
     ghost invariant = { λ r. AllByRecursion IsEntry r.state.room.entries };
 }
@@ -51,7 +54,12 @@ pub(crate) fn empty_rooms(
     for name in names {
         let name = name.copy(alloc)?;
         let state = RoomState::new(alloc, limits)?;
-        rooms.push(NamedRoom { name, state })?;
+        let in_use = SitesInUse::none(alloc)?;
+        rooms.push(NamedRoom {
+            name,
+            state,
+            in_use,
+        })?;
     }
     Ok(rooms)
 }
@@ -63,18 +71,42 @@ pub(crate) fn place_of(rooms: &[NamedRoom], name: &RoomName) -> Option<usize>
     rooms.iter().position(|room| room.name == *name)
 }
 
-/// The plan of an answer: to a request of a site, or to a session that joins.
+/// The plan of an answer: to a request of a site, or of a session that is in no room.
 fn plan(
     alloc: Global,
     room: &mut RoomState,
+    in_use: &SitesInUse,
     site: Option<u32>,
     request: Request,
 ) -> Result<Planned, NoMemory>
-    ensures { Plans room.old room.new (asker_answer room.old.room site request) result }
+    ensures { let used = is_used in_use.now in
+        Plans room.old room.new (asker_answer room.old.room used site request) result }
 {
     match site {
         Some(site) => room.plan(alloc, site, request),
-        None => room.plan_join(alloc),
+        None => plan_outside(alloc, room, in_use, &request),
+    }
+}
+
+/// The plan of an answer to a session that is in no room.
+fn plan_outside(
+    alloc: Global,
+    room: &mut RoomState,
+    in_use: &SitesInUse,
+    request: &Request,
+) -> Result<Planned, NoMemory>
+    ensures { let used = is_used in_use.now in
+        Plans room.old room.new (outside_answer room.old.room used request.now) result }
+{
+    match request {
+        Request::Join { .. } => room.plan_join(alloc),
+        Request::Back { room: _, site } => {
+            Ok(Planned::of_reply(room.back(*site, in_use.has(*site))))
+        }
+        _ => Ok(Planned::of_reply(Reply::No {
+            at: 0,
+            refusal: Refusal::NotJoined,
+        })),
     }
 }
 
@@ -133,7 +165,8 @@ impl NamedRoom {
         self.state.entries()
     }
 
-    /// Answers a request of a site, or a session that joins; on `Err` nothing is changed.
+    /// Answers a request of a site, or of a session that is in no room. On `Err` nothing is
+    /// changed.
     fn answer(
         &mut self,
         alloc: Global,
@@ -143,11 +176,16 @@ impl NamedRoom {
     ) -> Result<String, NoMemory>
         requires { IsRequest request }
         ensures legal { IsLegal self.old.room.limits self.old.room.entries }
-        ensures ok { let reply = (asker_answer self.old.room asker.site request).0 in
+        ensures ok { let in_use = is_used self.old.in_use in
+            let reply = (asker_answer self.old.room in_use asker.site request).0 in
             IfOk result (λ text.
             RepliesTo asker reply (string_bytes text) seats.old.entries seats.new.entries) }
-        ensures room { let added = (asker_answer self.old.room asker.site request).1 in
+        ensures room { let in_use = is_used self.old.in_use in
+            let added = (asker_answer self.old.room in_use asker.site request).1 in
             OnOk result (self.new.room ≡ with_entry self.old.room added) }
+        ensures in_use { let in_use = is_used self.old.in_use in
+            let reply = (asker_answer self.old.room in_use asker.site request).0 in
+            OnOk result (is_used self.new.in_use ≡ use_after reply asker.site in_use) }
         ensures name { self.new.name ≡ self.old.name }
         ensures err { OnErr result
             ((self.new ≡ self.old) × (seats.new.entries ≡ seats.old.entries)) }
@@ -156,12 +194,15 @@ impl NamedRoom {
         let _record = self.state.entries();
         let limits = self.state.limits();
         let (_joins, _entries) = (limits.joins(), limits.entries());
-        let planned = plan(alloc, &mut self.state, asker.site, request)?;
-        put_in_place(alloc, &mut self.state, seats, asker, planned)
+        let planned = plan(alloc, &mut self.state, &self.in_use, asker.site, request)?;
+        let moved = move_of(planned.reply());
+        let text = put_in_place(alloc, &mut self.state, seats, asker, planned)?;
+        self.in_use.follow(moved, asker.site);
+        Ok(text)
     }
 }
 
-/// Answers a request of a site, or a session that joins; on `Err` nothing is changed.
+/// Answers a request of a site, or of a session that is in no room. On `Err` nothing is changed.
 #[tactic(auto, using(crate::proofs::Places::names_set, crate::proofs::Places::rooms_set, crate::proofs::Places::room_at_read))]
 pub(crate) fn answer_at(
     alloc: Global,
@@ -175,16 +216,19 @@ pub(crate) fn answer_at(
     // Of the room as it was:
     ensures legal { let room = room_at rooms.old.items asker.place in
         IsLegal room.limits room.entries }
-    ensures ok { let room = room_at rooms.old.items asker.place in
-        let reply = (asker_answer room asker.site request).0 in
+    ensures ok { let reply = (place_answer rooms.old.items asker.place asker.site request).0 in
         IfOk result (λ text.
         RepliesTo asker reply (string_bytes text) seats.old.entries seats.new.entries) }
     // Of the rooms:
     ensures names { names_in rooms.new.items ≡ names_in rooms.old.items }
-    ensures rooms { let room = room_at rooms.old.items asker.place in
-        let after = with_entry room (asker_answer room asker.site request).1 in
+    ensures rooms { let added = (place_answer rooms.old.items asker.place asker.site request).1 in
+        let after = with_entry (room_at rooms.old.items asker.place) added in
         let others = rooms_in rooms.old.items in
         OnOk result (rooms_in rooms.new.items ≡ slice_set others asker.place after) }
+    ensures uses { let reply = (place_answer rooms.old.items asker.place asker.site request).0 in
+        let after = use_after reply asker.site (use_at rooms.old.items asker.place) in
+        let others = uses_in rooms.old.items in
+        OnOk result (uses_in rooms.new.items ≡ slice_set others asker.place after) }
     ensures err { OnErr result
         ((rooms.new.items ≡ rooms.old.items) × (seats.new.entries ≡ seats.old.entries)) }
 {

@@ -16,7 +16,7 @@ pub(crate) struct Seat {
     pub(crate) site: u32,
 }
 
-/// A session that asks something of the room at this place, as a site of it or to join it.
+/// A session that asks something of the room at this place, as a site of it or to be let in.
 #[derive(Clone, Copy, Debug, PartialEq, Eq)]
 pub(crate) struct Asker {
     pub(crate) session: u32,
@@ -33,11 +33,16 @@ pub(crate) fn seat_at(seats: &BTreeMap<u32, Seat>, session: u32) -> Option<Seat>
 }
 
 /// Where a reply puts its session, if it moves it: at a site of the room, or out of it.
-fn move_of(reply: &Reply) -> Option<Option<u32>>
+pub(crate) fn move_of(reply: &Reply) -> Option<Option<u32>>
     ensures { result ≡ move_of reply.now }
 {
     match reply {
         Reply::Joined { at: _, site } => Some(Some(*site)),
+        Reply::Returned {
+            at: _,
+            site,
+            seq: _,
+        } => Some(Some(*site)),
         Reply::Left { .. } => Some(None),
         Reply::Made { .. } => None,
         Reply::Taken { .. } => None,

@@ -109,7 +109,8 @@ class Page {
 
   /** The value of an expression in the page: for looking, never for doing. */
   async look(expression) {
-    const { result, exceptionDetails } = await this.ask("Runtime.evaluate", { expression, returnByValue: true })
+    const params = { expression, returnByValue: true, awaitPromise: true }
+    const { result, exceptionDetails } = await this.ask("Runtime.evaluate", params)
     if (exceptionDetails) throw new Error(`${expression}: ${exceptionDetails.exception?.description}`)
     return result.value
   }
@@ -177,6 +178,13 @@ class Page {
     const rest = { key, code: key, windowsVirtualKeyCode: KEYS[key], modifiers }
     await this.ask("Input.dispatchKeyEvent", { type: text ? "keyDown" : "rawKeyDown", text, ...rest })
     await this.ask("Input.dispatchKeyEvent", { type: "keyUp", ...rest })
+  }
+
+  /** Loads the page anew, as its button in the browser does. */
+  async reload() {
+    await this.ask("Runtime.evaluate", { expression: "window.isOld = true" })
+    await this.ask("Page.reload")
+    await this.comes("the new page", "window.isOld === undefined && document.readyState === 'complete'")
   }
 
   async write(text) {

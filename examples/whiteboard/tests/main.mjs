@@ -246,6 +246,63 @@ async function lostConnection(browser, address, first) {
   proxy.end()
 }
 
+/** A page that is loaded anew is the site that it was, and shows what it had. */
+async function loadedAnew(first, second, room) {
+  const words = await first.look(STATE)
+  const site = /as site \d+/.exec(words)[0]
+  const bodies = await first.look(BODIES)
+  const joins = () => room.record.filter(([word]) => word === "join").length
+  const before = joins()
+  for (let load = 0; load < 3; load++) {
+    await first.reload()
+    await isOpen(first)
+    holds("the site", (await first.look(STATE)).includes(site))
+    same("what it shows", await first.look(BODIES), bodies)
+  }
+  const count = await second.look(COUNT)
+  await draw(first, "line", [30, 30], [90, 60])
+  await second.comes("the new object", `${COUNT} === ${count + 1}`)
+  same("what both show", await first.look(BODIES), await second.look(BODIES))
+  same("the joins", joins(), before)
+  await tabTo(first, `document.activeElement === [...document.querySelectorAll(".version")].at(-1)`)
+  await first.key("Delete")
+  for (const page of [first, second]) await page.comes("it is gone", `${COUNT} === ${count}`)
+}
+
+/** A room that was begun anew is told as one, and what the page had of it can be saved. */
+async function begunAnew(browser, address) {
+  const page = await pageOf(address)
+  const proxy = await Proxy.start(new URL(page.searchParams.get("server")).port)
+  page.searchParams.set("server", `ws://${proxy.address}/`)
+  const person = await browser.open(page.href, 1240, 720)
+  await isOpen(person)
+  await draw(person, "rect", [20, 700], [80, 760])
+  await person.comes("it is taken", `!/to be sent/.test(${STATE})`)
+  await askedForNews()
+  const other = await serve()
+  try {
+    proxy.port = new URL((await pageOf(other.address)).searchParams.get("server")).port
+    proxy.cut()
+    await person.comes("what is told", `document.querySelector("#renewed .notice") !== null`)
+    await isOpen(person)
+    await person.picture(join(PICTURES, "renewed.png"))
+    holds("it is told in words", (await person.look(`document.getElementById("renewed").textContent`))
+      .startsWith("The room was begun anew"))
+    same("what it shows", await person.look(COUNT), 0)
+    const text = await person.look(`fetch(document.querySelector("#renewed a").href).then((it) => it.text())`)
+    const lines = text.split("\n")
+    same("the first line of the record", lines[0], '["join",1]')
+    same("the last one", JSON.parse(lines.at(-2)).slice(3),
+      ["rect", [["x", 20], ["y", 700], ["width", 60], ["height", 60], ["fill", "#3a86c8"], ["name", ""]]])
+    await person.click("#renewed button")
+    same("what is told then", await person.look(`document.getElementById("renewed").textContent`), "")
+    same("faults in the page", person.faults, [])
+  } finally {
+    proxy.end()
+    other.server.kill()
+  }
+}
+
 const LAKE = '.version[aria-label^="Rectangle “Lake”"]'
 
 /** How many objects are drawn. */
@@ -510,6 +567,8 @@ async function all(browser, address) {
   })
   await keep(phone, "small")
   await step("a lost connection", () => lostConnection(browser, address, first))
+  await step("a page is loaded anew", () => loadedAnew(first, second, room))
+  await step("a room that was begun anew", () => begunAnew(browser, address))
   await step("each thing done is one entry", () => onePut(first, room))
   await step("what other clients put there", () => oddShapes(first, second, room))
   await step("a key deletes", () => deleteByKey(first, second, room))

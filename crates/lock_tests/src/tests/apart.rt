@@ -2,8 +2,8 @@
 
 ghost use Rattle.room_lock.specs.Planned.{IsLedgerOf};
 
-use super::{CREATION, asked, entered, planned, room_name};
-use room_lock::{NewRooms, Pass, RoomLedger, Rooms};
+use super::{CREATION, asked, entered, left, planned, room_name};
+use room_lock::{NewRooms, RoomLedger, Rooms};
 use rules::Limits;
 use std::marker::Brand;
 use std::process::Abort;
@@ -42,16 +42,16 @@ fn holds<P: RoomLedger>(
 fn calls<P: RoomLedger>(
     rt: &(impl Wait + Clock + Abort + AllocGlobal),
     rooms: &Rooms<P>,
-    mut pass: Pass<P>,
+    name: &str,
     held: &Mutex<bool>,
     answered: &Mutex<bool>,
 ) -> bool {
-    if !is_said(rt, held) {
-        return false;
-    }
+    let is_held = is_said(rt, held);
+    let mut pass = entered(rt, rooms, name);
     let reply = asked(rt, rooms, &mut pass, CREATION);
     *answered.lock(rt) = true;
-    reply.as_str() == r#"["made",1,[1,1]]"#
+    left(rt, rooms, pass);
+    is_held && reply.as_str() == r#"["made",1,[1,1]]"#
 }
 
 fn locks_are_apart<
@@ -61,13 +61,12 @@ fn locks_are_apart<
     requires { IsLedgerOf planned P.name P.parts P.limits P.books }
 {
     let rooms = Rooms::<P>::new(rt.alloc(), planned).expect(rt, "rooms");
-    let pass = entered(rt, &rooms, "b");
     let (held, answered) = (Mutex::new(false), Mutex::new(false));
     let (rooms, held, answered) = (&rooms, &held, &answered);
     let (waited, called) = thread::join(
         rt,
         move || holds(rt, rooms, "a", held, answered),
-        move || calls(rt, rooms, pass, held, answered),
+        move || calls(rt, rooms, "b", held, answered),
     );
     assert!(rt; waited && called);
 }

@@ -2,8 +2,8 @@
 
 ghost use Rattle.room_lock.specs.Planned.{IsLedgerOf};
 
-use super::{CREATION, asked, entered, planned, size_of};
-use room_lock::{CloseFault, NewRooms, Pass, RoomLedger, RoomRecord, Rooms};
+use super::{CREATION, asked, entered, left, planned, size_of};
+use room_lock::{CloseFault, NewRooms, Pass, RoomLedger, Rooms};
 use rules::Limits;
 use std::marker::Brand;
 use std::process::Abort;
@@ -18,12 +18,12 @@ fn session<P: RoomLedger>(rt: &(impl Wait + Abort + AllocGlobal), rooms: &Rooms<
     pass
 }
 
-/// The record of the room when it is closed, with all passes or without the last one.
+/// How many entries the room has when it is closed, where all passes were handed back or all but one.
 fn closed_in<P: RoomLedger + Send + Sync, R: Threads + Wait + Sync + Abort + AllocGlobal>(
     rt: &R,
     planned: NewRooms,
     all: bool,
-) -> Result<Vec<RoomRecord>, CloseFault>
+) -> Result<usize, CloseFault>
     requires { IsLedgerOf planned P.name P.parts P.limits P.books }
 {
     let rooms = Rooms::<P>::new(rt.alloc(), planned).expect(rt, "rooms");
@@ -34,26 +34,32 @@ fn closed_in<P: RoomLedger + Send + Sync, R: Threads + Wait + Sync + Abort + All
         move || session(rt, shared),
     );
     assert_eq!(rt; size_of(rt, shared, "r"), 4);
-    let mut passes = Vec::new(rt.alloc());
-    passes.push(first).expect(rt, "memory");
+    left(rt, shared, first);
     if all {
-        passes.push(second).expect(rt, "memory");
+        left(rt, shared, second);
+    } else {
+        second.give_up();
     }
-    rooms.close(rt.alloc(), passes)
+    let records = rooms.close(rt.alloc())?;
+    assert_eq!(rt; records.len(), 1);
+    assert_eq!(rt; records[0].parts.len(), 2);
+    for (place, part) in records[0].parts.iter().enumerate() {
+        assert_eq!(rt; part.site() as usize, place.saturating_add(1));
+        assert_eq!(rt; part.count_added(), 2);
+    }
+    Ok(records[0].entries.len())
 }
 
 fn closed<R: Threads + Wait + Sync + Abort + AllocGlobal>(
     rt: &R,
     all: bool,
-) -> Result<Vec<RoomRecord>, CloseFault> {
+) -> Result<usize, CloseFault> {
     closed_in::<Brand, R>(rt, planned(rt, &["r"], Limits::full()), all)
 }
 
 #[test]
 fn a_room_closes_with_all_its_passes(rt: HostRuntime) {
-    let records = closed(&rt, true).expect(&rt, "records");
-    assert_eq!(rt; records.len(), 1);
-    assert_eq!(rt; records[0].entries.len(), 4);
+    assert_eq!(rt; closed(&rt, true).expect(&rt, "records"), 4);
 }
 
 #[test]

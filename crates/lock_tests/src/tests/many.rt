@@ -2,10 +2,10 @@
 
 ghost use Rattle.room_lock.specs.Planned.{IsLedgerOf};
 
-use super::{CREATION, asked, entered, planned, request_of};
+use super::{CREATION, asked, entered, left, planned, request_of};
 use op_names::{Key, OpName, Value, VersionId};
 use room_core::RoomState;
-use room_lock::{NewRooms, Pass, RoomLedger, RoomRecord, Rooms};
+use room_lock::{NewRooms, Pass, RoomLedger, Rooms};
 use rules::{Body, Entry, Limits, Pairs};
 use state_vector::StateVector;
 use std::marker::Brand;
@@ -18,7 +18,7 @@ use wire::{Reply, Request};
 /// The rooms.
 const NAMES: [&str; 4] = ["a", "b", "c", "d"];
 
-/// How many operations of each of three sites a pass has seen, and among how many entries.
+/// How many operations of each of three sites there are among so many first entries.
 #[derive(Drop)]
 struct Counted {
     entries: usize,
@@ -26,18 +26,17 @@ struct Counted {
 }
 
 impl Counted {
-    /// Counts on, up to all that was seen.
-    fn go_on(&mut self, seen: &[Arc<Entry>]) {
-        let from = self.entries.min(seen.len());
-        for entry in &seen[from..] {
+    /// Counts on by the next entries, up to the first so many of the record.
+    fn go_on(&mut self, next: &[Arc<Entry>], at: usize) {
+        for entry in next.iter().take(at.saturating_sub(self.entries)) {
             if let Entry::Operation(op) = &**entry {
                 let site = op.name.site() as usize;
                 if site < 4 {
                     self.operations[site] = op.name.seq();
                 }
             }
+            self.entries = self.entries.saturating_add(1);
         }
-        self.entries = seen.len();
     }
 
     /// The vector that counts these operations.
@@ -53,11 +52,14 @@ impl Counted {
     }
 }
 
-/// The identifier of the first version that is shown.
-fn first_version(rt: &(impl Abort + AllocGlobal), reply: &Reply) -> VersionId {
+/// The identifier of the first version that is shown, and how many entries there were.
+fn first_version(rt: &(impl Abort + AllocGlobal), reply: &Reply) -> (VersionId, usize) {
     match reply {
-        Reply::Versions { versions, .. } => match versions.as_slice().first() {
-            Some(version) => version.id.copy(rt.alloc()).expect(rt, "memory"),
+        Reply::Versions { at, versions, .. } => match versions.as_slice().first() {
+            Some(version) => (
+                version.id.copy(rt.alloc()).expect(rt, "memory"),
+                *at as usize,
+            ),
             None => panic!(rt; "no version"),
         },
         _ => panic!(rt; "no versions"),
@@ -83,9 +85,14 @@ fn shows_and_puts<P: RoomLedger>(
     turn: u32,
 ) {
     let shown = rooms.call(rt, rt.alloc(), pass, request_of(rt, r#"["show",[1,1]]"#));
-    let version = first_version(rt, &shown.expect(rt, "an answer"));
-    counted.go_on(pass.seen());
-    let key = key_of(rt, pass.site(), turn);
+    let (version, at) = first_version(rt, &shown.expect(rt, "an answer"));
+    let from = counted.entries.try_into().expect(rt, "a place");
+    let pulled = rooms.call(rt, rt.alloc(), pass, Request::Pull { from });
+    match pulled.expect(rt, "an answer") {
+        Reply::Entries { entries, .. } => counted.go_on(entries.as_slice(), at),
+        _ => panic!(rt; "no entries"),
+    }
+    let key = key_of(rt, pass.part().site(), turn);
     let put = Request::Change {
         seq: turn.saturating_add(1),
         seen: counted.vector(rt),
@@ -104,12 +111,8 @@ fn shows_and_puts<P: RoomLedger>(
     }
 }
 
-/// A session of 200 calls.
-fn session<P: RoomLedger>(
-    rt: &(impl Wait + Abort + AllocGlobal),
-    rooms: &Rooms<P>,
-    name: &str,
-) -> Pass<P> {
+/// A session of 300 calls, which leaves.
+fn session<P: RoomLedger>(rt: &(impl Wait + Abort + AllocGlobal), rooms: &Rooms<P>, name: &str) {
     let mut pass = entered(rt, rooms, name);
     let mut counted = Counted {
         entries: 0,
@@ -118,12 +121,11 @@ fn session<P: RoomLedger>(
     for turn in 0..100 {
         shows_and_puts(rt, rooms, &mut pass, &mut counted, turn);
     }
-    pass
+    left(rt, rooms, pass);
 }
 
 /// Does a new room take the whole record, of three joins, a creation and 200 puts?
-fn is_taken_whole(rt: &(impl Abort + AllocGlobal), record: &RoomRecord) -> bool {
-    let entries = record.entries.as_slice();
+fn is_taken_whole(rt: &(impl Abort + AllocGlobal), entries: &[Arc<Entry>]) -> bool {
     let mut room = RoomState::new(rt.alloc(), Limits::full()).expect(rt, "memory");
     for entry in entries {
         if !room.accept(rt.alloc(), entry).expect(rt, "memory") {
@@ -133,21 +135,18 @@ fn is_taken_whole(rt: &(impl Abort + AllocGlobal), record: &RoomRecord) -> bool 
     entries.len() == 204 && room.entries().len() == 204
 }
 
-/// The passes of the first sites, which create the objects, and of eight threads, two a room.
-fn passes_of<P: RoomLedger + Send + Sync, R: Threads + Wait + Sync + Abort + AllocGlobal>(
+/// Lets the first sites create the objects, and then eight threads, two a room, change them.
+fn asked_by_threads<P: RoomLedger + Send + Sync, R: Threads + Wait + Sync + Abort + AllocGlobal>(
     rt: &R,
     rooms: &Rooms<P>,
-) -> Vec<Pass<P>> {
-    let mut firsts = Vec::new(rt.alloc());
+) {
     for name in NAMES {
         let mut pass = entered(rt, rooms, name);
         let _reply = asked(rt, rooms, &mut pass, CREATION);
-        firsts.push(pass).expect(rt, "memory");
+        left(rt, rooms, pass);
     }
     let ask = |place: usize| session(rt, rooms, NAMES[place % 4]);
-    let mut passes = thread::map_indices(rt, rt.alloc(), 8, &ask).expect(rt, "memory");
-    passes.append(&mut firsts).expect(rt, "memory");
-    passes
+    thread::map_indices(rt, rt.alloc(), 8, &ask).expect(rt, "memory");
 }
 
 fn many_threads_in<P: RoomLedger + Send + Sync, R: Threads + Wait + Sync + Abort + AllocGlobal>(
@@ -157,11 +156,11 @@ fn many_threads_in<P: RoomLedger + Send + Sync, R: Threads + Wait + Sync + Abort
     requires { IsLedgerOf planned P.name P.parts P.limits P.books }
 {
     let rooms = Rooms::<P>::new(rt.alloc(), planned).expect(rt, "rooms");
-    let passes = passes_of(rt, &rooms);
-    let records = rooms.close(rt.alloc(), passes).expect(rt, "records");
+    asked_by_threads(rt, &rooms);
+    let records = rooms.close(rt.alloc()).expect(rt, "records");
     assert_eq!(rt; records.len(), 4);
     for record in &records {
-        assert!(rt; is_taken_whole(rt, record));
+        assert!(rt; is_taken_whole(rt, &record.entries));
     }
 }
 

@@ -3,7 +3,8 @@
 ghost use Rattle.room_lock.specs.Planned.{IsLedgerOf};
 
 use super::{planned, room_name};
-use room_lock::{Joined, NewRooms, RoomLedger, Rooms};
+use op_names::NoMemory;
+use room_lock::{Entrance, NewRooms, RoomLedger, Rooms};
 use rules::{LimitValues, Limits};
 use std::marker::Brand;
 use std::process::Abort;
@@ -17,9 +18,13 @@ fn join_reply<P: RoomLedger>(
     name: &str,
 ) -> String {
     let joined = rooms.join(rt, rt.alloc(), &room_name(rt, name));
-    let reply = match joined.expect(rt, "memory") {
-        Joined::Entered(_pass, reply) => reply,
-        Joined::Refused(reply) => reply,
+    let reply = match joined {
+        Ok(Entrance::Entered(pass, reply)) => {
+            pass.give_up();
+            reply
+        }
+        Ok(Entrance::Refused(reply)) => reply,
+        Err(NoMemory) => panic!(rt; "no memory"),
     };
     write_reply(rt.alloc(), &reply).expect(rt, "memory")
 }
@@ -36,8 +41,8 @@ fn second_reply<P: RoomLedger, R: Wait + Abort + AllocGlobal>(rt: &R, planned: N
     join_reply(rt, &rooms, "r")
 }
 
-/// A room with these limits.
-fn room_of(rt: &(impl Abort + AllocGlobal), joins: u32, entries: u32) -> NewRooms {
+/// A room that is to be made, with these limits.
+pub(super) fn room_of(rt: &(impl Abort + AllocGlobal), joins: u32, entries: u32) -> NewRooms {
     let limits = LimitValues {
         joins,
         entries,

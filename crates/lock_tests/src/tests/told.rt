@@ -2,8 +2,8 @@
 
 ghost use Rattle.room_lock.specs.Planned.{IsLedgerOf};
 
-use super::{CREATION, asked, entered, planned};
-use room_lock::{NewRooms, Pass, RoomLedger, Rooms};
+use super::{CREATION, asked, entered, left, planned, returned};
+use room_lock::{NewRooms, RoomLedger, Rooms};
 use rules::Limits;
 use std::marker::Brand;
 use std::process::Abort;
@@ -15,13 +15,14 @@ use std::thread::Threads;
 fn creates<P: RoomLedger>(
     rt: &(impl Wait + Abort + AllocGlobal),
     rooms: &Rooms<P>,
-    mut pass: Pass<P>,
     done: &Mutex<bool>,
     changed: &Condvar,
 ) -> bool {
+    let mut pass = returned(rt, rooms, "r", 1);
     let reply = asked(rt, rooms, &mut pass, CREATION);
     *done.lock(rt) = true;
     changed.notify_all();
+    left(rt, rooms, pass);
     reply.as_str() == r#"["made",2,[1,1]]"#
 }
 
@@ -29,13 +30,14 @@ fn creates<P: RoomLedger>(
 fn shows<P: RoomLedger>(
     rt: &(impl Wait + Abort + AllocGlobal),
     rooms: &Rooms<P>,
-    mut pass: Pass<P>,
     done: &Mutex<bool>,
     changed: &Condvar,
 ) -> bool {
     let guard = changed.wait_while(rt, done.lock(rt), |done| !*done);
     drop(guard);
+    let mut pass = returned(rt, rooms, "r", 2);
     let reply = asked(rt, rooms, &mut pass, r#"["show",[1,1]]"#);
+    left(rt, rooms, pass);
     reply.as_str() == r#"["versions",3,[1,1],"rect",[[[],[["x",0]]]]]"#
 }
 
@@ -48,12 +50,14 @@ fn write_is_shown<P: RoomLedger + Send + Sync, R: Threads + Wait + Sync + Abort 
     let rooms = Rooms::<P>::new(rt.alloc(), planned).expect(rt, "rooms");
     let first = entered(rt, &rooms, "r");
     let second = entered(rt, &rooms, "r");
+    left(rt, &rooms, first);
+    left(rt, &rooms, second);
     let (done, changed) = (Mutex::new(false), Condvar::new());
     let (rooms, done, changed) = (&rooms, &done, &changed);
     let (made, shown) = thread::join(
         rt,
-        move || creates(rt, rooms, first, done, changed),
-        move || shows(rt, rooms, second, done, changed),
+        move || creates(rt, rooms, done, changed),
+        move || shows(rt, rooms, done, changed),
     );
     assert!(rt; made && shown);
 }

@@ -54,7 +54,7 @@ impl RoomState {
     /// Answers a request of the log's site, as `answer` does. Then the log has seen the whole record.
     /// Otherwise, and then room and log stay, `Torn` where what the log has seen is not the beginning
     /// of the record, with the first place that differs or is missing; else `NoMemory`. Linear in what
-    /// the log has seen; see `call_from_front`.
+    /// the log has seen.
     pub fn call(
         &mut self,
         alloc: Global,
@@ -82,7 +82,7 @@ impl RoomState {
 
     /// `call` for a caller who knows that what the log has seen is the beginning of the record. It is
     /// linear in what was added since, beside the answer.
-    pub fn call_from_front(
+    fn call_from_front(
         &mut self,
         alloc: Global,
         log: &mut Log,

@@ -21,7 +21,6 @@ use tungstenite::Duplex;
 #[derive(Drop)]
 struct Outcome {
     cause: Cause,
-    passes: usize,
     /// How many calls the room has answered.
     answered: usize,
     entries: usize,
@@ -54,15 +53,11 @@ fn run_session_in<P: RoomLedger>(
         rooms: &rooms,
         gate: &gate,
     };
-    let ended = serve_one(&host, 1, stream);
-    let passes = ended.passes.len();
-    let records = rooms
-        .close(rt.alloc(), ended.passes)
-        .expect(rt, "all passes");
+    let cause = serve_one(&host, 1, stream);
+    let records = rooms.close(rt.alloc()).expect(rt, "all passes");
     assert_eq!(rt; records.len(), 1);
     Outcome {
-        cause: ended.cause,
-        passes,
+        cause,
         answered: gate.count(),
         entries: records[0].entries.len(),
         output,
@@ -70,7 +65,7 @@ fn run_session_in<P: RoomLedger>(
 }
 
 /// What comes of a session by a stream that takes so many bytes at a write. The room is `r`, and it is
-/// closed with the passes that came back.
+/// closed, so the session's pass was handed back.
 fn run_session(
     rt: &(impl Wait + Abort + AllocGlobal),
     parts: &[Vec<u8>],
@@ -83,7 +78,6 @@ fn run_session(
 /// Did the session end well, with all that it was to be answered?
 fn is_whole(rt: &(impl Abort + AllocGlobal), outcome: &Outcome) -> bool {
     outcome.cause == Cause::Closed
-        && outcome.passes == 1
         && outcome.entries == ENTRIES
         && frames_of(&outcome.output) == answer_frames(rt).as_slice()
 }
@@ -102,8 +96,8 @@ fn entries_told(rt: &(impl Abort + AllocGlobal), output: &[u8]) -> usize {
     told
 }
 
-/// Looks at a session whose stream has failed: why it ended, that its pass came back, and that its room
-/// has an entry for each call that added one, whether it was told or not.
+/// Looks at a session whose stream has failed: why it ended, and that its room has an entry for each
+/// call that added one, whether it was told or not.
 fn look_at(rt: &(impl Abort + AllocGlobal), run: &Outcome, calls: &Calls, fails: u64) {
     // The head of the request is one part, each message another, the close the last.
     let asked = calls.given().saturating_sub(1);
@@ -116,7 +110,6 @@ fn look_at(rt: &(impl Abort + AllocGlobal), run: &Outcome, calls: &Calls, fails:
         assert!(rt; ended, "call {fails}");
     }
     assert!(rt; run.answered <= asked, "call {fails}");
-    assert_eq!(rt; run.passes, run.answered.min(1), "call {fails}");
     assert_eq!(rt; run.entries, run.answered.min(ENTRIES), "call {fails}");
     assert!(rt;
         run.entries >= entries_told(rt, &run.output),
@@ -163,7 +156,7 @@ fn a_session_in_single_bytes(rt: HostRuntime) {
     let parts = bytewise(&rt, &asked_parts(&rt, ASKED), 0);
     let run = run_session(&rt, &parts, 1, &Calls::failing(0));
     assert_eq!(rt; run.cause, Cause::HandshakeFailed);
-    assert!(rt; run.passes == 0 && run.output.is_empty());
+    assert!(rt; run.entries == 0 && run.output.is_empty());
     let parts = bytewise(&rt, &asked_parts(&rt, ASKED), 1);
     let run = run_session(&rt, &parts, 1, &Calls::failing(0));
     assert!(rt; is_whole(&rt, &run));

@@ -23,13 +23,29 @@ impl RandomSource for Zeros {
 const ACCEPTED: &str =
     "HTTP/1.1 101 Switching Protocols\r\nUpgrade: websocket\r\nConnection: Upgrade\r\nSec-WebSocket-Accept: ICX+Yqv66kxgM0FcWaLWlFLwTAI=\r\n\r\n";
 
-/// What who watches asks.
-const ASKED: &str = r#"["join","r"]
+/// What who watches asks where a site has joined and is in.
+const ASKED: &str = r#"["back","r",1]
+["back","r",2]
+["join","r"]
 ["pull",0]
 ["leave"]"#;
 
-/// What it is answered in a room with one site and one object.
-const ANSWERED: &str = r#"["joined",2,2]
+/// What it is answered in a room with one site, which is in, and one object.
+const ANSWERED: &str = r#"["no",2,20,"site-in-use"]
+["no",2,19,"no-such-site"]
+["joined",2,2]
+["entries",3,0,[["join",1],["new",[1,1],[],"rect",[["x",0]]],["join",2]]]
+["left",3]"#;
+
+/// What it asks where the second site isn't in.
+const ASKED_BACK: &str = r#"["back","r",1]
+["back","r",2]
+["pull",0]
+["leave"]"#;
+
+/// What it is answered then in that room, when a second site has joined and left.
+const ANSWERED_BACK: &str = r#"["no",3,20,"site-in-use"]
+["back",3,2,0]
 ["entries",3,0,[["join",1],["new",[1,1],[],"rect",[["x",0]]],["join",2]]]
 ["left",3]"#;
 
@@ -37,26 +53,32 @@ const ANSWERED: &str = r#"["joined",2,2]
 const SHOWN: &str = "[\"versions\",3,[1,1],\"rect\",[[[],[[\"x\",0]]]]]\n";
 
 /// What the server sends: the head of its response, a frame for each reply, and a close.
-fn answer_parts(rt: &(impl Abort + AllocGlobal)) -> Vec<Vec<u8>> {
+fn answer_parts(rt: &(impl Abort + AllocGlobal), answered: &str) -> Vec<Vec<u8>> {
     let mut parts = Vec::new(rt.alloc());
     parts
         .push(copied(rt, ACCEPTED.as_bytes()))
         .expect(rt, "memory");
-    for words in ANSWERED.lines() {
+    for words in answered.lines() {
         parts.push(text_frame(rt, words)).expect(rt, "memory");
     }
     parts.push(copied(rt, CLOSED)).expect(rt, "memory");
     parts
 }
 
-/// The frames that who watches sends.
-fn asked_frames(rt: &(impl Abort + AllocGlobal)) -> Vec<u8> {
+/// The frames of these requests.
+fn request_frames(rt: &(impl Abort + AllocGlobal), asked: &str) -> Vec<u8> {
     let mut frames = Vec::new(rt.alloc());
-    for words in ASKED.lines() {
+    for words in asked.lines() {
         frames
             .extend_from_slice(&masked(rt, 1, words))
             .expect(rt, "memory");
     }
+    frames
+}
+
+/// The frames that who watches sends where all goes well.
+fn asked_frames(rt: &(impl Abort + AllocGlobal), asked: &str) -> Vec<u8> {
+    let mut frames = request_frames(rt, asked);
     frames.extend_from_slice(CLOSE).expect(rt, "memory");
     frames
 }
@@ -97,10 +119,10 @@ fn watch(
 }
 
 /// Did it end well, with all that was to be sent and written?
-fn is_whole(rt: &(impl Abort + AllocGlobal), watched: &Watched) -> bool {
+fn is_whole(rt: &(impl Abort + AllocGlobal), watched: &Watched, asked: &str) -> bool {
     watched.end.is_ok()
         && watched.output.as_slice() == SHOWN.as_bytes()
-        && frames_of(&watched.sent) == asked_frames(rt).as_slice()
+        && frames_of(&watched.sent) == asked_frames(rt, asked).as_slice()
 }
 
 /// Looks at watching over a stream that fails at this call; false where there is no such call.
@@ -108,23 +130,23 @@ fn fails_at(rt: &(impl Abort + AllocGlobal), parts: &[Vec<u8>], fails: u64) -> b
     let calls = Calls::failing(fails);
     let run = watch(rt, parts, usize::MAX, &calls, &Calls::failing(0));
     if !calls.have_failed() {
-        assert!(rt; is_whole(rt, &run));
+        assert!(rt; is_whole(rt, &run, ASKED));
         return false;
     }
     assert_eq!(rt; run.end.err(), Some(WatchFault::Session), "call {fails}");
     assert!(rt;
-        asked_frames(rt).starts_with(frames_of(&run.sent)),
+        asked_frames(rt, ASKED).starts_with(frames_of(&run.sent)),
         "call {fails}"
     );
-    // The page is the third part: before it nothing is shown, and from then on all.
-    let shown = if calls.given() < 3 { "" } else { SHOWN };
+    // The page is the fifth part: before it nothing is shown, and from then on all.
+    let shown = if calls.given() < 5 { "" } else { SHOWN };
     assert_eq!(rt; run.output.as_slice(), shown.as_bytes(), "call {fails}");
     true
 }
 
 #[test]
 fn watching_fails_at_each_call_of_the_stream(rt: HostRuntime) {
-    let parts = answer_parts(&rt);
+    let parts = answer_parts(&rt, ANSWERED);
     let mut failed = 0;
     for fails in 1..1_000 {
         if !fails_at(&rt, &parts, fails) {
@@ -132,8 +154,8 @@ fn watching_fails_at_each_call_of_the_stream(rt: HostRuntime) {
         }
         failed = fails;
     }
-    // The head, three requests and a close are written and flushed, and each is answered.
-    assert!(rt; failed >= 15);
+    // The head, five requests and a close are written and flushed, and each is answered.
+    assert!(rt; failed >= 21);
 }
 
 /// Looks at watching to an output that fails at this call; false where there is no such call.
@@ -141,7 +163,7 @@ fn output_fails_at(rt: &(impl Abort + AllocGlobal), parts: &[Vec<u8>], fails: u6
     let calls = Calls::failing(fails);
     let run = watch(rt, parts, usize::MAX, &Calls::failing(0), &calls);
     if !calls.have_failed() {
-        assert!(rt; is_whole(rt, &run));
+        assert!(rt; is_whole(rt, &run, ASKED));
         return false;
     }
     assert_eq!(rt; run.end.err(), Some(WatchFault::Write), "call {fails}");
@@ -151,7 +173,7 @@ fn output_fails_at(rt: &(impl Abort + AllocGlobal), parts: &[Vec<u8>], fails: u6
 
 #[test]
 fn watching_fails_at_each_call_of_the_output(rt: HostRuntime) {
-    let parts = answer_parts(&rt);
+    let parts = answer_parts(&rt, ANSWERED);
     let mut failed = 0;
     for fails in 1..1_000 {
         if !output_fails_at(&rt, &parts, fails) {
@@ -165,7 +187,62 @@ fn watching_fails_at_each_call_of_the_output(rt: HostRuntime) {
 
 #[test]
 fn watching_in_single_bytes(rt: HostRuntime) {
-    let parts = bytewise(&rt, &answer_parts(&rt), 1);
+    let parts = bytewise(&rt, &answer_parts(&rt, ANSWERED), 1);
     let run = watch(&rt, &parts, 1, &Calls::failing(0), &Calls::failing(0));
-    assert!(rt; is_whole(&rt, &run));
+    assert!(rt; is_whole(&rt, &run, ASKED));
+}
+
+/// Watches over a stream that nothing fails.
+fn watch_well(rt: &(impl Abort + AllocGlobal), answered: &str) -> Watched {
+    let parts = answer_parts(rt, answered);
+    watch(
+        rt,
+        &parts,
+        usize::MAX,
+        &Calls::failing(0),
+        &Calls::failing(0),
+    )
+}
+
+#[test]
+fn watching_as_a_site_that_left(rt: HostRuntime) {
+    let run = watch_well(&rt, ANSWERED_BACK);
+    assert!(rt; is_whole(&rt, &run, ASKED_BACK));
+}
+
+#[test]
+fn no_room_is_watched_that_is_not_there(rt: HostRuntime) {
+    let run = watch_well(&rt, r#"["no",0,4,"no-such-room"]"#);
+    assert_eq!(rt; run.end.err(), Some(WatchFault::Session));
+    assert!(rt; run.output.is_empty());
+    let frames = request_frames(&rt, r#"["back","r",1]"#);
+    assert_eq!(rt; frames_of(&run.sent), frames.as_slice());
+}
+
+/// What it asks in a full room that nobody has left.
+fn asked_in_vain(rt: &(impl Abort + AllocGlobal)) -> String {
+    let mut asked = String::new(rt.alloc());
+    for site in 1..=256 {
+        let line = format!(in rt.alloc(); "[\"back\",\"r\",{site}]\n").expect(rt, "memory");
+        asked.push_str(&line).expect(rt, "memory");
+    }
+    asked.push_str(r#"["join","r"]"#).expect(rt, "memory");
+    asked
+}
+
+#[test]
+fn each_site_is_asked_for_once(rt: HostRuntime) {
+    let mut answered = String::new(rt.alloc());
+    for _site in 1..=256 {
+        answered
+            .push_str("[\"no\",256,20,\"site-in-use\"]\n")
+            .expect(&rt, "memory");
+    }
+    answered
+        .push_str(r#"["no",256,5,"room-full"]"#)
+        .expect(&rt, "memory");
+    let run = watch_well(&rt, &answered);
+    assert_eq!(rt; run.end.err(), Some(WatchFault::Session));
+    let frames = request_frames(&rt, &asked_in_vain(&rt));
+    assert_eq!(rt; frames_of(&run.sent), frames.as_slice());
 }

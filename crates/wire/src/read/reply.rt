@@ -6,7 +6,7 @@ ghost use Rattle.rules.specs.declared.version.Version.{Version as AnyVersion};
 ghost use Rattle.wire.specs.declared.reply.Reply.{Reply as AnyReply};
 ghost use Rattle.wire.specs.Form.{IsReplyText, IsReplyValue};
 ghost use Rattle.wire.specs.Reading.{Gives, whole_in, id_in};
-ghost use Rattle.wire.specs.Replies.{at_in, ids_in, shown_attrs_in, shown_in, version_in, versions_in, object_in, joined_at, made_at, taken_at, versions_at, objects_at, entries_at, left_at, refusal_with, refusal_fields, no_at, reply_of};
+ghost use Rattle.wire.specs.Replies.{at_in, ids_in, shown_attrs_in, shown_in, version_in, versions_in, object_in, joined_at, returned_at, made_at, taken_at, versions_at, objects_at, entries_at, left_at, refusal_with, refusal_fields, no_at, reply_of};
 ghost use Rattle.wire.specs.Texts.{reply_read};
 
 use super::part::{
@@ -137,6 +137,19 @@ fn joined_of(fields: &[Value]) -> Result<Reply, ReadFault>
     Ok(Reply::Joined { at, site })
 }
 
+#[tactic(auto, unfolding(crate::specs::Replies::returned_at))]
+fn returned_of(fields: &[Value]) -> Result<Reply, ReadFault>
+    ensures { Gives (λ reply. reply) result (returned_at (map view fields.now)) }
+{
+    let [at, site, seq] = fields else {
+        return Err(ReadFault::Bad);
+    };
+    let at = at_of(at)?;
+    let site = whole_of(site, 1, MAX_SITE)?;
+    let seq = at_of(seq)?;
+    Ok(Reply::Returned { at, site, seq })
+}
+
 #[tactic(auto, unfolding(crate::specs::Replies::made_at))]
 fn made_of(fields: &[Value]) -> Result<Reply, ReadFault>
     ensures { Gives (λ reply. reply) result (made_at (map view fields.now)) }
@@ -245,7 +258,7 @@ fn no_of(fields: &[Value]) -> Result<Reply, ReadFault>
         return Err(ReadFault::Bad);
     };
     let at = at_of(at)?;
-    let code = whole_of(code, 1, 18)?;
+    let code = whole_of(code, 1, 20)?;
     let word = text_of(word)?;
     let refusal = refusal_with(code, word)?;
     Ok(Reply::No { at, refusal })
@@ -263,6 +276,7 @@ impl Part for Reply {
         let (word, fields) = worded_of(value)?;
         match word {
             "joined" => joined_of(fields),
+            "back" => returned_of(fields),
             "made" => made_of(fields),
             "taken" => taken_of(alloc, fields),
             "versions" => versions_of(alloc, fields),

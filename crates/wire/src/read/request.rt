@@ -5,14 +5,14 @@ ghost use Rattle.serde_json.specs.View.{view};
 ghost use Rattle.wire.specs.declared.request.Request.{Request as AnyRequest};
 ghost use Rattle.wire.specs.Form.{IsRequestText, IsRequestValue};
 ghost use Rattle.wire.specs.Reading.{Gives};
-ghost use Rattle.wire.specs.Requests.{join_at, change_at, show_at, list_at, pull_at, leave_at, request_of};
+ghost use Rattle.wire.specs.Requests.{join_at, back_at, change_at, show_at, list_at, pull_at, leave_at, request_of};
 ghost use Rattle.wire.specs.Texts.{request_read};
 
 use super::body::body_of;
 use super::part::{Part, name_of, read_text, room_of, seen_of, whole_of, worded_of};
 use crate::fault::ReadFault;
 use crate::request::{MAX_FROM, MAX_REQUEST_LEN, Request};
-use op_names::MAX_SEQ;
+use op_names::{MAX_SEQ, MAX_SITE};
 use serde_json::Value;
 use std::alloc::Global;
 
@@ -25,6 +25,18 @@ fn join_of(alloc: Global, fields: &[Value]) -> Result<Request, ReadFault>
     };
     let room = room_of(alloc, room)?;
     Ok(Request::Join { room })
+}
+
+#[tactic(auto, unfolding(crate::specs::Requests::back_at))]
+fn back_of(alloc: Global, fields: &[Value]) -> Result<Request, ReadFault>
+    ensures { Gives (λ request. request) result (back_at (map view fields.now)) }
+{
+    let [room, site] = fields else {
+        return Err(ReadFault::Bad);
+    };
+    let room = room_of(alloc, room)?;
+    let site = whole_of(site, 1, MAX_SITE)?;
+    Ok(Request::Back { room, site })
 }
 
 #[tactic(auto, unfolding(crate::specs::Requests::change_at))]
@@ -95,6 +107,7 @@ impl Part for Request {
         let (word, fields) = worded_of(value)?;
         match word {
             "join" => join_of(alloc, fields),
+            "back" => back_of(alloc, fields),
             "show" => show_of(fields),
             "list" => list_of(fields),
             "pull" => pull_of(fields),

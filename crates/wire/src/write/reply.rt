@@ -25,6 +25,7 @@ impl Written for Reply {
     fn send<S: Serializer>(&self, out: &mut S) -> Result<(), S::Error> {
         match self {
             Reply::Joined { at, site } => ("joined", *at, *site).send(out),
+            Reply::Returned { at, site, seq } => ("back", *at, *site, *seq).send(out),
             Reply::Made { at, name } => ("made", *at, *name).send(out),
             Reply::Taken { at, ids } => ("taken", *at, ids.as_slice()).send(out),
             Reply::Versions {

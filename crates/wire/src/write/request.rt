@@ -18,6 +18,7 @@ impl Written for Request {
     fn send<S: Serializer>(&self, out: &mut S) -> Result<(), S::Error> {
         match self {
             Request::Join { room } => ("join", room.text()).send(out),
+            Request::Back { room, site } => ("back", room.text(), *site).send(out),
             Request::Change { seq, seen, body } => send_operation(seq, seen, body, out),
             Request::Show { object } => ("show", *object).send(out),
             Request::List { from } => ("list", *from).send(out),

@@ -23,6 +23,44 @@ const NINE: &str = r#"2 ["put",1,[[1,1]],[1,1],[],[["x",9]]]
 const THIRD_SITE: &str = r#"3 ["join","r"]
 3 ["joined",5,3]"#;
 
+/// In a room of two sites and five entries, of which site 1 made two and site 2 one.
+const BACK: &str = r#"3 ["join","r"]
+3 ["no",5,5,"room-full"]
+3 ["back","r",0]
+3 ["no",0,1,"bad-message"]
+3 ["back","r",257]
+3 ["no",0,1,"bad-message"]
+3 ["back","s",1]
+3 ["no",0,4,"no-such-room"]
+3 ["back","r",3]
+3 ["no",5,19,"no-such-site"]
+3 ["back","r",2]
+3 ["no",5,20,"site-in-use"]
+1 ["back","r",2]
+1 ["no",0,3,"already-joined"]
+2 ["leave"]
+2 ["left",5]
+3 ["back","r",2]
+3 ["back",5,2,1]
+2 ["back","r",2]
+2 ["no",5,20,"site-in-use"]
+1 ["leave"]
+1 ["left",5]
+2 ["back","r",1]
+2 ["back",5,1,2]
+3 ["leave"]
+3 ["left",5]
+1 ["back","r",2]
+1 ["back",5,2,1]"#;
+
+/// Their record, in pages of two.
+const PAGES: &str = r#"1 ["pull",0]
+1 ["entries",5,0,[["join",1],["new",[1,1],[],"rect",[["x",0]]]]]
+1 ["pull",2]
+1 ["entries",5,2,[["join",2],["put",[1,2],[[1,1]],[1,1],[],[["x",5]]]]]
+1 ["pull",4]
+1 ["entries",5,4,[["put",[2,1],[[1,1]],[1,1],[],[["x",9]]]]]"#;
+
 /// Smaller limits.
 pub const LIMITED: &[Example] = &[
     Example {
@@ -138,23 +176,24 @@ pub const LIMITED: &[Example] = &[
         ],
     },
     Example {
+        name: "back in a full room",
+        rooms: ROOM,
+        limits: LimitValues {
+            joins: 2,
+            entries: 5,
+            page: 2,
+            ..LimitValues::FULL
+        },
+        parts: &[CREATED, FIVE, NINE, BACK, PAGES],
+    },
+    Example {
         name: "pages of two",
         rooms: ROOM,
         limits: LimitValues {
             page: 2,
             ..LimitValues::FULL
         },
-        parts: &[
-            CREATED,
-            FIVE,
-            NINE,
-            r#"1 ["pull",0]
-1 ["entries",5,0,[["join",1],["new",[1,1],[],"rect",[["x",0]]]]]
-1 ["pull",2]
-1 ["entries",5,2,[["join",2],["put",[1,2],[[1,1]],[1,1],[],[["x",5]]]]]
-1 ["pull",4]
-1 ["entries",5,4,[["put",[2,1],[[1,1]],[1,1],[],[["x",9]]]]]"#,
-        ],
+        parts: &[CREATED, FIVE, NINE, PAGES],
     },
     Example {
         name: "pages of two objects",

@@ -6,8 +6,7 @@ use Rattle.std.proofs.lemmas.List.{map-append}
 use Rattle.std.proofs.lemmas.List.Elements.{All-push}
 use Rattle.op_names.specs.Texts.{Bytes}
 use Rattle.rules.specs.declared.history.Entry.{Entry}
-use Rattle.room_lock.specs.declared.fault.RoomRecord.{RoomRecord}
-use Rattle.room_lock.specs.Closing.{IsClosed, passes_of}
+use Rattle.room_lock.specs.Closing.{IsClosed}
 use Rattle.room_lock.proofs.closing.close_all.Goals as goal
 
 pub loop-name-preserved : goal.loop-name-preserved
@@ -16,15 +15,13 @@ loop-name-preserved g c =
     let old = c.loop-name.records.items in
     let last = c.in_ok-record.record in
     let name = c.in-Some.name in
-    let passes = c.args.passes.now in
     let rest = keys_of c.next.new.self in
     let e = c.in_ok-record.ensures in
     let put = c.in_ok-push_record.ensures in
-    let room : RoomRecord → Bytes = λ one. one.room in
-    let P : RoomRecord → Type 0 = λ one. IsClosed g.P.RoomLedger.limits (map arc_value one.entries.items) (passes_of one.room passes) in
-    let A : List Entry → Type 0 = λ r. IsClosed g.P.RoomLedger.limits r (passes_of name passes) in
-    let B : Bytes → Type 0 = λ n. IsClosed g.P.RoomLedger.limits (map arc_value last.entries.items) (passes_of n passes) in
-    let here : P last = subst B (sym e.name) (subst A (sym e.entries) e.closed) in
+    let room : _ → Bytes = λ one. one.room in
+    let P : _ → Type 0 = λ one. IsClosed g.P.RoomLedger.limits (map arc_value one.entries.items) one.parts.items in
+    let A : List Entry → Type 0 = λ r. IsClosed g.P.RoomLedger.limits r last.parts.items in
+    let here : P last = subst A (sym e.entries) e.closed in
     let steps : keys_of c.loop-name.name-iterator ≡ name ∷ rest = ap keys_of c.in-Some.ensures.steps in (
       ap (λ l. map room l ++ rest) put ∙ ap (λ l. l ++ rest) (map-append room old (last ∷ []))
           ∙ append_assoc (map room old) (room last ∷ []) rest

@@ -27,7 +27,7 @@ returns-clause-answer c =
     let is_request : request_read c.args.bytes.now ≡ Some c.in-Some.request = sym c.in_ok-request.ensures ∙ c.in-Some.is in
     let found : asker_of (names_of state) c.args.session (seat_of state.seats c.args.session) c.in-Some.request ≡ Some c.in-Some-asker_of.asker = cc (c.asker_of.ensures, c.seat_at-seat.ensures, c.in-Some-asker_of.is, c.deref.ensures.value) in
     let within = asker_within state c.args.session (seat_of state.seats c.args.session) c.in-Some.request c.in-Some-asker_of.asker c.self.invariant refl found in
-    rw (← c.self.view_is) (if_ok_and c.answer_at.result _ _ (λ text replies rooms. room_answer state message c.in-Some.request is_request c.in-Some-asker_of.asker found new _ within c.answer_at.ensures.legal c.answer_at.ensures.names replies rooms) c.answer_at.ensures.ok c.answer_at.ensures.rooms)
+    rw (← c.self.view_is) (if_ok_and c.answer_at.result _ _ (λ text replies rooms uses. room_answer state message c.in-Some.request is_request c.in-Some-asker_of.asker found new _ within c.answer_at.ensures.legal c.answer_at.ensures.names replies rooms uses) c.answer_at.ensures.ok c.answer_at.ensures.rooms c.answer_at.ensures.uses)
 
 pub answer_at-requires-clause-range : goal.answer_at-requires-clause-range
 answer_at-requires-clause-range c = request_in_range c.args.bytes.now c.in-Some.request (sym c.in_ok-request.ensures ∙ c.in-Some.is)

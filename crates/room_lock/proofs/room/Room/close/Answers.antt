@@ -1,26 +1,46 @@
-use Rattle.std.proofs.Common.{◌≡◌, List, length, arith, ap, sym, subst}
-use Rattle.std.specs.Prelude.{All, sum_by}
+use Rattle.std.proofs.Common.{◌≡◌, List, length, map, Some, None, arith, ap, inr, refl, subst, ◌∙◌}
+use Rattle.std.specs.Prelude.{All, Contains, MatchOption, sum_by}
 use Rattle.std.specs.Arc.{arc_value}
 use Rattle.std.proofs.lemmas.List.{length-map}
 use Rattle.rules.specs.declared.history.Entry.{Entry}
 use Rattle.rules.specs.declared.limits.LimitValues.{LimitValues}
 use Rattle.rules.specs.Records.{IsLegal}
-use Rattle.room_lock.specs.Closing.{IsClosed, IsOfRecord, passes_of, share_of}
+use Rattle.room_lock.specs.Closing.{HasItsEntries, IsClosed, IsComplete, share_of}
+use Rattle.room_lock.specs.Kept.{Placed}
+use Rattle.room_lock.proofs.Closed.{absent_one, closed_by, other_sum}
 use Rattle.room_lock.proofs.room.Room.close.Goals as goal
 
-pub returns-in-Err-clause-refused : goal.returns-in-Err-clause-refused
-returns-in-Err-clause-refused g c = λ closed.
-    let P : List Entry → Type 0 = λ r. All (IsOfRecord r) (passes_of c.args.name c.args.passes.now) in
-    c.in-Err.ensures.torn (subst P (sym (ap (λ v. v.entries) c.self.view_is)) closed.seen)
-
-pub returns-in-Ok-clause-closed : goal.returns-in-Ok-clause-closed
-returns-in-Ok-clause-closed g c =
+pub returns-clause-closed : goal.returns-clause-closed
+returns-clause-closed g c =
     let r = c.self.inside.state.room.entries in
-    let passes = passes_of c.args.name c.args.passes.now in
-    let L : LimitValues → Type 0 = λ l. IsLegal l r in
-    let P : List Entry → Type 0 = λ l. IsClosed g.P.RoomLedger.limits l passes in
+    let limits = g.P.RoomLedger.limits in
+    let parts = c.in-Some.parts.items in
+    let full : map Some parts ≡ c.self.inside.shelf.items = subst (λ all. MatchOption all (Contains c.self.inside.shelf.items None) (λ (parts : _). map Some parts.items ≡ c.self.inside.shelf.items)) c.in-Some.is c.in_ok-parts.ensures in
+    let slice : c.as_slice.result.now ≡ parts = c.as_slice.ensures.value in
+    let sum : c.added_together.result ≡ sum_by share_of parts = c.added_together.ensures.sum ∙ ap (sum_by share_of) slice in
     let counted = ap length c.entries.ensures.entries in
     let seen = length-map c.entries.result.now arc_value in
-    let whole : sum_by share_of passes ≡ length r = omega (arith, c.in-Ok.ensures.shares, c.if-added-entries.true, counted, seen) in
-    subst P (ap (λ v. v.entries) c.self.view_is)
-    (record { legal = subst L c.self.invariant.limits_are c.show_size.ensures.legal; seen = c.in-Ok.ensures.seen; whole = whole })
+    let whole : sum_by share_of parts ≡ length r = omega (arith, sum, c.if-added_together-entries.false, counted, seen) in
+    let legal = subst (λ (l : LimitValues). IsLegal l r) c.self.invariant.limits_are c.show_size.ensures.legal in
+    subst (λ (l : List Entry). IsClosed limits l parts) (ap (λ v. v.entries) c.self.view_is)
+    (closed_by limits c.self.inside.place r c.self.inside.shelf.items parts legal c.self.invariant.shelved full (subst (All HasItsEntries) slice c.added_together.ensures.own) whole)
+
+pub returns-in_default-clause-missing : goal.returns-in_default-clause-missing
+returns-in_default-clause-missing g c =
+    let r = c.self.inside.state.room.entries in
+    let shelf = c.self.inside.shelf.items in
+    let absent : Contains shelf None = subst (λ all. MatchOption all (Contains shelf None) (λ (parts : _). map Some parts.items ≡ shelf)) c.in_default.is c.in_ok-parts.ensures in
+    let not_all = absent_one r shelf absent in
+    inr (refl, subst (λ (room : Placed). ¬ (IsComplete room.entries room.shelf)) c.self.view_is not_all)
+
+pub returns-then-added_together-entries-clause-missing : goal.returns-then-added_together-entries-clause-missing
+returns-then-added_together-entries-clause-missing g c =
+    let r = c.self.inside.state.room.entries in
+    let shelf = c.self.inside.shelf.items in
+    let parts = c.in-Some.parts.items in
+    let full : map Some parts ≡ shelf = subst (λ all. MatchOption all (Contains shelf None) (λ (parts : _). map Some parts.items ≡ shelf)) c.in-Some.is c.in_ok-parts.ensures in
+    let sum : c.added_together.result ≡ sum_by share_of parts = c.added_together.ensures.sum ∙ ap (sum_by share_of) c.as_slice.ensures.value in
+    let counted = ap length c.entries.ensures.entries in
+    let seen = length-map c.entries.result.now arc_value in
+    let other : ¬ (sum_by share_of parts ≡ length r) = λ whole. c.if-added_together-entries.true (omega (arith, sum, counted, seen, whole)) in
+    inr (refl, subst (λ (room : Placed). ¬ (IsComplete room.entries room.shelf)) c.self.view_is (other_sum r shelf parts full other))

@@ -1,0 +1,35 @@
+-- The parts of a room's sites that nobody is in as.
+use Rattle.std.specs.Prelude.{◌≡◌, ℕ, zero, suc, Bool, List, Option, Some, None, is_some, length, slice_index_or, slice_set, nat_le, ◌&&◌, not}
+use mathlib.Core.List.{IsPrefix}
+use Rattle.rules.specs.declared.history.Entry.{Entry}
+use Rattle.rules.specs.Records.{sites}
+use Rattle.room_lock.specs.Passes.{PartView}
+
+-- a place for each site, from site 1 on, with its part where nobody is in as it
+abbrev pub Shelf : Type 0
+Shelf = List (Option PartView)
+
+-- the part of a site, if it is there
+abbrev pub part_of : Shelf → ℕ → Option PartView
+part_of shelf zero = None
+part_of shelf (suc place) = slice_index_or shelf place None
+
+-- the shelf with this at the place of a site
+abbrev pub with_at : Shelf → ℕ → Option PartView → Shelf
+with_at shelf zero part = shelf
+with_at shelf (suc place) part = slice_set shelf place part
+
+-- somebody is in as this site
+abbrev pub is_away : Shelf → ℕ → Bool
+is_away shelf site = nat_le 1 site && nat_le site (length shelf) && not (is_some (part_of shelf site))
+
+-- the part is the one of this site of the room at this place, and has seen a beginning of its record
+pub record IsPartFor (place : ℕ) (r : List Entry) (site : ℕ) (part : PartView) : Type 0 where
+  pub place_is : part.place ≡ place
+  pub site_is : part.site ≡ site
+  pub seen : IsPrefix part.seen r
+
+-- there is a place for each site that has joined, and each part is at its site's
+pub record IsShelfOf (place : ℕ) (r : List Entry) (shelf : Shelf) : Type 0 where
+  pub counted : length shelf ≡ sites r
+  pub parts : (site : ℕ) (part : PartView) → part_of shelf site ≡ Some part → IsPartFor place r site part

@@ -1,0 +1,71 @@
+//! A site's part in a room.
+
+ghost use Rattle.std.specs.Prelude.{◌≡◌, ◌↔◌, ◌≤◌, false, true, length};
+ghost use mathlib.Core.List.{IsPrefix};
+ghost use Rattle.room_lock.specs.Kept.{count_of_site};
+
+use crate::ledger::RoomLedger;
+use shared_history::Front;
+use std::marker::Model;
+use std::sync::ledger::Share;
+
+/// A site's part in a room: what it has seen of the record, as a count, and how many entries it
+/// added, with 1 of the room's amount for each. What was seen stands in the proofs alone.
+#[derive(Drop)]
+pub struct Part<P: RoomLedger> {
+    pub(crate) place: usize,
+    pub(crate) site: u32,
+    pub(crate) front: Front,
+    pub(crate) added: u32,
+    pub(crate) share: Share<P>,
+}
+
+impl<P: RoomLedger> Model for Part<P> {
+    ghost use Rattle.room_lock.specs.Passes.{PartView};
+    ghost use Rattle.room_lock.specs.Kept.{IsPartKept};
+
+    ghost Value = { PartView };
+
+    ghost view = { λ p. record { place = p.place; site = p.site; seen = p.front.entries; share = p.share.amount } };
+
+    ghost invariant = { λ p. IsPartKept P.books p.place p.site p.added
+        (record { front = p.front; parts = p.share.parts; amount = p.share.amount }) };
+}
+
+impl<P: RoomLedger> Part<P> {
+    /// Its site's number in the room.
+    pub fn site(&self) -> u32
+        ensures { result ≡ self.now.site }
+    {
+        self.site
+    }
+
+    /// How many entries of the room's record it has seen.
+    pub fn count_seen(&self) -> u64
+        ensures { result ≡ length self.now.seen }
+    {
+        self.front.len()
+    }
+
+    /// How many entries it added.
+    pub fn count_added(&self) -> u32
+        ensures added { result ≡ self.now.share }
+        ensures own { self.now.share ≤ count_of_site self.now.site self.now.seen }
+    {
+        self.added
+    }
+
+    /// Are they of one room? Then what one of them has seen begins what the other has seen.
+    pub fn is_beside(&self, other: &Part<P>) -> bool
+        ensures one_room { (result ≡ true) ↔ (self.now.place ≡ other.now.place) }
+        ensures shorter { self.now.place ≡ other.now.place →
+            length self.now.seen ≤ length other.now.seen →
+            IsPrefix self.now.seen other.now.seen }
+    {
+        if self.place != other.place {
+            return false;
+        }
+        self.front.shorter_begins_longer(&other.front);
+        true
+    }
+}

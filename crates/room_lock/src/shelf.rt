@@ -1,0 +1,67 @@
+//! The parts of a room's sites that nobody is in as: a list with a place for each site, from site 1 on.
+
+ghost use Rattle.std.specs.Prelude.{◌≡◌, None, Some, true, false, IfErr, IfOk, OnErr, OnOk, MatchOption, Contains, map, vec_capacity};
+ghost use Rattle.room_lock.specs.Shelves.{is_away, part_of, with_at};
+
+use crate::ledger::RoomLedger;
+use crate::part::Part;
+use op_names::NoMemory;
+use std::alloc::Global;
+
+/// Takes a site's part off, if it is there.
+pub(crate) fn take_part<P: RoomLedger>(
+    shelf: &mut Vec<Option<Part<P>>>,
+    site: u32,
+) -> Option<Part<P>>
+    ensures part { result ≡ part_of shelf.old.items site }
+    ensures rest { shelf.new.items ≡ with_at shelf.old.items site None }
+    ensures capacity { vec_capacity shelf.new ≡ vec_capacity shelf.old }
+{
+    let place = (site as usize).checked_sub(1)?;
+    if place >= shelf.len() {
+        return None;
+    }
+    shelf[place].take()
+}
+
+/// Puts a part at its site's place, where somebody was in as the site. Otherwise gives it back.
+pub(crate) fn put_part<P: RoomLedger>(
+    shelf: &mut Vec<Option<Part<P>>>,
+    part: Part<P>,
+) -> Result<(), Part<P>>
+    ensures away { OnOk result (is_away shelf.old.items part.site ≡ true) }
+    ensures put { OnOk result
+        (shelf.new.items ≡ with_at shelf.old.items part.site (Some part)) }
+    ensures here { OnErr result (is_away shelf.old.items part.site ≡ false) }
+    ensures back { IfErr result (λ back. back ≡ part) }
+    ensures err { OnErr result (shelf.new ≡ shelf.old) }
+{
+    let Some(place) = (part.site as usize).checked_sub(1) else {
+        return Err(part);
+    };
+    match shelf.get(place) {
+        Some(None) => {
+            shelf[place] = Some(part);
+            Ok(())
+        }
+        _ => Err(part),
+    }
+}
+
+/// The parts of all sites, in order, or `None` where somebody is in as one.
+pub(crate) fn all_parts<P: RoomLedger>(
+    alloc: Global,
+    shelf: Vec<Option<Part<P>>>,
+) -> Result<Option<Vec<Part<P>>>, NoMemory>
+    ensures { IfOk result (λ all. MatchOption all
+        (Contains shelf.items None) (λ parts. map Some parts.items ≡ shelf.items)) }
+{
+    let mut parts = Vec::with_capacity(alloc, shelf.len())?;
+    for place in shelf {
+        match place {
+            Some(part) => parts.push(part)?,
+            None => return Ok(None),
+        }
+    }
+    Ok(Some(parts))
+}

@@ -1,0 +1,44 @@
+-- Lines that are printed one after the other.
+use Rattle.std.proofs.Common.{◌≡◌, ◌+◌, ◌<◌, ℕ, zero, suc, List, [], ◌∷◌, ◌++◌, length, get_or, map, take, append-nil, append_assoc, ap, refl, sym, ◌∙◌, arith}
+use Rattle.std.specs.Prelude.{All}
+use Rattle.std.specs.Arc.{arc_value}
+use Rattle.std.proofs.lemmas.List.{map-append, take_more}
+use Rattle.serde_json.specs.Written.{compact_text}
+use Rattle.rules.specs.declared.history.Entry.{Entry}
+use Rattle.rules.specs.declared.limits.LimitValues.{LimitValues}
+use Rattle.rules.specs.Records.{IsLegal}
+use Rattle.wire.specs.Form.{entry_form}
+use Rattle.room_lock.specs.declared.fault.RoomRecord.{RoomRecord}
+use Rattle.room_lock.specs.Closing.{IsClosed}
+use Rattle.room_lock.specs.Passes.{PartView}
+use Rattle.sessions.specs.Records.{NamedRecord, all_lines, entry_lines, record_lines}
+
+-- one more item of a list, under a map
+pub map_more : {A B : Type 0} (f : A → B) (xs : List A) (k : ℕ) (x : A) → k < length xs → x ≡ get_or xs k x → map f (take (k + 1) xs) ≡ map f (take k xs) ++ f x ∷ []
+map_more f xs k x lt is = ap (map f) (take_more xs k x lt ∙ ap (λ y. take k xs ++ y ∷ []) (sym is)) ∙ map-append f (take k xs) (x ∷ [])
+
+pub entry_lines_more : (r : List Entry) (e : Entry) → entry_lines (r ++ e ∷ []) ≡ entry_lines r ++ (compact_text (entry_form e) ++ 10 ∷ [])
+entry_lines_more [] e = append-nil (compact_text (entry_form e) ++ 10 ∷ [])
+entry_lines_more (x ∷ r) e =
+    ap (λ l. (compact_text (entry_form x) ++ 10 ∷ []) ++ l) (entry_lines_more r e)
+    ∙ sym (append_assoc (compact_text (entry_form x) ++ 10 ∷ []) (entry_lines r) (compact_text (entry_form e) ++ 10 ∷ []))
+
+pub all_lines_more : (rooms : List NamedRecord) (room : NamedRecord) → all_lines (rooms ++ room ∷ []) ≡ all_lines rooms ++ record_lines room
+all_lines_more [] room = append-nil (record_lines room)
+all_lines_more (x ∷ rooms) room =
+    ap (λ l. record_lines x ++ l) (all_lines_more rooms room) ∙ sym (append_assoc (record_lines x) (all_lines rooms) (record_lines room))
+
+module _ {P : Type 0} where
+  -- a closed room's name and record
+  abbrev pub named : RoomRecord P → NamedRecord
+  named one = record { name = one.room; entries = map arc_value one.entries.items }
+
+  pub same_names : (xs : List (RoomRecord P)) → map (λ (room : NamedRecord). room.name) (map named xs) ≡ map (λ (one : RoomRecord P). one.room) xs
+  same_names [] = refl
+  same_names (x ∷ xs) = ap (λ l. x.room ∷ l) (same_names xs)
+
+  pub all_legal : (limits : LimitValues) (Parts : RoomRecord P → List PartView) (xs : List (RoomRecord P))
+      → All (λ one. IsClosed limits (map arc_value one.entries.items) (Parts one)) xs → All (λ (room : NamedRecord). IsLegal limits room.entries) (map named xs)
+  all_legal limits Parts [] all k d lt = absurd (omega (arith, lt))
+  all_legal limits Parts (x ∷ xs) all zero d lt = (all 0 x (omega arith)).legal
+  all_legal limits Parts (x ∷ xs) all (suc k) d lt = all_legal limits Parts xs (λ j e l. all (suc j) e (omega (arith, l))) k d (omega (arith, lt))

@@ -1,0 +1,22 @@
+use Rattle.std.proofs.Common.{List, ℕ, map, Result, Ok, Err, OnOk, ap, subst, ◌∙◌}
+use Rattle.std.specs.Io.KnownBytes.{Appends}
+use Rattle.std.proofs.KnownBytes.{Appends-kept}
+use Rattle.sessions.specs.Records.{all_lines}
+use Rattle.sessions.proofs.Printed.{all_legal, named, same_names}
+use Rattle.sessions.proofs.streams.serve_streams.Goals as goal
+
+ok_of : {T E P : Type 0} (r : Result T E) → P → OnOk r P
+ok_of (Ok x) p = p
+ok_of (Err y) p = tt
+
+pub returns : goal.returns
+returns g c =
+    let records = c.in_ok-records.records.items in
+    let printed = ap (λ l. all_lines (map named l)) c.as_slice.ensures.value in
+    let P : List ℕ → Type 0 = Appends (g.W.Write.contents c.args.output.now) (g.W.Write.contents c.flush.new.output) in
+    ok_of c.flush.result (record {
+      rooms = map named records;
+      names_are = same_names records ∙ c.in_ok-records.ensures.names;
+      legal = all_legal g.P.RoomLedger.limits (λ one. one.parts.items) records c.in_ok-records.ensures.closed;
+      printed = subst P printed (Appends-kept _ _ _ _ c.in_ok-write_records.ensures c.flush.ensures);
+    })

@@ -1,0 +1,36 @@
+-- The records of closed rooms, as they are printed.
+use Rattle.std.specs.Prelude.{◌≡◌, ◌++◌, ◌∷◌, [], ℕ, All, List, Option, codes, length, map}
+use Rattle.std.specs.Fmt.{decimal}
+use Rattle.std.specs.Io.KnownBytes.{Appends}
+use Rattle.serde_json.specs.Written.{compact_text}
+use Rattle.op_names.specs.Texts.{Bytes}
+use Rattle.rules.specs.declared.history.Entry.{Entry}
+use Rattle.rules.specs.declared.limits.LimitValues.{LimitValues}
+use Rattle.rules.specs.Records.{IsLegal}
+use Rattle.wire.specs.Form.{entry_form}
+
+-- a room's name and its record
+pub record NamedRecord : Type 0 where
+  pub name : Bytes
+  pub entries : List Entry
+
+-- a line for each entry: its compact text
+abbrev pub entry_lines : List Entry → List ℕ
+entry_lines [] = []
+entry_lines (entry ∷ entries) = (compact_text (entry_form entry) ++ 10 ∷ []) ++ entry_lines entries
+
+-- the line with the room's name and the number of entries, and the lines of the entries
+abbrev pub record_lines : NamedRecord → List ℕ
+record_lines room = (codes "room " ++ room.name ++ (32 ∷ decimal (length room.entries)) ++ 10 ∷ []) ++ entry_lines room.entries
+
+-- of all rooms, one after the other
+abbrev pub all_lines : List NamedRecord → List ℕ
+all_lines [] = []
+all_lines (room ∷ rooms) = record_lines room ++ all_lines rooms
+
+-- What was added to what a writer holds are the lines of records of the rooms of these names, in order, each of which is legal.
+pub record PrintsRecords (limits : LimitValues) (names : List Bytes) (before after : Option (List ℕ)) : Type 0 where
+  pub rooms : List NamedRecord
+  pub names_are : map (λ room. room.name) rooms ≡ names
+  pub legal : All (λ room. IsLegal limits room.entries) rooms
+  pub printed : Appends before after (all_lines rooms)

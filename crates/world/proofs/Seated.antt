@@ -1,0 +1,160 @@
+-- The sites in use are those that sessions are in as, each by one session.
+use Rattle.std.proofs.Common.{◌≡◌, ℕ, inl, inr, Bool, true, false, cond, eqb, List, [], ◌∷◌, get_or, zero, suc, Option, Some, None, refl, sym, ap, subst, ◌∙◌}
+use Rattle.std.proofs.lemmas.Bool.{eq-eqb, eqb-true, eqb-false}
+use Rattle.rules.specs.declared.limits.LimitValues.{LimitValues}
+use Rattle.wire.specs.Texts.{request_read}
+use Rattle.room_core.specs.Room.{Room, with_entry}
+use Rattle.room_core.specs.Answers.{Outcome, has_site}
+use Rattle.world.specs.Alone.{Alone, Message, after_move, use_after_move, move_of, no_site, alone_answer, alone_after, alone_end}
+use Rattle.world.specs.Rooms.{owners, at_room, rooms_end}
+use Rattle.world.specs.State.{uses_in, empty_rooms, alone_at, rooms_of, new_world}
+use Rattle.world.specs.Seated.{IsSeated, empty_alone}
+use Rattle.world.proofs.Moves.{Moves, answer_moves, still_joined}
+use Rattle.world.proofs.UsedSites.{nobody_in}
+use Rattle.world.proofs.Runs.{end_law}
+
+-- a room after a move of a session, which was in as a site or in none
+abbrev moved : Alone → Room → ℕ → Option ℕ → Option (Option ℕ) → Alone
+moved alone room session who move = record {
+  room = room;
+  site_of = after_move move (λ site. site) session alone.site_of;
+  in_use = use_after_move move who alone.in_use;
+}
+
+module _ (alone : Alone) (seated : IsSeated alone) (session : ℕ) (room : Room) (kept : (site : ℕ) → has_site alone.room site ≡ true → has_site room site ≡ true) where
+  stays : (who : Option ℕ) → IsSeated (moved alone room session who None)
+  stays who = record {
+    used = seated.used;
+    apart = seated.apart;
+    joined = λ site u. kept site (seated.joined site u);
+  }
+
+  -- ---- a session enters
+  module _ (site : ℕ) (was_out : alone.site_of session ≡ None) (free : alone.in_use site ≡ false) (has : has_site room site ≡ true) where
+    nobody : (q : ℕ) → alone.site_of q ≡ Some site → ⊥
+    nobody q e = let u : alone.in_use site ≡ true = (seated.used site).1 (q, e) in cc
+
+    other_by : (b : Bool) (q t : ℕ) → eqb session q ≡ b → alone.site_of q ≡ Some t → b ≡ false
+    other_by false q t e f = refl
+    other_by true q t e f = let out : alone.site_of q ≡ None = subst (λ s. alone.site_of s ≡ None) (eqb-true session q e) was_out in absurd (cc)
+
+    or_true : (b now : Bool) → now ≡ true → cond b true now ≡ true
+    or_true true now e = refl
+    or_true false now e = e
+
+    who_enters : (t : ℕ) (b : Bool) → eqb site t ≡ b → cond b true (alone.in_use t) ≡ true → (q : ℕ) × (cond (eqb session q) (Some site) (alone.site_of q) ≡ Some t)
+    who_enters t true e u = (session, rw (eq-eqb session session refl) (ap Some (eqb-true site t e)))
+    who_enters t false e u =
+        let w = (seated.used t).0 u in
+        (w.0, ap (λ b. cond b (Some site) (alone.site_of w.0)) (other_by (eqb session w.0) w.0 t refl w.1) ∙ w.1)
+
+    use_enters : (t q : ℕ) (b : Bool) → cond b (Some site) (alone.site_of q) ≡ Some t → cond (eqb site t) true (alone.in_use t) ≡ true
+    use_enters t q true f = let same : site ≡ t = cc in ap (λ b. cond b true (alone.in_use t)) (eq-eqb site t same)
+    use_enters t q false f = or_true (eqb site t) (alone.in_use t) ((seated.used t).1 (q, f))
+
+    apart_enters : (t p q : ℕ) (b c : Bool) → eqb session p ≡ b → eqb session q ≡ c
+        → cond b (Some site) (alone.site_of p) ≡ Some t → cond c (Some site) (alone.site_of q) ≡ Some t → p ≡ q
+    apart_enters t p q true true e f x y = sym (eqb-true session p e) ∙ eqb-true session q f
+    apart_enters t p q true false e f x y = absurd (nobody q (y ∙ sym x))
+    apart_enters t p q false true e f x y = absurd (nobody p (x ∙ sym y))
+    apart_enters t p q false false e f x y = seated.apart t p q x y
+
+    joined_enters : (t : ℕ) (b : Bool) → eqb site t ≡ b → cond b true (alone.in_use t) ≡ true → has_site room t ≡ true
+    joined_enters t true e u = subst (λ s. has_site room s ≡ true) (eqb-true site t e) has
+    joined_enters t false e u = kept t (seated.joined t u)
+
+    enters : (who : Option ℕ) → IsSeated (moved alone room session who (Some (Some site)))
+    enters who = record {
+      used = λ t. (who_enters t (eqb site t) refl, λ (q, e). use_enters t q (eqb session q) e);
+      apart = λ t p q. apart_enters t p q (eqb session p) (eqb session q) refl refl;
+      joined = λ t. joined_enters t (eqb site t) refl;
+    }
+
+  -- ---- a session leaves
+  module _ (site : ℕ) (was_in : alone.site_of session ≡ Some site) where
+    apart_by : (b : Bool) (q t : ℕ) → eqb session q ≡ b → alone.site_of q ≡ Some t → eqb site t ≡ false → b ≡ false
+    apart_by false q t e f g = refl
+    apart_by true q t e f g =
+        let his : alone.site_of q ≡ Some site = subst (λ s. alone.site_of s ≡ Some site) (eqb-true session q e) was_in in
+        let same : site ≡ t = cc in
+        absurd (eqb-false site t g same)
+
+    who_stays : (t : ℕ) (b : Bool) → eqb site t ≡ b → cond b false (alone.in_use t) ≡ true → (q : ℕ) × (cond (eqb session q) None (alone.site_of q) ≡ Some t)
+    who_stays t true e u = absurd (cc)
+    who_stays t false e u =
+        let w = (seated.used t).0 u in
+        (w.0, ap (λ b. cond b None (alone.site_of w.0)) (apart_by (eqb session w.0) w.0 t refl w.1 e) ∙ w.1)
+
+    was_there : (q t : ℕ) (b : Bool) → cond b None (alone.site_of q) ≡ Some t → alone.site_of q ≡ Some t
+    was_there q t true e = absurd (cc)
+    was_there q t false e = e
+
+    use_stays : (t q : ℕ) (b c : Bool) → eqb session q ≡ b → eqb site t ≡ c → cond b None (alone.site_of q) ≡ Some t → cond c false (alone.in_use t) ≡ true
+    use_stays t q true c e f x = absurd (cc)
+    use_stays t q false true e f x = absurd (eqb-false session q e (seated.apart t session q (was_in ∙ ap Some (eqb-true site t f)) x))
+    use_stays t q false false e f x = (seated.used t).1 (q, x)
+
+    joined_stays : (t : ℕ) (b : Bool) → cond b false (alone.in_use t) ≡ true → has_site room t ≡ true
+    joined_stays t true u = absurd (cc)
+    joined_stays t false u = kept t (seated.joined t u)
+
+    leaves : IsSeated (moved alone room session (Some site) (Some None))
+    leaves = record {
+      used = λ t. (who_stays t (eqb site t) refl, λ (q, e). use_stays t q (eqb session q) (eqb site t) refl refl e);
+      apart = λ t p q x y. seated.apart t p q (was_there p t (eqb session p) x) (was_there q t (eqb session q) y);
+      joined = λ t. joined_stays t (eqb site t);
+    }
+
+-- ---- a message
+
+module _ (alone : Alone) (seated : IsSeated alone) (session : ℕ) where
+  seated_by : (outcome : Outcome) → Moves alone.room alone.in_use (alone.site_of session) outcome
+      → IsSeated (moved alone (with_entry alone.room outcome.1) session (alone.site_of session) (move_of outcome.0))
+  seated_by outcome (inl stay) =
+      let room = with_entry alone.room outcome.1 in
+      subst (λ move. IsSeated (moved alone room session (alone.site_of session) move)) (sym stay)
+      (stays alone seated session room (still_joined alone.room outcome.1) (alone.site_of session))
+  seated_by outcome (inr (inl e)) =
+      let room = with_entry alone.room outcome.1 in
+      subst (λ move. IsSeated (moved alone room session (alone.site_of session) move)) (sym e.moves)
+      (enters alone seated session room (still_joined alone.room outcome.1) e.site e.was_out e.free e.joined (alone.site_of session))
+  seated_by outcome (inr (inr l)) =
+      let room = with_entry alone.room outcome.1 in
+      subst (λ move. IsSeated (moved alone room session (alone.site_of session) move)) (sym l.moves)
+      (subst (λ who. IsSeated (moved alone room session who (Some None))) (sym l.was_in)
+      (leaves alone seated session room (still_joined alone.room outcome.1) l.site l.was_in))
+
+pub seated_after : (alone : Alone) (message : Message) → IsSeated alone → IsSeated (alone_after alone message)
+seated_after alone message seated =
+    seated_by alone seated message.session (alone_answer alone message)
+    (answer_moves alone.room alone.in_use seated.joined (alone.site_of message.session) (request_read message.bytes))
+
+-- messages, one after the other
+pub seated_end : (alone : Alone) (messages : List Message) → IsSeated alone → IsSeated (alone_end alone messages)
+seated_end alone [] seated = seated
+seated_end alone (message ∷ messages) seated = seated_end (alone_after alone message) messages (seated_after alone message seated)
+
+-- ---- at the start
+
+seated_if_empty : (alone : Alone) → ((site : ℕ) → alone.in_use site ≡ false) → ((session : ℕ) → alone.site_of session ≡ None) → IsSeated alone
+seated_if_empty alone free out = record {
+  used = λ site. (λ u. let no = free site in absurd (cc), λ (q, e). let no = out q in absurd (cc));
+  apart = λ site one other e f. let no = out one in absurd (cc);
+  joined = λ site u. let no = free site in absurd (cc);
+}
+
+pub seated_empty : (limits : LimitValues) → IsSeated (empty_alone limits)
+seated_empty limits = seated_if_empty (empty_alone limits) (λ site. refl) (λ session. refl)
+
+free_at : (names : List (List ℕ)) (limits : LimitValues) (place site : ℕ) → get_or (uses_in (empty_rooms names limits)) place no_site site ≡ false
+free_at [] limits place site = refl
+free_at (name ∷ names) limits zero site = nobody_in site
+free_at (name ∷ names) limits (suc place) site = free_at names limits place site
+
+-- each room of a new world, after any messages
+pub seated_rooms : (names : List (List ℕ)) (limits : LimitValues) (place : ℕ) (messages : List Message) → IsSeated ((rooms_end names (rooms_of (new_world names limits)) messages).alone place)
+seated_rooms names limits place messages =
+    let start = rooms_of (new_world names limits) in
+    let first = alone_at (new_world names limits) place in
+    subst IsSeated (sym (end_law names place start messages))
+    (seated_end first (at_room place (owners names start messages) messages) (seated_if_empty first (free_at names limits place) (λ session. refl)))

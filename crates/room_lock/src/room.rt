@@ -1,6 +1,6 @@
 //! A room under its lock.
 
-ghost use Rattle.std.specs.Prelude.{◌≡◌, ◌⊎◌, ◌+◌, ◌<◌, ◌≤◌, ◌↔◌, Err, None, Some, IfErr, IfOk, OnOk, OnErr, false, true, slice_get, length, map, option_map};
+ghost use Rattle.std.specs.Prelude.{◌≡◌, ◌⊎◌, ◌++◌, ◌∷◌, [], ◌+◌, ◌<◌, ◌≤◌, ◌↔◌, Err, None, Some, IfErr, IfOk, OnOk, OnErr, false, true, slice_get, length, map, option_map};
 ghost use Rattle.std.specs.Arc.{arc_value};
 ghost use Rattle.rules.specs.Records.{IsLegal, sites};
 ghost use Rattle.rules.specs.declared.limits.TheConstants.Limits.{MAX_ENTRIES, MAX_JOINS};
@@ -121,6 +121,10 @@ impl<P: RoomLedger> Room<P> {
         ensures refused { IfOk result (IfRefused (IsRefusalOver P.limits self.old.entries)) }
         ensures written { let room = room_of P.limits self.old.entries
             in OnOk result (self.new.entries ≡ (room_after room (join_answer room)).entries) }
+        // The shelf gets a place for who was let in, and nothing else changes there:
+        ensures shelf { IfOk result (IfEntered (λ pass reply.
+            self.new.shelf ≡ self.old.shelf ++ None ∷ [])) }
+        ensures same_shelf { IfOk result (IfRefused (λ reply. self.new.shelf ≡ self.old.shelf)) }
         ensures place { self.new.place ≡ self.old.place }
         ensures err { OnErr result (self.new ≡ self.old) }
     {
@@ -159,6 +163,7 @@ impl<P: RoomLedger> Room<P> {
         ensures refused { IfOk result
             (IfRefused (IsBackRefusalOver P.limits self.old.entries site)) }
         ensures in_use { IfOk result (IfRefused (λ reply. part_of self.old.shelf site ≡ None)) }
+        // Nothing else changes:
         ensures shelf { OnOk result (self.new.shelf ≡ with_at self.old.shelf site None) }
         ensures entries { self.new.entries ≡ self.old.entries }
         ensures place { self.new.place ≡ self.old.place }
@@ -191,6 +196,8 @@ impl<P: RoomLedger> Room<P> {
         ensures written { let room = room_of P.limits self.old.entries
             in let outcome = answer room pass.old.part.site request
             in OnOk result (self.new.entries ≡ (room_after room outcome).entries) }
+        // Where the room lies and who is away stay:
+        ensures shelf { self.new.shelf ≡ self.old.shelf }
         ensures place { self.new.place ≡ self.old.place }
         ensures torn { (place : _) → (result ≡ Err (call_fault.Torn place))
             ↔ (first_difference self.old.entries pass.old.part.seen ≡ Some place) }
@@ -215,6 +222,7 @@ impl<P: RoomLedger> Room<P> {
     pub(crate) fn hand_back(&mut self, pass: Pass<P>) -> Result<Reply, Pass<P>>
         requires { pass.part.place ≡ self.old.place }
         ensures answer { IfOk result (IsLeaveOver P.limits self.old.entries pass.part) }
+        // The part is at its site's place, and nothing else changes:
         ensures shelf { OnOk result
             (self.new.shelf ≡ with_at self.old.shelf pass.part.site (Some pass.part)) }
         ensures entries { self.new.entries ≡ self.old.entries }

@@ -4,6 +4,7 @@ ghost use Rattle.std.specs.Prelude.{◌≡◌, ◌≢◌};
 ghost use Rattle.sessions.specs.declared.cause.Cause.TheVariants as cause;
 
 use op_names::NoMemory;
+use room_lock::CallFault;
 use thiserror::Error;
 use tungstenite::Error as StreamError;
 
@@ -31,6 +32,19 @@ impl From<NoMemory> for Cause {
 
     fn from(_fault: NoMemory) -> Cause {
         Cause::NoMemory
+    }
+}
+
+impl From<CallFault> for Cause {
+    ghost use Rattle.sessions.specs.Causes.{cause_of_call};
+
+    ghost from_gives = { λ fault gives. gives ≡ cause_of_call fault };
+
+    fn from(fault: CallFault) -> Cause {
+        match fault {
+            CallFault::Torn { place: _ } => Cause::Torn,
+            CallFault::NoMemory => Cause::NoMemory,
+        }
     }
 }
 

@@ -11,7 +11,7 @@ use crate::cause::Cause;
 use crate::gate::Gate;
 use crate::host::Host;
 use op_names::{NoMemory, RoomName};
-use room_lock::{CallFault, Entrance, Pass, RoomLedger};
+use room_lock::{Entrance, Pass, RoomLedger};
 use std::alloc::Global;
 use std::marker::Model;
 use std::sync::Wait;
@@ -86,7 +86,8 @@ impl<P: RoomLedger> Session<P> {
     ) -> (Session<P>, Result<String, Cause>)
         ensures ok { IfOk result.1 (λ text.
             IsTextOfTurn P.limits host.now.rooms.now self result.0 bytes.now (string_bytes text)) }
-        ensures err { OnErr result.1 (MayStand P.limits host.now.rooms.now self result.0 bytes.now) }
+        ensures err { OnErr result.1
+            (MayStand P.limits host.now.rooms.now self result.0 bytes.now) }
         ensures cause { IfErr result.1 (λ why. (why ≡ cause.NoMemory)
             ⊎ ((why ≡ cause.Torn) × (result.0 ≡ self))) }
     {
@@ -245,8 +246,7 @@ fn call<P: RoomLedger, R: Wait, G: Gate>(
     host.gate.after_call(number);
     let reply = match reply {
         Ok(reply) => Ok(reply),
-        Err(CallFault::Torn { place: _ }) => Err(Cause::Torn),
-        Err(CallFault::NoMemory) => Err(Cause::NoMemory),
+        Err(fault) => Err(Cause::from(fault)),
     };
     (Session::inside(number, pass), reply)
 }

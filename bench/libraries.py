@@ -1,8 +1,8 @@
 #!/usr/bin/env python3
 """Measures libraries by themselves, and prints tables in Markdown. `threads`: how many calls a second threads
 make of rooms behind locks, all in one room and each in rooms of its own, and how many as many programs of one
-thread make at once, which is what the machine can do. `sites`: what a join, a coming back and a call cost in a
-room of few entries and in one of many, in nanoseconds, the median of 9 rounds. `replicas`: what a page costs a replica, at the start and
+thread make at once, which is what the machine can do. `sites`: what a join, a coming back and a call cost in
+rooms of few and of many entries, in nanoseconds, the median of 9 rounds. `replicas`: what a page costs a replica, at the start and
 at the end of a record of 16,000 entries. The programs in bench/ are proved and built over a copy of the tree.
 With threads each figure is the median of the 20 rounds that the program makes, with replicas the best of five."""
 
@@ -67,11 +67,11 @@ def sites():
         [lines] = lines_of(path)
     for kind, entries, nanos in lines:
         times[int(kind), int(entries)].append(int(nanos))
-    print("| | In a room of 100 entries | In one of 16,000 |")
-    print("|---|---|---|")
+    sizes = sorted({entries for _, entries in times})
+    print("| Entries |", " | ".join(f"{size:,}" for size in sizes), "|")
+    print("|---" * (len(sizes) + 1) + "|")
     for kind, name in enumerate(("a join and its leave", "a coming back and its leave", "a list of objects")):
-        few, many = (statistics.median(times[kind, entries]) for entries in (100, 16_000))
-        print(f"| {name} | {few:,.0f} | {many:,.0f} ({many / few:.2f}) |")
+        print(f"| {name} |", " | ".join(f"{statistics.median(times[kind, size]):,.0f}" for size in sizes), "|")
 
 
 def replicas():

@@ -27,6 +27,8 @@ def outcome_of(test, seconds):
         return "passed", ""
     except serving.NotBuilt:
         return "skipped", "not built yet"
+    except serving.PassedOver as why:
+        return "skipped", str(why)
     except Exception as fault:
         places = [place for place in traceback.extract_tb(fault.__traceback__) if "tests/" in place.filename]
         where = " ".join(f"{place.name}:{place.lineno}" for place in places if place.name != "outcome_of")

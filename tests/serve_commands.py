@@ -58,7 +58,7 @@ def output_is_full():
             process.kill()
             process.wait()
         errors.seek(0)
-        same("the line on standard error", errors.read(), "grace: output failed\n")
+        same("the last line on standard error", errors.read().splitlines()[-1], "grace: output failed")
 
 
 def close_one_session(address):

@@ -17,7 +17,13 @@ from records import Told, compact, compare_record, split_rooms, transcript_of
 ROOT = pathlib.Path(__file__).resolve().parent.parent
 
 # The line on standard error for a session that did not end well: its number, and why.
-WARNING = re.compile(r"\] session (\d+): (handshake failed|stream fault|out of memory|torn from its room)$")
+WARNING = re.compile(
+    r"\] session (\d+): (handshake failed|stream fault|out of memory|torn from its room|record not kept)$"
+)
+
+# The line of a server that keeps its rooms nowhere, and one that tells of a room's file.
+IN_MEMORY = re.compile(r"\[WARN +server::serve\] rooms are in memory only; --keep DIR keeps them")
+KEPT = re.compile(r"\[([A-Z]+) +server::keep\] (.*)")
 
 
 # The first line of `grace serve`, with the port.
@@ -30,6 +36,10 @@ class Wrong(Exception):
 
 class NotBuilt(Exception):
     """The program doesn't have the command yet."""
+
+
+class PassedOver(Exception):
+    """The test can't be made here."""
 
 
 def same(what, seen, wanted):
@@ -204,15 +214,23 @@ def pump(stream, lines):
 
 class Server:
     """`grace serve` on a free port, for so many sessions. After the last of them it has `patience` seconds to come
-    to its end, and the checker at least as many for each room."""
+    to its end, and the checker at least as many for each room. `keep` is the folder that keeps the rooms, and `before`
+    what clients of earlier runs over that folder were told."""
 
-    def __init__(self, sessions=1, workers=4, rooms=("r",), idle=None, patience=SECONDS):
+    def __init__(self, sessions=1, workers=4, rooms=("r",), idle=None, patience=SECONDS, keep=None, before=()):
+        self.port = 0
         self.sessions = sessions
         self.patience = patience
         self.rooms = list(rooms)
         self.words = [str(sessions), str(workers), *rooms]
         if idle is not None:
             self.words += ["--idle", str(idle)]
+        if keep is not None:
+            self.words += ["--keep", str(keep)]
+        self.keep = keep
+        self.before = list(before)
+        self.notes = []
+        self.variables = {}
         self.clients = []
 
     def __enter__(self):
@@ -249,7 +267,7 @@ class Server:
         """Starts the program."""
         self.errors = tempfile.TemporaryFile("w+")
         self.process = subprocess.Popen(
-            [PROGRAM, "serve", "127.0.0.1:0", *self.words],
+            [PROGRAM, "serve", f"127.0.0.1:{self.port}", *self.words], env={**os.environ, **self.variables},
             stdin=subprocess.DEVNULL, stdout=subprocess.PIPE, stderr=self.errors, text=True,
         )
         self.lines = queue.Queue()
@@ -297,13 +315,17 @@ class Server:
         same("the status", self.process.returncode, 0)
         same("the warnings", self.warnings(), warned or {})
         records = split_rooms(lines, self.rooms)
-        told = [client.told for client in self.clients]
+        told = self.told()
         for room, record in records.items():
             compare_record(room, record, told)
             if "check" in COMMANDS:
                 given = verdict(record, transcript_of(room, told), max(3 * SECONDS, self.patience))
                 same(f"the verdict of room {room}", given, (0, "holds\n"))
         return records
+
+    def told(self):
+        """What clients were told, those of earlier runs first."""
+        return self.before + [client.told for client in self.clients]
 
     def output(self):
         """The lines of the output after the first, once the program ended."""
@@ -317,10 +339,17 @@ class Server:
         return [line.removesuffix("\n") for line in lines]
 
     def warnings(self):
-        """The cause of each session that the program warned of."""
+        """The cause of each session that the program warned of. What it said of files becomes `notes`, a level and a
+        text each; a server that keeps its rooms nowhere says so first."""
         self.errors.seek(0)
+        lines = self.errors.read().splitlines()
+        if self.keep is None and (not lines or not IN_MEMORY.fullmatch(lines.pop(0))):
+            raise Wrong("it isn't told that rooms are in memory only")
+        self.notes = [found.groups() for found in map(KEPT.fullmatch, lines) if found]
         causes = {}
-        for line in self.errors.read().splitlines():
+        for line in lines:
+            if KEPT.fullmatch(line):
+                continue
             found = WARNING.search(line)
             if not found:
                 raise Wrong(f"on standard error stands {line!r:.200}")

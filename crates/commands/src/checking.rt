@@ -14,8 +14,8 @@ use std::fs::File;
 use std::io::{Read, Write};
 use std::rt::Files;
 
-/// How many bytes a file may have.
-const MAX_FILE_LEN: usize = 1_073_741_824;
+/// How many bytes a file that is read whole may have.
+pub const MAX_FILE_LEN: usize = 1_073_741_824;
 
 /// All the bytes that are left, at most `limit`. `Input` where there are more, or a read fails;
 /// `NoMemory`.

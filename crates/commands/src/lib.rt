@@ -7,7 +7,7 @@ mod fault;
 mod migrating;
 mod script;
 
-pub use checking::{check_at, check_over, read_up_to};
+pub use checking::{MAX_FILE_LEN, check_at, check_over, read_up_to};
 pub use fault::Fault;
 pub use migrating::{migrate_at, migrate_over};
 pub use script::{room_names, script_over};

@@ -16,7 +16,8 @@ use Rattle.history_check.specs.declared.findings.Fault.TheVariants.{NotJoined, W
 use Rattle.history_check.specs.Findings.{IsFinding, IsFirstFault}
 use Rattle.history_check.specs.Transcripts.{room_at, may_ask, IsAnswered, IsTrueTranscript}
 use Rattle.history_check.specs.Verdicts.{AreTranscript, FailsAt, IsBadLine, IsWrongLine}
-use Rattle.history_check.proofs.Parts.{same_length, split_lines, IsLineSplit}
+use Rattle.restore.proofs.Lengths.{same_length}
+use Rattle.history_check.proofs.Parts.{split_lines, IsLineSplit}
 
 -- ---- how long a take is, and what stands in it
 

@@ -6,4 +6,3 @@ mod Told
 pub mod Fronted
 pub mod OnlyOne
 pub mod Parts
-pub mod ReadSoFar

@@ -16,7 +16,7 @@ use Rattle.transcript.specs.Lines.{is_join, line_read}
 use Rattle.transcript.specs.Order.{IsInOrder}
 use Rattle.history_check.specs.declared.verdict.Verdict.{Verdict}
 use Rattle.history_check.specs.declared.verdict.Verdict.TheVariants.{Holds, BadRecord, BadTranscript, WrongReply}
-use Rattle.history_check.specs.Records.{AreRecord, IsBadRecord}
+use Rattle.restore.specs.Records.{AreRecord, IsBadRecord}
 use Rattle.history_check.specs.Transcripts.{IsAnswered, IsTrueLine, IsTrueTranscript, MayFollow}
 use Rattle.history_check.specs.Verdicts.{AreTranscript, AreTrue, FailsAt, IsBadLine, IsWrongLine, IsVerdict, IsVerdictOn}
 use Rattle.history_check.proofs.Parts.{same_read, split_read, nested}

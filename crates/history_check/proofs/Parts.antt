@@ -1,14 +1,9 @@
 -- Lists that go on from the same beginning, and what holds of the parts of a list.
 use Rattle.std.proofs.Common.{◌≡◌, ℕ, zero, suc, List, [], ◌∷◌, ◌++◌, length, map, take, refl, sym, ap, ◌∙◌, ◌⊎◌, inl, inr, subst}
 use Rattle.std.specs.Prelude.{Option, Some, filter_map, slice_get}
-use Rattle.std.proofs.lemmas.List.{length-map}
 
 module _ {A B : Type 0} (f : A → Option B) where
-  -- lines that all read are as many as what they read
-  pub same_length : (xs : List A) (ys : List B) → map f xs ≡ map Some ys → length ys ≡ length xs
-  same_length xs ys e = sym (length-map ys Some) ∙ sym (ap length e) ∙ length-map xs f
-
-  -- and read one thing only
+  -- lines that all read read one thing only
   pub same_read : (xs : List A) (ys zs : List B) → map f xs ≡ map Some ys → map f xs ≡ map Some zs → ys ≡ zs
   same_read xs ys zs e g = sym (values_read ys) ∙ ap (filter_map (λ o. o)) (sym e ∙ g) ∙ values_read zs
     where

@@ -1,7 +1,7 @@
+pub use Rattle.record_file.specs.RecordText
+pub use Rattle.restore.specs.Records
 pub mod Findings
-pub mod Readings
 pub mod Migration
-pub mod Records
 pub mod Replays
 pub mod Transcripts
 pub mod Verdicts

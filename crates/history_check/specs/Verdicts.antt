@@ -6,7 +6,7 @@ use Rattle.transcript.specs.declared.line.TranscriptLine.{TranscriptLine}
 use Rattle.transcript.specs.Lines.{line_read}
 use Rattle.history_check.specs.declared.verdict.Verdict.{Verdict}
 use Rattle.history_check.specs.declared.verdict.Verdict.TheVariants.{Holds, BadRecord, BadTranscript, WrongReply}
-use Rattle.history_check.specs.Records.{AreRecord, IsBadRecord, IsSplit}
+use Rattle.restore.specs.Records.{AreRecord, IsBadRecord, IsSplit}
 use Rattle.history_check.specs.Transcripts.{IsTrueTranscript, MayFollow, IsAnswered}
 
 -- these lines are a true transcript of a record

@@ -5,7 +5,6 @@ mod findings;
 pub mod laws;
 mod line_fault;
 mod migration;
-mod record;
 mod replay;
 mod verdict;
 

@@ -9,8 +9,8 @@ ghost use Rattle.history_check.specs.declared.verdict.Verdict.TheVariants.{Holds
 ghost use Rattle.history_check.specs.Verdicts.{AreTrue, IsVerdict, IsVerdictOn};
 
 use crate::findings::{Fault, first_fault};
-use crate::record::{Reading, read_record};
 use op_names::NoMemory;
+use restore::{Reading, read_record};
 use rules::Entry;
 use std::alloc::Global;
 use std::sync::Arc;

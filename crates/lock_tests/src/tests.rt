@@ -2,6 +2,7 @@
 
 mod apart;
 mod back;
+mod begun;
 mod closed;
 mod many;
 mod refused;
@@ -42,7 +43,7 @@ fn entered<P: RoomLedger>(
 ) -> Pass<P> {
     match rooms.join(rt, rt.alloc(), &room_name(rt, name)) {
         Ok(Entrance::Entered(pass, _)) => pass,
-        Ok(Entrance::Refused(_)) => panic!(rt; "a refused join"),
+        Ok(Entrance::Refused(_, _) | Entrance::NoRoom) => panic!(rt; "a refused join"),
         Err(NoMemory) => panic!(rt; "no memory"),
     }
 }
@@ -56,7 +57,7 @@ fn returned<P: RoomLedger>(
 ) -> Pass<P> {
     match rooms.back(rt, rt.alloc(), &room_name(rt, name), site) {
         Ok(Entrance::Entered(pass, _)) => pass,
-        Ok(Entrance::Refused(_)) => panic!(rt; "a refused coming back"),
+        Ok(Entrance::Refused(_, _) | Entrance::NoRoom) => panic!(rt; "a refused coming back"),
         Err(NoMemory) => panic!(rt; "no memory"),
     }
 }
@@ -68,7 +69,7 @@ fn left<P: RoomLedger>(
     pass: Pass<P>,
 ) -> String {
     match rooms.hand_back(rt, pass) {
-        Ok(reply) => write_reply(rt.alloc(), &reply).expect(rt, "memory"),
+        Ok((_, reply)) => write_reply(rt.alloc(), &reply).expect(rt, "memory"),
         Err(pass) => {
             pass.give_up();
             panic!(rt; "a pass that isn't taken back")

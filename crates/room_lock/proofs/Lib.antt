@@ -7,3 +7,4 @@ pub mod Closed
 pub mod Balance
 pub mod Replies
 pub mod Standing
+mod Begins

@@ -1,14 +1,15 @@
 -- What is at the places of a shelf.
-use Rattle.std.proofs.Common.{◌≡◌, ◌≢◌, ℕ, zero, suc, ◌+◌, ◌-◌, ◌<◌, ◌≤◌, Bool, true, false, cond, List, [], ◌∷◌, ◌++◌, length, get_or, set, Option, Some, None, refl, sym, ap, ◌∙◌, subst, arith}
+use Rattle.std.proofs.Common.{◌≡◌, ◌≢◌, ℕ, zero, suc, ◌+◌, ◌-◌, ◌<◌, ◌≤◌, Bool, true, false, cond, List, [], ◌∷◌, ◌++◌, length, get_or, set, Option, Some, None, refl, sym, ap, ◌∙◌, subst, arith, append-nil}
 use Rattle.std.specs.Prelude.{nat_le}
 use Rattle.std.proofs.lemmas.Bool.{eqb-true, eqb-false, leb-true, le-leb, and_from, and_parts}
+use Rattle.std.proofs.lemmas.List.FromFn.{get_or-map-range_with_len, length-map-range_with_len}
 use Rattle.std.proofs.lemmas.List.{get_or-set_same, get_or-set_other, length-set, length-append}
 use mathlib.Core.List.{IsPrefix}
 use Rattle.rules.specs.declared.history.Entry.{Entry}
 use Rattle.rules.specs.Records.{sites}
 use Rattle.shared_history.proofs.Beginnings.{prefix_trans}
 use Rattle.room_lock.specs.Passes.{PartView}
-use Rattle.room_lock.specs.Shelves.{Shelf, IsPartFor, IsShelfOf, part_of, with_at}
+use Rattle.room_lock.specs.Shelves.{Shelf, IsPartFor, IsShelfOf, full_shelf, part_of, whole_part, with_at}
 
 -- ---- what is at a place
 
@@ -104,3 +105,22 @@ module _ (place : ℕ) (r : List Entry) (shelf : Shelf) (kept : IsShelfOf place 
           let same : new ≡ part = Rattle.room_core.proofs.Seen.some_same (part_with shelf new.site other (Some new) part is true e) in
           subst (λ (p : PartView). IsPartFor place r other p) same (record { place_is = place_is; site_is = eqb-true new.site other e; seen = seen })
       go other part is false e = kept.parts other part (part_with shelf new.site other (Some new) part is false e)
+
+-- ---- the shelf of a room that begins with a record
+
+part_is : {place : ℕ} {r : List Entry} {site : ℕ} (part : PartView) → whole_part place r site ≡ part → IsPartFor place r site part
+part_is {place} {r} {site} part is = subst (IsPartFor place r site) is (record { place_is = refl; site_is = refl; seen = ([], append-nil r) })
+
+pub full_is_shelf : (place : ℕ) (r : List Entry) → IsShelfOf place r (full_shelf place r)
+full_is_shelf place r = record { counted = length-map-range_with_len at 1 (sites r); parts = found }
+  where
+    at : ℕ → Option PartView
+    at site = Some (whole_part place r site)
+
+    found : (site : ℕ) (part : PartView) → part_of (full_shelf place r) site ≡ Some part → IsPartFor place r site part
+    found zero part is = absurd cc
+    found (suc k) part is =
+        let there = within (full_shelf place r) (suc k) part is in
+        let long = length-map-range_with_len at 1 (sites r) in
+        let here = get_or-map-range_with_len at 1 (sites r) k (suc k) None (omega (arith, there.1, long)) (omega arith) in
+        part_is part (Rattle.room_core.proofs.Seen.some_same (sym here ∙ is))

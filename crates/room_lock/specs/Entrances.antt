@@ -1,16 +1,18 @@
 -- How a join, or a coming back, went.
 use Rattle.wire.specs.declared.reply.Reply.{Reply}
 use Rattle.room_lock.specs.declared.entrance.Entrance.{Entrance}
-use Rattle.room_lock.specs.declared.entrance.Entrance.TheVariants.{Entered, Refused}
-use Rattle.room_lock.specs.Passes.{PassView}
+use Rattle.room_lock.specs.declared.entrance.Entrance.TheVariants.{Entered, Refused, NoRoom}
+use Rattle.room_lock.specs.Passes.{PassView, PrefixView}
 
 module _ {P : Type 0} where
   -- this holds of the pass and the reply where somebody was let in
   abbrev pub IfEntered : (PassView → Reply → Type 0) → Entrance P → Type 0
   IfEntered Holds (Entered pass reply) = Holds pass reply
-  IfEntered Holds (Refused reply) = Unit {0}
+  IfEntered Holds (Refused prefix reply) = Unit {0}
+  IfEntered Holds NoRoom = Unit {0}
 
-  -- and this of the reply where nobody was
-  abbrev pub IfRefused : (Reply → Type 0) → Entrance P → Type 0
+  -- and this of the record and the reply where a room refused it
+  abbrev pub IfRefused : (PrefixView → Reply → Type 0) → Entrance P → Type 0
   IfRefused Holds (Entered pass reply) = Unit {0}
-  IfRefused Holds (Refused reply) = Holds reply
+  IfRefused Holds (Refused prefix reply) = Holds prefix reply
+  IfRefused Holds NoRoom = Unit {0}

@@ -1,17 +1,32 @@
 -- Rooms that are to be made.
-use Rattle.std.specs.Prelude.{◌≡◌, ℕ, ◌+◌, ◌*◌, ◌≤◌, ◌^◌, List, None, bytes_eq, length}
+use Rattle.std.specs.Prelude.{◌≡◌, ℕ, ◌+◌, ◌*◌, ◌≤◌, ◌^◌, List, [], ◌∷◌, None, bytes_eq, length}
 use Rattle.logbook.specs.Pages.{Book}
 use Rattle.op_names.specs.Repeats.{first_repeat}
 use Rattle.op_names.specs.Texts.{Bytes}
+use Rattle.rules.specs.declared.history.Entry.{Entry}
 use Rattle.rules.specs.declared.limits.LimitValues.{LimitValues}
+use Rattle.room_lock.specs.Passes.{PrefixView}
 use Rattle.room_lock.specs.declared.room.TheConstants.{SPARE_PARTS}
 
--- their names and limits, with the name and the parts of their ledger, and their histories
+-- a room's history, its limits, and the record that it begins with
+pub record NewRoomView : Type 0 where
+  pub book : Book
+  pub limits : LimitValues
+  pub entries : List Entry
+
+abbrev pub book_of : NewRoomView → Book
+book_of room = room.book
+
+abbrev pub record_of : NewRoomView → List Entry
+record_of room = room.entries
+
+-- their names and limits, with the name and the parts of their ledger, their histories, and the records that they begin with
 pub record Planned : Type 0 where
   pub name : ℕ
   pub parts : ℕ
   pub limits : LimitValues
   pub books : List Book
+  pub records : List (List Entry)
   pub names : List Bytes
 
 -- The parts are enough for each room, and there is a history for each; the amount is enough for full records, and no name stands twice.
@@ -27,3 +42,8 @@ pub record IsLedgerOf (planned : Planned) (name parts : ℕ) (limits : LimitValu
   pub parts_are : planned.parts ≡ parts
   pub limits_are : planned.limits ≡ limits
   pub books_are : planned.books ≡ books
+
+-- what rooms begin with these records, the first of which is at this place
+abbrev pub prefixes_from : ℕ → List (List Entry) → List PrefixView
+prefixes_from place [] = []
+prefixes_from place (r ∷ rs) = record { place = place; entries = r } ∷ prefixes_from (place + 1) rs

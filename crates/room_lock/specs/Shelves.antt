@@ -1,8 +1,10 @@
 -- The parts of a room's sites that nobody is in as.
-use Rattle.std.specs.Prelude.{◌≡◌, ℕ, zero, suc, Bool, List, Option, Some, None, is_some, length, slice_index_or, slice_set, nat_le, ◌&&◌, not}
+use Rattle.std.specs.Prelude.{◌≡◌, ℕ, zero, suc, Bool, List, Option, Some, None, is_some, length, map, slice_index_or, slice_set, nat_le, ◌&&◌, not, count_by}
+use Rattle.std.specs.List.{range_with_len}
 use mathlib.Core.List.{IsPrefix}
 use Rattle.rules.specs.declared.history.Entry.{Entry}
 use Rattle.rules.specs.Records.{sites}
+use Rattle.room_core.specs.Logs.{is_of_site}
 use Rattle.room_lock.specs.Passes.{PartView}
 
 -- a place for each site, from site 1 on, with its part where nobody is in as it
@@ -33,3 +35,11 @@ pub record IsPartFor (place : ℕ) (r : List Entry) (site : ℕ) (part : PartVie
 pub record IsShelfOf (place : ℕ) (r : List Entry) (shelf : Shelf) : Type 0 where
   pub counted : length shelf ≡ sites r
   pub parts : (site : ℕ) (part : PartView) → part_of shelf site ≡ Some part → IsPartFor place r site part
+
+-- the part of a site that has seen the whole record, and has a share for each of its entries there
+abbrev pub whole_part : ℕ → List Entry → ℕ → PartView
+whole_part place r site = record { place = place; site = site; seen = r; share = count_by (is_of_site site) r }
+
+-- the shelf where nobody is in as any site, and each has seen the whole record
+abbrev pub full_shelf : ℕ → List Entry → Shelf
+full_shelf place r = map (λ site. Some (whole_part place r site)) (range_with_len 1 (sites r))

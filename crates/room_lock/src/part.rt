@@ -3,10 +3,12 @@
 ghost use Rattle.std.specs.Prelude.{◌≡◌, ◌↔◌, ◌≤◌, false, true, length};
 ghost use mathlib.Core.List.{IsPrefix};
 ghost use Rattle.room_lock.specs.Kept.{count_of_site};
+ghost use Rattle.room_lock.specs.Passes.{prefix_of};
 
 use crate::ledger::RoomLedger;
+use crate::prefix::Prefix;
 use shared_history::Front;
-use std::marker::Model;
+use std::marker::{Model, PhantomData};
 use std::sync::ledger::Share;
 
 /// A site's part in a room: what it has seen of the record, as a count, and how many entries it
@@ -45,6 +47,17 @@ impl<P: RoomLedger> Part<P> {
         ensures { result ≡ length self.now.seen }
     {
         self.front.len()
+    }
+
+    /// What it has seen of the room's record.
+    pub fn prefix(&self) -> Prefix<P>
+        ensures { result ≡ prefix_of self.now }
+    {
+        Prefix {
+            place: self.place,
+            front: self.front.copy(),
+            of: PhantomData,
+        }
     }
 
     /// How many entries it added.

@@ -1,6 +1,6 @@
 //! A room under its lock.
 
-ghost use Rattle.std.specs.Prelude.{◌≡◌, ◌⊎◌, ◌++◌, ◌∷◌, [], ◌+◌, ◌<◌, ◌≤◌, ◌↔◌, Err, None, Some, IfErr, IfOk, OnOk, OnErr, false, true, slice_get, length, map, option_map};
+ghost use Rattle.std.specs.Prelude.{◌≡◌, ◌≢◌, ◌⊎◌, ◌++◌, ◌∷◌, [], ◌+◌, ◌<◌, ◌≤◌, ◌↔◌, Err, None, Ok, Some, IfErr, IfOk, OnOk, OnErr, false, true, slice_get, length, map, option_map};
 ghost use Rattle.std.specs.Arc.{arc_value};
 ghost use Rattle.rules.specs.Records.{IsLegal, sites};
 ghost use Rattle.rules.specs.declared.limits.TheConstants.Limits.{MAX_ENTRIES, MAX_JOINS};
@@ -9,23 +9,26 @@ ghost use Rattle.room_core.specs.Answers.{join_answer, answer, room_after};
 ghost use Rattle.room_core.specs.Logs.{first_difference, none_or_one};
 ghost use Rattle.room_lock.specs.Closing.{IsClosed, IsComplete};
 ghost use Rattle.room_lock.specs.declared.fault.CloseFault.TheVariants as close_fault;
-ghost use Rattle.room_lock.specs.Shelves.{is_away, part_of, with_at};
+ghost use Rattle.room_lock.specs.Shelves.{full_shelf, is_away, part_of, with_at};
 ghost use Rattle.room_lock.specs.Told.{IsBackOver, IsBackRefusalOver, IsCallOver, IsJoinOver, IsLeaveOver, IsRefusalOver, room_of};
 
 use crate::account::Account;
 use crate::closing::added_together;
 use crate::entrance::Entrance;
 use crate::fault::{CloseFault, RoomRecord};
-use crate::histories::Opened;
 use crate::ledger::RoomLedger;
+use crate::new_room::NewRoom;
 use crate::part::Part;
 use crate::pass::Pass;
+use crate::prefix::{News, Prefix};
+use crate::restoring::{fill_shelf, share_from};
 use crate::shelf::{all_parts, put_part, take_part};
 use op_names::{NoMemory, RoomName};
 use room_core::{CallFault, RoomState};
 use rules::{Entry, Limits};
+use shared_history::Front;
 use std::alloc::Global;
-use std::marker::Model;
+use std::marker::{Model, PhantomData};
 use std::sync::ledger::Share;
 use std::sync::{Arc, Wait};
 use wire::{Reply, Request};
@@ -57,40 +60,52 @@ impl<P: RoomLedger> Model for Room<P> {
 
 impl<P: RoomLedger> Room<P> {
     ghost use Rattle.room_lock.specs.Entrances.{IfEntered, IfRefused};
+    ghost use Rattle.room_lock.specs.declared.entrance.Entrance.TheVariants.{NoRoom};
     ghost use Rattle.wire.specs.declared.request.Request.TheVariants.{Leave};
 
-    /// An empty room at a place, with its share and its spare parts out of the rest.
+    /// A room at a place that begins with this record, with its share and its spare parts out of the
+    /// rest. Nobody is in as any of its sites: their parts are on the shelf, and have seen the whole
+    /// record. Linear in the record for each site.
     pub(crate) fn new(
+        rt: &impl Wait,
         alloc: Global,
-        limits: Limits,
-        opened: Opened,
+        new: NewRoom,
         place: usize,
         rest: &mut Share<P>,
     ) -> Result<Room<P>, NoMemory>
         // The limits and the history are those that the ledger's type names.
-        requires limits { limits ≡ P.limits }
-        requires history { slice_get P.books place ≡ Some opened }
+        requires limits { new.limits ≡ P.limits }
+        requires history { slice_get P.books place ≡ Some new.book }
         // The room takes its share and its parts out of the rest.
         requires parts { SPARE_PARTS + 1 < rest.old.parts }
         requires amount { MAX_ENTRIES ≤ rest.old.amount }
         ensures place { IfOk result (λ room. room.place ≡ place) }
+        ensures entries { IfOk result (λ room. room.entries ≡ new.entries) }
+        ensures shelf { IfOk result (λ room. room.shelf ≡ full_shelf place new.entries) }
         ensures parts { OnOk result (rest.new.parts + (SPARE_PARTS + 1) ≡ rest.old.parts) }
         ensures amount { OnOk result (rest.new.amount + MAX_ENTRIES ≡ rest.old.amount) }
     {
-        let state = RoomState::new(alloc, limits)?;
+        let NewRoom {
+            history,
+            mut front,
+            state,
+        } = new;
+        show_size(&state);
         let share = rest.split_off(1, u64::from(Limits::MAX_ENTRIES));
-        let spare = rest.split_off(SPARE_PARTS, 0);
-        let Opened { history, front } = opened;
+        let mut spare = rest.split_off(SPARE_PARTS, 0);
+        front.add_all(rt, &history, state.entries());
+        let mut account = Account {
+            history,
+            front,
+            share,
+        };
+        let shelf = fill_shelf(alloc, place, &state, &mut account, &mut spare)?;
         Ok(Room {
             state,
-            account: Account {
-                history,
-                front,
-                share,
-            },
+            account,
             spare,
             place,
-            shelf: Vec::new(alloc),
+            shelf,
         })
     }
 
@@ -109,6 +124,37 @@ impl<P: RoomLedger> Room<P> {
         &self.state
     }
 
+    /// Its whole record.
+    pub(crate) fn prefix(&self) -> Prefix<P>
+        ensures { result ≡ record { place = self.now.place; entries = self.now.entries } }
+    {
+        Prefix {
+            place: self.place,
+            front: self.account.front().copy(),
+            of: PhantomData,
+        }
+    }
+
+    /// What its record has beyond a prefix of it. `Torn` where the prefix has more entries.
+    pub(crate) fn news(&self, alloc: Global, since: &Prefix<P>) -> Result<News<P>, CallFault>
+        requires { since.now.place ≡ self.now.place }
+        ensures whole { IfOk result (λ news. news.whole
+            ≡ record { place = self.now.place; entries = self.now.entries }) }
+        ensures entries { IfOk result (λ news. since.now.entries ++ map arc_value news.entries.items
+            ≡ self.now.entries) }
+        ensures torn { (place : _) → (result ≡ Err (call_fault.Torn place))
+            ↔ (first_difference self.now.entries since.now.entries ≡ Some place) }
+    {
+        if let Some(place) = self.first_torn(&since.front) {
+            return Err(CallFault::Torn { place });
+        }
+        let entries = share_from(alloc, self.state.entries(), since.front.len() as usize)?;
+        Ok(News {
+            entries,
+            whole: self.prefix(),
+        })
+    }
+
     /// Lets the next site in, where the limits allow it, and gives its pass.
     pub(crate) fn enter(
         &mut self,
@@ -118,13 +164,17 @@ impl<P: RoomLedger> Room<P> {
     ) -> Result<Entrance<P>, NoMemory>
         ensures entered { IfOk result (IfEntered (λ pass reply.
             IsJoinOver P.limits self.old.entries pass reply × (pass.room ≡ name.now))) }
-        ensures refused { IfOk result (IfRefused (IsRefusalOver P.limits self.old.entries)) }
+        ensures refused { IfOk result (IfRefused (λ prefix reply.
+            IsRefusalOver P.limits self.old.entries reply
+            × (prefix ≡ record { place = self.old.place; entries = self.old.entries }))) }
         ensures written { let room = room_of P.limits self.old.entries
             in OnOk result (self.new.entries ≡ (room_after room (join_answer room)).entries) }
+        ensures known { result ≢ Ok NoRoom }
         // The shelf gets a place for who was let in, and nothing else changes there:
         ensures shelf { IfOk result (IfEntered (λ pass reply.
             self.new.shelf ≡ self.old.shelf ++ None ∷ [])) }
-        ensures same_shelf { IfOk result (IfRefused (λ reply. self.new.shelf ≡ self.old.shelf)) }
+        ensures same_shelf { IfOk result (IfRefused (λ prefix reply.
+            self.new.shelf ≡ self.old.shelf)) }
         ensures place { self.new.place ≡ self.old.place }
         ensures err { OnErr result (self.new ≡ self.old) }
     {
@@ -134,7 +184,7 @@ impl<P: RoomLedger> Room<P> {
         let reply = self.state.join(alloc)?;
         show_size(&self.state);
         let Some(join) = self.state.entries().get(had) else {
-            return Ok(Entrance::Refused(reply));
+            return Ok(Entrance::Refused(self.prefix(), reply));
         };
         let mut share = self.spare.split_off(1, 0);
         self.account.add(rt, &mut share, Some(join));
@@ -160,9 +210,12 @@ impl<P: RoomLedger> Room<P> {
             × (part_of self.old.shelf site ≡ Some was)
             × IsBackOver P.limits self.old.entries site pass reply
             × (pass.part.share ≡ was.share) × (pass.room ≡ name.now))) }
-        ensures refused { IfOk result
-            (IfRefused (IsBackRefusalOver P.limits self.old.entries site)) }
-        ensures in_use { IfOk result (IfRefused (λ reply. part_of self.old.shelf site ≡ None)) }
+        ensures refused { IfOk result (IfRefused (λ prefix reply.
+            IsBackRefusalOver P.limits self.old.entries site reply
+            × (prefix ≡ record { place = self.old.place; entries = self.old.entries }))) }
+        ensures known { result ≢ Ok NoRoom }
+        ensures in_use { IfOk result (IfRefused (λ prefix reply.
+            part_of self.old.shelf site ≡ None)) }
         // Nothing else changes:
         ensures shelf { OnOk result (self.new.shelf ≡ with_at self.old.shelf site None) }
         ensures entries { self.new.entries ≡ self.old.entries }
@@ -177,7 +230,7 @@ impl<P: RoomLedger> Room<P> {
                 let reply = self.state.back(site, false);
                 Ok(Entrance::Entered(Pass { room, part }, reply))
             }
-            None => Ok(Entrance::Refused(self.state.back(site, true))),
+            None => Ok(Entrance::Refused(self.prefix(), self.state.back(site, true))),
         }
     }
 
@@ -219,9 +272,12 @@ impl<P: RoomLedger> Room<P> {
 
     /// Takes a pass back, whose site leaves. Gives it back where what it has seen is not the beginning
     /// of the record, or nobody was in as its site.
-    pub(crate) fn hand_back(&mut self, pass: Pass<P>) -> Result<Reply, Pass<P>>
+    pub(crate) fn hand_back(&mut self, pass: Pass<P>) -> Result<(Prefix<P>, Reply), Pass<P>>
         requires { pass.part.place ≡ self.old.place }
-        ensures answer { IfOk result (IsLeaveOver P.limits self.old.entries pass.part) }
+        ensures answer { IfOk result (λ left.
+            IsLeaveOver P.limits self.old.entries pass.part left.1) }
+        ensures prefix { IfOk result (λ left.
+            left.0 ≡ record { place = self.old.place; entries = self.old.entries }) }
         // The part is at its site's place, and nothing else changes:
         ensures shelf { OnOk result
             (self.new.shelf ≡ with_at self.old.shelf pass.part.site (Some pass.part)) }
@@ -237,9 +293,10 @@ impl<P: RoomLedger> Room<P> {
         if self.torn_place(&pass.part).is_some() {
             return Err(pass);
         }
+        let prefix = self.prefix();
         let Pass { room, part } = pass;
         match put_part(&mut self.shelf, part) {
-            Ok(()) => Ok(Reply::Left { at }),
+            Ok(()) => Ok((prefix, Reply::Left { at })),
             Err(part) => Err(Pass { room, part }),
         }
     }
@@ -275,16 +332,24 @@ impl<P: RoomLedger> Room<P> {
         })
     }
 
-    /// The first place at which what the part has seen is not the record's. Takes no time that grows
-    /// with either: both are beginnings of one history.
+    /// The first place at which what the part has seen is not the record's.
     fn torn_place(&self, part: &Part<P>) -> Option<usize>
         requires { part.now.place ≡ self.now.place }
         ensures { result ≡ first_difference self.now.entries part.now.seen }
     {
+        self.first_torn(&part.front)
+    }
+
+    /// The first place at which what was seen is not the record's. Takes no time that grows with
+    /// either: both are beginnings of one history.
+    fn first_torn(&self, seen: &Front) -> Option<usize>
+        requires { slice_get P.books self.now.place ≡ Some seen.now.history }
+        ensures { result ≡ first_difference self.now.entries seen.now.entries }
+    {
         let record = self.state.entries().len();
-        part.front.shorter_begins_longer(self.account.front());
-        self.account.front().shorter_begins_longer(&part.front);
-        if part.front.len() <= record as u64 {
+        seen.shorter_begins_longer(self.account.front());
+        self.account.front().shorter_begins_longer(seen);
+        if seen.len() <= record as u64 {
             None
         } else {
             Some(record)

@@ -1,23 +1,21 @@
 //! The rooms.
 
-ghost use Rattle.std.specs.Prelude.{◌≡◌, ◌↔◌, All, Contains, IfErr, IfOk, IsNone, OnErr, Ok, map};
+ghost use Rattle.std.specs.Prelude.{◌≡◌, ◌↔◌, ◌++◌, All, Contains, IfErr, IfOk, IsNone, OnErr, Ok, map};
 ghost use Rattle.std.specs.Arc.{arc_value};
-ghost use Rattle.rules.specs.declared.refusal.Refusal.TheVariants.{NoSuchRoom};
-ghost use Rattle.wire.specs.declared.reply.Reply.TheVariants.{No};
 ghost use Rattle.room_lock.specs.Closing.{IsClosed};
-ghost use Rattle.room_lock.specs.Told.{IsBack, IsBackRefusal, IsCall, IsJoin, IsLeave, IsRefusal};
+ghost use Rattle.room_lock.specs.Told.{IsBack, IsBackRefusalOver, IsCall, IsJoin, IsLeaveOver, IsRefusalOver};
 
 use crate::closing::close_all;
 use crate::entrance::Entrance;
 use crate::fault::{CloseFault, RoomRecord};
 use crate::ledger::RoomLedger;
 use crate::pass::Pass;
+use crate::prefix::{News, Prefix};
 use crate::room::Room;
 use crossbeam_utils::CachePadded;
 use indexmap::IndexMap;
 use op_names::{NoMemory, RoomName};
 use room_core::{CallFault, RoomState};
-use rules::Refusal;
 use std::alloc::Global;
 use std::marker::Model;
 use std::sync::{Mutex, MutexGuard, Wait};
@@ -59,7 +57,7 @@ fn held<'a, T>(rt: &impl Wait, room: &'a Mutex<T>) -> MutexGuard<'a, T> {
 
 impl<P: RoomLedger> Rooms<P> {
     ghost use Rattle.room_lock.specs.Entrances.{IfEntered, IfRefused};
-    ghost use Rattle.room_lock.specs.declared.entrance.Entrance.TheVariants.{Refused};
+    ghost use Rattle.room_lock.specs.declared.entrance.Entrance.TheVariants.{NoRoom};
 
     /// The room of this name, behind its lock.
     fn room(&self, name: &RoomName) -> Option<&Mutex<Room<P>>>
@@ -72,8 +70,8 @@ impl<P: RoomLedger> Rooms<P> {
     }
 
     /// Lets the next site of the room of this name in, where the room's limits allow it: its pass with
-    /// the reply, or the reply that refuses. The rules say both, on what was the room's record then.
-    /// Waits for the room's lock. Takes the same time whatever the size of the record.
+    /// the reply, or the reply that refuses with the record that the room had then. The rules say both,
+    /// on that record. Waits for the room's lock. Takes the same time whatever the size of the record.
     pub fn join(
         &self,
         rt: &impl Wait,
@@ -82,20 +80,20 @@ impl<P: RoomLedger> Rooms<P> {
     ) -> Result<Entrance<P>, NoMemory>
         ensures entered { IfOk result (IfEntered (λ pass reply.
             IsJoin P.limits pass reply × (pass.room ≡ name.now))) }
-        ensures refused { Contains self.now name.now
-            → IfOk result (IfRefused (IsRefusal P.limits)) }
-        ensures unknown { ¬ (Contains self.now name.now) → result ≡ Ok (Refused (No 0 NoSuchRoom)) }
+        ensures refused { IfOk result (IfRefused (λ prefix reply.
+            IsRefusalOver P.limits prefix.entries reply)) }
+        ensures no_room { (result ≡ Ok NoRoom) ↔ ¬ (Contains self.now name.now) }
     {
         let Some(room) = self.room(name) else {
-            return Ok(Entrance::Refused(no_such_room()));
+            return Ok(Entrance::NoRoom);
         };
         held(rt, room).enter(rt, alloc, name)
     }
 
     /// Lets somebody in again as this site of the room of this name, where the site has joined and
     /// nobody is in as it: the site's pass with the reply, which has then seen the room's whole record;
-    /// or the reply that refuses. The rules say both, on what was the room's record then. Waits for the
-    /// room's lock. Takes the same time whatever the size of the record.
+    /// or the reply that refuses with the record that the room had then. The rules say both, on that
+    /// record. Waits for the room's lock. Takes the same time whatever the size of the record.
     pub fn back(
         &self,
         rt: &impl Wait,
@@ -105,12 +103,12 @@ impl<P: RoomLedger> Rooms<P> {
     ) -> Result<Entrance<P>, NoMemory>
         ensures entered { IfOk result (IfEntered (λ pass reply.
             IsBack P.limits site pass reply × (pass.room ≡ name.now))) }
-        ensures refused { Contains self.now name.now
-            → IfOk result (IfRefused (IsBackRefusal P.limits site)) }
-        ensures unknown { ¬ (Contains self.now name.now) → result ≡ Ok (Refused (No 0 NoSuchRoom)) }
+        ensures refused { IfOk result (IfRefused (λ prefix reply.
+            IsBackRefusalOver P.limits prefix.entries site reply)) }
+        ensures no_room { (result ≡ Ok NoRoom) ↔ ¬ (Contains self.now name.now) }
     {
         let Some(room) = self.room(name) else {
-            return Ok(Entrance::Refused(no_such_room()));
+            return Ok(Entrance::NoRoom);
         };
         held(rt, room).back(alloc, name, site)
     }
@@ -139,11 +137,13 @@ impl<P: RoomLedger> Rooms<P> {
         room.call(rt, alloc, pass, request)
     }
 
-    /// Takes a pass back, and answers as a leave of its site is answered. Somebody can then come back as
-    /// the site. A pass of other rooms than these is given back. Takes no memory. Waits for the room's
-    /// lock.
-    pub fn hand_back(&self, rt: &impl Wait, pass: Pass<P>) -> Result<Reply, Pass<P>>
-        ensures answer { IfOk result (IsLeave P.limits pass) }
+    /// Takes a pass back, and answers as a leave of its site is answered, with the record that the room
+    /// had then. Somebody can then come back as the site. A pass of other rooms than these is given
+    /// back. Takes no memory. Waits for the room's lock.
+    pub fn hand_back(&self, rt: &impl Wait, pass: Pass<P>) -> Result<(Prefix<P>, Reply), Pass<P>>
+        ensures answer { IfOk result (λ left.
+            IsLeaveOver P.limits left.0.entries pass.part left.1) }
+        ensures place { IfOk result (λ left. left.0.place ≡ pass.part.place) }
         ensures back { IfErr result (λ back. back ≡ pass) }
     {
         let Some(room) = self.room(&pass.room) else {
@@ -154,6 +154,28 @@ impl<P: RoomLedger> Rooms<P> {
             return Err(pass);
         }
         room.hand_back(pass)
+    }
+
+    /// What the record of the prefix's room has beyond the prefix. Otherwise `NoMemory`, or `Torn` for
+    /// a prefix of other rooms than these. Waits for the room's lock. Linear in what is beyond.
+    pub fn news(
+        &self,
+        rt: &impl Wait,
+        alloc: Global,
+        since: &Prefix<P>,
+    ) -> Result<News<P>, CallFault>
+        ensures entries { IfOk result (λ news. since.now.entries ++ map arc_value news.entries.items
+            ≡ news.whole.entries) }
+        ensures place { IfOk result (λ news. news.whole.place ≡ since.now.place) }
+    {
+        let Some((_name, room)) = self.rooms.get_index(since.place) else {
+            return Err(CallFault::Torn { place: 0 });
+        };
+        let room = held(rt, room);
+        if room.place() != since.place {
+            return Err(CallFault::Torn { place: 0 });
+        }
+        room.news(alloc, since)
     }
 
     /// Lends the room of this name to `f`, and gives its answer, or `None` where there is no such room.
@@ -169,16 +191,6 @@ impl<P: RoomLedger> Rooms<P> {
     {
         let room = held(rt, self.room(name)?);
         Some(f(room.state()))
-    }
-}
-
-/// The refusal where no room has the name.
-fn no_such_room() -> Reply
-    ensures { result ≡ No 0 NoSuchRoom }
-{
-    Reply::No {
-        at: 0,
-        refusal: Refusal::NoSuchRoom,
     }
 }
 

@@ -7,6 +7,7 @@ use commands::{Fault, check_at, migrate_at, script_over};
 use log::Log;
 use room_watch::watch_at;
 use std::alloc::{AllocError, Global};
+use std::fs::File;
 use std::io::{Read, Write};
 use std::net::Net;
 use std::random::RandomSource;
@@ -37,6 +38,17 @@ fn idle<'a>(alloc: Global) -> Arg<'a> {
         .help("How long it waits for a client that is silent or stuck; 0 is for good")
 }
 
+/// Where rooms are kept.
+fn keep<'a>(alloc: Global) -> Arg<'a> {
+    Arg::new(alloc, "keep")
+        .long("keep")
+        .value_name("DIR")
+        .action(ArgAction::Set)
+        .help(
+            "A folder that keeps the rooms, each in DIR/ROOM.record; without it they are in memory only",
+        )
+}
+
 /// The names of rooms, last on the command line.
 fn rooms<'a>(alloc: Global) -> Arg<'a> {
     Arg::new(alloc, "ROOM")
@@ -57,6 +69,7 @@ fn script_command<'a>(alloc: Global) -> Result<Command<'a>, AllocError> {
 fn serve_command<'a>(alloc: Global) -> Result<Command<'a>, AllocError> {
     Command::new(alloc, "serve")
         .about("Serves sessions over WebSocket, then prints the rooms' records")
+        .arg(keep(alloc))?
         .arg(idle(alloc))?
         .arg(word(
             alloc,
@@ -161,7 +174,7 @@ fn show<W: Write, E: Write>(alloc: Global, error: &Error, output: &mut W, errors
     }
 }
 
-/// What `grace serve` is asked to do, where all words are there.
+/// What `grace serve` is asked to do, where all words that must be there are there.
 fn service_of<'a, 'w, R, W>(
     rt: &'a R,
     alloc: Global,
@@ -183,6 +196,7 @@ fn service_of<'a, 'w, R, W>(
         } else {
             Some(Duration::from_secs(idle))
         },
+        is_kept: words.get_str("keep").is_some(),
         output,
     })
 }
@@ -197,7 +211,7 @@ fn run_read<H, R, W, E>(
     errors: &mut E,
 ) -> u8
 where
-    H: Files + Threads + Wait + Log + Net + RandomSource + Sync,
+    H: Files<File = File> + Threads + Wait + Log + Net + RandomSource + Sync,
     H::Stream: Send,
     R: Read,
     W: Write,
@@ -210,9 +224,10 @@ where
         }
         Some(("serve", words)) => {
             let names = words.get_strs("ROOM").unwrap_or(&[]);
-            match service_of(rt, alloc, words, output) {
-                Some(service) => service.run(names, errors),
-                None => 2,
+            match (service_of(rt, alloc, words, output), words.get_str("keep")) {
+                (Some(service), Some(dir)) => service.run_kept(dir, names, errors),
+                (Some(service), None) => service.run(names, errors),
+                (None, _) => 2,
             }
         }
         Some(("watch", words)) => match (words.get_str("ADDRESS"), words.get_str("ROOM")) {
@@ -236,7 +251,7 @@ where
 
 /// Runs the program: `words` are the program's name and its arguments. Gives the status: 0 done,
 /// 1 a record or a transcript that doesn't hold, 2 a mistake in the command line, 3 input, output, a
-/// connection or the rooms failed, 4 want of memory.
+/// connection, the rooms or what keeps them failed, 4 want of memory.
 pub fn run<H, R, W, E>(
     rt: &H,
     alloc: Global,
@@ -246,7 +261,7 @@ pub fn run<H, R, W, E>(
     errors: &mut E,
 ) -> u8
 where
-    H: Files + Threads + Wait + Log + Net + RandomSource + Sync,
+    H: Files<File = File> + Threads + Wait + Log + Net + RandomSource + Sync,
     H::Stream: Send,
     R: Read,
     W: Write,

@@ -3,6 +3,8 @@
 
 mod accept;
 mod command;
+mod early_end;
+mod folder;
 mod serve;
 
 pub use command::run;

@@ -1,19 +1,26 @@
-//! `grace serve ADDRESS SESSIONS WORKERS ROOM..`: serves sessions over WebSocket.
+//! `grace serve [--keep DIR] ADDRESS SESSIONS WORKERS ROOM..`: serves sessions over WebSocket.
 
 ghost use Rattle.std.specs.Prelude.{◌≡◌};
 ghost use Rattle.room_lock.specs.Planned.{IsLedgerOf};
 ghost use Rattle.server.specs.Faults.{of_serving};
 
 use crate::accept::Accepted;
+use crate::early_end::EarlyEnd;
+use crate::folder::Folder;
 use commands::{Fault, room_names};
-use log::Log;
+use journal::Synced;
+use keeping::{Keeping, RoomFile};
+use log::{Log, warn};
+use op_names::repeated_name;
 use room_lock::{NewRooms, RoomLedger, Rooms};
 use rules::Limits;
-use sessions::{Open, ServeFault, serve_streams};
+use sessions::{Forgets, Keeper, Open, ServeFault, serve_streams};
 use std::alloc::{AllocError, Global};
+use std::fs::File;
 use std::io::Write;
 use std::marker::Brand;
 use std::net::{Net, OpenListener, TcpListener};
+use std::rt::Files;
 use std::sync::Wait;
 use std::sync::atomic::{AtomicBool, Ordering};
 use std::thread::Threads;
@@ -44,6 +51,8 @@ pub(crate) struct Service<'a, 'w, R, W> {
     pub(crate) workers: u32,
     /// How long a connection may keep a worker waiting, if there is a bound.
     pub(crate) idle: Option<Duration>,
+    /// Are the rooms kept in files?
+    pub(crate) is_kept: bool,
     /// Where it tells that it listens, and writes the records.
     pub(crate) output: &'a mut W,
 }
@@ -61,8 +70,77 @@ fn listening_line<L: OpenListener>(
     }
 }
 
-/// Makes the rooms, listens, tells so on the output, and serves what it accepts in these rooms.
-fn serve_in<P, R, W>(service: Service<'_, '_, R, W>, planned: NewRooms) -> Result<(), Fault>
+impl<R, W> Service<'_, '_, R, W>
+where
+    R: Threads + Wait + Log + Net + Sync,
+    R::Stream: Send,
+    W: Write,
+{
+    /// Listens, tells so on the output, and serves what it accepts in these rooms.
+    fn serve_rooms<P, K>(self, rooms: Rooms<P>, keeper: &K) -> Result<(), Fault>
+    where
+        P: RoomLedger + Send + Sync,
+        K: Keeper<P> + Sync,
+        K::Receipt: Send,
+    {
+        let (rt, alloc) = (self.rt, self.alloc);
+        let listener = match TcpListener::bind(rt, self.address) {
+            Ok(listener) => listener,
+            Err(why) => return Err(Fault::CannotListen(why)),
+        };
+        if !self.is_kept {
+            warn!(rt; "rooms are in memory only; --keep DIR keeps them");
+        }
+        let line = listening_line(alloc, self.address, &listener)?;
+        if self.output.write_all(line.as_bytes()).is_err() || self.output.flush().is_err() {
+            return Err(Fault::Output);
+        }
+        let failed = AtomicBool::new(false);
+        let streams = Accepted {
+            listener: &listener,
+            left: self.sessions,
+            idle: self.idle,
+            failed: &failed,
+        };
+        let served = serve_streams(
+            rt,
+            alloc,
+            rooms,
+            streams,
+            self.workers,
+            &Open,
+            keeper,
+            self.output,
+        );
+        if let Err(fault) = served {
+            return Err(fault_of(fault));
+        }
+        if failed.load(Ordering::SeqCst) {
+            return Err(Fault::Accept);
+        }
+        Ok(())
+    }
+}
+
+/// Serves in rooms that are kept nowhere.
+fn serve_in_memory<P, R, W>(service: Service<'_, '_, R, W>, planned: NewRooms) -> Result<(), Fault>
+where
+    P: RoomLedger + Send + Sync,
+    R: Threads + Wait + Log + Net + Sync,
+    R::Stream: Send,
+    W: Write,
+    requires { IsLedgerOf planned P.name P.parts P.limits P.books }
+{
+    let (rooms, _begun) = Rooms::<P>::new(service.rt, service.alloc, planned)?;
+    service.serve_rooms(rooms, &Forgets)
+}
+
+/// Serves in rooms that are kept in these files, one for each room in order.
+fn serve_in_files<'a, P, R, W>(
+    service: Service<'_, 'a, R, W>,
+    planned: NewRooms,
+    journals: Vec<Synced<File>>,
+) -> Result<(), EarlyEnd<'a>>
 where
     P: RoomLedger + Send + Sync,
     R: Threads + Wait + Log + Net + Sync,
@@ -71,56 +149,67 @@ where
     requires { IsLedgerOf planned P.name P.parts P.limits P.books }
 {
     let (rt, alloc) = (service.rt, service.alloc);
-    let rooms = Rooms::<P>::new(alloc, planned)?;
-    let listener = match TcpListener::bind(rt, service.address) {
-        Ok(listener) => listener,
-        Err(why) => return Err(Fault::CannotListen(why)),
-    };
-    let line = listening_line(alloc, service.address, &listener)?;
-    if service.output.write_all(line.as_bytes()).is_err() || service.output.flush().is_err() {
-        return Err(Fault::Output);
+    let (rooms, begun) = Rooms::<P>::new(rt, alloc, planned)?;
+    let files = RoomFile::open_all(alloc, journals, &begun)?;
+    let keeping = Keeping::new(alloc, files)?;
+    service.serve_rooms(rooms, &keeping)?;
+    if keeping.all_kept(rt) {
+        Ok(())
+    } else {
+        Err(EarlyEnd::NotKept)
     }
-    let failed = AtomicBool::new(false);
-    let streams = Accepted {
-        listener: &listener,
-        left: service.sessions,
-        idle: service.idle,
-        failed: &failed,
-    };
-    let workers = service.workers;
-    let served = serve_streams(rt, alloc, rooms, streams, workers, &Open, service.output);
-    if let Err(fault) = served {
-        return Err(fault_of(fault));
-    }
-    if failed.load(Ordering::SeqCst) {
-        return Err(Fault::Accept);
-    }
-    Ok(())
 }
 
-impl<R, W> Service<'_, '_, R, W>
+impl<'w, R, W> Service<'_, 'w, R, W>
 where
-    R: Threads + Wait + Log + Net + Sync,
+    R: Files<File = File> + Threads + Wait + Log + Net + Sync,
     R::Stream: Send,
     W: Write,
 {
     /// Serves in rooms of these names with full limits.
-    fn serve(self, names: &[&str]) -> Result<(), Fault> {
+    fn serve(self, names: &[&'w str]) -> Result<(), Fault> {
         let names = room_names(self.alloc, names)?;
         let planned = NewRooms::plan(self.alloc, names, Limits::full())?;
-        serve_in::<Brand, R, W>(self, planned)
+        serve_in_memory::<Brand, R, W>(self, planned)
+    }
+
+    /// Serves in rooms of these names with full limits, which this folder keeps.
+    fn serve_kept(self, dir: &'w str, names: &[&'w str]) -> Result<(), EarlyEnd<'w>> {
+        let (rt, alloc) = (self.rt, self.alloc);
+        let rooms = room_names(alloc, names)?;
+        if repeated_name(&rooms).is_some() {
+            return Err(EarlyEnd::Fault(Fault::RoomNamedTwice));
+        }
+        let folder = Folder::open(rt, dir)?;
+        let (states, files) = folder.read(rt, alloc, names)?;
+        let journals = folder.settle(rt, alloc, files)?;
+        let planned = NewRooms::with_records(alloc, rooms, Limits::full(), states)?;
+        serve_in_files::<Brand, R, W>(self, planned, journals)
     }
 
     /// Serves in rooms of these names with full limits, and gives the status: 0 where all sessions were
     /// served and the records written; 2 for a bad room name or, where all are good, a room named twice;
     /// 3 where it can't listen, accepting or the output failed, there is no worker or the rooms are torn;
     /// 4 for want of memory. All but 0 come with a line on `errors`.
-    pub(crate) fn run<E: Write>(self, names: &[&str], errors: &mut E) -> u8 {
+    pub(crate) fn run<E: Write>(self, names: &[&'w str], errors: &mut E) -> u8 {
         match self.serve(names) {
             Ok(()) => 0,
             Err(fault) => {
                 fault.write_line(errors);
                 fault.status()
+            }
+        }
+    }
+
+    /// Does as `run` in rooms that this folder keeps: each begins with the record that its file has. It is
+    /// 3 too where the folder can't keep them, another process has it, a file is no record, or one took no
+    /// more.
+    pub(crate) fn run_kept<E: Write>(self, dir: &'w str, names: &[&'w str], errors: &mut E) -> u8 {
+        match self.serve_kept(dir, names) {
+            Ok(()) => 0,
+            Err(end) => {
+                end.write_line(errors);
+                end.status()
             }
         }
     }

@@ -1,6 +1,7 @@
 //! Sessions.
 
 mod faults;
+mod kept;
 mod pool;
 mod served;
 mod watched;

@@ -1,42 +1,56 @@
 -- What a session is after an entrance.
-use Rattle.std.proofs.Common.{◌≡◌, ◌⊎◌, inl, inr, List, Some, None, Result, Ok, Err, OnErr, ap, sym, subst}
-use Rattle.std.specs.Prelude.{Contains, IfOk}
+use Rattle.std.proofs.Common.{◌≡◌, ◌⊎◌, inl, inr, List, Option, Result, Ok, refl, sym, subst}
+use Rattle.std.specs.Prelude.{◌↔◌, Contains, IfOk}
+use Rattle.std.proofs.lemmas.Result.{IfOk-at_ok}
 use Rattle.op_names.specs.Texts.{Bytes}
-use Rattle.rules.specs.declared.refusal.Refusal.TheVariants.{NoSuchRoom}
+use Rattle.rules.specs.declared.history.Entry.{Entry}
 use Rattle.wire.specs.declared.reply.Reply.{Reply}
-use Rattle.wire.specs.declared.reply.Reply.TheVariants.{No}
 use Rattle.room_lock.specs.declared.entrance.Entrance.{Entrance}
-use Rattle.room_lock.specs.declared.entrance.Entrance.TheVariants.{Entered, Refused}
+use Rattle.room_lock.specs.declared.entrance.Entrance.TheVariants.{Entered, Refused, NoRoom}
 use Rattle.room_lock.specs.Entrances.{IfEntered, IfRefused}
-use Rattle.room_lock.specs.Passes.{PassView}
+use Rattle.room_lock.specs.Passes.{PassView, PrefixView}
+use Rattle.sessions.specs.Entrances.{IsAfter}
 use Rattle.sessions.specs.Sessions.{SessionView}
 use Rattle.sessions.specs.Turns.{IsLetIn, IsTurnedAway}
 
--- the reply that refuses
-refusal_in : {P E : Type 0} → Reply → Result (Entrance P) E → Reply
-refusal_in other (Ok (Refused reply)) = reply
-refusal_in other (Ok (Entered pass reply)) = other
-refusal_in other (Err fault) = other
+-- did the room itself refuse
+abbrev HasRoom : {P E : Type 0} → Result (Entrance P) E → Type 0
+HasRoom (Ok (Refused prefix reply)) = Unit {0}
+HasRoom _ = ⊥
 
-abbrev Told : (PassView → Reply → Type 0) → (Reply → Type 0) → List Bytes → Bytes → SessionView → Reply → Type 0
-Told Enters Refuses names name new reply = IsLetIn Enters name new reply ⊎ IsTurnedAway Refuses names name new reply
+module _ (names : List Bytes) (name : Bytes) (Enters : PassView → Reply → Type 0) (Refuses : List Entry → Reply → Type 0) where
+  abbrev Told : SessionView → Option PrefixView → Reply → Type 0
+  Told new told reply = IsLetIn Enters name new told reply ⊎ IsTurnedAway Refuses names name new told reply
 
-module _ {F : Type 0} (names : List Bytes) (name : Bytes) (Enters : PassView → Reply → Type 0) (Refuses : Reply → Type 0) (result : Result Reply F) (new : SessionView) where
+  abbrev IfIn : {P : Type 0} → Entrance P → Type 0
+  IfIn went = IfEntered (λ pass it. Enters pass it × (pass.room ≡ name)) went
+
+  abbrev IfOut : {P : Type 0} → Entrance P → Type 0
+  IfOut went = IfRefused (λ prefix it. Refuses prefix.entries it) went
+
+  abbrev IsWithoutRoom : {P E : Type 0} → Result (Entrance P) E → Type 0
+  IsWithoutRoom entrance = (entrance ≡ Ok NoRoom) ↔ ¬ (Contains names name)
+
   -- the pass of who was let in is the session's, and who wasn't is in no room
-  pub entered_or_not : {P E : Type 0} (entrance : Result (Entrance P) E) (fault : F)
-      → IfOk entrance (IfEntered (λ pass reply. Enters pass reply × (pass.room ≡ name)))
-      → (Contains names name → IfOk entrance (IfRefused Refuses))
-      → (¬ (Contains names name) → entrance ≡ Ok (Refused (No 0 NoSuchRoom)))
-      → IfOk entrance (IfEntered (λ pass reply. (result ≡ Ok reply) × (new ≡ Some pass)))
-      → IfOk entrance (IfRefused (λ reply. (result ≡ Ok reply) × (new ≡ None)))
-      → OnErr entrance ((result ≡ Err fault) × (new ≡ None))
-      → IfOk result (Told Enters Refuses names name new)
-  unfolding refusal_in
-  entered_or_not (Ok (Entered pass reply)) fault enters refuses unknown kept out none =
-      let told : Told Enters Refuses names name new reply = inl (pass, enters.0, enters.1, kept.1) in
-      subst (λ (r : Result Reply F). IfOk r (Told Enters Refuses names name new)) (sym kept.0) told
-  entered_or_not (Ok (Refused reply)) fault enters refuses unknown kept out none =
-      let told : Told Enters Refuses names name new reply =
-      inr (record { known = refuses; unknown = λ absent. ap (refusal_in reply) (unknown absent); same = out.1 }) in
-      subst (λ (r : Result Reply F). IfOk r (Told Enters Refuses names name new)) (sym out.0) told
-  entered_or_not (Err why) fault enters refuses unknown kept out none = subst (λ (r : Result Reply F). IfOk r (Told Enters Refuses names name new)) (sym none.0) tt
+  told_after : {P E : Type 0} (went : Entrance P) (new : SessionView) (told : Option PrefixView) (reply : Reply)
+      → IfIn went → IfOut went → (let entrance : Result (Entrance P) E = Ok went in IsWithoutRoom entrance) → IsAfter went new told reply → Told new told reply
+  told_after (Entered pass it) new told reply enters refuses no_room after =
+      inl (pass, subst (λ r. Enters pass r) (sym after.0) enters.0, enters.1, after.1, after.2)
+  told_after (Refused prefix it) new told reply enters refuses no_room after =
+      inr (record {
+        known = λ there. (prefix, subst (λ r. Refuses prefix.entries r) (sym after.0) refuses, after.1);
+        unknown = λ absent. absurd (subst HasRoom (no_room.1 absent) tt);
+        same = after.2;
+      })
+  told_after NoRoom new told reply enters refuses no_room after =
+      inr (record {
+        known = λ there. absurd (no_room.0 refl there);
+        unknown = λ absent. (after.0, after.1);
+        same = after.2;
+      })
+
+  pub entered_or_not : {P E : Type 0} (entrance : Result (Entrance P) E) (new : SessionView) (told : Option PrefixView) (reply : Reply)
+      → IfOk entrance IfIn → IfOk entrance IfOut → IsWithoutRoom entrance
+      → ((went : Entrance P) × (entrance ≡ Ok went) × IsAfter went new told reply) → Told new told reply
+  entered_or_not entrance new told reply enters refuses no_room after =
+      told_after after.0 new told reply (IfOk-at_ok IfIn after.1 enters) (IfOk-at_ok IfOut after.1 refuses) (subst IsWithoutRoom after.1 no_room) after.2

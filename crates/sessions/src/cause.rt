@@ -3,6 +3,7 @@
 ghost use Rattle.std.specs.Prelude.{◌≡◌, ◌≢◌};
 ghost use Rattle.sessions.specs.declared.cause.Cause.TheVariants as cause;
 
+use crate::keeper::KeepFault;
 use op_names::NoMemory;
 use room_lock::CallFault;
 use thiserror::Error;
@@ -25,6 +26,9 @@ pub enum Cause {
     /// Its pass is not of the rooms.
     #[error("torn from its room")]
     Torn,
+    /// What a reply would have told of a room is not kept.
+    #[error("record not kept")]
+    NotKept,
 }
 
 impl From<NoMemory> for Cause {
@@ -44,6 +48,19 @@ impl From<CallFault> for Cause {
         match fault {
             CallFault::Torn { place: _ } => Cause::Torn,
             CallFault::NoMemory => Cause::NoMemory,
+        }
+    }
+}
+
+impl From<KeepFault> for Cause {
+    ghost use Rattle.sessions.specs.Causes.{cause_of_keep};
+
+    ghost from_gives = { λ fault gives. gives ≡ cause_of_keep fault };
+
+    fn from(fault: KeepFault) -> Cause {
+        match fault {
+            KeepFault::NotKept => Cause::NotKept,
+            KeepFault::NoMemory => Cause::NoMemory,
         }
     }
 }

@@ -1,21 +1,21 @@
 //! A session: the messages of one client, one after the other.
 
-ghost use Rattle.std.specs.Prelude.{◌≡◌, ◌⊎◌, IfErr, IfOk, OnErr, Ok, Err, None, Some, option_map, string_bytes};
-ghost use Rattle.wire.specs.declared.reply.Reply.TheVariants.{No};
-ghost use Rattle.wire.specs.Texts.{reply_text};
-ghost use Rattle.room_lock.specs.Entrances.{IfEntered, IfRefused};
+ghost use Rattle.std.specs.Prelude.{◌≡◌, ◌⊎◌, IfErr, IfOk, OnErr, Ok, None, Some, option_map, string_bytes};
 ghost use Rattle.sessions.specs.declared.cause.Cause.TheVariants as cause;
-ghost use Rattle.sessions.specs.Turns.{IsAnswer, IsAnswerInside, IsAnswerOutside, IsBackBy, IsCallBy, IsJoinBy, IsLeaveBy, IsTextOfTurn, IsTurn, MayStand};
+ghost use Rattle.sessions.specs.Entrances.{IsAfter};
+ghost use Rattle.sessions.specs.Turns.{IsAnswer, IsAnswerInside, IsAnswerOutside, IsBackBy, IsCallBy, IsJoinBy, IsLeaveBy, IsKept, IsTextOfTurn, IsTurn, MayStand};
 
+use crate::answer::{Answer, Answered};
 use crate::cause::Cause;
 use crate::gate::Gate;
 use crate::host::Host;
+use crate::keeper::Keeper;
 use op_names::{NoMemory, RoomName};
 use room_lock::{Entrance, Pass, RoomLedger};
 use std::alloc::Global;
 use std::marker::Model;
 use std::sync::Wait;
-use wire::{ReadFault, Refusal, Reply, Request, read_request, write_reply};
+use wire::{ReadFault, Refusal, Request, read_request};
 
 /// A session, with its pass where it is in a room. It can't be dropped: `end` hands the pass back.
 pub struct Session<P: RoomLedger> {
@@ -29,13 +29,6 @@ impl<P: RoomLedger> Model for Session<P> {
     ghost Value = { SessionView };
 
     ghost view = { λ s. s.pass };
-}
-
-/// A refusal that the session makes itself.
-fn own_refusal(refusal: Refusal) -> Reply
-    ensures { result ≡ No 0 refusal }
-{
-    Reply::No { at: 0, refusal }
 }
 
 impl<P: RoomLedger> Session<P> {
@@ -64,7 +57,7 @@ impl<P: RoomLedger> Session<P> {
     }
 
     /// Ends the session: its site is free for who comes back.
-    pub fn end<R: Wait, G>(self, host: &Host<'_, P, R, G>) {
+    pub fn end<R: Wait, G, K>(self, host: &Host<'_, P, R, G, K>) {
         let Session { number: _, pass } = self;
         if let Some(pass) = pass
             && let Err(stray) = host.rooms.hand_back(host.rt, pass)
@@ -74,51 +67,59 @@ impl<P: RoomLedger> Session<P> {
     }
 
     /// Answers one message by the text of its reply, and gives the session as it then is. The session
-    /// itself refuses what is no request, a join or a coming back from within a room, and anything else
-    /// from without. Otherwise a room answers, and that is the one call of the rooms: a join or a coming
-    /// back may give a pass, a leave hands it back, and all else is asked by it. `NoMemory` where memory
-    /// was refused, and then the call may stand, if only the text could not be made; `Torn` where the
-    /// pass is of other rooms.
-    pub fn message<R: Wait, G: Gate>(
+    /// itself refuses what is no request, a join or a coming back from within a room, anything else
+    /// from without, and a room that there is not. Otherwise a room answers, and that is the one call of
+    /// the rooms: a join or a coming back may give a pass, a leave hands it back, and all else is asked
+    /// by it. A room's answer is given once all that it tells of the room is kept, with the receipt; the
+    /// session's own refusals have none. `NoMemory` where memory was refused, and `NotKept` where the
+    /// answer is not kept: then the call may stand, and nobody is told. `Torn` where the pass is of
+    /// other rooms.
+    pub fn message<R: Wait, G: Gate, K: Keeper<P>>(
         self,
-        host: &Host<'_, P, R, G>,
+        host: &Host<'_, P, R, G, K>,
         bytes: &[u8],
-    ) -> (Session<P>, Result<String, Cause>)
-        ensures ok { IfOk result.1 (λ text.
-            IsTextOfTurn P.limits host.now.rooms.now self result.0 bytes.now (string_bytes text)) }
+    ) -> (Session<P>, Result<Answered<K::Receipt>, Cause>)
+        ensures ok { IfOk result.1 (λ answered. (told : _) × IsTextOfTurn P.limits
+            host.now.rooms.now self result.0 bytes.now told (string_bytes answered.text)
+            × IsKept K.shows told answered.receipt) }
         ensures err { OnErr result.1
             (MayStand P.limits host.now.rooms.now self result.0 bytes.now) }
-        ensures cause { IfErr result.1 (λ why. (why ≡ cause.NoMemory)
+        ensures cause { IfErr result.1 (λ why. (why ≡ cause.NoMemory) ⊎ (why ≡ cause.NotKept)
             ⊎ ((why ≡ cause.Torn) × (result.0 ≡ self))) }
     {
-        let (after, reply) = self.answer(host, bytes);
-        (after, text_of(host.alloc, reply))
+        let (after, answer) = self.answer(host, bytes);
+        match answer {
+            Ok(answer) => (after, answer.keep(host)),
+            Err(cause) => (after, Err(cause)),
+        }
     }
 
-    /// The reply to a message; on `Err` nothing is changed.
-    fn answer<R: Wait, G: Gate>(
+    /// The answer to a message; on `Err` nothing is changed.
+    fn answer<R: Wait, G: Gate, K>(
         self,
-        host: &Host<'_, P, R, G>,
+        host: &Host<'_, P, R, G, K>,
         bytes: &[u8],
-    ) -> (Session<P>, Result<Reply, Cause>)
-        ensures ok { IfOk result.1 (IsTurn P.limits host.now.rooms.now self result.0 bytes.now) }
+    ) -> (Session<P>, Result<Answer<P>, Cause>)
+        ensures ok { IfOk result.1 (λ answer. IsTurn P.limits
+            host.now.rooms.now self result.0 bytes.now answer.told answer.reply) }
         ensures err { OnErr result.1 (result.0 ≡ self) }
         ensures cause { IfErr result.1 (λ why. (why ≡ cause.NoMemory) ⊎ (why ≡ cause.Torn)) }
     {
         match read_request(host.alloc, bytes) {
             Ok(request) => self.ask(host, request),
-            Err(ReadFault::Bad) => (self, Ok(own_refusal(Refusal::BadMessage))),
+            Err(ReadFault::Bad) => (self, Ok(Answer::own_refusal(Refusal::BadMessage))),
             Err(ReadFault::NoMemory) => (self, Err(Cause::NoMemory)),
         }
     }
 
-    /// The reply to a request; on `Err` nothing is changed.
-    fn ask<R: Wait, G: Gate>(
+    /// The answer to a request; on `Err` nothing is changed.
+    fn ask<R: Wait, G: Gate, K>(
         self,
-        host: &Host<'_, P, R, G>,
+        host: &Host<'_, P, R, G, K>,
         request: Request,
-    ) -> (Session<P>, Result<Reply, Cause>)
-        ensures ok { IfOk result.1 (IsAnswer P.limits host.now.rooms.now self result.0 request) }
+    ) -> (Session<P>, Result<Answer<P>, Cause>)
+        ensures ok { IfOk result.1 (λ answer. IsAnswer P.limits
+            host.now.rooms.now self result.0 request answer.told answer.reply) }
         ensures err { OnErr result.1 (result.0 ≡ self) }
         ensures cause { IfErr result.1 (λ why. (why ≡ cause.NoMemory) ⊎ (why ≡ cause.Torn)) }
     {
@@ -130,62 +131,57 @@ impl<P: RoomLedger> Session<P> {
     }
 }
 
-/// The text of a reply, if there is one.
-fn text_of(alloc: Global, reply: Result<Reply, Cause>) -> Result<String, Cause>
-    ensures ok { IfOk result (λ text. (told : _) × (reply ≡ Ok told)
-        × (string_bytes text ≡ reply_text told)) }
-    ensures err { IfErr result (λ why. (why ≡ cause.NoMemory) ⊎ (reply ≡ Err why)) }
-{
-    let text = write_reply(alloc, &reply?)?;
-    Ok(text)
-}
-
-/// The reply to a request from within the pass's room; on `Err` the session keeps the pass as it was.
-fn ask_inside<P: RoomLedger, R: Wait, G: Gate>(
-    host: &Host<'_, P, R, G>,
+/// The answer to a request from within the pass's room; on `Err` the session keeps the pass as it was.
+fn ask_inside<P: RoomLedger, R: Wait, G: Gate, K>(
+    host: &Host<'_, P, R, G, K>,
     number: u32,
     pass: Pass<P>,
     request: Request,
-) -> (Session<P>, Result<Reply, Cause>)
-    ensures ok { IfOk result.1 (IsAnswerInside P.limits pass result.0 request) }
+) -> (Session<P>, Result<Answer<P>, Cause>)
+    ensures ok { IfOk result.1 (λ answer.
+        IsAnswerInside P.limits pass result.0 request answer.told answer.reply) }
     ensures err { OnErr result.1 (result.0 ≡ Some pass) }
     ensures cause { IfErr result.1 (λ why. (why ≡ cause.NoMemory) ⊎ (why ≡ cause.Torn)) }
 {
     match request {
         Request::Join { .. } | Request::Back { .. } => (
             Session::inside(number, pass),
-            Ok(own_refusal(Refusal::AlreadyJoined)),
+            Ok(Answer::own_refusal(Refusal::AlreadyJoined)),
         ),
         Request::Leave => leave(host, number, pass),
         request => call(host, number, pass, request),
     }
 }
 
-/// The reply to a request from within no room; on `Err` the session stays there.
-fn ask_outside<P: RoomLedger, R: Wait, G: Gate>(
-    host: &Host<'_, P, R, G>,
+/// The answer to a request from within no room; on `Err` the session stays there.
+fn ask_outside<P: RoomLedger, R: Wait, G: Gate, K>(
+    host: &Host<'_, P, R, G, K>,
     number: u32,
     request: &Request,
-) -> (Session<P>, Result<Reply, Cause>)
-    ensures ok { IfOk result.1
-        (IsAnswerOutside P.limits host.now.rooms.now result.0 request.now) }
+) -> (Session<P>, Result<Answer<P>, Cause>)
+    ensures ok { IfOk result.1 (λ answer. IsAnswerOutside P.limits
+        host.now.rooms.now result.0 request.now answer.told answer.reply) }
     ensures err { OnErr result.1 (result.0 ≡ None) }
     ensures cause { IfErr result.1 (λ why. why ≡ cause.NoMemory) }
 {
     match request {
         Request::Join { room } => join(host, number, room),
         Request::Back { room, site } => back(host, number, room, *site),
-        _ => (Session::new(number), Ok(own_refusal(Refusal::NotJoined))),
+        _ => (
+            Session::new(number),
+            Ok(Answer::own_refusal(Refusal::NotJoined)),
+        ),
     }
 }
 
 /// Joins the room of this name.
-fn join<P: RoomLedger, R: Wait, G: Gate>(
-    host: &Host<'_, P, R, G>,
+fn join<P: RoomLedger, R: Wait, G: Gate, K>(
+    host: &Host<'_, P, R, G, K>,
     number: u32,
     name: &RoomName,
-) -> (Session<P>, Result<Reply, Cause>)
-    ensures ok { IfOk result.1 (IsJoinBy P.limits host.now.rooms.now name.now result.0) }
+) -> (Session<P>, Result<Answer<P>, Cause>)
+    ensures ok { IfOk result.1 (λ answer. IsJoinBy P.limits
+        host.now.rooms.now name.now result.0 answer.told answer.reply) }
     ensures err { OnErr result.1 (result.0 ≡ None) }
     ensures cause { IfErr result.1 (λ why. why ≡ cause.NoMemory) }
 {
@@ -196,13 +192,14 @@ fn join<P: RoomLedger, R: Wait, G: Gate>(
 }
 
 /// Comes back as this site of the room of this name.
-fn back<P: RoomLedger, R: Wait, G: Gate>(
-    host: &Host<'_, P, R, G>,
+fn back<P: RoomLedger, R: Wait, G: Gate, K>(
+    host: &Host<'_, P, R, G, K>,
     number: u32,
     name: &RoomName,
     site: u32,
-) -> (Session<P>, Result<Reply, Cause>)
-    ensures ok { IfOk result.1 (IsBackBy P.limits host.now.rooms.now name.now site result.0) }
+) -> (Session<P>, Result<Answer<P>, Cause>)
+    ensures ok { IfOk result.1 (λ answer. IsBackBy P.limits
+        host.now.rooms.now name.now site result.0 answer.told answer.reply) }
     ensures err { OnErr result.1 (result.0 ≡ None) }
     ensures cause { IfErr result.1 (λ why. why ≡ cause.NoMemory) }
 {
@@ -212,52 +209,63 @@ fn back<P: RoomLedger, R: Wait, G: Gate>(
     enter(number, returned)
 }
 
-/// The session after an entrance, with the reply.
+/// The session after an entrance, with the answer.
 fn enter<P: RoomLedger>(
     number: u32,
     entrance: Result<Entrance<P>, NoMemory>,
-) -> (Session<P>, Result<Reply, Cause>)
-    ensures entered { IfOk entrance (IfEntered (λ pass reply.
-        (result.1 ≡ Ok reply) × (result.0 ≡ Some pass))) }
-    ensures refused { IfOk entrance (IfRefused (λ reply.
-        (result.1 ≡ Ok reply) × (result.0 ≡ None))) }
-    ensures err { OnErr entrance ((result.1 ≡ Err cause.NoMemory) × (result.0 ≡ None)) }
+) -> (Session<P>, Result<Answer<P>, Cause>)
+    ensures ok { IfOk result.1 (λ answer. (went : _) × (entrance ≡ Ok went)
+        × IsAfter went result.0 answer.told answer.reply) }
+    ensures err { OnErr result.1 (result.0 ≡ None) }
+    ensures cause { IfErr result.1 (λ why. why ≡ cause.NoMemory) }
 {
     match entrance {
-        Ok(Entrance::Entered(pass, reply)) => (Session::inside(number, pass), Ok(reply)),
-        Ok(Entrance::Refused(reply)) => (Session::new(number), Ok(reply)),
+        Ok(Entrance::Entered(pass, reply)) => {
+            let answer = Answer::of_room(pass.part().prefix(), reply);
+            (Session::inside(number, pass), Ok(answer))
+        }
+        Ok(Entrance::Refused(told, reply)) => {
+            let answer = Answer::of_room(told, reply);
+            (Session::new(number), Ok(answer))
+        }
+        Ok(Entrance::NoRoom) => (
+            Session::new(number),
+            Ok(Answer::own_refusal(Refusal::NoSuchRoom)),
+        ),
         Err(NoMemory) => (Session::new(number), Err(Cause::NoMemory)),
     }
 }
 
 /// Asks the room by the pass; on `Err` the session keeps it as it was.
-fn call<P: RoomLedger, R: Wait, G: Gate>(
-    host: &Host<'_, P, R, G>,
+fn call<P: RoomLedger, R: Wait, G: Gate, K>(
+    host: &Host<'_, P, R, G, K>,
     number: u32,
     mut pass: Pass<P>,
     request: Request,
-) -> (Session<P>, Result<Reply, Cause>)
-    ensures ok { IfOk result.1 (IsCallBy P.limits pass result.0 request) }
+) -> (Session<P>, Result<Answer<P>, Cause>)
+    ensures ok { IfOk result.1 (λ answer.
+        IsCallBy P.limits pass result.0 request answer.told answer.reply) }
     ensures err { OnErr result.1 (result.0 ≡ Some pass) }
     ensures cause { IfErr result.1 (λ why. (why ≡ cause.NoMemory) ⊎ (why ≡ cause.Torn)) }
 {
     host.gate.before_call(number);
     let reply = host.rooms.call(host.rt, host.alloc, &mut pass, request);
     host.gate.after_call(number);
-    let reply = match reply {
-        Ok(reply) => Ok(reply),
+    let answer = match reply {
+        Ok(reply) => Ok(Answer::of_room(pass.part().prefix(), reply)),
         Err(fault) => Err(Cause::from(fault)),
     };
-    (Session::inside(number, pass), reply)
+    (Session::inside(number, pass), answer)
 }
 
 /// Hands the pass back; on `Err` the session keeps it.
-fn leave<P: RoomLedger, R: Wait, G: Gate>(
-    host: &Host<'_, P, R, G>,
+fn leave<P: RoomLedger, R: Wait, G: Gate, K>(
+    host: &Host<'_, P, R, G, K>,
     number: u32,
     pass: Pass<P>,
-) -> (Session<P>, Result<Reply, Cause>)
-    ensures ok { IfOk result.1 (IsLeaveBy P.limits pass result.0) }
+) -> (Session<P>, Result<Answer<P>, Cause>)
+    ensures ok { IfOk result.1 (λ answer.
+        IsLeaveBy P.limits pass result.0 answer.told answer.reply) }
     ensures err { OnErr result.1 (result.0 ≡ Some pass) }
     ensures cause { IfErr result.1 (λ why. why ≡ cause.Torn) }
 {
@@ -265,7 +273,7 @@ fn leave<P: RoomLedger, R: Wait, G: Gate>(
     let left = host.rooms.hand_back(host.rt, pass);
     host.gate.after_call(number);
     match left {
-        Ok(reply) => (Session::new(number), Ok(reply)),
+        Ok((told, reply)) => (Session::new(number), Ok(Answer::of_room(told, reply))),
         Err(pass) => (Session::inside(number, pass), Err(Cause::Torn)),
     }
 }

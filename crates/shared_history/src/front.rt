@@ -1,13 +1,14 @@
 //! A history, and its beginnings that were seen.
 
-ghost use Rattle.std.specs.Prelude.{◌≡◌, ◌<◌, ◌≤◌, ◌^◌, ◌++◌, ◌∷◌, [], length, MatchBool};
+ghost use Rattle.std.specs.Prelude.{◌≡◌, ◌+◌, ◌<◌, ◌≤◌, ◌^◌, ◌++◌, ◌∷◌, [], length, map, MatchBool};
+ghost use Rattle.std.specs.Arc.{arc_value};
 ghost use mathlib.Core.List.{IsPrefix};
 
 use crate::rule::{Add, Law, Nothing};
 use logbook::{Offer, Seen, Start, Word};
 use rules::Entry;
 use std::marker::Model;
-use std::sync::Wait;
+use std::sync::{Arc, Wait};
 use std::thread::yield_now;
 
 /// The history of one room: how many entries it has. Contracts see which history it is.
@@ -90,6 +91,18 @@ impl Front {
             yield_now();
         }
         unreachable!()
+    }
+
+    /// Adds entries to the history, one after the other, as `add` does.
+    pub fn add_all<R: Wait>(&mut self, rt: &R, history: &History, entries: &[Arc<Entry>])
+        requires history { self.old.history ≡ history.now }
+        requires count { length self.old.entries + length entries.now < 2 ^ 62 }
+        ensures history { self.new.history ≡ self.old.history }
+        ensures entries { self.new.entries ≡ self.old.entries ++ map arc_value entries.now }
+    {
+        for entry in entries {
+            self.add(rt, history, entry);
+        }
     }
 
     /// Adds an entry, where the history has no more entries than were seen, and says whether it did.

@@ -1,7 +1,8 @@
 /** People at the whiteboard: pages of a browser in one room. Each picture is kept in the folder that PICTURES names. */
 
 import { spawn } from "node:child_process"
-import { mkdir } from "node:fs/promises"
+import { mkdir, mkdtemp, readFile, rm } from "node:fs/promises"
+import { tmpdir } from "node:os"
 import { createInterface } from "node:readline"
 import { join } from "node:path"
 import { fileURLToPath } from "node:url"
@@ -35,9 +36,11 @@ const NOTICE = `document.querySelector(".notice")?.innerText.replace(/\\s+/g, " 
 let passed = 0
 let failed = 0
 
-/** The page's server with its room, and its address. */
-async function serve() {
-  const server = spawn(RUN, ["people", "--sessions", "50"], { stdio: ["ignore", "pipe", "inherit"] })
+/** The page's server with its room, and its address. They are a group of processes. */
+async function serve(...words) {
+  const given = words.length > 0 ? words : ["--in-memory"]
+  const options = { stdio: ["ignore", "pipe", "inherit"], detached: true }
+  const server = spawn(RUN, ["people", "--sessions", "50", ...given], options)
   const lines = createInterface({ input: server.stdout })
   const line = await new Promise((tell, fail) => {
     lines.once("line", tell)
@@ -300,6 +303,64 @@ async function begunAnew(browser, address) {
   } finally {
     proxy.end()
     other.server.kill()
+  }
+}
+
+/** A whiteboard that is killed, with its room, and started again over the same folder shows the drawing: a page that
+ * stays open goes on, and so does one that is opened then. */
+async function killed(browser) {
+  const folder = await mkdtemp(join(tmpdir(), "whiteboard-room-"))
+  const started = [await serve("--keep", folder)]
+  const page = await pageOf(started[0].address)
+  const proxy = await Proxy.start(new URL(page.searchParams.get("server")).port)
+  page.searchParams.set("server", `ws://${proxy.address}/`)
+  try {
+    const person = await browser.open(page.href, 1240, 720)
+    await isOpen(person)
+    await draw(person, "rect", [120, 200], [380, 360])
+    await draw(person, "ellipse", [500, 200], [700, 360])
+    await person.comes("all is taken", `!/to be sent/.test(${STATE})`)
+    const bodies = await person.look(BODIES)
+    process.kill(-started[0].server.pid, "SIGKILL")
+    await person.comes("the loss", `document.getElementById("state").dataset.state !== "open"`)
+    started.push(await serve("--keep", folder))
+    const again = await pageOf(started[1].address)
+    proxy.port = new URL(again.searchParams.get("server")).port
+    proxy.cut()
+    await isOpen(person)
+    same("what is told", await person.look(`document.getElementById("renewed").textContent`), "")
+    same("what it shows", await person.look(BODIES), bodies)
+    // The page's files are served elsewhere now.
+    const other = await browser.open(again.href, 1240, 720)
+    await isOpen(other)
+    await other.comes("the drawing", `${COUNT} === 2`)
+    same("what the other shows", await other.look(BODIES), bodies)
+    await draw(person, "line", [120, 500], [700, 500])
+    await other.comes("the new object", `${COUNT} === 3`)
+    await other.picture(join(PICTURES, "killed.png"))
+    faults(person, other)
+  } finally {
+    proxy.end()
+    for (const { server } of started) endAll(server)
+    await rm(folder, { recursive: true })
+  }
+}
+
+/** Where the room's server is gone its whiteboard ends, with a status of its own. */
+async function roomGone() {
+  const { server } = await serve("--in-memory")
+  const closed = new Promise((tell) => server.once("close", tell))
+  const [child] = (await readFile(`/proc/${server.pid}/task/${server.pid}/children`, "utf8")).trim().split(" ")
+  process.kill(Number(child), "SIGKILL")
+  same("the status", await closed, 3)
+}
+
+/** Ends a whiteboard's server and its room's, where they are there. */
+function endAll(server) {
+  try {
+    process.kill(-server.pid, "SIGKILL")
+  } catch {
+    // It has ended already.
   }
 }
 
@@ -569,6 +630,8 @@ async function all(browser, address) {
   await step("a lost connection", () => lostConnection(browser, address, first))
   await step("a page is loaded anew", () => loadedAnew(first, second, room))
   await step("a room that was begun anew", () => begunAnew(browser, address))
+  await step("a whiteboard that is killed and started again", () => killed(browser))
+  await step("a whiteboard whose room is gone", () => roomGone())
   await step("each thing done is one entry", () => onePut(first, room))
   await step("what other clients put there", () => oddShapes(first, second, room))
   await step("a key deletes", () => deleteByKey(first, second, room))

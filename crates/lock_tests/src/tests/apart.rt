@@ -60,7 +60,7 @@ fn locks_are_apart<
 >(rt: &R, planned: NewRooms)
     requires { IsLedgerOf planned P.name P.parts P.limits P.books }
 {
-    let rooms = Rooms::<P>::new(rt.alloc(), planned).expect(rt, "rooms");
+    let (rooms, _begun) = Rooms::<P>::new(rt, rt.alloc(), planned).expect(rt, "rooms");
     let (held, answered) = (Mutex::new(false), Mutex::new(false));
     let (rooms, held, answered) = (&rooms, &held, &answered);
     let (waited, called) = thread::join(

@@ -11,7 +11,8 @@ use std::process::Abort;
 use std::sync::Wait;
 use wire::write_reply;
 
-/// Comes back as a site of the room: the pass where somebody was let in, and the reply's text.
+/// Comes back as a site of the room: the pass where somebody was let in, and the reply's text, which
+/// is empty where there is no such room.
 fn back<P: RoomLedger>(
     rt: &(impl Wait + Abort + AllocGlobal),
     rooms: &Rooms<P>,
@@ -20,7 +21,8 @@ fn back<P: RoomLedger>(
 ) -> (Option<Pass<P>>, String) {
     let (pass, reply) = match rooms.back(rt, rt.alloc(), &room_name(rt, name), site) {
         Ok(Entrance::Entered(pass, reply)) => (Some(pass), reply),
-        Ok(Entrance::Refused(reply)) => (None, reply),
+        Ok(Entrance::Refused(_, reply)) => (None, reply),
+        Ok(Entrance::NoRoom) => return (None, String::new(rt.alloc())),
         Err(NoMemory) => panic!(rt; "no memory"),
     };
     (pass, write_reply(rt.alloc(), &reply).expect(rt, "memory"))
@@ -60,11 +62,11 @@ fn returned<P: RoomLedger>(
 fn come_back_in<P: RoomLedger, R: Wait + Abort + AllocGlobal>(rt: &R, planned: NewRooms)
     requires { IsLedgerOf planned P.name P.parts P.limits P.books }
 {
-    let rooms = Rooms::<P>::new(rt.alloc(), planned).expect(rt, "rooms");
+    let (rooms, _begun) = Rooms::<P>::new(rt, rt.alloc(), planned).expect(rt, "rooms");
     let mut first = entered(rt, &rooms, "r");
     let _made = asked(rt, &rooms, &mut first, CREATION);
     let unknown = refused(rt, &rooms, "q", 1);
-    assert_eq!(rt; unknown.as_str(), r#"["no",0,4,"no-such-room"]"#);
+    assert_eq!(rt; unknown.as_str(), "");
     let in_use = refused(rt, &rooms, "r", 1);
     assert_eq!(rt; in_use.as_str(), r#"["no",2,20,"site-in-use"]"#);
     let absent = refused(rt, &rooms, "r", 2);

@@ -26,7 +26,7 @@ fn closed_in<P: RoomLedger + Send + Sync, R: Threads + Wait + Sync + Abort + All
 ) -> Result<usize, CloseFault>
     requires { IsLedgerOf planned P.name P.parts P.limits P.books }
 {
-    let rooms = Rooms::<P>::new(rt.alloc(), planned).expect(rt, "rooms");
+    let (rooms, _begun) = Rooms::<P>::new(rt, rt.alloc(), planned).expect(rt, "rooms");
     let shared = &rooms;
     let (first, second) = thread::join(
         rt,

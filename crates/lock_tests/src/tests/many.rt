@@ -18,6 +18,9 @@ use wire::{Reply, Request};
 /// The rooms.
 const NAMES: [&str; 4] = ["a", "b", "c", "d"];
 
+/// How many pages the record has at most, which has 204 entries: a thread may start that late.
+const PAGES: u32 = 4;
+
 /// How many operations of each of three sites there are among so many first entries.
 #[derive(Drop)]
 struct Counted {
@@ -76,6 +79,22 @@ fn key_of(rt: &(impl Abort + AllocGlobal), site: u32, turn: u32) -> Key {
     Key::parse(rt.alloc(), text.as_bytes()).expect(rt, "a key")
 }
 
+/// Pulls the entries behind those that are counted, and counts them up to the first so many.
+fn pulls<P: RoomLedger>(
+    rt: &(impl Wait + Abort + AllocGlobal),
+    rooms: &Rooms<P>,
+    pass: &mut Pass<P>,
+    counted: &mut Counted,
+    at: usize,
+) {
+    let from = counted.entries.try_into().expect(rt, "a place");
+    let pulled = rooms.call(rt, rt.alloc(), pass, Request::Pull { from });
+    match pulled.expect(rt, "an answer") {
+        Reply::Entries { entries, .. } => counted.go_on(entries.as_slice(), at),
+        _ => panic!(rt; "no entries"),
+    }
+}
+
 /// Shows the object that all sites share, and then puts a value to a key of its first version.
 fn shows_and_puts<P: RoomLedger>(
     rt: &(impl Wait + Abort + AllocGlobal),
@@ -86,11 +105,8 @@ fn shows_and_puts<P: RoomLedger>(
 ) {
     let shown = rooms.call(rt, rt.alloc(), pass, request_of(rt, r#"["show",[1,1]]"#));
     let (version, at) = first_version(rt, &shown.expect(rt, "an answer"));
-    let from = counted.entries.try_into().expect(rt, "a place");
-    let pulled = rooms.call(rt, rt.alloc(), pass, Request::Pull { from });
-    match pulled.expect(rt, "an answer") {
-        Reply::Entries { entries, .. } => counted.go_on(entries.as_slice(), at),
-        _ => panic!(rt; "no entries"),
+    for _page in 0..PAGES {
+        pulls(rt, rooms, pass, counted, at);
     }
     let key = key_of(rt, pass.part().site(), turn);
     let put = Request::Change {
@@ -155,7 +171,7 @@ fn many_threads_in<P: RoomLedger + Send + Sync, R: Threads + Wait + Sync + Abort
 )
     requires { IsLedgerOf planned P.name P.parts P.limits P.books }
 {
-    let rooms = Rooms::<P>::new(rt.alloc(), planned).expect(rt, "rooms");
+    let (rooms, _begun) = Rooms::<P>::new(rt, rt.alloc(), planned).expect(rt, "rooms");
     asked_by_threads(rt, &rooms);
     let records = rooms.close(rt.alloc()).expect(rt, "records");
     assert_eq!(rt; records.len(), 4);

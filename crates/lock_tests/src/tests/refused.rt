@@ -11,34 +11,38 @@ use std::process::Abort;
 use std::sync::Wait;
 use wire::write_reply;
 
-/// The text of the reply to a join of this room.
+/// The text of the reply to a join of this room, if there is such a room. A reply that refuses comes
+/// with the record that it tells of.
 fn join_reply<P: RoomLedger>(
     rt: &(impl Wait + Abort + AllocGlobal),
     rooms: &Rooms<P>,
     name: &str,
-) -> String {
+) -> Option<String> {
     let joined = rooms.join(rt, rt.alloc(), &room_name(rt, name));
     let reply = match joined {
         Ok(Entrance::Entered(pass, reply)) => {
             pass.give_up();
             reply
         }
-        Ok(Entrance::Refused(reply)) => reply,
+        Ok(Entrance::Refused(prefix, reply)) => {
+            assert_eq!(rt; prefix.len(), 1);
+            reply
+        }
+        Ok(Entrance::NoRoom) => return None,
         Err(NoMemory) => panic!(rt; "no memory"),
     };
-    write_reply(rt.alloc(), &reply).expect(rt, "memory")
+    Some(write_reply(rt.alloc(), &reply).expect(rt, "memory"))
 }
 
 /// The text of the reply to a second join of a room that lets one site in.
 fn second_reply<P: RoomLedger, R: Wait + Abort + AllocGlobal>(rt: &R, planned: NewRooms) -> String
     requires { IsLedgerOf planned P.name P.parts P.limits P.books }
 {
-    let rooms = Rooms::<P>::new(rt.alloc(), planned).expect(rt, "rooms");
-    let unknown = join_reply(rt, &rooms, "q");
-    assert!(rt; unknown.as_str() == r#"["no",0,4,"no-such-room"]"#);
-    let first = join_reply(rt, &rooms, "r");
+    let (rooms, _begun) = Rooms::<P>::new(rt, rt.alloc(), planned).expect(rt, "rooms");
+    assert!(rt; join_reply(rt, &rooms, "q").is_none());
+    let first = join_reply(rt, &rooms, "r").expect(rt, "a room");
     assert!(rt; first.as_str() == r#"["joined",0,1]"#);
-    join_reply(rt, &rooms, "r")
+    join_reply(rt, &rooms, "r").expect(rt, "a room")
 }
 
 /// A room that is to be made, with these limits.

@@ -47,7 +47,7 @@ fn write_is_shown<P: RoomLedger + Send + Sync, R: Threads + Wait + Sync + Abort 
 )
     requires { IsLedgerOf planned P.name P.parts P.limits P.books }
 {
-    let rooms = Rooms::<P>::new(rt.alloc(), planned).expect(rt, "rooms");
+    let (rooms, _begun) = Rooms::<P>::new(rt, rt.alloc(), planned).expect(rt, "rooms");
     let first = entered(rt, &rooms, "r");
     let second = entered(rt, &rooms, "r");
     left(rt, &rooms, first);

@@ -5,7 +5,7 @@ ghost use Rattle.room_lock.specs.Planned.{IsLedgerOf};
 use super::faults::{Calls, Parts};
 use super::{HEAD, asked_parts, planned};
 use room_lock::{NewRooms, RoomLedger, Rooms};
-use sessions::{Cause, Gate, Host, Open, PoolFault, run_pool};
+use sessions::{Cause, Forgets, Gate, Host, Open, PoolFault, run_pool};
 use std::marker::Brand;
 use std::process::Abort;
 use std::sync::Wait;
@@ -93,7 +93,7 @@ fn no_worker_in<P: RoomLedger + Send + Sync, R: Threads + Wait + Sync + Abort + 
 )
     requires { IsLedgerOf planned P.name P.parts P.limits P.books }
 {
-    let rooms = Rooms::<P>::new(rt.alloc(), planned).expect(rt, "rooms");
+    let (rooms, _begun) = Rooms::<P>::new(rt, rt.alloc(), planned).expect(rt, "rooms");
     let mut streams = Vec::new(rt.alloc());
     let stream = Duplex {
         reader: HEAD.as_bytes(),
@@ -105,6 +105,7 @@ fn no_worker_in<P: RoomLedger + Send + Sync, R: Threads + Wait + Sync + Abort + 
         alloc: rt.alloc(),
         rooms: &rooms,
         gate: &Open,
+        keeper: &Forgets,
     };
     match run_pool(&host, streams.into_iter(), 0) {
         Ok(_) => assert!(rt; false, "a pool without workers"),
@@ -141,7 +142,7 @@ fn pool_under_failure_in<
 >(rt: &R, planned: NewRooms)
     requires { IsLedgerOf planned P.name P.parts P.limits P.books }
 {
-    let rooms = Rooms::<P>::new(rt.alloc(), planned).expect(rt, "rooms");
+    let (rooms, _begun) = Rooms::<P>::new(rt, rt.alloc(), planned).expect(rt, "rooms");
     let calls = calls_of(rt);
     let mut parts = Vec::new(rt.alloc());
     for name in NAMES {
@@ -165,6 +166,7 @@ fn pool_under_failure_in<
         alloc: rt.alloc(),
         rooms: &rooms,
         gate: &gate,
+        keeper: &Forgets,
     };
     let served = run_pool(&host, streams.into_iter(), 4).expect(rt, "a pool");
     assert_eq!(rt; served, 12);

@@ -10,7 +10,7 @@ use super::{
 use log::sink::Locked;
 use log::{LevelFilter, Log, Logged};
 use room_lock::{NewRooms, RoomLedger, Rooms};
-use sessions::{Cause, Host, ServeFault, serve_one, serve_streams};
+use sessions::{Cause, Forgets, Host, ServeFault, serve_one, serve_streams};
 use std::marker::Brand;
 use std::process::Abort;
 use std::sync::Wait;
@@ -36,7 +36,7 @@ fn run_session_in<P: RoomLedger>(
 ) -> Outcome
     requires { IsLedgerOf planned P.name P.parts P.limits P.books }
 {
-    let rooms = Rooms::<P>::new(rt.alloc(), planned).expect(rt, "rooms");
+    let (rooms, _begun) = Rooms::<P>::new(rt, rt.alloc(), planned).expect(rt, "rooms");
     let gate = Counting::new();
     let mut output = Vec::new(rt.alloc());
     let stream = Duplex {
@@ -52,6 +52,7 @@ fn run_session_in<P: RoomLedger>(
         alloc: rt.alloc(),
         rooms: &rooms,
         gate: &gate,
+        keeper: &Forgets,
     };
     let cause = serve_one(&host, 1, stream);
     let records = rooms.close(rt.alloc()).expect(rt, "all passes");
@@ -184,7 +185,7 @@ fn run_streams_in<
 ) -> Served
     requires { IsLedgerOf planned P.name P.parts P.limits P.books }
 {
-    let rooms = Rooms::<P>::new(rt.alloc(), planned).expect(rt, "rooms");
+    let (rooms, _begun) = Rooms::<P>::new(rt, rt.alloc(), planned).expect(rt, "rooms");
     let gate = Counting::new();
     let stream = Duplex {
         reader: Parts::new(parts, stream_calls),
@@ -203,7 +204,16 @@ fn run_streams_in<
         most,
         calls: output_calls,
     };
-    let end = serve_streams(rt, rt.alloc(), rooms, streams, 1, &gate, &mut writer);
+    let end = serve_streams(
+        rt,
+        rt.alloc(),
+        rooms,
+        streams,
+        1,
+        &gate,
+        &Forgets,
+        &mut writer,
+    );
     Served {
         end,
         answered: gate.count(),

@@ -1,8 +1,8 @@
 use Rattle.std.proofs.Common.{subst}
 use Rattle.wire.specs.Lines.{lines_of}
 use Rattle.history_check.specs.declared.verdict.Verdict.TheVariants.{BadRecord}
-use Rattle.history_check.specs.Readings.{IsReading}
-use Rattle.history_check.specs.Records.{AreRecord, IsBadRecord}
+use Rattle.restore.specs.Readings.{IsReading}
+use Rattle.restore.specs.Records.{AreRecord, IsBadRecord}
 use Rattle.history_check.proofs.OnlyOne.{holds_exactly, holds_on}
 use Rattle.history_check.proofs.verdict.check.Goals as goal
 
@@ -14,5 +14,5 @@ returns-in-Bad-clause-holds c =
 pub returns-in-Room-clause-holds : goal.returns-in-Room-clause-holds
 returns-in-Room-clause-holds c =
     let r = c.in-Room.room.room.entries in
-    let legal : AreRecord (lines_of c.args.entries.now) r = subst (IsReading (lines_of c.args.entries.now)) c.in-Room.is c.in_ok-number.ensures in
+    let legal : AreRecord (lines_of c.args.entries.now) r = (subst (IsReading (lines_of c.args.entries.now)) c.in-Room.is c.in_ok-number.ensures).0 in
     holds_on c.args.entries.now c.args.transcript.now r _ c.entries.ensures.entries legal c.check_transcript.result c.check_transcript.ensures

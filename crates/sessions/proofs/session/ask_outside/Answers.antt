@@ -6,5 +6,6 @@ use Rattle.sessions.proofs.session.ask_outside.Goals as goal
 
 pub returns-in-Back-clause-ok : goal.returns-in-Back-clause-ok
 returns-in-Back-clause-ok g c =
-    let P : Request → Type 0 = λ request. IfOk c.back.result.1 (IsAnswerOutside g.P.RoomLedger.limits c.args.host.now.rooms.now c.back.result.0 request) in
+    let P : Request → Type 0 = λ request. IfOk c.back.result.1
+    (λ answer. IsAnswerOutside g.P.RoomLedger.limits c.args.host.now.rooms.now c.back.result.0 request answer.told answer.reply) in
     subst P (sym c.in-Back.is) c.back.ensures.ok

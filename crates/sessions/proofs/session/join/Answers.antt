@@ -1,9 +1,23 @@
-use Rattle.room_lock.specs.Told.{IsJoin, IsRefusal}
-use Rattle.sessions.specs.declared.cause.Cause.TheVariants as cause
+use Rattle.std.proofs.Common.{◌≡◌, ◌⊎◌, List, Ok}
+use Rattle.std.proofs.lemmas.Result.{IfOk-weaker}
+use Rattle.rules.specs.declared.history.Entry.{Entry}
+use Rattle.wire.specs.declared.reply.Reply.{Reply}
+use Rattle.room_lock.specs.Passes.{PassView}
+use Rattle.room_lock.specs.Told.{IsJoin, IsRefusalOver}
+use Rattle.sessions.specs.Entrances.{IsAfter}
+use Rattle.sessions.specs.Turns.{IsLetIn, IsTurnedAway}
 use Rattle.sessions.proofs.Entering.{entered_or_not}
 use Rattle.sessions.proofs.session.join.Goals as goal
 
 pub returns-clause-ok : goal.returns-clause-ok
 returns-clause-ok g c =
-    entered_or_not c.args.host.now.rooms.now c.args.name.now (IsJoin g.P.RoomLedger.limits) (IsRefusal g.P.RoomLedger.limits) c.enter.result.1 c.enter.result.0
-    c.join-joined.result cause.NoMemory c.join-joined.ensures.entered c.join-joined.ensures.refused c.join-joined.ensures.unknown c.enter.ensures.entered c.enter.ensures.refused c.enter.ensures.err
+    let rooms = c.args.host.now.rooms.now in
+    let name = c.args.name.now in
+    let entrance = c.join-joined.result in
+    let new = c.enter.result.0 in
+    let Enters : PassView → Reply → Type 0 = IsJoin g.P.RoomLedger.limits in
+    let Refuses : List Entry → Reply → Type 0 = IsRefusalOver g.P.RoomLedger.limits in
+    IfOk-weaker c.enter.result.1 (λ answer. (went : _) × (entrance ≡ Ok went) × IsAfter went new answer.told answer.reply)
+    (λ answer. IsLetIn Enters name new answer.told answer.reply ⊎ IsTurnedAway Refuses rooms name new answer.told answer.reply)
+    (λ answer after. entered_or_not rooms name Enters Refuses entrance new answer.told answer.reply c.join-joined.ensures.entered c.join-joined.ensures.refused c.join-joined.ensures.no_room after)
+    c.enter.ensures.ok

@@ -12,6 +12,7 @@ use Rattle.room_lock.specs.Shelves.{Shelf, part_of}
 use Rattle.room_lock.specs.Kept.{IsRoomKept, Placed}
 use Rattle.room_lock.specs.Told.{IsBackOver}
 use Rattle.room_lock.proofs.Answers.{count_of_front}
+use Rattle.room_lock.proofs.Balance.{with_shelf}
 use Rattle.room_lock.proofs.Replies.{room_is}
 use Rattle.room_lock.proofs.Shelves.{shelf_taken, within}
 use Rattle.room_lock.proofs.room.Room.back.Goals as goal
@@ -34,16 +35,18 @@ invariant_of-part g c =
 pub invariant_of-self : goal.invariant_of-self
 invariant_of-self g c =
     let old = c.self.invariant in
-    let P : Shelf → Type 0 = IsRoomKept g.P.RoomLedger.books g.P.RoomLedger.limits c.self.inside.place c.self.inside.state.room c.self.inside.account c.self.inside.spare.parts c.self.inside.spare.amount in
-    subst P (sym c.take_part.ensures.rest) (record {
-      written = old.written;
-      limits_are = old.limits_are;
-      one_part = old.one_part;
-      balanced = old.balanced;
-      parts_left = old.parts_left;
-      spare_is_empty = old.spare_is_empty;
-      shelved = shelf_taken c.self.inside.place c.self.inside.state.room.entries c.self.inside.shelf.items old.shelved c.args.site;
-    })
+    let place = c.self.inside.place in
+    let room = c.self.inside.state.room in
+    let P : Shelf → Type 0 = IsRoomKept g.P.RoomLedger.books g.P.RoomLedger.limits place room c.self.inside.account c.self.inside.spare.parts c.self.inside.spare.amount in
+    subst P (sym c.take_part.ensures.rest) (with_shelf _ _ place room c.self.inside.account _ _ _ _ old (shelf_taken place room.entries c.self.inside.shelf.items old.shelved c.args.site))
+
+pub invariant_of-self-2 : goal.invariant_of-self-2
+invariant_of-self-2 g c =
+    let old = c.self.invariant in
+    let place = c.self.inside.place in
+    let room = c.self.inside.state.room in
+    let P : Shelf → Type 0 = IsRoomKept g.P.RoomLedger.books g.P.RoomLedger.limits place room c.self.inside.account c.self.inside.spare.parts c.self.inside.spare.amount in
+    subst P (sym c.take_part.ensures.rest) (with_shelf _ _ place room c.self.inside.account _ _ _ _ old (shelf_taken place room.entries c.self.inside.shelf.items old.shelved c.args.site))
 
 pub returns-clause-entered : goal.returns-clause-entered
 returns-clause-entered g c =

@@ -18,6 +18,7 @@ use Rattle.room_lock.specs.Passes.{PartView}
 use Rattle.room_lock.specs.Kept.{IsRoomKept, Placed}
 use Rattle.room_lock.specs.Shelves.{Shelf, IsShelfOf}
 use Rattle.room_lock.specs.Told.{IsLeaveOver, room_of}
+use Rattle.room_lock.proofs.Balance.{with_shelf}
 use Rattle.room_lock.proofs.Fronts.{prefix_if_front}
 use Rattle.room_lock.proofs.Shelves.{shelf_put}
 use Rattle.room_lock.proofs.room.Room.hand_back.Goals as goal
@@ -41,15 +42,8 @@ invariant_of-self g c =
     let begins = prefix_if_front r part.seen (front_if r part.seen none) in
     let place : part.place ≡ c.self.inside.place = ap (λ v. v.part.place) c.pass.view_is ∙ c.requires ∙ sym (ap (λ v. v.place) c.self.view_is) in
     let P : Shelf → Type 0 = IsRoomKept g.P.RoomLedger.books g.P.RoomLedger.limits c.self.inside.place c.self.inside.state.room c.self.inside.account c.self.inside.spare.parts c.self.inside.spare.amount in
-    let with : (shelf : Shelf) → IsShelfOf c.self.inside.place r shelf → P shelf = λ shelf shelved. record {
-      written = old.written;
-      limits_are = old.limits_are;
-      one_part = old.one_part;
-      balanced = old.balanced;
-      parts_left = old.parts_left;
-      spare_is_empty = old.spare_is_empty;
-      shelved = shelved;
-    } in
+    let with : (shelf : Shelf) → IsShelfOf c.self.inside.place r shelf → P shelf =
+    λ shelf shelved. with_shelf _ _ c.self.inside.place c.self.inside.state.room c.self.inside.account _ _ _ _ old shelved in
     elim c.match-put_part.branch [
       | in-Ok w ↦ subst P (sym w.in-Ok.ensures.put) (with _ (shelf_put c.self.inside.place r c.self.inside.shelf.items old.shelved part place begins))
       | in-Err w ↦ subst P (sym (ap (λ s. s.items) w.in-Err.ensures.err)) c.self.invariant
@@ -74,8 +68,8 @@ returns-clause-answer g c =
             reply_is = ap Left at ∙ sym (left_by (room_of limits r) part.site has);
             legal = subst (λ (l : LimitValues). IsLegal l r) c.self.invariant.limits_are c.show_size.ensures.legal;
           } in
-          subst (λ result. IfOk result (λ reply. P c.args.self.now c.args.pass.part reply)) (sym w.result-is)
+          subst (λ result. IfOk result (λ left. P c.args.self.now c.args.pass.part left.1)) (sym w.result-is)
           (subst (λ (p : PartView). IsLeaveOver limits c.args.self.now.entries p (Left (length c.entries.result.now))) (ap (λ v. v.part) c.pass.view_is)
           (subst (λ (l : List Entry). IsLeaveOver limits l part (Left (length c.entries.result.now))) (ap (λ v. v.entries) c.self.view_is) here)))
-      | in-Err w ↦ subst (λ result. IfOk result (λ reply. P c.args.self.now c.args.pass.part reply)) (sym w.result-is) tt
+      | in-Err w ↦ subst (λ result. IfOk result (λ left. P c.args.self.now c.args.pass.part left.1)) (sym w.result-is) tt
     ]

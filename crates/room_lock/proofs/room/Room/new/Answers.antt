@@ -1,29 +1,21 @@
-use Rattle.std.proofs.Common.{◌≡◌, ℕ, zero, suc, [], Some, length, arith, ap, sym, ◌∙◌, subst, refl}
-use Rattle.rules.specs.Records.{sites}
-use Rattle.room_core.specs.Room.{Room}
-use Rattle.room_lock.specs.Passes.{PartView}
-use Rattle.room_lock.specs.Shelves.{Shelf, IsPartFor, IsShelfOf, part_of}
+use Rattle.std.proofs.Common.{◌++◌, Some, ap, sym, ◌∙◌, subst, arith}
+use Rattle.room_lock.specs.Shelves.{Shelf, IsShelfOf}
+use Rattle.room_lock.proofs.Shelves.{full_is_shelf}
 use Rattle.room_lock.proofs.room.Room.new.Goals as goal
 
--- nothing stands on an empty shelf
-empty_shelf : (place site : ℕ) (part : PartView) → part_of [] site ≡ Some part → IsPartFor place [] site part
-empty_shelf place zero part is = absurd cc
-empty_shelf place (suc k) part is = absurd cc
-
-pub invariant_of-result-2 : goal.invariant_of-result-2
-invariant_of-result-2 g c =
-    let none : c.in_ok-state.state.room.entries ≡ [] = ap (λ (room : Room). room.entries) c.in_ok-state.ensures in
-    let counted = ap length none in
-    let joined = ap sites none in
-    let front = c.opened.invariant in
-    let P : _ → Type 0 = λ r. IsShelfOf c.args.place r c.new-2.result.items in
-    let Q : Shelf → Type 0 = IsShelfOf c.args.place [] in
+pub invariant_of-result : goal.invariant_of-result
+invariant_of-result g c =
+    let r = c.new.inside.state.room.entries in
+    let e = c.in_ok-shelf.ensures in
+    let P : Shelf → Type 0 = IsShelfOf c.args.place r in
+    let history = c.requires.history ∙ ap Some (sym (ap (λ v. v.book) c.new.view_is) ∙ sym (ap (λ f. f.history) c.new.invariant) ∙ sym c.add_all.ensures.history ∙ sym (ap (λ f. f.history) e.front)) in
+    let entries = ap (λ f. f.entries) e.front ∙ c.add_all.ensures.entries ∙ (λ j. (c.new.invariant j).entries ++ c.entries.ensures.entries j) in
     record {
-      written = (c.requires.history ∙ ap Some (sym c.opened.view_is) ∙ ap Some (sym (ap (λ f. f.history) front)), ap (λ f. f.entries) front ∙ sym none);
-      limits_are = ap (λ (room : Room). room.limits) c.in_ok-state.ensures ∙ c.requires.limits;
-      one_part = c.split_off-share.ensures.parts;
-      balanced = omega (arith, c.split_off-share.ensures.amount, counted);
-      parts_left = omega (arith, c.split_off-spare.ensures.parts, joined);
-      spare_is_empty = c.split_off-spare.ensures.amount;
-      shelved = subst P (sym none) (subst Q (sym c.new-2.ensures.items) (record { counted = refl; parts = empty_shelf c.args.place }));
+      written = (history, entries);
+      limits_are = ap (λ v. v.limits) c.new.view_is ∙ c.requires.limits;
+      one_part = e.parts ∙ c.split_off-share.ensures.parts;
+      balanced = omega (arith, e.amount, c.split_off-share.ensures.amount);
+      parts_left = omega (arith, e.spare_parts, c.split_off-spare.ensures.parts);
+      spare_is_empty = e.spare_amount;
+      shelved = subst P (sym e.shelf) (full_is_shelf c.args.place r);
     }

@@ -1,0 +1,111 @@
+//! A file of the system as a journal.
+
+ghost use Rattle.std.specs.Prelude.{◌≡◌, ◌≢◌, ◌+◌, Err, OnErr, OnOk, false, length, true};
+
+use crate::fault::JournalFault;
+use crate::journal::Journal;
+use std::fs::OpenFile;
+use std::io::Write;
+use std::marker::Model;
+
+/// A file that was opened to append. No clause says what it holds: that the system's calls do to it what
+/// a journal's do is a matter of the system. Contracts see how many bytes are held and how many of them
+/// are kept, if the file does as it is told, and whether a call failed since the last cut.
+#[derive(Drop)]
+pub struct Synced<F> {
+    file: F,
+    held: u64,
+    kept: u64,
+    failed: bool,
+}
+
+impl<F> Model for Synced<F> {
+    ghost use Rattle.journal.specs.Counts.{Counts};
+
+    ghost Value = { Counts };
+
+    ghost view = { λ s. record { held = s.held; kept = s.kept; failed = s.failed } };
+}
+
+impl<F> Synced<F> {
+    /// A journal over a file that was opened to append. It has so many bytes, all of them on the disk.
+    pub fn new(file: F, len: u64) -> Synced<F>
+        ensures { result ≡ record { held = len; kept = len; failed = false } }
+    {
+        Synced {
+            file,
+            held: len,
+            kept: len,
+            failed: false,
+        }
+    }
+
+    /// How many bytes are kept.
+    pub fn kept_len(&self) -> u64
+        ensures { result ≡ self.now.kept }
+    {
+        self.kept
+    }
+}
+
+impl<F: Write + OpenFile> Journal for Synced<F> {
+    ghost use Rattle.std.specs.Prelude.{None};
+
+    ghost held = { λ _. None };
+
+    ghost kept = { λ _. None };
+
+    /// After a fault it says `Failed`, until it is cut.
+    fn append(&mut self, bytes: &[u8]) -> Result<(), JournalFault>
+        ensures refused { self.old.failed ≡ true → result ≡ Err JournalFault.Failed }
+        ensures ok { OnOk result (self.new ≡ record self.old {
+          held =
+              self.old.held + length bytes.now;
+        }) }
+        ensures err { OnErr result (self.new ≡ record self.old { failed = true }) }
+    {
+        if self.failed {
+            return Err(JournalFault::Failed);
+        }
+        self.failed = true;
+        let Some(held) = self.held.checked_add(bytes.len() as u64) else {
+            return Err(JournalFault::Failed);
+        };
+        self.file.write_all(bytes)?;
+        self.held = held;
+        self.failed = false;
+        Ok(())
+    }
+
+    /// After a fault it says `Failed`, until it is cut: what a sync that failed didn't put on the disk a
+    /// later one may leave out.
+    fn sync(&mut self) -> Result<(), JournalFault>
+        ensures refused { self.old.failed ≡ true → result ≡ Err JournalFault.Failed }
+        ensures ok { OnOk result (self.new ≡ record self.old { kept = self.old.held }) }
+        ensures err { OnErr result (self.new ≡ record self.old { failed = true }) }
+        ensures memory { result ≢ Err JournalFault.NoMemory }
+    {
+        if self.failed {
+            return Err(JournalFault::Failed);
+        }
+        self.failed = true;
+        self.file.sync_data()?;
+        self.kept = self.held;
+        self.failed = false;
+        Ok(())
+    }
+
+    fn cut(&mut self) -> Result<(), JournalFault>
+        ensures ok { OnOk result
+            (self.new ≡ record self.old { held = self.old.kept; failed = false }) }
+        ensures err { OnErr result (self.new ≡ record self.old { failed = true }) }
+        ensures memory { result ≢ Err JournalFault.NoMemory }
+    {
+        self.failed = true;
+        self.file.set_len(self.kept)?;
+        self.file.sync_all()?;
+        self.held = self.kept;
+        self.failed = false;
+        Ok(())
+    }
+}

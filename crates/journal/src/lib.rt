@@ -1,0 +1,17 @@
+//! A file that grows at its end, and how much of it a loss of power leaves.
+#![tactic(auto)]
+
+mod failures;
+mod fault;
+mod file;
+mod journal;
+mod memory;
+
+pub use failures::Failures;
+pub use fault::JournalFault;
+pub use file::Synced;
+pub use journal::Journal;
+pub use memory::Memory;
+
+#[cfg(test)]
+mod tests;

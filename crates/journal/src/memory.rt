@@ -1,0 +1,142 @@
+//! A journal in memory, which can fail and lose power.
+
+ghost use Rattle.std.specs.Prelude.{◌≡◌, ◌≢◌, ◌≤◌, ◌++◌, Err, IfErr, IfOk, OnErr, OnOk};
+ghost use Rattle.std.specs.Prelude.{length, option_map, take};
+ghost use Rattle.std.specs.Result.{result_err};
+ghost use Rattle.op_names.specs.Faults.{FailsBy};
+ghost use Rattle.journal.specs.Failures.{fault_now, after_call};
+ghost use Rattle.journal.specs.Memories.{AppendsAtMost};
+
+use crate::failures::Failures;
+use crate::fault::JournalFault;
+use crate::journal::Journal;
+use std::alloc::{AllocError, Global};
+use std::marker::Model;
+
+/// A journal in memory. Contracts see what it holds, what of it is kept, and which calls fail.
+#[derive(Drop)]
+pub struct Memory {
+    bytes: Vec<u8>,
+    synced: usize,
+    failures: Failures,
+}
+
+impl Model for Memory {
+    ghost use Rattle.std.specs.Prelude.{◌≤◌, take, vec_len};
+    ghost use Rattle.journal.specs.Memories.{Contents};
+
+    ghost Value = { Contents };
+
+    ghost view = { λ m. record {
+      held = m.bytes.items;
+      kept = take m.synced m.bytes.items;
+      failures = m.failures;
+    } };
+
+    ghost invariant = { λ m. m.synced ≤ vec_len m.bytes };
+}
+
+impl Memory {
+    /// A file with these bytes, all of them kept, whose calls fail so.
+    pub fn new(bytes: Vec<u8>, failures: Failures) -> Memory
+        ensures held { result.held ≡ bytes.items }
+        ensures kept { result.kept ≡ bytes.items }
+        ensures failures { result.failures ≡ failures }
+    {
+        let synced = bytes.len();
+        Memory {
+            bytes,
+            synced,
+            failures,
+        }
+    }
+
+    /// What is held.
+    pub fn bytes(&self) -> &[u8]
+        ensures { result.now ≡ self.now.held }
+    {
+        &self.bytes
+    }
+
+    /// What a loss of power leaves: what is kept, and behind it any bytes, as `tail`.
+    pub fn lose_power(&self, alloc: Global, tail: &[u8]) -> Result<Vec<u8>, AllocError>
+        ensures { IfOk result (λ left. left.items ≡ self.now.kept ++ tail.now) }
+    {
+        let mut left = self.bytes[..self.synced].to_vec(alloc)?;
+        left.extend_from_slice(tail)?;
+        Ok(left)
+    }
+
+    /// Counts a call, and says how it fails, if it does.
+    fn count_call(&mut self) -> Option<JournalFault>
+        ensures fault { result ≡ fault_now self.old.failures }
+        ensures held { self.new.held ≡ self.old.held }
+        ensures kept { self.new.kept ≡ self.old.kept }
+        ensures failures { self.new.failures ≡ after_call self.old.failures }
+    {
+        let fault = self.failures.fault_now();
+        self.failures = self.failures.after_call();
+        fault
+    }
+}
+
+impl Journal for Memory {
+    ghost use Rattle.std.specs.Prelude.{Some};
+
+    ghost held = { λ m. Some m.held };
+
+    ghost kept = { λ m. Some m.kept };
+
+    fn append(&mut self, bytes: &[u8]) -> Result<(), JournalFault>
+        ensures fault { FailsBy JournalFault.NoMemory (fault_now self.old.failures) result }
+        ensures held { OnOk result (self.new.held ≡ self.old.held ++ bytes.now) }
+        ensures memory { result ≡ Err JournalFault.NoMemory → self.new.held ≡ self.old.held }
+        ensures front { OnErr result
+            (AppendsAtMost self.old.failures.leaves self.old.held self.new.held bytes.now) }
+        ensures kept { self.new.kept ≡ self.old.kept }
+        ensures failures { self.new.failures ≡ after_call self.old.failures }
+    {
+        let leaves = self.failures.leaves;
+        if let Some(fault) = self.count_call() {
+            // Where memory is refused too, nothing is left of the bytes.
+            let _ = self
+                .bytes
+                .extend_from_slice(&bytes[..leaves.min(bytes.len())]);
+            return Err(fault);
+        }
+        match self.bytes.extend_from_slice(bytes) {
+            Ok(()) => Ok(()),
+            Err(_) => Err(JournalFault::NoMemory),
+        }
+    }
+
+    fn sync(&mut self) -> Result<(), JournalFault>
+        ensures fault { result_err result ≡ fault_now self.old.failures }
+        ensures held { self.new.held ≡ self.old.held }
+        ensures kept { OnOk result (self.new.kept ≡ self.old.held) }
+        ensures err { OnErr result (self.new.kept ≡ self.old.kept) }
+        ensures memory { result ≢ Err JournalFault.NoMemory }
+        ensures failures { self.new.failures ≡ after_call self.old.failures }
+    {
+        if let Some(fault) = self.count_call() {
+            return Err(fault);
+        }
+        self.synced = self.bytes.len();
+        Ok(())
+    }
+
+    fn cut(&mut self) -> Result<(), JournalFault>
+        ensures fault { result_err result ≡ fault_now self.old.failures }
+        ensures held { OnOk result (self.new.held ≡ self.old.kept) }
+        ensures err { OnErr result (self.new.held ≡ self.old.held) }
+        ensures kept { self.new.kept ≡ self.old.kept }
+        ensures memory { result ≢ Err JournalFault.NoMemory }
+        ensures failures { self.new.failures ≡ after_call self.old.failures }
+    {
+        if let Some(fault) = self.count_call() {
+            return Err(fault);
+        }
+        self.bytes.truncate(self.synced);
+        Ok(())
+    }
+}

@@ -1,0 +1,10 @@
+-- What may stand behind what is kept.
+use Rattle.std.specs.Prelude.{Bool, true, false}
+use Rattle.keeping.specs.declared.file.Tail.{Tail}
+use Rattle.keeping.specs.declared.file.Tail.TheVariants.{Nothing, Scraps, Broken}
+
+-- nothing does
+abbrev pub is_clean : Tail → Bool
+is_clean Nothing = true
+is_clean Scraps = false
+is_clean Broken = false

@@ -1,0 +1,66 @@
+//! The files of all rooms of a server.
+
+ghost use Rattle.std.specs.Prelude.{◌≡◌};
+
+use crate::file::RoomFile;
+use crate::kept::Kept;
+use crate::room::KeptRoom;
+use journal::Journal;
+use op_names::NoMemory;
+use room_lock::{Prefix, RoomLedger, Rooms};
+use sessions::{KeepFault, Keeper};
+use std::alloc::Global;
+use std::sync::Wait;
+
+/// The files of all rooms, by the places of the rooms. Threads that wait for one room's file share a
+/// write and a sync; those of different rooms don't wait for each other.
+#[derive(Drop)]
+pub struct Keeping<P: RoomLedger, J: Journal> {
+    rooms: Vec<KeptRoom<P, J>>,
+}
+
+impl<P: RoomLedger, J: Journal + Drop> Keeping<P, J> {
+    /// Keeps the rooms in these files, in the order of the rooms; or `NoMemory`.
+    pub fn new(alloc: Global, files: Vec<RoomFile<P, J>>) -> Result<Keeping<P, J>, NoMemory> {
+        let mut rooms = Vec::with_capacity(alloc, files.len())?;
+        for file in files {
+            rooms.push(KeptRoom::new(file))?;
+        }
+        Ok(Keeping { rooms })
+    }
+
+    /// Is each record kept as far as it was to be? Not where some file took no more, and no later write
+    /// mended it.
+    pub fn all_kept(&self, rt: &impl Wait) -> bool {
+        for room in &self.rooms {
+            if !room.is_clean(rt) {
+                return false;
+            }
+        }
+        true
+    }
+}
+
+impl<P: RoomLedger, J: Journal + Drop> Keeper<P> for Keeping<P, J> {
+    ghost use Rattle.keeping.specs.Kept.{IsKeptIn};
+
+    type Receipt = Kept<P>;
+
+    ghost shows = { λ kept told. IsKeptIn kept told };
+
+    /// Waits until this beginning of the room's record is in the room's file for good. One thread writes
+    /// all that the room has, by one write and one sync, for all that wait. `NotKept` where the file
+    /// took no more, or there is no such room.
+    fn keep(
+        &self,
+        rt: &impl Wait,
+        alloc: Global,
+        rooms: &Rooms<P>,
+        told: &Prefix<P>,
+    ) -> Result<Kept<P>, KeepFault> {
+        match self.rooms.get(told.place()) {
+            Some(room) => room.keep(rt, alloc, rooms, told),
+            None => Err(KeepFault::NotKept),
+        }
+    }
+}

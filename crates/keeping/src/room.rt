@@ -1,0 +1,129 @@
+//! One room's file, which threads share.
+
+ghost use Rattle.std.specs.Prelude.{◌≡◌, IfOk, OnErr};
+ghost use Rattle.keeping.specs.Kept.{IsKeptIn};
+ghost use Rattle.keeping.specs.Turns.{IfTold};
+
+use crate::file::RoomFile;
+use crate::kept::Kept;
+use journal::Journal;
+use room_lock::{CallFault, Prefix, RoomLedger, Rooms};
+use sessions::KeepFault;
+use std::alloc::Global;
+use std::sync::{Condvar, Mutex, Wait};
+
+/// A room's file and what is kept in it. One thread at a time has the file, and writes for all that wait.
+#[derive(Drop)]
+struct Desk<P: RoomLedger, J: Journal> {
+    kept: Kept<P>,
+    /// `None` while a thread writes.
+    file: Option<RoomFile<P, J>>,
+}
+
+/// A room's file, which threads share.
+#[derive(Drop)]
+pub(crate) struct KeptRoom<P: RoomLedger, J: Journal> {
+    desk: Mutex<Desk<P, J>>,
+    put_back: Condvar,
+}
+
+/// What a thread that waited is to do.
+#[derive(Drop)]
+pub(crate) enum Turn<P: RoomLedger, J: Journal> {
+    /// All that was told is kept.
+    Told(Kept<P>),
+    /// It is to write all that the room has, and to put the file back.
+    Writes(RoomFile<P, J>),
+}
+
+impl<P: RoomLedger, J: Journal + Drop> KeptRoom<P, J> {
+    /// A room whose file nobody has.
+    pub(crate) fn new(file: RoomFile<P, J>) -> KeptRoom<P, J> {
+        KeptRoom {
+            desk: Mutex::new(Desk {
+                kept: file.receipt().copy(),
+                file: Some(file),
+            }),
+            put_back: Condvar::new(),
+        }
+    }
+
+    /// Waits until this beginning of the room's record is kept, and writes it where nobody else does,
+    /// with all that the room has by then. `NotKept` where the file took no more, or is not the room's;
+    /// `NoMemory` where memory was refused.
+    pub(crate) fn keep(
+        &self,
+        rt: &impl Wait,
+        alloc: Global,
+        rooms: &Rooms<P>,
+        told: &Prefix<P>,
+    ) -> Result<Kept<P>, KeepFault>
+        ensures { IfOk result (λ kept. IsKeptIn kept told.now) }
+    {
+        let mut file = match self.turn(rt, told) {
+            Turn::Told(kept) => return Ok(kept),
+            Turn::Writes(file) => file,
+        };
+        let written = write_news(rt, alloc, rooms, &mut file);
+        let kept = file.receipt().copy();
+        self.put_back(rt, file);
+        written?;
+        if kept.covers(told) {
+            Ok(kept)
+        } else {
+            Err(KeepFault::NotKept)
+        }
+    }
+
+    /// Waits until this beginning of the room's record is kept, or nobody has the file.
+    fn turn(&self, rt: &impl Wait, told: &Prefix<P>) -> Turn<P, J>
+        ensures { IfTold (λ kept. IsKeptIn kept told.now) result }
+    {
+        let mut desk = self.desk.lock(rt);
+        for _ in rt.forever() {
+            if desk.kept.covers(told) {
+                return Turn::Told(desk.kept.copy());
+            }
+            if let Some(file) = desk.file.take() {
+                return Turn::Writes(file);
+            }
+            desk = self.put_back.wait(rt, desk);
+        }
+        unreachable!()
+    }
+
+    /// Puts the file back, and wakes all that wait.
+    fn put_back(&self, rt: &impl Wait, file: RoomFile<P, J>) {
+        let mut desk = self.desk.lock(rt);
+        desk.kept = file.receipt().copy();
+        desk.file = Some(file);
+        drop(desk);
+        self.put_back.notify_all();
+    }
+
+    /// Has the file taken all that it was given, or been mended since?
+    pub(crate) fn is_clean(&self, rt: &impl Wait) -> bool {
+        let desk = self.desk.lock(rt);
+        match &desk.file {
+            Some(file) => file.is_clean(),
+            None => true,
+        }
+    }
+}
+
+/// Writes what the room's record has beyond what is kept.
+fn write_news<P: RoomLedger, J: Journal>(
+    rt: &impl Wait,
+    alloc: Global,
+    rooms: &Rooms<P>,
+    file: &mut RoomFile<P, J>,
+) -> Result<(), KeepFault>
+    ensures { OnErr result (file.new ≡ file.old) }
+{
+    let news = match rooms.news(rt, alloc, file.receipt().prefix()) {
+        Ok(news) => news,
+        Err(CallFault::NoMemory) => return Err(KeepFault::NoMemory),
+        Err(CallFault::Torn { .. }) => return Err(KeepFault::NotKept),
+    };
+    file.keep(alloc, &news)
+}

@@ -1,0 +1,35 @@
+-- The text of a record.
+use Rattle.std.specs.Prelude.{◌≡◌, ◌≢◌, ℕ, List, [], ◌∷◌, ◌++◌, Some, flat_map, map, if◌then◌else◌}
+use Rattle.serde_json.specs.Written.{compact_text}
+use Rattle.rules.specs.declared.history.Entry.{Entry}
+use Rattle.wire.specs.Form.{entry_form}
+use Rattle.wire.specs.Lines.{ends_line, lines_of}
+use Rattle.wire.specs.Texts.{entry_read}
+
+-- the compact text of an entry, and an LF
+abbrev pub entry_line : Entry → List ℕ
+entry_line entry = compact_text (entry_form entry) ++ 10 ∷ []
+
+-- a line for each entry
+abbrev pub record_text : List Entry → List ℕ
+record_text entries = flat_map entry_line entries
+
+-- a byte of a line joins the bytes behind it, where these have an LF
+abbrev pub onto_whole : ℕ → List ℕ → List ℕ
+onto_whole byte [] = []
+onto_whole byte (x ∷ xs) = byte ∷ x ∷ xs
+
+-- none of the bytes ends a line
+abbrev pub IsOneLine : List ℕ → Type 0
+IsOneLine [] = Unit {0}
+IsOneLine (byte ∷ bytes) = (byte ≢ 10) × IsOneLine bytes
+
+-- the bytes up to the last LF, with it
+abbrev pub whole_part : List ℕ → List ℕ
+whole_part [] = []
+whole_part (byte ∷ bytes) = if ends_line byte then byte ∷ whole_part bytes else onto_whole byte (whole_part bytes)
+
+-- the bytes are whole lines, each a text of the entry at its place
+pub record AreLines (bytes : List ℕ) (r : List Entry) : Type 0 where
+  pub whole : whole_part bytes ≡ bytes
+  pub read : map entry_read (lines_of bytes) ≡ map Some r

@@ -1,0 +1,116 @@
+//! Entries in range. All their parts are by their types, but the site of a join. A proof hears it part
+//! by part.
+
+ghost use Rattle.std.specs.Prelude.{◌≡◌, ◌↔◌, All, IsTrue, true};
+ghost use Rattle.std.specs.Arc.{arc_value};
+ghost use Rattle.op_names.specs.Names.{is_op_name};
+ghost use Rattle.state_vector.specs.Vectors.{is_vector};
+ghost use Rattle.wire.specs.Form.{IsAttr, IsBody, IsEntry, IsId, IsValue};
+
+use op_names::{Key, MAX_SITE, OpName, Value, VersionId};
+use rules::{Body, Entry, Op};
+use std::sync::Arc;
+
+/// A name is in range.
+fn name_in_range(name: OpName)
+    ensures { is_op_name name ≡ true }
+{
+    let _site = name.site();
+    let _seq = name.seq();
+}
+
+/// Names are in range.
+fn names_in_range(names: &[OpName])
+    ensures { All (λ name. is_op_name name ≡ true) names.now }
+{
+    for name in names {
+        name_in_range(*name);
+    }
+}
+
+/// A version identifier is in range.
+fn id_in_range(id: &VersionId)
+    ensures { IsId id.now }
+{
+    names_in_range(id.names());
+}
+
+/// A value is in range.
+fn value_in_range(value: &Value)
+    ensures { IsValue value.now }
+{
+    match value {
+        Value::Number(number) => {
+            let _number = *number;
+        }
+        Value::Text(text) => {
+            let _text = text.text();
+        }
+    }
+}
+
+/// Attributes are in range, one by one.
+fn pairs_in_range(pairs: &[(Key, Value)])
+    ensures { All IsAttr pairs.now }
+{
+    for pair in pairs {
+        let _key = pair.0.text();
+        value_in_range(&pair.1);
+    }
+}
+
+/// What an operation does is in range.
+fn body_in_range(body: &Body)
+    ensures { IsBody body.now }
+{
+    match body {
+        Body::New { kind, attrs } => {
+            let _kind = kind.text();
+            pairs_in_range(attrs.pairs());
+        }
+        Body::Put {
+            object,
+            version,
+            pairs,
+        } => {
+            name_in_range(*object);
+            id_in_range(version);
+            pairs_in_range(pairs.pairs());
+        }
+        Body::DropVersion { object, version } => {
+            name_in_range(*object);
+            id_in_range(version);
+        }
+    }
+}
+
+/// An operation is in range.
+fn operation_in_range(op: &Op)
+    ensures name { is_op_name op.now.name ≡ true }
+    ensures seen { is_vector op.now.seen ≡ true }
+    ensures body { IsBody op.now.body }
+{
+    name_in_range(op.name);
+    let _seen = op.seen.pairs();
+    body_in_range(&op.body);
+}
+
+/// Is the entry in range? Linear in its names and attributes.
+pub fn is_in_range(entry: &Entry) -> bool
+    ensures { IsTrue result ↔ IsEntry entry.now }
+{
+    match entry {
+        Entry::Join(site) => 1 <= *site && *site <= MAX_SITE,
+        Entry::Operation(op) => {
+            operation_in_range(op);
+            true
+        }
+    }
+}
+
+/// Are all of the entries in range? Linear in their names and attributes.
+pub fn are_in_range(entries: &[Arc<Entry>]) -> bool
+    ensures { IsTrue result ↔ All (λ entry. IsEntry (arc_value entry)) entries.now }
+{
+    entries.iter().all(|entry| is_in_range(entry))
+}

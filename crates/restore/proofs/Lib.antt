@@ -1,0 +1,3 @@
+pub mod Lengths
+mod ReadSoFar
+mod Told

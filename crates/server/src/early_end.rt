@@ -1,0 +1,79 @@
+//! What ends `grace serve` early: its line on standard error, and its status.
+
+use commands::Fault;
+use op_names::NoMemory;
+use room_core::RoomsFault;
+use std::alloc::{AllocError, AllocFailed};
+use std::io::Write;
+use thiserror::Error;
+
+/// Why `grace serve` ends early, with the words that its line needs.
+#[derive(Clone, Copy, Debug, Error)]
+pub(crate) enum EarlyEnd<'a> {
+    #[error("{0}")]
+    Fault(Fault),
+    /// The folder is none, or it or a file in it may not be opened, read or written.
+    #[error("cannot keep: {0}")]
+    CannotKeep(&'a str),
+    #[error("kept by another: {0}")]
+    KeptByAnother(&'a str),
+    /// This line of the room's file is no entry that may come next. Nothing was changed.
+    #[error("bad record: {dir}/{room}.record line {line}; after a loss of power all that clients were told stands before it: keep a copy, and then the lines before {line} alone")]
+    BadRecord {
+        dir: &'a str,
+        room: &'a str,
+        line: usize,
+    },
+    /// A room's file took no more.
+    #[error("room not kept")]
+    NotKept,
+}
+
+impl EarlyEnd<'_> {
+    /// The status of a fault of any command, or 3.
+    pub(crate) fn status(self) -> u8 {
+        match self {
+            EarlyEnd::Fault(fault) => fault.status(),
+            EarlyEnd::CannotKeep(_)
+            | EarlyEnd::KeptByAnother(_)
+            | EarlyEnd::BadRecord { .. }
+            | EarlyEnd::NotKept => 3,
+        }
+    }
+
+    /// Writes its line. A write that fails changes nothing.
+    pub(crate) fn write_line<E: Write>(self, errors: &mut E) {
+        let _ = writeln!(errors, "grace: {self}");
+        let _ = errors.flush();
+    }
+}
+
+impl From<Fault> for EarlyEnd<'_> {
+    fn from(fault: Fault) -> Self {
+        EarlyEnd::Fault(fault)
+    }
+}
+
+impl From<RoomsFault> for EarlyEnd<'_> {
+    fn from(fault: RoomsFault) -> Self {
+        EarlyEnd::Fault(Fault::from(fault))
+    }
+}
+
+impl From<NoMemory> for EarlyEnd<'_> {
+    fn from(_fault: NoMemory) -> Self {
+        EarlyEnd::Fault(Fault::NoMemory)
+    }
+}
+
+impl From<AllocError> for EarlyEnd<'_> {
+    fn from(_fault: AllocError) -> Self {
+        EarlyEnd::Fault(Fault::NoMemory)
+    }
+}
+
+impl<T: Drop> From<AllocFailed<T>> for EarlyEnd<'_> {
+    fn from(_fault: AllocFailed<T>) -> Self {
+        EarlyEnd::Fault(Fault::NoMemory)
+    }
+}

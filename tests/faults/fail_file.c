@@ -1,0 +1,73 @@
+/* Fails calls on rooms' files, for tests: a library to be loaded before C's. Writes, cuts and syncs of files whose
+   names end in `.record`, and syncs of folders, are counted. The variable FAILED is the number of the one that fails,
+   from 1, and FAILURE the number of its error. With LASTS all after it fail too. A write that fails may leave a front
+   of its bytes: with SHORT the first half is written before. With the error 0 a write takes the first half alone, and
+   tells so. The line `failed` on standard error tells that it came to it. */
+
+#include <errno.h>
+#include <stdatomic.h>
+#include <stdio.h>
+#include <stdlib.h>
+#include <string.h>
+#include <sys/stat.h>
+#include <sys/syscall.h>
+#include <unistd.h>
+
+static atomic_long calls;
+static long failed;
+static int failure, lasts, is_short;
+
+__attribute__((constructor)) static void begin(void) {
+    const char *number = getenv("FAILED"), *error = getenv("FAILURE");
+    failed = number ? atol(number) : 0;
+    failure = error ? atoi(error) : EIO;
+    lasts = getenv("LASTS") != NULL;
+    is_short = getenv("SHORT") != NULL;
+}
+
+static int is_kept(int file) {
+    static const char end[] = ".record";
+    char link[64], path[4096];
+    struct stat status;
+    snprintf(link, sizeof link, "/proc/self/fd/%d", file);
+    ssize_t length = readlink(link, path, sizeof path);
+    if (length < (ssize_t)sizeof end - 1 || fstat(file, &status))
+        return 0;
+    return S_ISDIR(status.st_mode) || !memcmp(path + length - (sizeof end - 1), end, sizeof end - 1);
+}
+
+static int fails(int file) {
+    static const char notice[] = "failed\n";
+    if (!failed || !is_kept(file))
+        return 0;
+    long number = atomic_fetch_add(&calls, 1) + 1;
+    if (number != failed && !(lasts && number > failed))
+        return 0;
+    if (number == failed)
+        syscall(SYS_write, 2, notice, sizeof notice - 1);
+    errno = failure;
+    return 1;
+}
+
+static int is_failed(int file) { return fails(file) && failure; }
+
+ssize_t write(int file, const void *bytes, size_t count) {
+    if (!fails(file))
+        return syscall(SYS_write, file, bytes, count);
+    if (!failure)
+        return syscall(SYS_write, file, bytes, (count + 1) / 2);
+    if (is_short)
+        syscall(SYS_write, file, bytes, count / 2);
+    errno = failure;
+    return -1;
+}
+
+ssize_t __write(int file, const void *bytes, size_t count) { return write(file, bytes, count); }
+
+int fsync(int file) { return is_failed(file) ? -1 : (int)syscall(SYS_fsync, file); }
+
+int fdatasync(int file) { return is_failed(file) ? -1 : (int)syscall(SYS_fdatasync, file); }
+
+int ftruncate(int file, off_t length) { return is_failed(file) ? -1 : (int)syscall(SYS_ftruncate, file, length); }
+
+int ftruncate64(int file, off_t length) { return ftruncate(file, length); }

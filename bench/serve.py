@@ -36,7 +36,8 @@ class Server:
         with socket.socket() as probe:
             probe.bind(("127.0.0.1", 0))
             self.address = "127.0.0.1:{}".format(probe.getsockname()[1])
-        command = [program, "serve", self.address, str(clients), str(min(clients, 64)), *rooms]
+        name, *flags = [program] if isinstance(program, (str, pathlib.Path)) else program
+        command = [name, "serve", *flags, self.address, str(clients), str(min(clients, 64)), *rooms]
         self.process = subprocess.Popen(command, stdin=subprocess.DEVNULL, stdout=subprocess.PIPE, text=True)
         if self.process.stdout.readline() != f"listening {self.address}\n":
             self.process.kill()
@@ -64,9 +65,9 @@ class Server:
             sys.exit(f"bench: the server ended with {status} and {''.join(self.heads)!r:.300}")
 
 
-def measure(program, load, clients, sets, in_flight, rooms):
+def measure(program, load, clients, sets, in_flight, rooms, server_class=Server):
     """One run with a fresh server."""
-    server = Server(program, clients, rooms)
+    server = server_class(program, clients, rooms)
     try:
         return measure_server(server, load, clients, sets, in_flight, rooms)
     finally:

@@ -11,6 +11,7 @@ pub mod Bodies
 pub mod Operations
 pub mod Admission
 pub mod Groups
+pub mod HeldPairs
 pub mod Conflicts
 pub mod Versions
 pub mod Records

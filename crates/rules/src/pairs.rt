@@ -12,6 +12,7 @@ use crate::attrs::{copy_pairs, repeated_key};
 use op_names::{Key, NoMemory, Value};
 use std::alloc::Global;
 use std::marker::Model;
+use std::slice;
 use thiserror::Error;
 
 /// Why a list is none of the attributes of a put, the first cause that applies in this order.
@@ -26,18 +27,29 @@ pub enum PairsFault {
     Repeated(usize),
 }
 
+/// Most puts give one attribute, which needs no list.
+#[derive(Debug, Drop)]
+enum Held {
+    One((Key, Value)),
+    Several(Vec<(Key, Value)>),
+}
+
 /// The attributes of a put: 1 to 16, no key twice, in the order that they were given.
 #[derive(Debug, Drop)]
 pub struct Pairs {
-    pairs: Vec<(Key, Value)>,
+    held: Held,
 }
 
 impl Model for Pairs {
+    ghost use Rattle.std.specs.Prelude.{◌≡◌, List, true};
+    ghost use Rattle.rules.specs.AttrLists.{Attr, are_pairs};
+    ghost use Rattle.rules.specs.HeldPairs.{pairs_held};
+
     ghost Value = { List Attr };
 
-    ghost view = { λ pairs. pairs.pairs.items };
+    ghost view = { λ pairs. pairs_held pairs.held };
 
-    ghost invariant = { λ pairs. are_pairs pairs.pairs.items ≡ true };
+    ghost invariant = { λ pairs. are_pairs (pairs_held pairs.held) ≡ true };
 }
 
 /// Does one of the pairs give the key a value other than this one?
@@ -74,18 +86,20 @@ impl Pairs {
         }
         match repeated_key(&pairs) {
             Some(place) => Err(PairsFault::Repeated(place)),
-            None => Ok(Pairs { pairs }),
+            None => Ok(Pairs {
+                held: Held::Several(pairs),
+            }),
         }
     }
 
-    /// One pair alone.
+    /// One pair alone. Takes no memory.
     #[tactic(auto, unfolding(crate::specs::AttrLists::pairs_fault))]
-    pub fn one(alloc: Global, key: Key, value: Value) -> Result<Pairs, NoMemory>
-        ensures { IfOk result (λ pairs. pairs ≡ (key, value) ∷ []) }
+    pub fn one(key: Key, value: Value) -> Pairs
+        ensures { result ≡ (key, value) ∷ [] }
     {
-        let mut pairs = Vec::with_capacity(alloc, 1)?;
-        pairs.push((key, value))?;
-        Ok(Pairs { pairs })
+        Pairs {
+            held: Held::One((key, value)),
+        }
     }
 
     /// The pairs of a key and a value, in the order that they were given.
@@ -93,7 +107,10 @@ impl Pairs {
         ensures pairs { result.now ≡ self.now }
         ensures range { are_pairs self.now ≡ true }
     {
-        &self.pairs
+        match &self.held {
+            Held::One(pair) => slice::from_ref(pair),
+            Held::Several(pairs) => pairs,
+        }
     }
 
     /// Do these and the others give some key different values?
@@ -108,8 +125,11 @@ impl Pairs {
     pub fn copy(&self, alloc: Global) -> Result<Pairs, NoMemory>
         ensures { IfOk result (λ pairs. pairs ≡ self.now) }
     {
-        let pairs = copy_pairs(alloc, &self.pairs)?;
-        Ok(Pairs { pairs })
+        let held = match &self.held {
+            Held::One((key, value)) => Held::One((key.copy(alloc)?, value.copy(alloc)?)),
+            Held::Several(pairs) => Held::Several(copy_pairs(alloc, pairs)?),
+        };
+        Ok(Pairs { held })
     }
 }
 
@@ -119,7 +139,7 @@ impl PartialEq for Pairs {
     ghost laws = { Prim.search (comparing, same_value-equivalence, rules) };
 
     fn eq(&self, other: &Pairs) -> bool {
-        self.pairs.as_slice() == other.pairs.as_slice()
+        self.pairs() == other.pairs()
     }
 }
 

@@ -13,6 +13,7 @@ ghost use Rattle.std.specs.Cmp.Rules.{comparing};
 ghost use Rattle.std.proofs.Common.{rules};
 
 use op_names::{MAX_SEQ, MAX_SITE, NoMemory, OpName};
+use smallvec::SmallVec;
 use std::alloc::{AllocError, Global};
 use std::marker::Model;
 use thiserror::Error;
@@ -41,10 +42,13 @@ impl From<AllocError> for VectorFault {
     }
 }
 
+/// Pairs of a site and a count, of which up to four need no allocation: most vectors have no more.
+pub type SitePairs = SmallVec<(u32, u32), 4>;
+
 /// A map from sites to counts: strictly rising sites from 1 to 256, with counts from 1 to 16,384.
 #[derive(Debug, Drop)]
 pub struct StateVector {
-    pairs: Vec<(u32, u32)>,
+    pairs: SitePairs,
 }
 
 impl Model for StateVector {
@@ -118,7 +122,7 @@ impl StateVector {
         ensures { result ≡ [] }
     {
         StateVector {
-            pairs: Vec::new(alloc),
+            pairs: SmallVec::new(alloc),
         }
     }
 
@@ -132,13 +136,13 @@ impl StateVector {
         if let Some(fault) = vector_fault(pairs) {
             return Err(fault);
         }
-        let pairs = Vec::from_slice(alloc, pairs)?;
+        let pairs = SmallVec::from_slice(alloc, pairs)?;
         Ok(StateVector { pairs })
     }
 
     /// The vector of these pairs of a site and a count, which it takes as they stand. Otherwise the
     /// fault of the first bad pair.
-    pub fn from_vec(pairs: Vec<(u32, u32)>) -> Result<StateVector, VectorFault>
+    pub fn from_site_pairs(pairs: SitePairs) -> Result<StateVector, VectorFault>
         ensures ok { IfOk result (λ vector. vector ≡ pairs.items) }
         ensures fault { result_err result ≡ vector_fault pairs.items }
         ensures refused { OnErr result (is_vector pairs.items ≡ false) }
@@ -194,7 +198,7 @@ impl StateVector {
     pub fn copy(&self, alloc: Global) -> Result<StateVector, NoMemory>
         ensures { IfOk result (λ vector. vector ≡ self.now) }
     {
-        let pairs = Vec::from_slice(alloc, &self.pairs)?;
+        let pairs = SmallVec::from_slice(alloc, &self.pairs)?;
         Ok(StateVector { pairs })
     }
 }

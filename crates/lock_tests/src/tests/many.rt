@@ -115,7 +115,7 @@ fn shows_and_puts<P: RoomLedger>(
         body: Body::Put {
             object: OpName::new(1, 1).expect(rt, "a name"),
             version,
-            pairs: Pairs::one(rt.alloc(), key, Value::Number(i64::from(turn))).expect(rt, "memory"),
+            pairs: Pairs::one(key, Value::Number(i64::from(turn))),
         },
     };
     match rooms

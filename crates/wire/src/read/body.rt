@@ -64,11 +64,10 @@ fn set_of(alloc: Global, fields: &[Value]) -> Result<Body, ReadFault>
     let version = id_of(alloc, version)?;
     let key = key_of(alloc, key)?;
     let value = value_of(alloc, value)?;
-    let pairs = Pairs::one(alloc, key, value)?;
     Ok(Body::Put {
         object,
         version,
-        pairs,
+        pairs: Pairs::one(key, value),
     })
 }
 

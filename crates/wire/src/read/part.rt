@@ -12,7 +12,7 @@ use crate::fault::ReadFault;
 use op_names::{Key, Kind, OpName, RoomName, VersionId};
 use rules::{Attrs, Pairs};
 use serde_json::Value;
-use state_vector::StateVector;
+use state_vector::{SitePairs, StateVector};
 use std::alloc::Global;
 
 /// The items of a list. Otherwise `Bad`.
@@ -135,25 +135,25 @@ pub(crate) fn list_of<P: Part>(alloc: Global, value: &Value) -> Result<Vec<P>, R
     Ok(parts)
 }
 
-/// A site and a count.
-impl Part for (u32, u32) {
-    ghost Seen = { ℕ × ℕ };
-
-    ghost seen = { λ pair. pair };
-
-    ghost read_in = { pair_in };
-
-    fn read(_alloc: Global, value: &Value) -> Result<(u32, u32), ReadFault> {
-        pair_of(value)
+/// Pairs of a site and a count.
+#[tactic(auto, unfolding(crate::specs::Reading::list_in, crate::specs::Reading::all_in))]
+fn site_pairs_of(alloc: Global, value: &Value) -> Result<SitePairs, ReadFault>
+    ensures { Gives (λ pairs. pairs.items) result (list_in pair_in (view value.now)) }
+{
+    let items = items_of(value)?;
+    let mut pairs = SitePairs::with_capacity(alloc, items.len())?;
+    for item in items {
+        pairs.push(pair_of(item)?)?;
     }
+    Ok(pairs)
 }
 
-#[tactic(auto, using(crate::proofs::Maps::map_same), unfolding(crate::specs::Reading::seen_in))]
+#[tactic(auto, unfolding(crate::specs::Reading::seen_in))]
 pub(crate) fn seen_of(alloc: Global, value: &Value) -> Result<StateVector, ReadFault>
     ensures { Gives (λ seen. seen) result (seen_in (view value.now)) }
 {
-    let pairs: Vec<(u32, u32)> = list_of(alloc, value)?;
-    Ok(StateVector::from_vec(pairs)?)
+    let pairs = site_pairs_of(alloc, value)?;
+    Ok(StateVector::from_site_pairs(pairs)?)
 }
 
 impl Part for OpName {
@@ -233,6 +233,10 @@ pub(crate) fn attrs_of(alloc: Global, value: &Value) -> Result<Attrs, ReadFault>
 pub(crate) fn pairs_of(alloc: Global, value: &Value) -> Result<Pairs, ReadFault>
     ensures { Gives (λ pairs. pairs) result (pairs_in (view value.now)) }
 {
+    if let [pair] = items_of(value)? {
+        let (key, held) = Part::read(alloc, pair)?;
+        return Ok(Pairs::one(key, held));
+    }
     let pairs: Vec<(Key, op_names::Value)> = list_of(alloc, value)?;
     Pairs::from_pairs(pairs).map_err(|_| ReadFault::Bad)
 }

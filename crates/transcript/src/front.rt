@@ -11,7 +11,7 @@ use crate::order::Order;
 use op_names::NoMemory;
 use std::alloc::Global;
 use std::marker::Model;
-use wire::ReadFault;
+use wire::if_in_form;
 
 /// The first lines of a transcript, and whether reading stopped before its end.
 #[derive(Drop)]
@@ -32,10 +32,9 @@ impl Model for Front {
 fn next_line(alloc: Global, order: &Order, bytes: &[u8]) -> Result<Option<TranscriptLine>, NoMemory>
     ensures { IfOk result (IsNextIn order.now bytes.now) }
 {
-    match read_line(alloc, bytes) {
-        Ok(line) => Ok(if order.takes(&line) { Some(line) } else { None }),
-        Err(ReadFault::Bad) => Ok(None),
-        Err(ReadFault::NoMemory) => Err(NoMemory),
+    match if_in_form(read_line(alloc, bytes))? {
+        Some(line) if order.takes(&line) => Ok(Some(line)),
+        _ => Ok(None),
     }
 }
 

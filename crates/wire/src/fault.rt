@@ -1,6 +1,6 @@
 //! What can go wrong: memory, and bytes that are out of form.
 
-ghost use Rattle.std.specs.Prelude.{◌≡◌};
+ghost use Rattle.std.specs.Prelude.{◌≡◌, Err, IfNone, IfOk, IfSome, Ok, OnErr};
 ghost use Rattle.wire.specs.declared.fault.ReadFault.TheVariants.{Bad, NoMemory};
 
 use op_names::{ListFault, NameFault};
@@ -16,6 +16,19 @@ pub enum ReadFault {
     Bad,
     #[error("out of memory")]
     NoMemory,
+}
+
+/// What was read, or `None` where the bytes have no such form. Otherwise `NoMemory`.
+pub fn if_in_form<T>(read: Result<T, ReadFault>) -> Result<Option<T>, op_names::NoMemory>
+    ensures some { IfOk result (λ found. IfSome found (λ value. read ≡ Ok value)) }
+    ensures none { IfOk result (λ found. IfNone found (read ≡ Err Bad)) }
+    ensures err { OnErr result (read ≡ Err NoMemory) }
+{
+    match read {
+        Ok(value) => Ok(Some(value)),
+        Err(ReadFault::Bad) => Ok(None),
+        Err(ReadFault::NoMemory) => Err(op_names::NoMemory),
+    }
 }
 
 impl From<AllocError> for ReadFault {

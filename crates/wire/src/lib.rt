@@ -10,7 +10,7 @@ mod reply;
 mod request;
 mod write;
 
-pub use fault::ReadFault;
+pub use fault::{ReadFault, if_in_form};
 pub use lists::{EntryList, IdList, ObjectList, VersionList};
 pub use read::{
     items_of, json_of, read_entry, read_reply, read_request, reply_of, request_of, whole_of,

@@ -31,7 +31,7 @@ use std::alloc::Global;
 use std::collections::BTreeMap;
 use std::marker::Model;
 use std::sync::Arc;
-use wire::{ReadFault, Refusal, Reply, Request, read_request, write_reply};
+use wire::{Refusal, Reply, Request, if_in_form, read_request, write_reply};
 
 /// Rooms, and who is in them.
 #[derive(Drop)]
@@ -55,11 +55,7 @@ impl Model for World {
 fn request_read(alloc: Global, bytes: &[u8]) -> Result<Option<Request>, NoMemory>
     ensures { IfOk result (λ request. request ≡ request_read bytes.now) }
 {
-    match read_request(alloc, bytes) {
-        Ok(request) => Ok(Some(request)),
-        Err(ReadFault::Bad) => Ok(None),
-        Err(ReadFault::NoMemory) => Err(NoMemory),
-    }
+    if_in_form(read_request(alloc, bytes))
 }
 
 /// The text of a refusal that looks into no room.

@@ -1,5 +1,6 @@
 pub mod Fronts
 pub mod WithChanges
+pub mod AtPlace
 pub mod Lookup
 pub mod NewNames
 pub mod OneMore

@@ -1,6 +1,7 @@
 -- What may be added to a drawing, and what is planned for it.
 use Rattle.std.specs.Prelude.{◌≡◌, ℕ, ◌<◌, [], List, Option, Some, None, true, false, length, if◌then◌else◌}
-use Rattle.std.specs.Map.{lookup}
+use Rattle.std.specs.List.{position}
+use Rattle.std.specs.Map.{lookup, keys_of}
 use Rattle.op_names.specs.Names.{Name, same_name}
 use Rattle.state_vector.specs.Vectors.{is_vector}
 use Rattle.rules.specs.declared.history.Op.{Op}
@@ -49,11 +50,14 @@ pub record Added : Type 0 where
 abbrev pub ids_of : Part → Option (List (List Name))
 ids_of part.Join = None
 ids_of (part.Creation op shape) = None
-ids_of (part.Change op planned) = Some planned.ids
+ids_of (part.Change place op planned) = Some planned.ids
 
--- a shape stands under this name, and this holds of it
-abbrev pub HasShape : List (Name × Stored) → Name → (Stored → Type 0) → Type 0
-HasShape shapes name Holds = (d : Stored) × (lookup (same_name name) shapes ≡ Some d) × Holds d
+-- a shape stands under this name, at this place, and this holds of it
+pub record HasShape (shapes : List (Name × Stored)) (name : Name) (place : ℕ) (Holds : Stored → Type 0) : Type 0 where
+  pub at : position (same_name name) (keys_of shapes) ≡ Some place
+  pub shape : Stored
+  pub named : lookup (same_name name) shapes ≡ Some shape
+  pub holds : Holds shape
 
 pub record CanJoin (s : State) (entry : Entry) : Type 0 where
   pub site : ℕ
@@ -73,16 +77,16 @@ pub record CanCreate (s : State) (op : Op) (shape : Stored) : Type 0 where
   pub created : shape.object ≡ record { limits = s.room.limits; creation = op; changes = [] }
   pub place : 0 < s.reserve.objects
 
-pub record CanChange (s : State) (op : Op) (planned : ChangePlan) : Type 0 where
+pub record CanChange (s : State) (place : ℕ) (op : Op) (planned : ChangePlan) : Type 0 where
   pub change : is_change_body op.body ≡ true
   pub added : planned.addition.op ≡ op
-  pub shape : HasShape s.reserve.shapes (object_of op) (λ d. IsPlanned d planned)
+  pub shape : HasShape s.reserve.shapes (object_of op) place (λ d. IsPlanned d planned)
 
 -- this part of an entry can be added, and takes no memory
 abbrev pub IsReadyPart : State → Entry → Part → Type 0
 IsReadyPart s entry part.Join = CanJoin s entry
 IsReadyPart s entry (part.Creation op shape) = CanAdd s entry op × CanCreate s op shape
-IsReadyPart s entry (part.Change op planned) = CanAdd s entry op × CanChange s op planned
+IsReadyPart s entry (part.Change place op planned) = CanAdd s entry op × CanChange s place op planned
 
 -- the entry can be added as planned, and takes no memory
 abbrev pub IsReady : State → Added → Type 0

@@ -20,8 +20,8 @@ pub(crate) enum Part {
     Join,
     /// A creation adds the operation and its object.
     Creation(SharedOp, Shape),
-    /// A change adds the operation, and what is planned for its object.
-    Change(SharedOp, PlannedChange),
+    /// A change adds the operation, and what is planned for its object, which stands at this place.
+    Change(usize, SharedOp, PlannedChange),
 }
 
 /// An entry that a drawing can add without an allocation. Only the plans of `Drawing` make one.
@@ -67,7 +67,7 @@ impl Addition {
     {
         match &mut self.part {
             Part::Join | Part::Creation(..) => None,
-            Part::Change(_, planned) => Some(planned.take_ids(alloc)),
+            Part::Change(_, _, planned) => Some(planned.take_ids(alloc)),
         }
     }
 }

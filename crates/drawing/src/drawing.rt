@@ -195,7 +195,7 @@ impl Drawing {
         match part {
             Part::Join => self.add_join(entry),
             Part::Creation(op, shape) => self.add_creation(entry, op, shape),
-            Part::Change(op, planned) => self.add_change(entry, op, planned),
+            Part::Change(place, op, planned) => self.add_change(entry, place, op, planned),
         }
     }
 
@@ -219,16 +219,15 @@ impl Drawing {
         insert_reserved(&mut self.objects, name, shape);
     }
 
-    /// Adds a change, and changes its object as planned.
-    fn add_change(&mut self, entry: Arc<Entry>, op: SharedOp, planned: PlannedChange)
+    /// Adds a change, and changes its object, which stands at this place, as planned.
+    fn add_change(&mut self, entry: Arc<Entry>, place: usize, op: SharedOp, planned: PlannedChange)
         requires operation { CanAdd self.old (arc_value entry) op }
-        requires change { CanChange self.old op planned }
+        requires change { CanChange self.old place op planned }
         ensures { self.new.room ≡ with_entry self.old.room (Some (arc_value entry)) }
     {
-        let object = object_of(&op);
         self.entries.push_reserved(entry);
         add_reserved(&mut self.past, op);
-        match self.objects.get_mut(&object) {
+        match self.objects.get_index_mut(place) {
             Some(shape) => shape.commit(planned),
             None => unreachable!(),
         }

@@ -103,11 +103,11 @@ impl Drawing {
         }
         let op = SharedOp::new(alloc, op)?;
         self.reserve_operation(op.name.site())?;
-        let planned = self.plan_at_object(alloc, op.share()?)?;
+        let (place, planned) = self.plan_at_object(alloc, op.share()?)?;
         let entry = op.entry()?;
         Ok(Addition {
             entry,
-            part: Part::Change(op, planned),
+            part: Part::Change(place, op, planned),
         })
     }
 
@@ -123,16 +123,20 @@ impl Drawing {
         Ok(())
     }
 
-    /// Plans a change that counts the name of its object, on that object.
-    fn plan_at_object(&mut self, alloc: Global, op: SharedOp) -> Result<PlannedChange, AddFault>
+    /// Plans a change that counts the name of its object, on that object, and gives the object's place.
+    fn plan_at_object(
+        &mut self,
+        alloc: Global,
+        op: SharedOp,
+    ) -> Result<(usize, PlannedChange), AddFault>
         requires next { IsNext self.old.room op }
         requires change { is_change_body op.body ≡ true }
         requires counted { counts op.seen (object_of op) ≡ true }
         // The plan for the object as it then is.
         ensures shape { IfOk result
-            (λ p. HasShape self.new.reserve.shapes (object_of op) (λ d. IsPlanned d p)) }
-        ensures added { IfOk result (λ p. p.addition.op ≡ op) }
-        ensures ids { IfOk result (λ p. p.ids ≡ ids_with self.old.room op) }
+            (λ p. HasShape self.new.reserve.shapes (object_of op) p.0 (λ d. IsPlanned d p.1)) }
+        ensures added { IfOk result (λ p. p.1.addition.op ≡ op) }
+        ensures ids { IfOk result (λ p. p.1.ids ≡ ids_with self.old.room op) }
         // Whether there is one.
         ensures allowed { OnOk result (body_refusal self.old.room op ≡ None) }
         ensures refused { IfErr result (IsRefusal (body_refusal self.old.room op)) }
@@ -141,9 +145,12 @@ impl Drawing {
         ensures operations { self.new.reserve.operations ≡ self.old.reserve.operations }
         ensures room { self.new.room ≡ self.old.room }
     {
-        let Some(shape) = self.objects.get_mut(&object_of(&op)) else {
+        let Some(place) = self.objects.get_index_of(&object_of(&op)) else {
             return Err(AddFault::Refused(Refusal::NoSuchObject));
         };
-        Ok(shape.plan_change(alloc, op)?)
+        let Some(shape) = self.objects.get_index_mut(place) else {
+            unreachable!()
+        };
+        Ok((place, shape.plan_change(alloc, op)?))
     }
 }

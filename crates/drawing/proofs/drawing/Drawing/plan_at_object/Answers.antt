@@ -1,7 +1,9 @@
 use Rattle.std.proofs.Common.{◌≡◌, map, sym, subst, ap, ◌∙◌}
 use Rattle.std.specs.Prelude.{IfErr}
 use Rattle.std.specs.Arc.{arc_value}
-use Rattle.std.specs.Map.{lookup}
+use Rattle.std.specs.List.{position}
+use Rattle.std.specs.Map.{lookup, keys_of}
+use Rattle.indexmap.specs.IndexMap.{set_value_at}
 use Rattle.op_names.specs.Names.{Name, same_name}
 use Rattle.rules.specs.Operations.{object_of}
 use Rattle.shape.specs.Faults.{IsRefusal as IsChangeRefusal}
@@ -10,6 +12,7 @@ use Rattle.drawing.specs.Faults.{IsRefusal, of_change}
 use Rattle.drawing.specs.Room.{room_of}
 use Rattle.drawing.specs.Shown.{ids_with}
 use Rattle.drawing.specs.State.{State}
+use Rattle.drawing.proofs.AtPlace.{keys_stay, none_found, set_at}
 use Rattle.drawing.proofs.Refused.{by_object, ids_are, if_err, may_be_asked, not_there, refused_alike}
 use Rattle.drawing.proofs.Replay.{replay_same}
 use Rattle.drawing.proofs.WithChanges.{lookup_set}
@@ -19,7 +22,7 @@ pub returns-in_default-clause-refused : goal.returns-in_default-clause-refused
 returns-in_default-clause-refused c =
     let i = c.self.inside in
     let named = c.object_of.ensures ∙ ap object_of c.deref.ensures in
-    let none = ap (λ (n : Name). lookup (same_name n) i.objects.entries) (sym named) ∙ sym c.in_default.ensures.value in
+    let none = ap (λ (n : Name). lookup (same_name n) i.objects.entries) (sym named) ∙ none_found (lookup (same_name c.object_of.result) i.objects.entries) c.in_default.ensures.found in
     λ n. ap (λ (s : State). body_refusal s.room c.args.op) (sym c.self.view_is)
     ∙ not_there (room_of i.limits (map arc_value i.entries.items)) c.args.op c.requires.change i.objects.entries i.past.history c.self.invariant c.requires.counted none
 
@@ -27,60 +30,74 @@ pub plan_change-requires : goal.plan_change-requires
 plan_change-requires c =
     let i = c.self.inside in
     let named = c.object_of.ensures ∙ ap object_of c.deref.ensures in
-    let there = ap (λ (n : Name). lookup (same_name n) i.objects.entries) (sym named) ∙ sym c.in-Some.ensures.value in
+    let found = c.in-Some-get_index_mut.ensures.value ∙ c.in-Some.ensures.value in
+    let there = ap (λ (n : Name). lookup (same_name n) i.objects.entries) (sym named) ∙ sym found in
     let next = subst (λ (s : State). IsNext s.room c.args.op) (sym c.self.view_is) c.requires.next in
-    may_be_asked (room_of i.limits (map arc_value i.entries.items)) c.args.op c.requires.change i.objects.entries i.past.history c.self.invariant c.requires.counted c.in-Some.shape.now there next
+    may_be_asked (room_of i.limits (map arc_value i.entries.items)) c.args.op c.requires.change i.objects.entries i.past.history c.self.invariant c.requires.counted c.in-Some-get_index_mut.shape.now there next
 
-pub invariant_of-self-in_err-plan_change : goal.invariant_of-self-in_err-plan_change
-invariant_of-self-in_err-plan_change c =
-    rw (c.get_mut.follows.holds c.plan_change.new.self).0
-    (replay_same _ _ _ c.self.invariant (same_name c.object_of.result) c.in-Some.shape.now c.plan_change.new.self (sym c.in-Some.ensures.value) c.plan_change.ensures.object)
+pub invariant_of-self : goal.invariant_of-self
+invariant_of-self c =
+    let found = c.in-Some-get_index_mut.ensures.value ∙ c.in-Some.ensures.value in
+    rw (set_at (same_name c.object_of.result) c.self.inside.objects.entries c.in-Some.place c.plan_change.new.self (sym c.in-Some.ensures.index))
+    (replay_same _ _ _ c.self.invariant (same_name c.object_of.result) c.in-Some-get_index_mut.shape.now c.plan_change.new.self (sym found) c.plan_change.ensures.object)
 
 pub returns-in_err-plan_change-clause-refused : goal.returns-in_err-plan_change-clause-refused
 returns-in_err-plan_change-clause-refused c =
     let i = c.self.inside in
     let room = room_of i.limits (map arc_value i.entries.items) in
     let named = c.object_of.ensures ∙ ap object_of c.deref.ensures in
-    let there = ap (λ (n : Name). lookup (same_name n) i.objects.entries) (sym named) ∙ sym c.in-Some.ensures.value in
+    let found = c.in-Some-get_index_mut.ensures.value ∙ c.in-Some.ensures.value in
+    let there = ap (λ (n : Name). lookup (same_name n) i.objects.entries) (sym named) ∙ sym found in
     let fault = c.in_err-plan_change.field-0.0 in
     let refusal = body_refusal room c.args.op in
     let is : IsChangeRefusal refusal fault = λ n.
-    by_object room c.args.op c.requires.change i.objects.entries i.past.history c.self.invariant c.requires.counted c.in-Some.shape.now there ∙ c.in_err-plan_change.ensures.refused n in
+    by_object room c.args.op c.requires.change i.objects.entries i.past.history c.self.invariant c.requires.counted c.in-Some-get_index_mut.shape.now there ∙ c.in_err-plan_change.ensures.refused n in
     subst (λ (s : State). IfErr c.from_residual.result (IsRefusal (body_refusal s.room c.args.op))) c.self.view_is
     (if_err c.from_residual.result (λ e. e ≡ of_change fault) (IsRefusal refusal) (λ e given. subst (IsRefusal refusal) (sym given) (refused_alike refusal fault is)) c.from_residual.ensures.1)
 
 pub invariant_of-self-2 : goal.invariant_of-self-2
 invariant_of-self-2 c =
-    rw (c.get_mut.follows.holds c.plan_change.new.self).0
-    (replay_same _ _ _ c.self.invariant (same_name c.object_of.result) c.in-Some.shape.now c.plan_change.new.self (sym c.in-Some.ensures.value) c.plan_change.ensures.object)
+    let found = c.in-Some-get_index_mut.ensures.value ∙ c.in-Some.ensures.value in
+    rw (set_at (same_name c.object_of.result) c.self.inside.objects.entries c.in-Some.place c.plan_change.new.self (sym c.in-Some.ensures.index))
+    (replay_same _ _ _ c.self.invariant (same_name c.object_of.result) c.in-Some-get_index_mut.shape.now c.plan_change.new.self (sym found) c.plan_change.ensures.object)
 
 pub returns-clause-shape : goal.returns-clause-shape
 returns-clause-shape c =
-    let i = c.self.inside in
+    let shapes = c.self.inside.objects.entries in
+    let place = c.in-Some.place in
+    let planned = c.plan_change.new.self in
     let named = c.object_of.ensures ∙ ap object_of c.deref.ensures in
-    let after = (c.get_mut.follows.holds c.plan_change.new.self).0 in (
-      c.plan_change.new.self,
-      ap (λ (n : Name). lookup (same_name n) (c.get_mut.follows.lender c.plan_change.new.self).entries) (sym named)
-          ∙ ap (lookup (same_name c.object_of.result)) after
-          ∙ lookup_set (same_name c.object_of.result) c.in-Some.shape.now c.plan_change.new.self i.objects.entries (sym c.in-Some.ensures.value),
-      c.in_ok-plan_change.ensures.planned,
-    )
+    let found = c.in-Some-get_index_mut.ensures.value ∙ c.in-Some.ensures.value in
+    record {
+      at =
+          ap (λ (n : Name). position (same_name n) (keys_of (set_value_at shapes place planned))) (sym named)
+          ∙ ap (position (same_name c.object_of.result)) (keys_stay shapes place planned)
+          ∙ sym c.in-Some.ensures.index;
+      shape = planned;
+      named =
+          ap (λ (n : Name). lookup (same_name n) (set_value_at shapes place planned)) (sym named)
+          ∙ ap (lookup (same_name c.object_of.result)) (set_at (same_name c.object_of.result) shapes place planned (sym c.in-Some.ensures.index))
+          ∙ lookup_set (same_name c.object_of.result) c.in-Some-get_index_mut.shape.now planned shapes (sym found);
+      holds = c.in_ok-plan_change.ensures.planned;
+    }
 
 pub returns-clause-ids : goal.returns-clause-ids
 returns-clause-ids c =
     let i = c.self.inside in
     let named = c.object_of.ensures ∙ ap object_of c.deref.ensures in
-    let there = ap (λ (n : Name). lookup (same_name n) i.objects.entries) (sym named) ∙ sym c.in-Some.ensures.value in
+    let found = c.in-Some-get_index_mut.ensures.value ∙ c.in-Some.ensures.value in
+    let there = ap (λ (n : Name). lookup (same_name n) i.objects.entries) (sym named) ∙ sym found in
     let next = subst (λ (s : State). IsNext s.room c.args.op) (sym c.self.view_is) c.requires.next in
     c.in_ok-plan_change.ensures.ids
-    ∙ ids_are (room_of i.limits (map arc_value i.entries.items)) c.args.op c.requires.change i.objects.entries i.past.history c.self.invariant c.requires.counted c.in-Some.shape.now there next
+    ∙ ids_are (room_of i.limits (map arc_value i.entries.items)) c.args.op c.requires.change i.objects.entries i.past.history c.self.invariant c.requires.counted c.in-Some-get_index_mut.shape.now there next
     ∙ ap (λ (s : State). ids_with s.room c.args.op) c.self.view_is
 
 pub returns-clause-allowed : goal.returns-clause-allowed
 returns-clause-allowed c =
     let i = c.self.inside in
     let named = c.object_of.ensures ∙ ap object_of c.deref.ensures in
-    let there = ap (λ (n : Name). lookup (same_name n) i.objects.entries) (sym named) ∙ sym c.in-Some.ensures.value in
+    let found = c.in-Some-get_index_mut.ensures.value ∙ c.in-Some.ensures.value in
+    let there = ap (λ (n : Name). lookup (same_name n) i.objects.entries) (sym named) ∙ sym found in
     ap (λ (s : State). body_refusal s.room c.args.op) (sym c.self.view_is)
-    ∙ by_object (room_of i.limits (map arc_value i.entries.items)) c.args.op c.requires.change i.objects.entries i.past.history c.self.invariant c.requires.counted c.in-Some.shape.now there
+    ∙ by_object (room_of i.limits (map arc_value i.entries.items)) c.args.op c.requires.change i.objects.entries i.past.history c.self.invariant c.requires.counted c.in-Some-get_index_mut.shape.now there
     ∙ c.in_ok-plan_change.ensures.taken

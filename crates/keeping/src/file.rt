@@ -5,8 +5,10 @@ ghost use Rattle.std.specs.Arc.{arc_value};
 ghost use Rattle.record_file.specs.RecordText.{AreLines, record_text};
 ghost use Rattle.keeping.specs.Tails.{is_clean};
 
-use crate::kept::Kept;
+mod kept;
+
 use journal::{Journal, JournalFault, Synced};
+pub use kept::Kept;
 use op_names::NoMemory;
 use record_file::append;
 use room_lock::{News, Prefix, RoomLedger};

@@ -2,8 +2,7 @@
 
 ghost use Rattle.std.specs.Prelude.{◌≡◌};
 
-use crate::file::RoomFile;
-use crate::kept::Kept;
+use crate::file::{Kept, RoomFile};
 use crate::room::KeptRoom;
 use journal::Journal;
 use op_names::NoMemory;

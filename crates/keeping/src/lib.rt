@@ -3,9 +3,7 @@
 
 mod file;
 mod keeping;
-mod kept;
 mod room;
 
-pub use file::RoomFile;
+pub use file::{Kept, RoomFile};
 pub use keeping::Keeping;
-pub use kept::Kept;

@@ -4,8 +4,7 @@ ghost use Rattle.std.specs.Prelude.{◌≡◌, IfOk, OnErr};
 ghost use Rattle.keeping.specs.Kept.{IsKeptIn};
 ghost use Rattle.keeping.specs.Turns.{IfTold};
 
-use crate::file::RoomFile;
-use crate::kept::Kept;
+use crate::file::{Kept, RoomFile};
 use journal::Journal;
 use room_lock::{CallFault, Prefix, RoomLedger, Rooms};
 use sessions::KeepFault;

@@ -6,8 +6,8 @@ ghost use Rattle.keeping.specs.Kept.{IsKeptIn};
 use room_lock::{Prefix, RoomLedger};
 use std::marker::Model;
 
-/// A beginning of a room's record that is in the room's file for good. Only the file makes one; a copy
-/// is as good.
+/// A beginning of a room's record that is in the room's file for good. Only the module of the file can
+/// make one; others copy it.
 #[derive(Drop)]
 pub struct Kept<P: RoomLedger> {
     prefix: Prefix<P>,
@@ -23,7 +23,7 @@ impl<P: RoomLedger> Model for Kept<P> {
 
 impl<P: RoomLedger> Kept<P> {
     /// This beginning is in the file for good.
-    pub(crate) fn of(prefix: &Prefix<P>) -> Kept<P>
+    pub(super) fn of(prefix: &Prefix<P>) -> Kept<P>
         ensures { result ≡ prefix.now }
     {
         Kept {

@@ -16,6 +16,7 @@ export class Connection {
   #socket
   #replyMilliseconds
   #waiting = null
+  #asked = 0
   #isGone = false
   #tellEnded
 
@@ -62,12 +63,18 @@ export class Connection {
     }
   }
 
+  /** For how many milliseconds the server has owed an answer. */
+  get silentMilliseconds() {
+    return this.#waiting === null ? 0 : performance.now() - this.#asked
+  }
+
   /** Ends the connection. What is awaited on it is lost. */
   close() {
     this.#end("The connection was closed.")
   }
 
   #await() {
+    this.#asked = performance.now()
     return new Promise((resolve, reject) => {
       const timer = setTimeout(() => this.#end("The server didn't answer in time."), this.#replyMilliseconds)
       this.#waiting = { resolve, reject, timer }

@@ -5,6 +5,7 @@ import { TESTS as numbers } from "./numbers.js"
 import { TESTS as rows } from "./rows.js"
 import { TESTS as histories } from "./random_histories.js"
 import { TESTS as rooms } from "./rooms.js"
+import { TESTS as standing } from "./standing.js"
 import { TESTS as reconnecting } from "./reconnecting.js"
 import { TESTS as loading } from "./loading_anew.js"
 
@@ -26,7 +27,7 @@ build()
 const words = process.argv.slice(2)
 let passed = 0
 let failed = 0
-for (const [name, test] of [...rows, ...numbers, ...histories, ...rooms, ...reconnecting, ...loading]) {
+for (const [name, test] of [...rows, ...numbers, ...histories, ...rooms, ...standing, ...reconnecting, ...loading]) {
   if (words.length > 0 && !words.some((word) => name.includes(word))) continue
   const start = performance.now()
   const seconds = () => `${((performance.now() - start) / 1000).toFixed(1)} s`

@@ -5,10 +5,7 @@ import { comes, fails, holds, same, shownVersion } from "./checks.js"
 import { Server } from "./program.js"
 import { WebSocket } from "./websocket.js"
 
-const OPTIONS = {
-  connect: (address) => new WebSocket(address),
-  pollMilliseconds: 20, retryMilliseconds: [10, 20, 50],
-}
+const OPTIONS = { connect: (address) => new WebSocket(address), retryMilliseconds: [10, 20, 50] }
 
 /** A client in the room, with the refusals that it was told. `connecting` is called with it before it connects. */
 export async function enter(address, { connecting = () => {}, ...options } = {}) {

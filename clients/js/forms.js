@@ -1,6 +1,6 @@
 /** The parts of GRACE's messages: names, values, operations, the words of refusals, and the limits. */
 
-import { exact, writeText } from "./json_text.js"
+import { writeText } from "./json_text.js"
 
 /**
  * @typedef {[number, number]} Name of an operation, or of the object that it made: site and number
@@ -14,11 +14,9 @@ import { exact, writeText } from "./json_text.js"
 /** What a room or an object takes at most. */
 export const LIMITS = Object.freeze({
   sites: 256, entries: 16384, objects: 512, changes: 1024, keys: 64, versions: 32, attributes: 16, messageBytes: 16384,
+  textBytes: 256, wordBytes: 32, roomBytes: 64,
 })
 
-const LEAST = -(2n ** 63n)
-const MOST = 2n ** 63n - 1n
-const TEXT_BYTES = 256
 const ENCODER = new TextEncoder()
 
 /** What each refusal tells a person. */
@@ -88,66 +86,6 @@ export const isSameId = (one, other) => compareIds(one, other) === 0
 
 /** Names in rising order. @param {Iterable<number>} codes @returns {VersionId} */
 export const idOf = (codes) => [...codes].sort((one, other) => one - other).map(nameOf)
-
-/**
- * A value as the library keeps it.
- * @param {unknown} value
- * @returns {Value}
- * @throws {TypeError} it is no number and no text, or a text with half a letter in it
- * @throws {RangeError} the number isn't whole, isn't exact, or has more than 64 bits; or the text has more than
- *   256 bytes of UTF-8
- */
-export function asValue(value) {
-  if (typeof value === "string") return asText(value)
-  if (typeof value !== "number" && typeof value !== "bigint") throw new TypeError("a value is a whole number or a text")
-  if (typeof value === "number" && !Number.isSafeInteger(value)) {
-    throw new RangeError(`${value} isn't a whole number that is exact: beyond 2^53 use a BigInt`)
-  }
-  if (value < LEAST || value > MOST) throw new RangeError(`${value} has more than 64 bits`)
-  return exact(value)
-}
-
-function asText(value) {
-  if (/\p{Surrogate}/u.test(value)) throw new TypeError("a text with half a letter in it")
-  if (ENCODER.encode(value).length > TEXT_BYTES) throw new RangeError(`a text of more than ${TEXT_BYTES} bytes`)
-  return value
-}
-
-/**
- * A key or a kind: 1 to 32 of a-z, 0-9 and `-`.
- * @param {unknown} word @returns {string}
- * @throws {TypeError} it is something else
- */
-export function asWord(word) {
-  if (typeof word !== "string" || !/^[a-z0-9-]{1,32}$/.test(word)) {
-    throw new TypeError(`${String(word)} isn't 1 to 32 of a-z, 0-9 and -`)
-  }
-  return word
-}
-
-/**
- * The attributes of a new object, or those that a put gives.
- * @param {object | Iterable<[string, unknown]>} attributes @returns {[string, Value][]}
- * @throws {TypeError | RangeError} a key or a value is none, a key stands twice, or there are more than 16
- */
-export function asAttributes(attributes) {
-  const pairs = Symbol.iterator in attributes ? [...attributes] : Object.entries(attributes)
-  const read = pairs.map(([key, value]) => [asWord(key), asValue(value)])
-  if (new Set(read.map(([key]) => key)).size !== read.length) throw new TypeError("a key stands twice")
-  if (read.length > LIMITS.attributes) throw new RangeError(`more than ${LIMITS.attributes} attributes`)
-  return read
-}
-
-/**
- * What a put gives: at least one attribute.
- * @param {object | Iterable<[string, unknown]>} attributes @returns {[string, Value][]}
- * @throws {TypeError | RangeError} as `asAttributes`, and where there is none
- */
-export function asPairs(attributes) {
-  const read = asAttributes(attributes)
-  if (read.length === 0) throw new RangeError("a put gives at least one attribute")
-  return read
-}
 
 /**
  * The operation of an entry of a record, or null where the entry is a join. The old form of one attribute, whose word

@@ -6,8 +6,9 @@
  *     const room = new Room("ws://localhost:7000/", "r")
  *     room.on("change", ({ objects }) => objects.filter((name) => room.has(name)).forEach((name) =>
  *       console.log(name, room.kind(name), room.versions(name))))
- *     room.on("state", ({ state, words }) => {
+ *     const end = room.on("state", ({ state, words }) => {
  *       if (state !== "open") return console.log(words)
+ *       end()
  *       const { object, version } = room.create("rect", { x: 0 })
  *       room.put(object, version, { x: 5, y: 7 })
  *     })

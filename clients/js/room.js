@@ -3,9 +3,8 @@
 import { Change, renamed } from "./change.js"
 import { Connection, Lost } from "./connection.js"
 import { Drawing } from "./drawing.js"
-import {
-  LIMITS, ProtocolFault, Refused, asAttributes, asPairs, asWord, codeOf, entryOf, idOf, nameOf, operationOf, requestOf,
-} from "./forms.js"
+import { LIMITS, ProtocolFault, Refused, codeOf, entryOf, idOf, nameOf, operationOf, requestOf } from "./forms.js"
+import { asAttributes, asId, asKind, asName, asPairs, asRoomName } from "./given.js"
 import { writeText } from "./json_text.js"
 import { Kept } from "./kept.js"
 import { NO_WEB_SOCKET, storageOf, withDefaults } from "./options.js"
@@ -88,7 +87,7 @@ export class Room {
    * @throws {TypeError} the name is none, or there is neither `options.connect` nor a global `WebSocket`
    */
   constructor(address, name, options = {}) {
-    if (!/^[a-z0-9-]{1,64}$/.test(name)) throw new TypeError(`${name} isn't the name of a room`)
+    asRoomName(name)
     if (options.connect === undefined && globalThis.WebSocket === undefined) throw new TypeError(NO_WEB_SOCKET)
     this.#address = address
     this.#name = name
@@ -214,7 +213,7 @@ export class Room {
    * @throws {TypeError | RangeError} the kind or the attributes are none
    */
   create(kind, attributes = {}) {
-    const rest = { kind: asWord(kind), attributes: asAttributes(attributes) }
+    const rest = { kind: asKind(kind), attributes: asAttributes(attributes) }
     if (this.#drawing.names().length >= LIMITS.objects) throw new Refused("too-many-objects")
     return this.#change(this.#next("new", rest))
   }
@@ -300,8 +299,7 @@ export class Room {
 
   /** A put or a drop, where the server would take it. Its refusals come in the order of the server's. */
   #changeVersion(word, object, version, rest) {
-    const id = idOf((version.id ?? version).map(codeOf))
-    const operation = this.#next(word, { object: [...object], version: id, ...rest })
+    const operation = this.#next(word, { object: asName(object), version: asId(version), ...rest })
     this.#drawing.check(operation)
     const { changes, keys } = this.#drawing.used(object)
     if (changes >= LIMITS.changes) throw new Refused("object-full")

@@ -5,6 +5,9 @@ import { isDeepStrictEqual, inspect } from "node:util"
 /** Something isn't as it must be. */
 export class Wrong extends Error {}
 
+/** The test can't be made here. */
+export class PassedOver extends Error {}
+
 /** Both are equal, or the test fails. */
 export function same(what, seen, wanted) {
   if (isDeepStrictEqual(seen, wanted)) return

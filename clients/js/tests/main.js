@@ -1,8 +1,10 @@
 /** Runs the tests; with words those that have one of them in their names. */
 
+import { PassedOver } from "./checks.js"
 import { build } from "./program.js"
 import { TESTS as numbers } from "./numbers.js"
 import { TESTS as rows } from "./rows.js"
+import { TESTS as types } from "./types.js"
 import { TESTS as histories } from "./random_histories.js"
 import { TESTS as rooms } from "./rooms.js"
 import { TESTS as standing } from "./standing.js"
@@ -27,7 +29,7 @@ build()
 const words = process.argv.slice(2)
 let passed = 0
 let failed = 0
-for (const [name, test] of [...rows, ...numbers, ...histories, ...rooms, ...standing, ...reconnecting, ...loading]) {
+for (const [name, test] of [...rows, ...numbers, ...types, ...histories, ...rooms, ...standing, ...reconnecting, ...loading]) {
   if (words.length > 0 && !words.some((word) => name.includes(word))) continue
   const start = performance.now()
   const seconds = () => `${((performance.now() - start) / 1000).toFixed(1)} s`
@@ -36,6 +38,10 @@ for (const [name, test] of [...rows, ...numbers, ...histories, ...rooms, ...stan
     console.log(`passed: ${name}${told ? `: ${told}` : ""} (${seconds()})`)
     passed += 1
   } catch (fault) {
+    if (fault instanceof PassedOver) {
+      console.log(`passed over: ${name}: ${fault.message}`)
+      continue
+    }
     console.log(`failed: ${name}: ${fault.stack} (${seconds()})`)
     failed += 1
   }

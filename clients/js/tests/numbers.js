@@ -1,7 +1,7 @@
 /** Whole numbers of 64 bits, and texts: what is read, what is written, and what comes back from the program. */
 
 import { Drawing, operationOf, readText, writeText } from "../grace.js"
-import { asAttributes, asValue } from "../forms.js"
+import { asAttributes, asId, asKind, asName, asPairs, asRoomName, asValue } from "../given.js"
 import { fails, holds, same } from "./checks.js"
 import { script } from "./program.js"
 
@@ -17,9 +17,9 @@ function numbers() {
   for (const [text, value] of NUMBERS) {
     same(`the value of ${text}`, readText(text), value)
     same(`the text of ${text}`, writeText(value), text)
-    same(`${text} as a value`, asValue(BigInt(text)), value)
+    same(`${text} as a value`, asValue(BigInt(text), "x"), value)
   }
-  same("a zero below zero", [writeText(-0), Object.is(asValue(-0), 0)], ["0", true])
+  same("a zero below zero", [writeText(-0), Object.is(asValue(-0, "x"), 0)], ["0", true])
 }
 
 function texts() {
@@ -36,15 +36,49 @@ function texts() {
   holds("127 lists in each other", Array.isArray(readText("[".repeat(127) + "]".repeat(127))))
 }
 
+// What is handed in, the error's name, and what its message says: the key and the reason.
+const OUTSIDE = "is outside 64 bits, which go from -2^63 to 2^63 - 1"
+const LONG = "é".repeat(129)
+const NONE = [
+  [{ x: 0.5 }, "RangeError", "x: 0.5 isn't a whole number"],
+  [{ x: NaN }, "RangeError", "x: NaN isn't a whole number"],
+  [{ x: Infinity }, "RangeError", "x: Infinity isn't a whole number"],
+  [{ x: 2 ** 53 }, "RangeError", "x: 9007199254740992 may be rounded: beyond 2^53 - 1 use a BigInt"],
+  [{ x: 2n ** 63n }, "RangeError", `x: 9223372036854775808 ${OUTSIDE}`],
+  [{ x: -(2n ** 63n) - 1n }, "RangeError", `x: -9223372036854775809 ${OUTSIDE}`],
+  [{ x: 1e300 }, "RangeError", `x: 1e+300 ${OUTSIDE}`],
+  [{ name: LONG }, "RangeError", "name: the text has 258 bytes of UTF-8, more than 256"],
+  [{ name: "ab\ud83dc" }, "TypeError", "name: the text has half a letter at place 2"],
+  [{ x: null }, "TypeError", "x: a value is a whole number or a text, not null"],
+  [{ x: undefined }, "TypeError", "x: a value is a whole number or a text, not undefined"],
+  [{ x: true }, "TypeError", "x: a value is a whole number or a text, not true"],
+  [{ x: [1] }, "TypeError", "x: a value is a whole number or a text, not object"],
+  [{ Fill: 1 }, "TypeError", 'the key "Fill" isn\'t 1 to 32 of a-z, 0-9 and -'],
+  [{ "": 1 }, "TypeError", 'the key "" isn\'t 1 to 32 of a-z, 0-9 and -'],
+  [{ [`k${"0".repeat(32)}`]: 1 }, "TypeError", `the key "k${"0".repeat(32)}" isn't 1 to 32 of a-z, 0-9 and -`],
+  [[["x", 1], ["y", 1], ["x", 1]], "TypeError", "x: the key stands twice"],
+  [Array.from({ length: 17 }, (_, key) => [`k${key}`, 1]), "RangeError", "17 attributes, more than 16"],
+  [[["x"]], "TypeError", "an attribute is a pair of a key and a value, not object"],
+  [null, "TypeError", "attributes are an object, or pairs of a key and a value, not null"],
+  ["x", "TypeError", 'attributes are an object, or pairs of a key and a value, not "x"'],
+  [{}, "RangeError", "a put gives at least one attribute"],
+]
+
 function values() {
-  for (const value of [1.5, NaN, Infinity, 2 ** 53, 2n ** 63n, -(2n ** 63n) - 1n, "é".repeat(129)]) {
-    fails(`the value ${value}`, () => asValue(value), "RangeError")
+  for (const [attributes, name, message] of NONE) {
+    same("the message", fails(message, () => asPairs(attributes), name).message, message)
   }
-  for (const value of [null, undefined, true, [1], {}, "\ud83d"]) fails("no value", () => asValue(value), "TypeError")
-  same("a text of 256 bytes", asValue("é".repeat(128)), "é".repeat(128))
+  for (const [call, message] of [
+    [() => asKind("a b"), 'the kind "a b" isn\'t 1 to 32 of a-z, 0-9 and -'],
+    [() => asKind(7), "the kind 7 isn't 1 to 32 of a-z, 0-9 and -"],
+    [() => asRoomName("R"), 'the room\'s name "R" isn\'t 1 to 64 of a-z, 0-9 and -'],
+    [() => asName("1,1"), "the object: a name is wanted, as [1, 2]"],
+    [() => asId(undefined), "the version: a Version is wanted, or its identifier"],
+    [() => asId([1, 2]), "the version: a Version is wanted, or its identifier"],
+  ]) same("the message", fails(message, call, "TypeError").message, message)
+  same("a text of 256 bytes", asValue("é".repeat(128), "x"), "é".repeat(128))
+  same("no attributes of a new object", [asAttributes({}), asAttributes(new Map([["x", 1]]))], [[], [["x", 1]]])
   fails("a number that isn't exact", () => writeText([0.5]), "RangeError")
-  fails("a key twice", () => asAttributes([["x", 1], ["x", 1]]), "TypeError")
-  fails("17 attributes", () => asAttributes(Array.from({ length: 17 }, (_, key) => [`k${key}`, 1])), "RangeError")
 }
 
 /** Numbers that a `Number` would make equal stay apart, in what is sent, shown and compared. */

@@ -1,5 +1,6 @@
 /** Clients in one room of `grace serve`: what they see of each other, and of refusals. */
 
+import { readFileSync } from "node:fs"
 import { LIMITS, Room } from "../grace.js"
 import { comes, fails, holds, same, shownVersion } from "./checks.js"
 import { Server } from "./program.js"
@@ -189,6 +190,25 @@ async function noSuchRoom(client, server) {
   same("the words", room.words, "The server has no room of this name.")
 }
 
+/** The first program of the README prints what stands there. */
+async function firstProgram(client, server) {
+  const text = readFileSync(new URL("../README.md", import.meta.url), "utf8")
+  const program = text.match(/^ {4}import [^]*?(?=^With)/m)[0]
+  const body = program.replace(/.*import .*\n/, "").replace("127.0.0.1:7000", server.address)
+  const printed = []
+  const rooms = []
+  const Kept = class extends Room {
+    constructor(address, name) {
+      super(address, name, OPTIONS)
+      rooms.push(this)
+    }
+  }
+  const log = (...words) => printed.push(words)
+  new Function("Room", "console", body)(Kept, { log })
+  await comes("its end", () => rooms[0].state === "closed")
+  same("what it prints", printed, [0, 5, 5].map((x) => ["rect", x > 0 ? { x, y: 7 } : { x }]))
+}
+
 /** Without a global WebSocket and without the option, it is told at once what to hand in. */
 function noWebSocket() {
   const own = Object.getOwnPropertyDescriptor(globalThis, "WebSocket")
@@ -209,5 +229,6 @@ export const TESTS = [
   ["a version is dropped", served(dropped)],
   ["a refusal of the server", served(takenBack)],
   ["no such room", served(noSuchRoom)],
+  ["the first program", served(firstProgram)],
   ["no WebSocket", noWebSocket],
 ]

@@ -1,0 +1,43 @@
+/** The types: tsc takes a program by them, and they name all that the library has. */
+
+import { spawnSync } from "node:child_process"
+import { readFileSync } from "node:fs"
+import { fileURLToPath } from "node:url"
+import * as grace from "../grace.js"
+import { PassedOver, Wrong, same } from "./checks.js"
+
+const WORDS = [
+  "--noEmit", "--strict", "--noUnusedLocals", "--target", "es2020", "--module", "es2020", "--moduleResolution", "node",
+]
+const fileOf = (name) => fileURLToPath(new URL(name, import.meta.url))
+
+function check(...words) {
+  const { status, stdout, error } = spawnSync("tsc", [...WORDS, ...words], { encoding: "utf8" })
+  if (error?.code === "ENOENT") throw new PassedOver("there is no tsc here")
+  if (status !== 0) throw new Wrong(stdout)
+}
+
+/** A program for node, and one for browsers. */
+function byTsc() {
+  check("--lib", "es2020", "--exactOptionalPropertyTypes", fileOf("types.ts"))
+  check("--lib", "es2020,dom", fileOf("types.ts"), fileOf("types_browser.ts"))
+}
+
+const namesIn = (text, pattern) => [...text.matchAll(pattern)].map(([, name]) => name).sort()
+
+/** The library exports what the types do, and its classes have the methods that they have there. */
+function allNamed() {
+  const text = readFileSync(fileOf("../grace.d.ts"), "utf8")
+  same("what is exported", namesIn(text, /^export (?:class|const|function) (\w+)/gm), Object.keys(grace).sort())
+  for (const [, name, body] of text.matchAll(/^export class (\w+) [^\n]*\{\n(.*?)^\}/gms)) {
+    const methods = new Set(namesIn(body, /^ {2}(?:get )?(\w+)(?:<.*>)?\(/gm))
+    methods.delete("private")
+    const own = Object.getOwnPropertyNames(grace[name].prototype).filter((method) => method !== "become")
+    same(`the methods of ${name}`, [...methods.add("constructor")].sort(), own.sort())
+  }
+}
+
+export const TESTS = [
+  ["types by tsc", byTsc],
+  ["types name all", allNamed],
+]

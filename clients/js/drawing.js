@@ -69,8 +69,8 @@ class DrawnObject {
   /**
    * Adds a change whose known changes are all here.
    * @param {Operation} change
-   * @throws {Refused} `no-such-version`: what it knows has no version that it names. `gone`: there is a drop in that
-   *   version. Nothing was added.
+   * @throws {Refused} `no-such-object`: it doesn't know the object. `no-such-version`: what it knows has no version
+   *   that it names. `gone`: there is a drop in that version. Nothing was added.
    */
   add(change) {
     const { known, unknown, base } = this.check(change)
@@ -98,6 +98,9 @@ class DrawnObject {
    * @throws {Refused} as `add`
    */
   check(change) {
+    const [creator, made] = this.creation.name
+    const isKnown = change.seen.some(([site, count]) => site === creator && count >= made)
+    if (!isKnown) throw new Refused("no-such-object")
     const { known, unknown } = this.#known(change.seen)
     const base = this.#groupNamed(known, change.version)
     if (base === null) throw new Refused("no-such-version")

@@ -5,8 +5,8 @@
  * @property {(address: string) => import("./connection.js").Socket} [connect] opens a socket that does as a `WebSocket`
  *   does. Where it isn't given, the global `WebSocket` is taken, which browsers have, and node from version 22 on
  * @property {number} [pollMilliseconds] the wait from a reply to the next question for news, while there is some: 20
- * @property {number} [busyMilliseconds] for how long after the last change in the room, own or another's, it is asked so
- *   often: 5,000. From then on each wait is a quarter longer than the one before
+ * @property {number} [busyMilliseconds] for how long after the last change in the room, own or another's, it is asked
+ *   so often: 5,000. From then on each wait is a quarter longer than the one before
  * @property {number} [idleMilliseconds] the longest of these waits: 1,000
  * @property {number} [hiddenMilliseconds] the wait while the page is hidden, where there is a `document`: 5,000. It is
  *   asked at once when the page is visible again

@@ -439,8 +439,8 @@ export class Room {
   /** Joins as a new site. */
   async #join() {
     const [, at, site] = await this.#askJoin()
-    this.#length = at + 1
     if (await this.#isRenewed(at)) this.#renew()
+    this.#length = Math.max(this.#length, at + 1)
     await this.#load()
     this.#enter(site)
   }

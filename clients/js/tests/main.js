@@ -29,7 +29,8 @@ build()
 const words = process.argv.slice(2)
 let passed = 0
 let failed = 0
-for (const [name, test] of [...rows, ...numbers, ...types, ...histories, ...rooms, ...standing, ...reconnecting, ...loading]) {
+const groups = [rows, numbers, types, histories, rooms, standing, reconnecting, loading]
+for (const [name, test] of groups.flat()) {
   if (words.length > 0 && !words.some((word) => name.includes(word))) continue
   const start = performance.now()
   const seconds = () => `${((performance.now() - start) / 1000).toFixed(1)} s`

@@ -108,6 +108,7 @@ function refusals() {
   fails("one that isn't in dispute", add([[3, 1], [[1, 2]], [[1, 2]], { x: 1 }]), "Refused", "no-such-version")
   fails("both of two that conflict", add([[3, 1], BOTH, BOTH, { x: 1 }]), "Refused", "no-such-version")
   fails("a change that isn't known", add([[3, 1], MADE, [[2, 1]], { x: 1 }]), "Refused", "no-such-version")
+  fails("one that doesn't know the object", add([[3, 1], [], [], { x: 1 }]), "Refused", "no-such-object")
   fails("a wrong number", add([[1, 2], MADE, [], { x: 1 }]), "ProtocolFault")
   fails("one that counts what isn't there", add([[3, 1], [[1, 3]], [], { x: 1 }]), "ProtocolFault")
   fails("no such object", () => drawing.versions([3, 3]), "Refused", "no-such-object")

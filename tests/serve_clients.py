@@ -1,6 +1,5 @@
-"""The client in Python, run as a command and as a module."""
+"""The client in Python, run as a command."""
 
-import importlib.util
 import subprocess
 import sys
 from functools import partial
@@ -64,7 +63,7 @@ def two_terminals():
         second.types("new rect x", "x has no value")
         second.types("put 1 1 x 1 x 2", "a key stands twice")
         second.types("new rect x 1 x 2", "a key stands twice")
-        second.types("put 1 1 X 1", "refused: 1 bad-message")
+        second.types("put 1 1 X 1", "the key 'X' isn't 1 to 32 of a-z, 0-9 and -")
         shown = "1 rect version 1 x=5", "1 rect version 2 fill=red name=große x=9"
         second.types("show", *shown)
         first.types("show", *shown)
@@ -146,39 +145,9 @@ def no_room():
         server.finish()
 
 
-def as_module():
-    """A program that imports the client hands in numbers and texts."""
-    found = importlib.util.spec_from_file_location("grace_client", CLIENT)
-    client = importlib.util.module_from_spec(found)
-    found.loader.exec_module(client)
-    with Server() as server:
-        told = server.another().told
-        room = client.Room(client.Connection(*server.address), "r")
-        room.new("rect", {"x": 0, "name": "7"})
-        room.look()
-        room.put(1, 1, {"x": -5})
-        room.look()
-        same("what it shows", room.objects, [[[1, 1], "rect", [[[], [["name", "7"], ["x", -5]]]]]])
-        try:
-            room.put(1, 0, {"x": 5})
-            raise Wrong("there is a version 0")
-        except client.Mistake:
-            pass
-        room.connection.close()
-        for request, reply in [
-            (["join", "r"], ["joined", 0, 1]),
-            (["new", 1, [], "rect", [["x", 0], ["name", "7"]]], ["made", 1, [1, 1]]),
-            (["put", 2, [[1, 1]], [1, 1], [], [["x", -5]]], ["taken", 2, [[]]]),
-        ]:
-            told.asked(compact(request))
-            told.answered(compact(reply))
-        server.finish()
-
-
 TESTS = [
     ("two clients in Python", two_terminals),
     ("the client in Python comes back", comes_back),
-    ("the client in Python as a module", as_module),
     ("the client in Python where nobody listens", nobody_there),
     ("the client in Python with a room that isn't there", no_room),
     ("the client in Python without a room", partial(cannot_begin, 2, "required: ROOM", "127.0.0.1:7000")),

@@ -1,0 +1,121 @@
+"""A relay between clients and `grace serve`, which cuts connections between a request and its reply, and speaks TLS to
+clients where it is asked to. `what_to_do` says of each message of a client, by its text, what is to be done with it."""
+
+import asyncio
+import contextlib
+import threading
+
+PASS = "pass"
+# The connection is cut, and the message never reaches the server.
+CUT_BEFORE = "cut before"
+# The message reaches the server, which answers; the answer doesn't reach the client.
+CUT_AFTER = "cut after"
+
+
+async def frame_from(reader):
+    """The next frame of a client: its bytes, and its text."""
+    front = await reader.readexactly(2)
+    length = front[1] & 127
+    if length > 125:
+        front += await reader.readexactly(2 if length == 126 else 8)
+        length = int.from_bytes(front[2:], "big")
+    key, payload = await reader.readexactly(4), await reader.readexactly(length)
+    text = bytes(byte ^ key[place % 4] for place, byte in enumerate(payload))
+    return front + key + payload, text.decode(errors="replace")
+
+
+class Relay:
+    """A relay on a port of its own, in a thread of its own. New connections go to the server at `port`."""
+
+    def __init__(self, port, context=None):
+        self.port = port
+        self.context = context
+        self.what_to_do = lambda text: PASS
+        # The messages of clients, and how many connections were cut at one.
+        self.texts = []
+        self.cuts = 0
+        self.writers = set()
+
+    def __enter__(self):
+        self.loop = asyncio.new_event_loop()
+        self.thread = threading.Thread(target=self.loop.run_forever, daemon=True)
+        self.thread.start()
+        self.listener = self.await_in_loop(asyncio.start_server(self.serve, "127.0.0.1", 0, ssl=self.context))
+        self.name = "127.0.0.1:{}".format(self.listener.sockets[0].getsockname()[1])
+        return self
+
+    def __exit__(self, *_):
+        self.await_in_loop(self.end())
+        self.loop.call_soon_threadsafe(self.loop.stop)
+        self.thread.join()
+        self.loop.close()
+
+    def await_in_loop(self, what):
+        """What a coroutine gives, in the relay's thread."""
+        return asyncio.run_coroutine_threadsafe(what, self.loop).result(10)
+
+    async def end(self):
+        """Takes no more connections, and cuts those that there are."""
+        self.listener.close()
+        self.abort(*self.writers)
+        await asyncio.gather(*asyncio.all_tasks() - {asyncio.current_task()}, return_exceptions=True)
+
+    async def serve(self, reader, writer):
+        """Serves one client: what it sends goes through here, what the server sends through a task beside it."""
+        self.writers.add(writer)
+        cut = asyncio.Event()
+        with contextlib.suppress(OSError, asyncio.IncompleteReadError):
+            try:
+                answers, server = await asyncio.open_connection("127.0.0.1", self.port)
+            except OSError:
+                return self.abort(writer)
+            self.writers.add(server)
+            beside = asyncio.ensure_future(self.hand_back(answers, writer, cut))
+            try:
+                await self.hand_on(reader, server, cut)
+                # After a cut: the other task meets the answer, and hangs up.
+                await beside
+            finally:
+                self.abort(writer, server)
+
+    async def hand_on(self, reader, server, cut):
+        """Hands on the head and the frames of a client, up to a cut."""
+        server.write(await reader.readuntil(b"\r\n\r\n"))
+        while not cut.is_set():
+            data, text = await frame_from(reader)
+            self.texts.append(text)
+            what = self.what_to_do(text)
+            self.cuts += what != PASS
+            if what == CUT_BEFORE:
+                raise ConnectionAbortedError
+            if what == CUT_AFTER:
+                cut.set()
+            server.write(data)
+
+    async def hand_back(self, answers, writer, cut):
+        """Hands back what the server sends, up to a cut."""
+        with contextlib.suppress(OSError):
+            while (data := await answers.read(65536)) and not cut.is_set():
+                writer.write(data)
+        self.abort(writer)
+
+    def abort(self, *writers):
+        """Ends connections, whatever state they are in."""
+        for writer in tuple(writers):
+            writer.transport.abort()
+            self.writers.discard(writer)
+
+    def cut(self):
+        """Cuts all connections."""
+        self.loop.call_soon_threadsafe(lambda: self.abort(*tuple(self.writers)))
+
+    def cut_once(self, start, what):
+        """Cuts once, in this way, at the first message that begins so."""
+
+        def decide(text):
+            if not text.startswith(start):
+                return PASS
+            self.what_to_do = lambda text: PASS
+            return what
+
+        self.what_to_do = decide

@@ -84,12 +84,10 @@ export class Standing {
   }
 
   #tellSaving(waited) {
-    this.#lookIn(AGAIN_MILLISECONDS)
-    this.#become("saving", this.#isSilent() ? SILENT : SAVING, waited)
-  }
-
-  #isSilent() {
-    return this.#silent() >= SILENT_MILLISECONDS
+    const left = SILENT_MILLISECONDS - this.#silent()
+    // The words change as soon as the server has been silent for so long.
+    this.#lookIn(left > 0 ? Math.min(left, AGAIN_MILLISECONDS) : AGAIN_MILLISECONDS)
+    this.#become("saving", left > 0 ? SAVING : SILENT, waited)
   }
 
   #stop() {
@@ -115,8 +113,9 @@ export class Standing {
 
   /** While it connects the words say that the server is silent, as long as it is. */
   #lookAtSilence() {
-    const isSilent = this.#isSilent()
+    const left = SILENT_MILLISECONDS - this.#silent()
+    const isSilent = left <= 0
+    this.#lookIn(isSilent ? AGAIN_MILLISECONDS : left)
     if (isSilent !== (this.words === SILENT)) this.#become("connecting", isSilent ? SILENT : CONNECTING)
-    this.#lookIn(isSilent ? AGAIN_MILLISECONDS : Math.max(0, SILENT_MILLISECONDS - this.#silent()))
   }
 }

@@ -155,7 +155,9 @@ async function byChance(proxy, room, other, server) {
 /** A server that was started anew has another room: what is held of the old one is dropped, and told with its text. */
 async function anotherRoom(proxy, room, other, server) {
   const told = []
+  const loaded = []
   room.on("renewed", (news) => told.push(news))
+  room.on("progress", (news) => loaded.push(news))
   const made = room.create("rect")
   await agree(room, other)
   other.close()
@@ -170,6 +172,9 @@ async function anotherRoom(proxy, room, other, server) {
     '["join",1]', '["join",2]', '["new",[1,1],[],"rect",[]]', '["put",[1,2],[[1,1]],[1,1],[],[["x",1]]]', "",
   ]
   same("what is told", told.map(({ text }) => text), [lines.join("\n")])
+  same("how the new one is loaded", loaded, [
+    { have: 0, of: 1, isLoaded: false }, { have: 1, of: 1, isLoaded: true },
+  ])
   same("the verdict on it", verdictOf(told[0].text), "holds")
   holds("it is told in words", told[0].words.startsWith("The room was begun anew"))
   same("what is left", [room.objects(), room.record, room.has(made.name)], [[], [["join", 1]], false])

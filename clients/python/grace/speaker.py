@@ -1,5 +1,6 @@
 """What speaks to the server for a room, in a thread of its own: one question at a time."""
 
+import contextlib
 import selectors
 import socket
 import ssl
@@ -98,6 +99,14 @@ class Speaker:
 
     # ---- telling and waiting
 
+    @contextlib.contextmanager
+    def _holding(self):
+        """The lock, for what changes what is held. Raises `Lost` where the room was closed meanwhile."""
+        with self.lock:
+            if self.is_closing:
+                raise Lost(CLOSED)
+            yield
+
     def _attend(self):
         """Tells what there is to tell. Raises `Lost` where the room is to be closed."""
         with self.lock:
@@ -180,9 +189,7 @@ class Speaker:
         wait = waits[min(self._tries, len(waits) - 1)]
         self._tries += 1
         try:
-            with self.lock:
-                if self.is_closing:
-                    return
+            with self._holding():
                 self.standing.leave("waiting", f"{fault} Trying again.")
             self._rest(wait)
         except Lost:
@@ -219,7 +226,7 @@ class Speaker:
 
     def _connect(self):
         """Connects, comes in, and learns what the record has more, and of the changes that were on the way."""
-        with self.lock:
+        with self._holding():
             self.standing.connect()
             self._begin_to_wait()
         self._socket = WebSocket(self._wait)
@@ -231,7 +238,7 @@ class Speaker:
         self.held.is_entering = True
         if not self._come_back():
             self._join()
-        with self.lock:
+        with self._holding():
             self.options.site = None
             self.held.is_entering = False
             is_first = not self.held.is_loaded
@@ -249,12 +256,12 @@ class Speaker:
         if back is None:
             return False
         _, at, site, made = back
-        with self.lock:
+        with self._holding():
             self.held.length = at
             self.held.site = site
         has_record = bool(self.held.record)
         if self._is_renewed(at):
-            with self.lock:
+            with self._holding():
                 self.held.renew()
         else:
             self._load()
@@ -275,7 +282,7 @@ class Speaker:
             except Refused as refusal:
                 if not self._may_ask_again(refusal, end):
                     return None
-            with self.lock:
+            with self._holding():
                 if self.standing.words != STILL_IN:
                     self.standing.connect(STILL_IN)
             self._rest(BACK_AGAIN_SECONDS)
@@ -288,7 +295,7 @@ class Speaker:
         if refusal.word not in ("site-in-use", "no-such-site") or self.options.site is not None:
             raise refusal
         if refusal.word == "no-such-site":
-            with self.lock:
+            with self._holding():
                 self.held.renew()
         return False
 
@@ -296,12 +303,12 @@ class Speaker:
         """Joins as a new site."""
         _, at, site = self._ask_join()
         is_renewed = self._is_renewed(at)
-        with self.lock:
+        with self._holding():
             if is_renewed:
                 self.held.renew()
             self.held.length = max(self.held.length, at + 1)
         self._load()
-        with self.lock:
+        with self._holding():
             self.held.enter(site)
 
     def _ask_join(self):
@@ -316,7 +323,7 @@ class Speaker:
     def _load(self):
         """Pulls all that the room has."""
         while self.held.lacks:
-            with self.lock:
+            with self._holding():
                 if not self.held.is_loaded:
                     self.tell("progress", self.held.progress())
             self._pull()
@@ -372,7 +379,7 @@ class Speaker:
             case ("no", _, _, str(word)):
                 raise Refused(word)
             case (word, int(at), *_) if word == kind:
-                with self.lock:
+                with self._holding():
                     self.held.length = max(self.held.length, at)
                 return reply
         raise ProtocolFault(f"The server's answer is no {kind}: {reply!r:.200}")
@@ -382,15 +389,13 @@ class Speaker:
         operation = change.operation
         try:
             _, at, *_ = self._ask(request_of(operation), "made" if operation.word == "new" else "taken")
-            with self.lock:
-                if not self.is_closing:
-                    self.held.answered(change, at)
-                    self._have_answer()
+            with self._holding():
+                self.held.answered(change, at)
+                self._have_answer()
         except Refused as refusal:
-            with self.lock:
-                if not self.is_closing:
-                    self.held.take_back(change, refusal)
-                    self._have_answer()
+            with self._holding():
+                self.held.take_back(change, refusal)
+                self._have_answer()
 
     def _have_answer(self):
         self.standing.look()
@@ -400,10 +405,9 @@ class Speaker:
         """Pulls the next page, and shows it."""
         start = len(self.held.record)
         entries = self._page(start)
-        with self.lock:
-            if not self.is_closing:
-                self.held.take(entries)
-                self._have_answer()
+        with self._holding():
+            self.held.take(entries)
+            self._have_answer()
             if entries:
                 self.pace.quicken()
             self.pace.answered()

@@ -82,14 +82,17 @@ class Standing:
 
     def _look_at_silence(self):
         """While it connects the words say that the server is silent, as long as it is."""
-        is_silent = self._silent() >= SILENT_SECONDS
+        left = SILENT_SECONDS - self._silent()
+        is_silent = left <= 0
+        self._look_in(AGAIN_SECONDS if is_silent else left)
         if is_silent != (self.words == SILENT):
             self._become("connecting", SILENT if is_silent else CONNECTING)
-        self._look_in(AGAIN_SECONDS if is_silent else SILENT_SECONDS - self._silent())
 
     def _tell_saving(self, waited):
-        self._look_in(AGAIN_SECONDS)
-        self._become("saving", SILENT if self._silent() >= SILENT_SECONDS else SAVING, waited)
+        left = SILENT_SECONDS - self._silent()
+        # The words change as soon as the server has been silent for so long.
+        self._look_in(min(left, AGAIN_SECONDS) if left > 0 else AGAIN_SECONDS)
+        self._become("saving", SAVING if left > 0 else SILENT, waited)
 
     def _look_in(self, seconds):
         self.due = time.monotonic() + seconds

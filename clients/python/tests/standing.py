@@ -1,6 +1,7 @@
 """What a room tells of its connection: changes that wait, a server that is silent, how far it is loaded, its pace."""
 
 import contextlib
+import operator
 import signal
 import socket
 import threading
@@ -35,19 +36,21 @@ def saving():
             start = time.monotonic()
             room.set(made.name, (), "x", 1)
             same("the state at once", room.state, "open")
-            comes("four news", lambda: len(heard.news) == 4)
+            comes("news after four seconds", lambda: heard.news and heard.of("state")[-1].seconds >= 4)
             same("what waits", (room.state, [change.object for change in room.pending]), ("saving", [made.name]))
         finally:
             server.process.send_signal(signal.SIGCONT)
-        for place, (news, told) in enumerate(zip(heard.of("state"), times)):
+        waits = [0, *(news.seconds for news in heard.of("state"))]
+        in_time("the first is told", waits[1], 1)
+        same("whether the others are about a second apart", max(map(operator.sub, waits[1:], waits)) < 1 + LATE, True)
+        for news, told in zip(heard.of("state"), times):
             same("the state", news.state, "saving")
-            in_time("it is told", told - start, place + 1)
-            in_time("the wait that is told", news.seconds, place + 1)
-        # The third is told when the server has been silent for 3 seconds less what passed before it was asked.
-        same("whether places are spoken of", ["places" in it.words for it in heard.of("state")[:2]], [False, False])
-        same("whether they are at last", "places" in heard.of("state")[3].words, True)
+            in_time("it is told", told - start, news.seconds)
+            # The server is silent from the moment on that it is asked, which may be a little later.
+            if news.seconds < 3 or news.seconds > 3 + LATE:
+                same("whether places are spoken of", "places" in news.words, news.seconds > 3)
         same("whether all is answered", room.settled(PATIENCE), True)
-        comes("it is told", lambda: len(heard.news) == 5)
+        comes("it is told", lambda: heard.of("state")[-1].state == "open")
         last = heard.of("state")[-1]
         same("the last news", (last.state, last.words, last.seconds), ("open", "In the room as site 1.", 0))
 

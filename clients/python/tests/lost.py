@@ -6,6 +6,7 @@ import time
 from contextlib import contextmanager
 from functools import partial
 
+from grace.forms import frozen
 from relay import CUT_AFTER, CUT_BEFORE, PASS, Relay
 from rooms import PATIENCE, Heard, agree, comes, entered, shown
 from serving import Server, Wrong, same
@@ -165,9 +166,13 @@ def by_chance():
         same("the values, each once", values, [value for value in wanted if value is not None])
         same("the drops", sum(entry[0] == "drop" for entry in operations(other)), wanted.count(None))
         same("the sites and the refusals", (sites(other), heard.news), ([1, 2], []))
-        with entered(server.name) as (late,):
-            for name in other.objects():
-                same(f"object {name}", (shown(room, name), shown(late, name)), (shown(other, name),) * 2)
+        asker = server.client()
+        asker.reply_to(["join", "r"])
+        for name in other.objects():
+            same(f"object {name} of both", shown(room, name), shown(other, name))
+            *_, versions = frozen(asker.reply_to(["show", name]))
+            told = [(identifier, it if it == "gone" else dict(it)) for identifier, it in versions]
+            same(f"object {name} by the server", told, shown(room, name))
         if relay.cuts < 6:
             raise Wrong(f"the connection was cut {relay.cuts} times")
 

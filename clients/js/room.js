@@ -390,6 +390,8 @@ export class Room {
   /** Connects, comes in, and learns what the record has more, and of the changes that were on the way. */
   async #connect() {
     this.#standing.connect()
+    // Who was told of it may have closed the room.
+    if (this.#isClosing) throw new Lost("The room was closed.")
     this.#connection = new Connection(this.#options.connect(this.#address), this.#options.replyMilliseconds)
     await this.#connection.opened()
     this.#isEntering = true

@@ -43,8 +43,8 @@ export class Standing {
 
   /** A try to connect begins, or goes on with these words. */
   connect(words = CONNECTING) {
-    this.#become("connecting", words)
     this.#lookIn(SILENT_MILLISECONDS)
+    this.#become("connecting", words)
   }
 
   /** The client is in the room. */

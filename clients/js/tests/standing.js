@@ -100,6 +100,22 @@ async function silentWords() {
   }
 }
 
+/** Who is told that it connects can close the room: then no connection is made. */
+async function closedEarly() {
+  const { times, address, end } = await silentServer()
+  const room = new Room(address, "r", { connect })
+  const news = heard(room)
+  room.on("state", () => room.close())
+  try {
+    await comes("the end", () => room.state === "closed")
+    await sleep(200)
+    same("the states", news.map(({ state }) => state), ["connecting", "closed"])
+    same("the connections", times, [])
+  } finally {
+    end()
+  }
+}
+
 /** A connection that was accepted and not answered is a try that failed: the waits between tries grow. */
 async function silentTries() {
   const { times, address, end } = await silentServer()
@@ -214,6 +230,7 @@ export const TESTS = [
   ["changes that wait", served(saving)],
   ["changes that don't wait", served(savedInTime)],
   ["a silent server is told", silentWords],
+  ["closed while it connects", closedEarly],
   ["tries at a silent server", silentTries],
   ["how far it is loaded", served(progress)],
   ["the pace of questions", counted(pace)],

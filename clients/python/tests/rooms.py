@@ -6,10 +6,11 @@ import sys
 import textwrap
 import threading
 import time
+from functools import partial
 
 import grace
 from grace import LIMITS, Refused, Room
-from serving import Server, Wrong, free_address, same
+from serving import ROOT, Server, Wrong, free_address, same
 
 # How long anything here is waited for, in seconds: long enough for a busy machine.
 PATIENCE = 60
@@ -289,13 +290,12 @@ def nobody_listens():
     same("the end", heard.of("state")[-1].state, "closed")
 
 
-def first_program():
-    """The program in the module's text prints what the room then has."""
-    program = textwrap.dedent(re.search(r"\n((?: {4}.*\n|\n)+)\nValues", grace.__doc__)[1])
+def first_program(text):
+    """The program in a text prints what the room then has."""
+    program = textwrap.dedent(re.search(r"\n((?: {4}from grace.*\n)(?: {4}.*\n|\n)+)", text)[1])
     printed = []
     with Server(1) as server:
-        source = program.replace("127.0.0.1:7000", server.name)
-        exec(source, {"print": lambda *words: printed.append(words)})
+        exec(program.replace("127.0.0.1:7000", server.name), {"print": lambda *words: printed.append(words)})
     same("what it prints", printed, [("rect", [{"x": 5, "y": 7}])])
 
 
@@ -310,5 +310,6 @@ TESTS = [
     ("coming back as a site", as_a_site),
     ("no such room", no_such_room),
     ("nobody listens", nobody_listens),
-    ("the first program", first_program),
+    ("the module's first program", partial(first_program, grace.__doc__)),
+    ("the first program of CLIENTS.md", partial(first_program, (ROOT / "docs/CLIENTS.md").read_text())),
 ]

@@ -240,7 +240,7 @@ export class Room {
   versions(object: Name): Version[]
   /** The versions that now have all changes that a version had. */
   successors(object: Name, version: Version): Version[]
-  /** Calls a listener from now on. What it gives ends that. */
+  /** Calls a listener from now on. What it gives ends that. @throws {TypeError} there is no such event */
   on<Event extends keyof RoomEvents>(event: Event, listener: (news: RoomEvents[Event]) => void): () => void
 
   /** @throws {Refused | TypeError | RangeError} nothing was changed */

@@ -197,8 +197,12 @@ export class Room {
    * Calls a listener from now on.
    * @param {"change" | "state" | "progress" | "refusal" | "renewed"} event @param {(news: any) => void} listener
    * @returns {() => void} ends it
+   * @throws {TypeError} there is no such event
    */
   on(event, listener) {
+    if (!Object.hasOwn(this.#listeners, event)) {
+      throw new TypeError(`there is no event ${event}: there are ${Object.keys(this.#listeners).join(", ")}`)
+    }
     this.#listeners[event].add(listener)
     return () => this.#listeners[event].delete(listener)
   }

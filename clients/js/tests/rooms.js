@@ -128,6 +128,8 @@ async function refusedHere(client) {
   fails("no attribute", () => room.put(name, [], {}), "RangeError")
   fails("a key twice", () => room.put(name, [], [["x", 1], ["x", 2]]), "TypeError")
   fails("no kind", () => room.create("a b"), "TypeError")
+  const { message } = fails("no event", () => room.on("news", () => {}), "TypeError")
+  same("its words", message, "there is no event news: there are change, state, progress, refusal, renewed")
   for (let key = 0; key < LIMITS.keys; key++) room.set(name, [], `k${key}`, key)
   const refusal = fails("the 65th key", () => room.put(name, [], { k0: 1, k64: 1 }), "Refused", "too-many-keys")
   same("its words", refusal.message, "This object has as many kinds of attribute as it may have.")

@@ -4,6 +4,7 @@ import { spawnSync } from "node:child_process"
 import { readFileSync } from "node:fs"
 import { fileURLToPath } from "node:url"
 import * as grace from "../grace.js"
+import { withDefaults } from "../options.js"
 import { PassedOver, Wrong, same } from "./checks.js"
 
 const WORDS = [
@@ -23,6 +24,7 @@ function byTsc() {
   check("--lib", "es2020,dom", fileOf("types.ts"), fileOf("types_browser.ts"))
 }
 
+const blockOf = (text, head) => text.split(`export ${head} {\n`)[1].split("\n}")[0]
 const namesIn = (text, pattern) => [...text.matchAll(pattern)].map(([, name]) => name).sort()
 
 /** The library exports what the types do, and its classes have the methods that they have there. */
@@ -35,6 +37,10 @@ function allNamed() {
     const own = Object.getOwnPropertyNames(grace[name].prototype).filter((method) => method !== "become")
     same(`the methods of ${name}`, [...methods.add("constructor")].sort(), own.sort())
   }
+  const options = namesIn(blockOf(text, "interface Options"), /^ {2}(\w+)\?:/gm)
+  same("the options", options, Object.keys(withDefaults({})).sort())
+  const limits = namesIn(blockOf(text, "const LIMITS:"), /readonly (\w+): /g)
+  same("the limits", limits, Object.keys(grace.LIMITS).sort())
 }
 
 export const TESTS = [

@@ -179,7 +179,8 @@ def too_long():
     with folder_for({"r": b""}) as folder:
         os.truncate(path_of(folder, "r"), (1 << 30) + 1)
         said = must_not_start(f"grace: cannot keep: {folder}", folder, "r")
-        same("what is said", said, [f"[ERROR server::keep] {folder}/r.record: it has more than 1073741824 bytes"])
+        said = [line.partition(" ")[2] for line in said]
+        same("what is said", said, [f"ERROR {folder}/r.record: it has more than 1073741824 bytes"])
 
 
 def no_folder():

@@ -1,6 +1,7 @@
 """The program under test as a process, and its clients, which keep what they asked and were told. At its end
 all that the program printed is compared with that."""
 
+import calendar
 import json
 import os
 import pathlib
@@ -10,20 +11,26 @@ import socket
 import subprocess
 import tempfile
 import threading
+import time
 
 from websocket_client import CLOSE, SECONDS, TEXT, Connection, Ended, Fault, closing, frame
 from records import Told, compact, compare_record, split_rooms, transcript_of
 
 ROOT = pathlib.Path(__file__).resolve().parent.parent
 
-# The line on standard error for a session that did not end well: its number, and why.
+# A line on standard error while a server runs: its time in UTC, its level and its text.
+LINE = re.compile(r"(\d{4}-\d\d-\d\dT\d\d:\d\d:\d\dZ) (INFO|WARN|ERROR) (.*)")
+TIME = "%Y-%m-%dT%H:%M:%SZ"
+
+# What is said of a session that did not end well: its number, its client's address, its room where it was in one,
+# and why.
 WARNING = re.compile(
-    r"\] session (\d+): (handshake failed|stream fault|out of memory|torn from its room|record not kept)$"
+    r"session (\d+) (127\.0\.0\.1:\d+)(?: room ([a-z0-9-]+))?: "
+    r"(handshake failed|stream fault|out of memory|torn from its room|record not kept)"
 )
 
-# The line of a server that keeps its rooms nowhere, and one that tells of a room's file.
-IN_MEMORY = re.compile(r"\[WARN +server::serve\] rooms are in memory only; --keep DIR keeps them")
-KEPT = re.compile(r"\[([A-Z]+) +server::keep\] (.*)")
+# What is said of a server that keeps its rooms nowhere.
+IN_MEMORY = "WARN", "rooms are in memory only; --keep DIR keeps them"
 
 
 # The first line of `grace serve`, with the port.
@@ -116,6 +123,7 @@ class Client(Connection):
 
     def __init__(self, address, session, **options):
         super().__init__(address, **options)
+        self.name = "{}:{}".format(*self.socket.getsockname())
         self.session = session
         self.told = Told()
         self.is_over = False
@@ -213,11 +221,13 @@ def pump(stream, lines):
 
 
 class Server:
-    """`grace serve` on a free port, for so many sessions. After the last of them it has `patience` seconds to come
-    to its end, and the checker at least as many for each room. `keep` is the folder that keeps the rooms, and `before`
+    """`grace serve` on a free port, for so many sessions. It has `patience` seconds to listen, and as many after the
+    last of them to come to its end, and the checker at least as many for each room. `keep` is the folder that keeps the rooms, and `before`
     what clients of earlier runs over that folder were told."""
 
-    def __init__(self, sessions=1, workers=4, rooms=("r",), idle=None, patience=SECONDS, keep=None, before=()):
+    def __init__(
+        self, sessions=1, workers=4, rooms=("r",), idle=None, patience=SECONDS, keep=None, before=(), report=None
+    ):
         self.port = 0
         self.sessions = sessions
         self.patience = patience
@@ -227,9 +237,12 @@ class Server:
             self.words += ["--idle", str(idle)]
         if keep is not None:
             self.words += ["--keep", str(keep)]
+        if report is not None:
+            self.words += ["--report", str(report)]
         self.keep = keep
         self.before = list(before)
         self.notes = []
+        self.seen = {}
         self.variables = {}
         self.clients = []
 
@@ -244,7 +257,7 @@ class Server:
     def listen(self):
         """Starts the program, and awaits that it tells which port it got."""
         self.start()
-        first = self.next_line()
+        first = self.next_line(self.patience)
         if first is None:
             self.errors.seek(0)
             raise Wrong(f"the program does not listen: {self.errors.read():.300}")
@@ -265,6 +278,7 @@ class Server:
 
     def start(self):
         """Starts the program."""
+        self.start_time = int(time.time())
         self.errors = tempfile.TemporaryFile("w+")
         self.process = subprocess.Popen(
             [PROGRAM, "serve", f"127.0.0.1:{self.port}", *self.words], env={**os.environ, **self.variables},
@@ -274,10 +288,10 @@ class Server:
         self.reader = threading.Thread(target=pump, args=(self.process.stdout, self.lines), daemon=True)
         self.reader.start()
 
-    def next_line(self):
-        """The next line of the output, or None at its end."""
+    def next_line(self, seconds=SECONDS):
+        """The next line of the output in so many seconds, or None at its end."""
         try:
-            return self.lines.get(timeout=SECONDS)
+            return self.lines.get(timeout=seconds)
         except queue.Empty:
             raise Wrong("the program printed nothing") from None
 
@@ -338,22 +352,35 @@ class Server:
             raise Wrong("the last line isn't ended")
         return [line.removesuffix("\n") for line in lines]
 
-    def warnings(self):
-        """The cause of each session that the program warned of. What it said of files becomes `notes`, a level and a
-        text each; a server that keeps its rooms nowhere says so first."""
+    def notices(self):
+        """What the program said on standard error while it ran: the level and the text of each line, of which the time
+        lies between its start and now. A server that keeps its rooms nowhere says so first."""
         self.errors.seek(0)
-        lines = self.errors.read().splitlines()
-        if self.keep is None and (not lines or not IN_MEMORY.fullmatch(lines.pop(0))):
-            raise Wrong("it isn't told that rooms are in memory only")
-        self.notes = [found.groups() for found in map(KEPT.fullmatch, lines) if found]
-        causes = {}
-        for line in lines:
-            if KEPT.fullmatch(line):
-                continue
-            found = WARNING.search(line)
+        notices = []
+        for line in self.errors.read().splitlines():
+            found = LINE.fullmatch(line)
             if not found:
                 raise Wrong(f"on standard error stands {line!r:.200}")
-            if int(found[1]) in causes:
-                raise Wrong(f"session {found[1]} was warned of twice")
-            causes[int(found[1])] = found[2]
+            said = calendar.timegm(time.strptime(found[1], TIME))
+            if not self.start_time <= said <= time.time():
+                raise Wrong(f"at {time.time()} {line!r:.200} was said")
+            notices.append((found[2], found[3]))
+        if self.keep is None and (not notices or notices.pop(0) != IN_MEMORY):
+            raise Wrong("it isn't told that rooms are in memory only")
+        return notices
+
+    def warnings(self):
+        """The cause of each session that the program warned of. Where each of these was and came from becomes `seen`,
+        and what else it said `notes`, a level and a text each."""
+        causes, self.seen, self.notes = {}, {}, []
+        for level, text in self.notices():
+            found = WARNING.fullmatch(text)
+            if level != "WARN" or not found:
+                self.notes.append((level, text))
+                continue
+            session = int(found[1])
+            if session in causes:
+                raise Wrong(f"session {session} was warned of twice")
+            causes[session] = found[4]
+            self.seen[session] = found[2], found[3]
         return causes

@@ -2,6 +2,8 @@
 #![tactic(auto)]
 
 use byte_streams::Uninterrupted;
+use log::{LevelFilter, Logged};
+use server::Stamped;
 use std::env;
 use std::io::{self, ErrorKind};
 use std::process::ExitCode;
@@ -16,6 +18,7 @@ fn words(rt: &(impl Env + AllocGlobal)) -> io::Result<Vec<String>> {
 fn main(rt: HostRuntime) -> ExitCode {
     match words(&rt) {
         Ok(words) => {
+            let told = Logged::new(rt, LevelFilter::Info, Stamped(rt));
             let mut input = Uninterrupted { stream: rt.stdin() };
             let mut output = Uninterrupted {
                 stream: rt.stdout(),
@@ -24,7 +27,7 @@ fn main(rt: HostRuntime) -> ExitCode {
                 stream: rt.stderr(),
             };
             ExitCode::from(server::run(
-                &rt,
+                &told,
                 rt.alloc(),
                 words.as_slice(),
                 &mut input,

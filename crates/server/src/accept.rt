@@ -2,47 +2,100 @@
 
 ghost use Rattle.std.specs.Iterator.{at_most};
 
+use crate::watch::Watch;
 use byte_streams::Uninterrupted;
+use log::Log;
+use sessions::{Arrival, PROBE_ANSWER, is_probe};
+use std::io::{Read, Write};
 use std::net::{OpenListener, OpenStream};
+use std::sync::Wait;
 use std::sync::atomic::{AtomicBool, Ordering};
 use std::time::Duration;
 
-/// The next connections of a listener: so many, or those before accepting fails.
+/// How long the first bytes of a connection are waited for that no worker is free for, in milliseconds.
+const LOOK_MILLIS: u64 = 250;
+
+/// The longest head of a probe that is answered while no worker is free.
+const HEAD_LEN: usize = 4096;
+
+/// The next connections of a listener: so many sessions, or those before accepting fails.
 #[derive(Drop)]
-pub(crate) struct Accepted<'a, L> {
+pub(crate) struct Accepted<'a, R, L> {
     pub(crate) listener: &'a L,
-    pub(crate) left: u32,
+    pub(crate) watch: &'a Watch<'a, R>,
+    /// The most connections. Probes are no sessions, so nothing else bounds these.
+    pub(crate) left: u64,
     /// How long a connection may keep a worker waiting, or `None` for as long as it likes.
     pub(crate) idle: Option<Duration>,
     /// Set where accepting has failed.
     pub(crate) failed: &'a AtomicBool,
 }
 
-impl<'a, L: OpenListener> Iterator for Accepted<'a, L>
+impl<'a, R: Wait + Log, L: OpenListener> Iterator for Accepted<'a, R, L>
 where
-    L::Stream: OpenStream,
+    L::Stream: OpenStream + Read + Write,
 {
-    type Item = Uninterrupted<L::Stream>;
+    type Item = Arrival<Uninterrupted<L::Stream>>;
 
     ghost remaining = { λ s. at_most s.left };
 
-    fn next(&mut self) -> Option<Uninterrupted<L::Stream>> {
-        if self.left == 0 {
+    fn next(&mut self) -> Option<Arrival<Uninterrupted<L::Stream>>> {
+        if self.left == 0 || !self.watch.let_in() {
             return None;
         }
         self.left -= 1;
-        match self.listener.accept() {
-            Ok((stream, _)) => {
-                set_up(&stream, self.idle);
-                Some(Uninterrupted { stream })
-            }
-            Err(_) => {
-                self.failed.store(true, Ordering::SeqCst);
-                self.left = 0;
-                None
-            }
+        let arrival = self.accept();
+        if arrival.is_none() {
+            self.failed.store(true, Ordering::SeqCst);
         }
+        arrival
     }
+}
+
+impl<'a, R: Wait + Log, L: OpenListener> Accepted<'a, R, L>
+where
+    L::Stream: OpenStream + Read + Write,
+{
+    /// The next connection that is no probe, or `None` where accepting fails. Probes are told here from
+    /// others only while no worker is free.
+    fn accept(&self) -> Option<Arrival<Uninterrupted<L::Stream>>> {
+        for _ in 0..u64::MAX {
+            let Ok((stream, address)) = self.listener.accept() else {
+                return None;
+            };
+            let mut stream = Uninterrupted { stream };
+            if self.watch.has_no_free_worker() {
+                if answer_probe(&mut stream) {
+                    continue;
+                }
+                self.watch.warn_of_workers();
+            }
+            set_up(&stream.stream, self.idle);
+            return Some(Arrival {
+                stream,
+                address: Some(address),
+            });
+        }
+        None
+    }
+}
+
+/// Answers what has come whole as a probe, and tells whether it is one.
+fn answer_probe<S: OpenStream + Read + Write>(connection: &mut Uninterrupted<S>) -> bool {
+    let mut head = [0; HEAD_LEN];
+    let look = Duration::from_millis(LOOK_MILLIS);
+    let _ = connection.stream.set_read_timeout(Some(look));
+    let _ = connection.stream.set_write_timeout(Some(look));
+    let Ok(count) = connection.stream.peek(&mut head) else {
+        return false;
+    };
+    if !is_probe(&head[..count]) {
+        return false;
+    }
+    // A connection that ends with bytes unread may lose what it was sent.
+    let _ = connection.read(&mut head[..count]);
+    let _ = connection.write_all(PROBE_ANSWER.as_bytes());
+    true
 }
 
 /// Sends each reply at once (a client with several requests in flight would wait for each reply

@@ -1,5 +1,7 @@
 //! The command line.
 
+ghost use Rattle.std.specs.Prelude.{◌≡◌, ◌↔◌, IsNone};
+
 use crate::serve::Service;
 use clap::error::ErrorKind;
 use clap::{Arg, ArgAction, ArgMatches, Command, Error, value_parser};
@@ -14,7 +16,7 @@ use std::random::RandomSource;
 use std::rt::Files;
 use std::sync::Wait;
 use std::thread::Threads;
-use std::time::Duration;
+use std::time::{Clock, Duration};
 
 /// What `--version` shows: what the number means stands in docs/DECISIONS.md.
 const VERSION: &str = "0.2.0";
@@ -36,6 +38,17 @@ fn idle<'a>(alloc: Global) -> Arg<'a> {
         .value_parser(value_parser!(u32))
         .default_value("300")
         .help("How long it waits for a client that is silent or stuck; 0 is for good")
+}
+
+/// How often it tells what it has.
+fn report<'a>(alloc: Global) -> Arg<'a> {
+    Arg::new(alloc, "report")
+        .long("report")
+        .value_name("SECONDS")
+        .action(ArgAction::Set)
+        .value_parser(value_parser!(u32))
+        .default_value("0")
+        .help("How often it tells of its sessions and rooms on standard error; 0 is never")
 }
 
 /// Where rooms are kept.
@@ -71,6 +84,7 @@ fn serve_command<'a>(alloc: Global) -> Result<Command<'a>, AllocError> {
         .about("Serves sessions over WebSocket, then prints the rooms' records")
         .arg(keep(alloc))?
         .arg(idle(alloc))?
+        .arg(report(alloc))?
         .arg(word(
             alloc,
             "ADDRESS",
@@ -174,6 +188,17 @@ fn show<W: Write, E: Write>(alloc: Global, error: &Error, output: &mut W, errors
     }
 }
 
+/// So many seconds, or `None` for 0.
+fn seconds(count: u64) -> Option<Duration>
+    ensures { IsNone result ↔ (count ≡ 0) }
+{
+    if count == 0 {
+        None
+    } else {
+        Some(Duration::from_secs(count))
+    }
+}
+
 /// What `grace serve` is asked to do, where all words that must be there are there.
 fn service_of<'a, 'w, R, W>(
     rt: &'a R,
@@ -185,17 +210,15 @@ fn service_of<'a, 'w, R, W>(
     let sessions = words.get_one("SESSIONS")?;
     let workers = words.get_one("WORKERS")?;
     let idle = words.get_one("idle")?;
+    let report = words.get_one("report")?;
     Some(Service {
         rt,
         alloc,
         address,
         sessions,
         workers,
-        idle: if idle == 0 {
-            None
-        } else {
-            Some(Duration::from_secs(idle))
-        },
+        idle: seconds(idle),
+        report: seconds(report),
         is_kept: words.get_str("keep").is_some(),
         output,
     })
@@ -211,7 +234,7 @@ fn run_read<H, R, W, E>(
     errors: &mut E,
 ) -> u8
 where
-    H: Files<File = File> + Threads + Wait + Log + Net + RandomSource + Sync,
+    H: Files<File = File> + Threads + Wait + Clock + Log + Net + RandomSource + Sync,
     H::Stream: Send,
     R: Read,
     W: Write,
@@ -261,7 +284,7 @@ pub fn run<H, R, W, E>(
     errors: &mut E,
 ) -> u8
 where
-    H: Files<File = File> + Threads + Wait + Log + Net + RandomSource + Sync,
+    H: Files<File = File> + Threads + Wait + Clock + Log + Net + RandomSource + Sync,
     H::Stream: Send,
     R: Read,
     W: Write,

@@ -78,7 +78,7 @@ fn settled<R: Files<File = File> + Log>(
     };
     if behind > 0 {
         file.set_len(whole as u64)?;
-        warn!(rt; target: "server::keep", "{path}: {behind} bytes of a line that was not written to its end");
+        warn!(rt; "{path}: {behind} bytes of a line that was not written to its end");
     }
     file.sync_all()?;
     Ok(Synced::new(file, whole as u64))
@@ -86,7 +86,7 @@ fn settled<R: Files<File = File> + Log>(
 
 /// What makes it impossible to keep rooms in this folder, after a line that tells what is wrong with which file.
 fn cannot_keep<'a, R: Log, W: Display>(rt: &R, dir: &'a str, path: &str, why: &W) -> EarlyEnd<'a> {
-    error!(rt; target: "server::keep", "{path}: {why}");
+    error!(rt; "{path}: {why}");
     EarlyEnd::CannotKeep(dir)
 }
 
@@ -153,7 +153,7 @@ impl<'a> Folder<'a> {
             Restored::Room { room, whole } => {
                 let entries = room.entries().len();
                 if entries > 0 {
-                    info!(rt; target: "server::keep", "{path}: {entries} entries");
+                    info!(rt; "{path}: {entries} entries");
                 }
                 let found = Found {
                     path,

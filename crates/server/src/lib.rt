@@ -6,5 +6,10 @@ mod command;
 mod early_end;
 mod folder;
 mod serve;
+mod stamped;
+mod tally;
+mod turnstile;
+mod watch;
 
 pub use command::run;
+pub use stamped::Stamped;

@@ -1,4 +1,4 @@
-//! `grace serve [--keep DIR] ADDRESS SESSIONS WORKERS ROOM..`: serves sessions over WebSocket.
+//! `grace serve`: serves sessions over WebSocket.
 
 ghost use Rattle.std.specs.Prelude.{◌≡◌};
 ghost use Rattle.room_lock.specs.Planned.{IsLedgerOf};
@@ -7,6 +7,8 @@ ghost use Rattle.server.specs.Faults.{of_serving};
 use crate::accept::Accepted;
 use crate::early_end::EarlyEnd;
 use crate::folder::Folder;
+use crate::tally::{Tally, empty_tallies, tallies_of};
+use crate::watch::Watch;
 use commands::{Fault, room_names};
 use journal::Synced;
 use keeping::{Keeping, RoomFile};
@@ -14,7 +16,7 @@ use log::{Log, warn};
 use op_names::repeated_name;
 use room_lock::{NewRooms, RoomLedger, Rooms};
 use rules::Limits;
-use sessions::{Forgets, Keeper, Open, ServeFault, serve_streams};
+use sessions::{Forgets, Keeper, ServeFault, serve_streams};
 use std::alloc::{AllocError, Global};
 use std::fs::File;
 use std::io::Write;
@@ -23,8 +25,9 @@ use std::net::{Net, OpenListener, TcpListener};
 use std::rt::Files;
 use std::sync::Wait;
 use std::sync::atomic::{AtomicBool, Ordering};
+use std::thread;
 use std::thread::Threads;
-use std::time::Duration;
+use std::time::{Clock, Duration};
 
 /// What a fault of serving is to the program.
 fn fault_of(fault: ServeFault) -> Fault
@@ -51,6 +54,8 @@ pub(crate) struct Service<'a, 'w, R, W> {
     pub(crate) workers: u32,
     /// How long a connection may keep a worker waiting, if there is a bound.
     pub(crate) idle: Option<Duration>,
+    /// How often it tells of its sessions and rooms, if it does.
+    pub(crate) report: Option<Duration>,
     /// Are the rooms kept in files?
     pub(crate) is_kept: bool,
     /// Where it tells that it listens, and writes the records.
@@ -72,12 +77,17 @@ fn listening_line<L: OpenListener>(
 
 impl<R, W> Service<'_, '_, R, W>
 where
-    R: Threads + Wait + Log + Net + Sync,
+    R: Threads + Wait + Clock + Log + Net + Sync,
     R::Stream: Send,
     W: Write,
 {
     /// Listens, tells so on the output, and serves what it accepts in these rooms.
-    fn serve_rooms<P, K>(self, rooms: Rooms<P>, keeper: &K) -> Result<(), Fault>
+    fn serve_rooms<P, K>(
+        self,
+        rooms: Rooms<P>,
+        tallies: &[Tally<'_>],
+        keeper: &K,
+    ) -> Result<(), Fault>
     where
         P: RoomLedger + Send + Sync,
         K: Keeper<P> + Sync,
@@ -91,30 +101,46 @@ where
         if !self.is_kept {
             warn!(rt; "rooms are in memory only; --keep DIR keeps them");
         }
+        let watch = Watch::new(rt, tallies, self.sessions, self.workers);
+        watch.begin();
         let line = listening_line(alloc, self.address, &listener)?;
         if self.output.write_all(line.as_bytes()).is_err() || self.output.flush().is_err() {
             return Err(Fault::Output);
         }
+        self.serve_listening(rooms, &listener, &watch, keeper)
+    }
+
+    /// Serves what the listener accepts.
+    fn serve_listening<P, K>(
+        self,
+        rooms: Rooms<P>,
+        listener: &R::Listener,
+        watch: &Watch<'_, R>,
+        keeper: &K,
+    ) -> Result<(), Fault>
+    where
+        P: RoomLedger + Send + Sync,
+        K: Keeper<P> + Sync,
+        K::Receipt: Send,
+    {
         let failed = AtomicBool::new(false);
         let streams = Accepted {
-            listener: &listener,
-            left: self.sessions,
+            listener,
+            watch,
+            left: u64::MAX,
             idle: self.idle,
             failed: &failed,
         };
-        let served = serve_streams(
-            rt,
-            alloc,
+        serve_reporting(
+            self.rt,
+            self.alloc,
             rooms,
             streams,
             self.workers,
-            &Open,
+            self.report,
             keeper,
             self.output,
-        );
-        if let Err(fault) = served {
-            return Err(fault_of(fault));
-        }
+        )?;
         if failed.load(Ordering::SeqCst) {
             return Err(Fault::Accept);
         }
@@ -122,28 +148,72 @@ where
     }
 }
 
-/// Serves in rooms that are kept nowhere.
-fn serve_in_memory<P, R, W>(service: Service<'_, '_, R, W>, planned: NewRooms) -> Result<(), Fault>
+/// Serves these connections to their end, and reports each time that so long has passed, if it is to.
+fn serve_reporting<P, R, K, W>(
+    rt: &R,
+    alloc: Global,
+    rooms: Rooms<P>,
+    streams: Accepted<'_, R, R::Listener>,
+    workers: u32,
+    period: Option<Duration>,
+    keeper: &K,
+    output: &mut W,
+) -> Result<(), Fault>
 where
     P: RoomLedger + Send + Sync,
-    R: Threads + Wait + Log + Net + Sync,
+    R: Threads + Wait + Clock + Log + Net + Sync,
+    R::Stream: Send,
+    K: Keeper<P> + Sync,
+    K::Receipt: Send,
+    W: Write,
+{
+    let watch = streams.watch;
+    let (running, stop) = crossbeam_channel::bounded::<(), _>(alloc, 1)?;
+    let served = thread::scope(thread::scope_env(), rt, |scope| {
+        let reporter = match period {
+            Some(period) => scope.spawn(move || watch.report_every(period, &stop)).ok(),
+            None => None,
+        };
+        let served = serve_streams(rt, alloc, rooms, streams, workers, watch, keeper, output);
+        drop(running);
+        if let Some(reporter) = reporter {
+            reporter.join(rt);
+        }
+        served
+    });
+    match served {
+        Ok(()) => Ok(()),
+        Err(fault) => Err(fault_of(fault)),
+    }
+}
+
+/// Serves in rooms that are kept nowhere.
+fn serve_in_memory<P, R, W>(
+    service: Service<'_, '_, R, W>,
+    planned: NewRooms,
+    tallies: &[Tally<'_>],
+) -> Result<(), Fault>
+where
+    P: RoomLedger + Send + Sync,
+    R: Threads + Wait + Clock + Log + Net + Sync,
     R::Stream: Send,
     W: Write,
     requires { IsLedgerOf planned P.name P.parts P.limits P.books }
 {
     let (rooms, _begun) = Rooms::<P>::new(service.rt, service.alloc, planned)?;
-    service.serve_rooms(rooms, &Forgets)
+    service.serve_rooms(rooms, tallies, &Forgets)
 }
 
 /// Serves in rooms that are kept in these files, one for each room in order.
 fn serve_in_files<'a, P, R, W>(
     service: Service<'_, 'a, R, W>,
     planned: NewRooms,
+    tallies: &[Tally<'_>],
     journals: Vec<Synced<File>>,
 ) -> Result<(), EarlyEnd<'a>>
 where
     P: RoomLedger + Send + Sync,
-    R: Threads + Wait + Log + Net + Sync,
+    R: Threads + Wait + Clock + Log + Net + Sync,
     R::Stream: Send,
     W: Write,
     requires { IsLedgerOf planned P.name P.parts P.limits P.books }
@@ -152,7 +222,7 @@ where
     let (rooms, begun) = Rooms::<P>::new(rt, alloc, planned)?;
     let files = RoomFile::open_all(alloc, journals, &begun)?;
     let keeping = Keeping::new(alloc, files)?;
-    service.serve_rooms(rooms, &keeping)?;
+    service.serve_rooms(rooms, tallies, &keeping)?;
     if keeping.all_kept(rt) {
         Ok(())
     } else {
@@ -162,15 +232,16 @@ where
 
 impl<'w, R, W> Service<'_, 'w, R, W>
 where
-    R: Files<File = File> + Threads + Wait + Log + Net + Sync,
+    R: Files<File = File> + Threads + Wait + Clock + Log + Net + Sync,
     R::Stream: Send,
     W: Write,
 {
     /// Serves in rooms of these names with full limits.
     fn serve(self, names: &[&'w str]) -> Result<(), Fault> {
-        let names = room_names(self.alloc, names)?;
-        let planned = NewRooms::plan(self.alloc, names, Limits::full())?;
-        serve_in_memory::<Brand, R, W>(self, planned)
+        let rooms = room_names(self.alloc, names)?;
+        let tallies = empty_tallies(self.alloc, names)?;
+        let planned = NewRooms::plan(self.alloc, rooms, Limits::full())?;
+        serve_in_memory::<Brand, R, W>(self, planned, &tallies)
     }
 
     /// Serves in rooms of these names with full limits, which this folder keeps.
@@ -182,9 +253,10 @@ where
         }
         let folder = Folder::open(rt, dir)?;
         let (states, files) = folder.read(rt, alloc, names)?;
+        let tallies = tallies_of(alloc, names, &states)?;
         let journals = folder.settle(rt, alloc, files)?;
         let planned = NewRooms::with_records(alloc, rooms, Limits::full(), states)?;
-        serve_in_files::<Brand, R, W>(self, planned, journals)
+        serve_in_files::<Brand, R, W>(self, planned, &tallies, journals)
     }
 
     /// Serves in rooms of these names with full limits, and gives the status: 0 where all sessions were

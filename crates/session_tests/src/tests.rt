@@ -4,12 +4,13 @@ mod faults;
 mod kept;
 mod pool;
 mod served;
+mod told;
 mod watched;
 
 use op_names::RoomName;
 use room_lock::NewRooms;
 use rules::Limits;
-use sessions::{Cause, Gate};
+use sessions::{Arrival, Cause, Client, Gate};
 use std::process::Abort;
 use std::sync::atomic::{AtomicU64, Ordering};
 
@@ -99,6 +100,20 @@ fn frames_of(output: &[u8]) -> &[u8] {
     output
 }
 
+/// The client of the first session, of which no address is known.
+const FIRST: Client = Client {
+    session: 1,
+    address: None,
+};
+
+/// A connection of which no address is known.
+fn arrival<S>(stream: S) -> Arrival<S> {
+    Arrival {
+        stream,
+        address: None,
+    }
+}
+
 /// What a session sends: the head of its request, then a frame for each line, then a close.
 fn asked_parts(rt: &(impl Abort + AllocGlobal), lines: &str) -> Vec<Vec<u8>> {
     let mut parts = Vec::new(rt.alloc());
@@ -159,5 +174,5 @@ impl Gate for Counting {
         self.answered.fetch_add(1, Ordering::SeqCst);
     }
 
-    fn after_session(&self, _session: u32, _cause: Cause) {}
+    fn after_session(&self, _client: &Client, _room: Option<&RoomName>, _cause: Cause) {}
 }

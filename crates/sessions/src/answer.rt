@@ -7,6 +7,7 @@ ghost use Rattle.sessions.specs.declared.cause.Cause.TheVariants as cause;
 ghost use Rattle.sessions.specs.Turns.{IsKept};
 
 use crate::cause::Cause;
+use crate::gate::{Addition, Gate};
 use crate::host::Host;
 use crate::keeper::{KeepFault, Keeper};
 use room_lock::{Prefix, RoomLedger};
@@ -51,9 +52,18 @@ impl<P: RoomLedger> Answer<P> {
         }
     }
 
-    /// The text of the reply, once what it tells is kept. The text is made first, so that nobody waits
-    /// for one that can't be made.
-    pub(crate) fn keep<R: Wait, G, K: Keeper<P>>(
+    /// Tells the gate of the entry that the room has got with this reply, where it has got one.
+    fn tell_growth<G: Gate>(&self, gate: &G) {
+        if let Some(told) = &self.told
+            && let Some(addition) = Addition::of(&self.reply)
+        {
+            gate.after_entry(told.place(), addition);
+        }
+    }
+
+    /// The text of the reply, once what it tells is kept. The gate is told first, since the entry stands
+    /// whatever comes. The text is made then, so that nobody waits for one that can't be made.
+    pub(crate) fn keep<R: Wait, G: Gate, K: Keeper<P>>(
         self,
         host: &Host<'_, P, R, G, K>,
     ) -> Result<Answered<K::Receipt>, Cause>
@@ -62,6 +72,7 @@ impl<P: RoomLedger> Answer<P> {
         ensures kept { IfOk result (λ answered. IsKept K.shows self.told answered.receipt) }
         ensures cause { IfErr result (λ why. (why ≡ cause.NoMemory) ⊎ (why ≡ cause.NotKept)) }
     {
+        self.tell_growth(host.gate);
         let text = write_reply(host.alloc, &self.reply)?;
         let receipt = receipt_of(host, &self.told)?;
         Ok(Answered { text, receipt })

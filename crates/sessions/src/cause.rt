@@ -29,6 +29,9 @@ pub enum Cause {
     /// What a reply would have told of a room is not kept.
     #[error("record not kept")]
     NotKept,
+    /// It was no session: a probe was answered.
+    #[error("probe")]
+    Probe,
 }
 
 impl From<NoMemory> for Cause {

@@ -4,7 +4,9 @@
 ghost use Rattle.room_lock.specs.Planned.{IsLedgerOf};
 
 use super::faults::{Calls, Parts};
-use super::{ANSWERED, ASKED, CLOSED, ENTRIES, asked_parts, frames_of, planned, text_frame};
+use super::{
+    ANSWERED, ASKED, CLOSED, ENTRIES, FIRST, arrival, asked_parts, frames_of, planned, text_frame,
+};
 use log::sink::Locked;
 use log::{LevelFilter, Log, Logged};
 use room_lock::{NewRooms, Prefix, RoomLedger, Rooms};
@@ -174,7 +176,7 @@ fn serve<P: RoomLedger, R: Wait + Abort + AllocGlobal>(
         reader: Parts::new(&parts, &calls),
         writer: &mut output,
     };
-    let cause = serve_one(host, 1, stream);
+    let cause = serve_one(host, FIRST, stream);
     let frames = frames_of(&output).to_vec(alloc).expect(rt, "memory");
     Ended { cause, frames }
 }
@@ -327,7 +329,7 @@ fn printed_in<P: RoomLedger + Send + Sync, R: Threads + Wait + Log + Sync + Abor
         reader: Parts::new(&parts, &calls),
         writer: Vec::new(rt.alloc()),
     };
-    streams.push(stream).expect(rt, "memory");
+    streams.push(arrival(stream)).expect(rt, "memory");
     let mut output = Vec::new(rt.alloc());
     let end = serve_streams(
         rt,
@@ -359,6 +361,6 @@ fn a_session_whose_reply_is_not_kept_is_warned_of(rt: HostRuntime) {
     assert_eq!(rt; output.as_slice(), "room r 1\n[\"join\",1]\n".as_bytes());
     assert_eq!(rt;
         sink.into_inner().as_slice(),
-        "[WARN  server::serve] session 1: record not kept\n".as_bytes()
+        "[WARN  sessions::warned] session 1 room r: record not kept\n".as_bytes()
     );
 }

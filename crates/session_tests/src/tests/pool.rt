@@ -3,9 +3,10 @@
 ghost use Rattle.room_lock.specs.Planned.{IsLedgerOf};
 
 use super::faults::{Calls, Parts};
-use super::{HEAD, asked_parts, planned};
+use super::{HEAD, arrival, asked_parts, planned};
+use op_names::RoomName;
 use room_lock::{NewRooms, RoomLedger, Rooms};
-use sessions::{Cause, Forgets, Gate, Host, Open, PoolFault, run_pool};
+use sessions::{Cause, Client, Forgets, Gate, Host, Open, PoolFault, run_pool};
 use std::marker::Brand;
 use std::process::Abort;
 use std::sync::Wait;
@@ -71,8 +72,8 @@ impl<R: Clock> Gate for Crossed<R> {
         };
     }
 
-    fn after_session(&self, session: u32, cause: Cause) {
-        if cause == cause_due(session) {
+    fn after_session(&self, client: &Client, _room: Option<&RoomName>, cause: Cause) {
+        if cause == cause_due(client.session) {
             self.ended.fetch_add(1, Ordering::SeqCst);
         }
     }
@@ -99,7 +100,7 @@ fn no_worker_in<P: RoomLedger + Send + Sync, R: Threads + Wait + Sync + Abort + 
         reader: HEAD.as_bytes(),
         writer: Vec::new(rt.alloc()),
     };
-    streams.push(stream).expect(rt, "memory");
+    streams.push(arrival(stream)).expect(rt, "memory");
     let host = Host {
         rt,
         alloc: rt.alloc(),
@@ -158,7 +159,7 @@ fn pool_under_failure_in<
             reader: Parts::new(&parts[place % 3], calls),
             writer: Vec::new(rt.alloc()),
         };
-        streams.push(stream).expect(rt, "memory");
+        streams.push(arrival(stream)).expect(rt, "memory");
     }
     let gate = Crossed::new(*rt);
     let host = Host {

@@ -4,8 +4,8 @@ ghost use Rattle.room_lock.specs.Planned.{IsLedgerOf};
 
 use super::faults::{Calls, Parts, Sparing};
 use super::{
-    ANSWERED, ASKED, Counting, ENTRIES, RECORD, answer_frames, asked_parts, bytewise, copied,
-    frames_of, planned, text_frame,
+    ANSWERED, ASKED, Counting, ENTRIES, FIRST, RECORD, answer_frames, arrival, asked_parts,
+    bytewise, copied, frames_of, planned, text_frame,
 };
 use log::sink::Locked;
 use log::{LevelFilter, Log, Logged};
@@ -54,7 +54,7 @@ fn run_session_in<P: RoomLedger>(
         gate: &gate,
         keeper: &Forgets,
     };
-    let cause = serve_one(&host, 1, stream);
+    let cause = serve_one(&host, FIRST, stream);
     let records = rooms.close(rt.alloc()).expect(rt, "all passes");
     assert_eq!(rt; records.len(), 1);
     Outcome {
@@ -196,7 +196,7 @@ fn run_streams_in<
         },
     };
     let mut streams = Vec::new(rt.alloc());
-    streams.push(stream).expect(rt, "memory");
+    streams.push(arrival(stream)).expect(rt, "memory");
     let streams = streams.into_iter();
     let mut output = Vec::new(rt.alloc());
     let mut writer = Sparing {
@@ -291,7 +291,7 @@ fn a_session_that_fails_is_warned_of(rt: HostRuntime) {
     assert_eq!(rt; run.output.as_slice(), "room r 0\n".as_bytes());
     assert_eq!(rt;
         sink.into_inner().as_slice(),
-        "[WARN  server::serve] session 1: handshake failed\n".as_bytes()
+        "[WARN  sessions::warned] session 1: handshake failed\n".as_bytes()
     );
 }
 

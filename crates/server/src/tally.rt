@@ -1,0 +1,153 @@
+//! What rooms have, counted as it comes.
+
+ghost use Rattle.std.specs.Prelude.{◌≤◌, ◌<◌, ◌+◌, ◌*◌, IfOk, length};
+ghost use Rattle.std.specs.Prelude.{◌≡◌};
+
+use log::{Log, info, warn};
+use room_core::RoomState;
+use rules::{Body, Entry, Limits};
+use sessions::Addition;
+use std::alloc::{AllocError, Global};
+use std::sync::Arc;
+use std::sync::atomic::{AtomicU64, Ordering};
+
+/// The least count that is nine tenths of a limit.
+fn nine_tenths(limit: u32) -> u64
+    ensures reached { limit * 9 ≤ result * 10 }
+    ensures least { result * 10 < limit * 9 + 10 }
+{
+    (u64::from(limit) * 9).div_ceil(10)
+}
+
+/// A room's name, and how many joins, entries and objects it has.
+#[derive(Drop)]
+pub(crate) struct Tally<'a> {
+    name: &'a str,
+    joins: AtomicU64,
+    entries: AtomicU64,
+    objects: AtomicU64,
+}
+
+/// Counts one more.
+fn count(counter: &AtomicU64) -> u64 {
+    counter.fetch_add(1, Ordering::SeqCst).saturating_add(1)
+}
+
+impl<'a> Tally<'a> {
+    /// Of a room that begins empty.
+    fn empty(name: &'a str) -> Tally<'a> {
+        Tally {
+            name,
+            joins: AtomicU64::new(0),
+            entries: AtomicU64::new(0),
+            objects: AtomicU64::new(0),
+        }
+    }
+
+    /// Of a room that begins with this record.
+    fn of_room(name: &'a str, room: &RoomState) -> Tally<'a> {
+        Tally {
+            name,
+            joins: AtomicU64::new(u64::from(room.sites())),
+            entries: AtomicU64::new(room.entries().len() as u64),
+            objects: AtomicU64::new(count_objects(room.entries())),
+        }
+    }
+
+    /// Counts an entry, and warns where it makes nine tenths of the joins or of the entries.
+    pub(crate) fn add<R: Log>(&self, rt: &R, addition: Addition) {
+        let entries = count(&self.entries);
+        if entries == nine_tenths(Limits::MAX_ENTRIES) {
+            self.warn_of_entries(rt, entries);
+        }
+        match addition {
+            Addition::Site => {
+                let joins = count(&self.joins);
+                if joins == nine_tenths(Limits::MAX_JOINS) {
+                    self.warn_of_joins(rt, joins);
+                }
+            }
+            Addition::Object => {
+                count(&self.objects);
+            }
+            Addition::Change => {}
+        }
+    }
+
+    /// Warns where a room begins with nine tenths of the joins or of the entries, or more.
+    pub(crate) fn begin<R: Log>(&self, rt: &R) {
+        let (joins, entries) = (load(&self.joins), load(&self.entries));
+        if entries >= nine_tenths(Limits::MAX_ENTRIES) {
+            self.warn_of_entries(rt, entries);
+        }
+        if joins >= nine_tenths(Limits::MAX_JOINS) {
+            self.warn_of_joins(rt, joins);
+        }
+    }
+
+    fn warn_of_entries<R: Log>(&self, rt: &R, entries: u64) {
+        let (name, limit) = (self.name, Limits::MAX_ENTRIES);
+        warn!(rt; "room {name} has {entries} of {limit} entries");
+    }
+
+    fn warn_of_joins<R: Log>(&self, rt: &R, joins: u64) {
+        let (name, limit) = (self.name, Limits::MAX_JOINS);
+        warn!(rt; "room {name} has {joins} of {limit} joins");
+    }
+
+    /// Tells what the room has.
+    pub(crate) fn report<R: Log>(&self, rt: &R) {
+        let name = self.name;
+        let (joins, entries, objects) = (
+            load(&self.joins),
+            load(&self.entries),
+            load(&self.objects),
+        );
+        let (most_joins, most_entries) = (Limits::MAX_JOINS, Limits::MAX_ENTRIES);
+        let most_objects = Limits::MAX_OBJECTS;
+        info!(rt; "report: room {name} joins {joins}/{most_joins} entries {entries}/{most_entries} objects {objects}/{most_objects}");
+    }
+}
+
+/// What a counter has.
+fn load(counter: &AtomicU64) -> u64 {
+    counter.load(Ordering::SeqCst)
+}
+
+/// How many objects the entries create.
+fn count_objects(entries: &[Arc<Entry>]) -> u64 {
+    let mut objects: u64 = 0;
+    for entry in entries {
+        if let Entry::Operation(op) = &**entry
+            && matches!(op.body, Body::New { .. })
+        {
+            objects = objects.saturating_add(1);
+        }
+    }
+    objects
+}
+
+/// Of rooms of these names that begin empty, in the same order.
+pub(crate) fn empty_tallies<'a>(
+    alloc: Global,
+    names: &[&'a str],
+) -> Result<Vec<Tally<'a>>, AllocError> {
+    let mut tallies = Vec::with_capacity(alloc, names.len())?;
+    for name in names {
+        tallies.push(Tally::empty(name))?;
+    }
+    Ok(tallies)
+}
+
+/// Of rooms of these names that begin with these records, in the same order.
+pub(crate) fn tallies_of<'a>(
+    alloc: Global,
+    names: &[&'a str],
+    rooms: &[RoomState],
+) -> Result<Vec<Tally<'a>>, AllocError> {
+    let mut tallies = Vec::with_capacity(alloc, names.len())?;
+    for (name, room) in names.iter().zip(rooms) {
+        tallies.push(Tally::of_room(name, room))?;
+    }
+    Ok(tallies)
+}

@@ -202,27 +202,29 @@ def probes():
 
 
 def probes_of_a_busy_server():
-    """While all workers are taken and clients wait, a probe is answered within two seconds: each of them is looked at
-    for a quarter of a second at most, since it is silent."""
-    with Server(6, 1) as server:
+    """While all workers are taken and 43 clients wait, three of them silent, a probe is answered within two seconds:
+    each that is silent is looked at for a quarter of a second."""
+    with Server(45, 1) as server:
         client = server.client()
         client.asks(JOIN, '["joined",0,1]')
         silent = [server.connect() for _ in range(3)]
+        waiting = [server.connect() for _ in range(40)]
+        keys = [new_key() for _ in waiting]
+        for other, key in zip(waiting, keys):
+            other.send(head(key))
         start = time.monotonic()
         same("the answer", answer_to(server, PROBE), ANSWER)
         if time.monotonic() - start > 2:
             raise Wrong(f"it took {time.monotonic() - start:.1f} seconds")
-        last = server.connect()
-        key = new_key()
-        last.send(head(key))
-        same("the answer", answer_to(server, PROBE), ANSWER)
         client.close()
         for other in silent:
             other.hang_up()
-        last.read_answer(key)
-        last.asks(JOIN, '["joined",1,2]')
-        last.close()
-        server.client().asks(JOIN, '["joined",2,3]')
+        for place, (other, key) in enumerate(zip(waiting, keys), 2):
+            other.read_answer(key)
+            other.asks(JOIN, f'["joined",{place - 1},{place}]')
+            other.close()
+        # No probe was one of the 45 sessions.
+        server.client().asks(JOIN, '["joined",41,42]')
         server.finish(warned=dict.fromkeys((2, 3, 4), "handshake failed"))
 
 

@@ -256,8 +256,8 @@ def in_memory():
         server.client().asks('["join","r"]', '["joined",0,1]')
         server.finish()
         server.errors.seek(0)
-        if not IN_MEMORY.fullmatch(server.errors.read().removesuffix("\n")):
-            raise Wrong("it isn't told that rooms are in memory only")
+        said = [line.partition(" ")[2] for line in server.errors.read().splitlines()]
+        same("what is said", said, [" ".join(IN_MEMORY)])
 
 
 def without_a_folder():

@@ -95,8 +95,8 @@ def reports():
 
 
 def no_reports():
-    """Without --report, or with 0, nothing is told."""
-    for report in (None, 0):
+    """Without --report, or with 0, nothing is told. A report that is far off holds up no end."""
+    for report in (None, 0, 3600):
         with Server(report=report) as server:
             client = server.client()
             client.asks(JOIN, '["joined",0,1]')

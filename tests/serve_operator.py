@@ -228,6 +228,35 @@ def probes_of_a_busy_server():
         server.finish(warned=dict.fromkeys((2, 3, 4), "handshake failed"))
 
 
+def probe_of_an_overcrowded_server():
+    """While 256 clients wait for a worker, and one more to wait, a probe isn't answered: not within a second. It is
+    once one of them is served."""
+    with Server(259, 1) as server:
+        client = server.client()
+        client.asks(JOIN, '["joined",0,1]')
+        waiting = [server.connect() for _ in range(257)]
+        keys = [new_key() for _ in waiting]
+        for other, key in zip(waiting, keys):
+            other.send(head(key))
+        with socket.create_connection(server.address, SECONDS) as probe:
+            probe.sendall(PROBE)
+            probe.settimeout(1)
+            try:
+                raise Wrong(f"it is answered {probe.recv(4096)!r}")
+            except TimeoutError:
+                probe.settimeout(SECONDS)
+            client.close()
+            received = b""
+            while data := probe.recv(4096):
+                received += data
+            same("the answer", received, ANSWER)
+        for other, key in zip(waiting, keys):
+            other.read_answer(key)
+            other.close()
+        server.client()
+        server.finish()
+
+
 def path_of_a_probe():
     """A WebSocket may have the path of a probe, whether a worker is free or not."""
     with Server(2, 1) as server:
@@ -293,6 +322,7 @@ TESTS = [
     ("the last worker is taken", workers),
     ("a probe counts as no session", probes),
     ("probes while all workers are taken", probes_of_a_busy_server),
+    ("a probe of a server that is overcrowded", probe_of_an_overcrowded_server),
     ("a WebSocket with the path of a probe", path_of_a_probe),
     ("a probe that is the last connection", last_is_undecided),
     *((f"no probe: {name}", partial(no_probe, data)) for name, data in NO_PROBES),

@@ -1,27 +1,25 @@
 /** The panel beside the drawing: the list of objects, or the selected one with its versions side by side. */
 
 import { keyOf } from "./board.js"
-import {
-  NAME_LENGTH, bodyOf, boundsOfAll, differingKeys, html, isColour, keysOf, letterOf, linesOf, outlineOf, svg, wordsOf,
-} from "./shapes.js"
+import { cardsOf, pictureOf } from "./cards.js"
+import { button, html } from "./elements.js"
+import { shapeOfForm } from "./gone.js"
+import { fitting } from "./shapes.js"
+import { letterOf, versionWords, wordsOf } from "./words.js"
 
 const HELP =
-  "Drag it to move it, its corner to change its size; choose a colour above. " +
+  "Drag it to move it, its corner to change its size; double-click it to write on it. " +
   "Arrow keys move it, with Shift they change its size; the Delete key deletes it."
 
 export class Panel {
   #release = null
+  #isGoneOpen = false
 
-  /**
-   * @param {import("./board.js").Board} board @param {HTMLElement} element
-   * @param {{ select: (name: any, version?: any) => void,
-   *   put: (name: any, version: any, attributes: object) => void,
-   *   drop: (name: any, versions: any[]) => void, keep: (name: any, versions: any[]) => void }} page
-   */
-  constructor(board, element, page) {
-    this.board = board
-    this.element = element
+  /** @param {import("./whiteboard.js").Page} page @param {HTMLElement} element */
+  constructor(page, element) {
     this.page = page
+    this.board = page.board
+    this.element = element
   }
 
   /** Draws the panel anew, unless someone is writing in it. */
@@ -29,43 +27,89 @@ export class Panel {
     if (this.#release !== null) return
     const focused = document.activeElement?.dataset?.focus
     const { selected } = this.board
+    const top = this.element.dataset.shown === String(selected) ? this.element.scrollTop : 0
     this.element.replaceChildren(...(selected === null ? this.#objects() : this.#object(selected)))
-    if (focused === undefined) return
+    this.element.dataset.shown = String(selected)
+    this.element.scrollTop = top
+    if (focused === undefined || !this.element.contains(document.activeElement ?? document.body)) this.#focus(focused)
+  }
+
+  /** What had the focus in the panel has it again, or where that is no more the panel. */
+  #focus(focused) {
+    if (focused === undefined || document.activeElement !== document.body) return
     const next = this.element.querySelector(`[data-focus="${focused}"]`) ?? this.element
     next.focus({ preventScroll: true })
   }
 
+  // ---- the list
+
   #objects() {
     const names = this.board.objects()
-    if (names.length === 0) {
-      return [html("h2", { textContent: "Nothing is drawn yet" }),
-        html("p", { textContent: "Choose a rectangle, an ellipse or a line above, and drag on the drawing." })]
+    const gone = this.#goneObjects()
+    if (names.length > 0) {
+      const list = html("ul", { className: "list" }, ...names.map((name) => html("li", {}, this.#item(name))))
+      return [html("h2", { textContent: `Objects (${names.length})` }), list, ...gone]
     }
-    const items = names.map((name) => html("li", {}, this.#item(name)))
-    return [html("h2", { textContent: `Objects (${names.length})` }), html("ul", { className: "list" }, ...items)]
+    if (!this.page.room.isLoaded) return [html("h2", { textContent: "Loading" })]
+    const help = "Choose a rectangle, an ellipse, a line or the pen above, and drag on the drawing."
+    return [html("h2", { textContent: "Nothing is drawn yet" }), html("p", { textContent: help }), ...gone]
   }
 
   #item(name) {
     const [shape, ...others] = this.board.shapes(name)
-    const button = this.#button("", keyOf(name), () => this.page.select(name))
-    button.append(html("span", { textContent: wordsOf(shape.kind, shape) }))
+    const item = button("", keyOf(name), () => {
+      this.page.select(name)
+      this.page.view.reach(name)
+    })
+    item.append(html("span", { textContent: wordsOf(shape) }))
     const marks = this.board.survivors(name).length > 0 ? ["deleted, and changed"] : []
     if (others.length > 0) marks.push(`${others.length + 1} versions`)
-    button.append(...marks.map((textContent) => html("span", { className: "count", textContent })))
-    return button
+    item.append(...marks.map((textContent) => html("span", { className: "count", textContent })))
+    return item
   }
+
+  /** What was deleted, which is looked up once a person wants to see it. */
+  #goneObjects() {
+    const names = this.page.gone.objects()
+    if (names.length === 0) return []
+    const summary = html("summary", { textContent: `Deleted (${names.length})`, dataset: { focus: "gone" } })
+    const details = html("details", { className: "gone", open: this.#isGoneOpen }, summary)
+    const fill = () => {
+      this.#isGoneOpen = details.open
+      if (details.open && details.children.length === 1) details.append(this.#goneList(names))
+    }
+    fill()
+    details.addEventListener("toggle", fill)
+    return [details]
+  }
+
+  #goneList(names) {
+    const items = names.flatMap((name) => this.page.gone.formsOf(name).map((form, place) => {
+      const shape = shapeOfForm(form)
+      const back = button("Bring back", `back-${keyOf(name)}-${place}`, () => this.page.gone.bringBack(form))
+      back.setAttribute("aria-label", `Bring back ${wordsOf(shape)}`)
+      return html("li", {}, pictureOf([shape], 0), html("span", { textContent: wordsOf(shape) }), back)
+    }))
+    return html("ul", {}, ...items)
+  }
+
+  // ---- one object
 
   #object(name) {
     const versions = this.board.shown(name)
     const picked = this.board.picked(name)
     const shape = this.board.shapes(name)[Math.max(0, versions.indexOf(picked))]
-    const all = this.#button("All objects", "all", () => this.page.select(null))
-    const parts = [html("h2", { textContent: wordsOf(shape.kind, shape) }), ...this.#notice(name, versions)]
-    parts.push(this.#nameField(name, picked))
+    const parts = [this.#heading(shape), ...this.#notice(name, versions), this.#textField(name, picked)]
+    if (picked !== null) parts.push(this.#order(name, picked))
     if (versions.length > 1) parts.push(...this.#versions(name, versions, picked))
     else parts.push(html("p", { textContent: HELP }))
     const ends = picked === null ? [] : this.#ends(name, versions, picked)
-    return [...parts, html("div", { className: "actions" }, ...ends, all)]
+    return [...parts, html("div", { className: "actions" }, ...ends)]
+  }
+
+  #heading(shape) {
+    const all = button("All objects", "all", () => this.page.select(null))
+    return html("header", {}, html("h2", { textContent: wordsOf(shape) }), all)
   }
 
   /** That somebody deleted what others changed, with both ways on. */
@@ -76,11 +120,22 @@ export class Panel {
     const words = versions.length === 1
       ? "Somebody deleted this while others changed it. You see it as they changed it."
       : `Somebody deleted a version while others changed it. What they made of it: ${which}.`
-    const keep = this.#button(`Keep ${which}`, "keep", () => this.page.keep(name, survivors))
-    const drop = this.#button(`Delete ${which} too`, "delete-too", () => this.page.drop(name, survivors))
+    const keep = button(`Keep ${which}`, "keep", () => this.page.keep(name, survivors))
+    const drop = button(`Delete ${which} too`, "delete-too", () => this.page.changes.drop(name, survivors))
     drop.className = "delete"
     return [html("section", { className: "notice" }, html("p", { textContent: words }),
       html("div", { className: "actions" }, keep, drop))]
+  }
+
+  /** Its place among the others, from back to front. */
+  #order(name, picked) {
+    const others = this.board.objects().filter((other) => keyOf(other) !== keyOf(name))
+    const places = others.flatMap((other) => this.board.shapes(other)).map(({ z }) => z)
+    const to = (z) => () => this.page.changes.put(name, picked, { z })
+    return html("div", { className: "actions" },
+      button("To front", "front", to(places.reduce((most, z) => Math.max(most, z), 0) + 1)),
+      button("To back", "back", to(places.reduce((least, z) => Math.min(least, z), 0) - 1)),
+      button("Copy", "copy", () => this.page.clipboard.copy()))
   }
 
   /** What ends versions: the picked one, or all others. A key that is held down presses no other version's button. */
@@ -88,33 +143,35 @@ export class Panel {
     const letter = letterOf(versions.indexOf(picked))
     const isOneOfSeveral = versions.length > 1
     const [words, focus] = isOneOfSeveral ? [`Delete version ${letter}`, `delete-${letter}`] : ["Delete", "delete"]
-    const drop = this.#button(words, focus, () => this.page.drop(name, [picked]))
+    const drop = button(words, focus, () => this.page.changes.drop(name, [picked]))
     drop.className = "delete"
     const others = versions.filter((version) => version !== picked)
-    const keep = this.#button("Keep only this", "keep-only", () => this.page.drop(name, others))
+    const keep = button("Keep only this", "keep-only", () => this.page.changes.drop(name, others))
     keep.title = `Keep version ${letter}, and delete the others`
     return isOneOfSeveral ? [keep, drop] : [drop]
   }
 
   /** What is written in the field is done when it is left. What others do comes after that. */
-  #nameField(name, picked) {
+  #textField(name, picked) {
     const before = String(picked?.attributes.get("name") ?? "")
-    const properties = { type: "text", maxLength: NAME_LENGTH, value: before, disabled: picked === null }
-    const input = html("input", { ...properties, dataset: { focus: "name" } })
+    const input = html("input", { type: "text", value: before, disabled: picked === null, dataset: { focus: "text" } })
     const end = (isWhole) => {
       if (this.#release === null) return
       const release = this.#release
       this.#release = null
-      if (isWhole && input.value !== before) this.page.put(name, picked, { name: input.value })
+      if (isWhole && input.value !== before) this.page.changes.put(name, picked, { name: input.value })
       release()
-      this.draw()
+      this.page.view.change([name])
     }
-    input.addEventListener("input", () => (this.#release ??= this.board.room.hold()))
+    input.addEventListener("input", () => {
+      input.value = fitting(input.value)
+      this.#release ??= this.page.room.hold()
+    })
     input.addEventListener("blur", () => end(true))
     input.addEventListener("keydown", ({ key }) => {
       if (key === "Enter" || key === "Escape") end(key === "Enter")
     })
-    return html("label", {}, html("span", { textContent: "Name" }), input)
+    return html("label", {}, html("span", { textContent: "Text" }), input)
   }
 
   #versions(name, versions, picked) {
@@ -122,62 +179,11 @@ export class Panel {
     const words = letter === null
       ? "People changed this at the same time. Pick the version to go on with; the others stay as they are."
       : `You go on with version ${letter}. The others stay as they are.`
-    const cards = versions.map((version, place) => this.#card(name, versions, place, version === picked))
+    const pick = (version) => {
+      this.page.select(name, version)
+      this.page.view.reach(name, version)
+    }
     return [html("h3", { textContent: `${versions.length} versions` }), html("p", { textContent: words }),
-      html("div", { className: "cards" }, ...cards)]
+      cardsOf(versions, this.board.shapes(name), picked, pick)]
   }
-
-  #card(name, versions, place, isPicked) {
-    const version = versions[place]
-    const letter = letterOf(place)
-    const words = isPicked ? `Going on with ${letter}` : `Go on with ${letter}`
-    const button = this.#button(words, `pick-${letter}`, () => this.page.select(name, version))
-    button.setAttribute("aria-pressed", isPicked)
-    const differing = differingKeys(versions)
-    const rows = linesOf(version.attributes, keysOf(versions)).flatMap((line) =>
-      row(line, line.keys.some((key) => differing.has(key)), version.attributes))
-    const card = html("section", { className: isPicked ? "card picked" : "card" },
-      html("strong", { textContent: `Version ${letter}` }), this.#picture(name, place), html("dl", {}, ...rows), button)
-    card.setAttribute("aria-label", `Version ${letter}`)
-    return card
-  }
-
-  /** A button, which keeps the focus by its word where the panel is drawn anew. */
-  #button(textContent, focus, onclick) {
-    return html("button", { type: "button", textContent, onclick, dataset: { focus } })
-  }
-
-  /** A version with the others' outlines, at the same scale in each card. */
-  #picture(name, place) {
-    const shapes = this.board.shapes(name)
-    const { x, y, width, height } = boundsOfAll(shapes)
-    const edge = 0.08 * Math.max(width, height) + 8
-    const viewBox = [x - edge, y - edge, width + 2 * edge, height + 2 * edge].join(" ")
-    const picture = svg("svg", { viewBox, "aria-hidden": "true" })
-    shapes.forEach((shape, other) => {
-      if (other !== place) picture.append(outlineOf(shape, "other"))
-    })
-    picture.append(bodyOf(shapes[place]))
-    return picture
-  }
-}
-
-/** Versions by their letters. */
-function versionWords(places) {
-  const letters = places.map(letterOf)
-  const last = letters.pop()
-  return letters.length === 0 ? `version\u00a0${last}` : `versions\u00a0${letters.join(", ")} and\u00a0${last}`
-}
-
-/** A line of a card; what differs between versions is marked. */
-function row({ word, words, keys }, isDiffering, attributes) {
-  const shown = html(isDiffering ? "mark" : "span")
-  const fill = keys.includes("fill") ? attributes.get("fill") : undefined
-  if (isColour(fill)) {
-    const dot = html("span", { className: "dot" })
-    dot.style.background = fill
-    shown.append(dot)
-  }
-  shown.append(words)
-  return [html("dt", { textContent: word }), html("dd", {}, shown)]
 }

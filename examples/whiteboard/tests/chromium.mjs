@@ -158,6 +158,12 @@ class Page {
   async release(place) {
     await this.mouse("mouseReleased", place)
     this.isDown = false
+    await this.frame()
+  }
+
+  /** Awaits that the page has drawn what was done: it draws once in a frame. */
+  frame() {
+    return this.look("new Promise((tell) => requestAnimationFrame(() => requestAnimationFrame(() => tell())))")
   }
 
   async click(selector) {
@@ -178,6 +184,7 @@ class Page {
     const rest = { key, code: key, windowsVirtualKeyCode: KEYS[key], modifiers }
     await this.ask("Input.dispatchKeyEvent", { type: text ? "keyDown" : "rawKeyDown", text, ...rest })
     await this.ask("Input.dispatchKeyEvent", { type: "keyUp", ...rest })
+    await this.frame()
   }
 
   /** Loads the page anew, as its button in the browser does. */

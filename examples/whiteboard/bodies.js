@@ -1,0 +1,82 @@
+/** The elements that draw shapes, and the text on them. */
+
+import { boundsOf, middleOf } from "./boxes.js"
+import { svg } from "./elements.js"
+import { pathOf } from "./pen.js"
+
+const FONT = "system-ui, 'DejaVu Sans', sans-serif"
+const SIZES = [20, 17, 14, 12, 10]
+const LINE = 1.25
+const LEAST_WIDTH = 90
+const PAPER = document.createElement("canvas").getContext("2d")
+
+/** The element that draws a shape. */
+export function bodyOf(shape, name = "body") {
+  const { kind, x, y, width, height, fill } = shape
+  if (kind === "line") {
+    const ends = { x1: x, y1: y, x2: x + width, y2: y + height }
+    return svg("line", { class: `${name} stroke`, ...ends, style: `stroke: ${fill}` })
+  }
+  const box = boundsOf(shape)
+  if (kind === "pen") {
+    return svg("path", { class: `${name} stroke`, d: pathOf(pointsIn(shape, box)), style: `stroke: ${fill}` })
+  }
+  if (kind === "ellipse") {
+    const [rx, ry] = [box.width / 2, box.height / 2]
+    return svg("ellipse", { class: name, cx: box.x + rx, cy: box.y + ry, rx, ry, fill })
+  }
+  return svg("rect", { class: name, ...box, rx: 6, fill })
+}
+
+/** The element that draws a shape without its colour. */
+export function outlineOf(shape, name) {
+  const outline = bodyOf({ ...shape, fill: "none" }, name)
+  outline.removeAttribute("style")
+  return outline
+}
+
+/** Whether a shape is drawn by a line alone, which is thin, and hard to hit. */
+export const isThin = ({ kind }) => kind === "line" || kind === "pen"
+
+/** The points of a stroke where they stand on the drawing: they fill its box. */
+function pointsIn({ points }, { x, y, width, height }) {
+  if (points.length === 0) return [[x, y]]
+  const most = (side) => points.reduce((largest, point) => Math.max(largest, point[side]), 0)
+  const [wide, high] = [most(0) && width / most(0), most(1) && height / most(1)]
+  return points.map((point) => [x + point[0] * wide, y + point[1] * high])
+}
+
+/** The element of the text on a shape: in lines that fit its width, and as large as fits its height. */
+export function textOf(shape) {
+  const box = boundsOf(shape)
+  const [middle, centre] = middleOf(box)
+  const width = Math.max(LEAST_WIDTH, box.width - 14)
+  const { size, lines } = lettering(shape.text, width, box.height)
+  const top = centre - ((lines.length - 1) * size * LINE) / 2
+  const spans = lines.map((line, place) => {
+    const span = svg("tspan", { x: middle, y: top + place * size * LINE })
+    span.textContent = line
+    return span
+  })
+  return svg("text", { class: "name", "font-size": size }, ...spans)
+}
+
+/** The first size of the letters by which all lines fit the height, or else the smallest. */
+function lettering(text, width, height) {
+  const tries = SIZES.map((size) => ({ size, lines: linesOf(text, width, size) }))
+  return tries.find(({ size, lines }) => lines.length * size * LINE <= height) ?? tries.at(-1)
+}
+
+/** The text in lines of this width, broken between words, or within those that are longer than a line. */
+function linesOf(text, width, size) {
+  PAPER.font = `${size}px ${FONT}`
+  const isTooLong = (words) => PAPER.measureText(words.trimEnd()).width > width
+  const pieces = text.split(/(?<=\s)/).flatMap((word) => (isTooLong(word) ? [...word] : [word]))
+  const lines = [""]
+  for (const piece of pieces) {
+    const longer = lines.at(-1) + piece
+    if (lines.at(-1) !== "" && isTooLong(longer)) lines.push(piece)
+    else lines[lines.length - 1] = longer
+  }
+  return lines.map((line) => line.trim())
+}

@@ -1,0 +1,105 @@
+/** What a person does by keys. */
+
+import { ARROWS } from "./nudges.js"
+
+const DELETING = ["Delete", "Backspace"]
+const PAN = 60
+const ZOOM = 1.25
+const USUAL = { rect: [180, 120], ellipse: [160, 120], line: [180, 90] }
+
+export class Keys {
+  /** @param {import("./whiteboard.js").Page} page */
+  constructor(page) {
+    this.page = page
+    document.addEventListener("keydown", (event) => {
+      if (isWritten(event.target)) return
+      const isDone = event.ctrlKey || event.metaKey ? this.#command(event) : this.#key(event)
+      if (isDone) event.preventDefault()
+    })
+  }
+
+  /** A key with Ctrl: whether it means something here. */
+  #command({ key, shiftKey }) {
+    const { changes, clipboard } = this.page
+    const word = key.toLowerCase()
+    if (word === "z" && !shiftKey) changes.undo()
+    else if (word === "y" || word === "z") changes.redo()
+    else if (word === "c") return !getSelection().toString() && clipboard.copy()
+    else if (word === "v") clipboard.paste()
+    else return false
+    return true
+  }
+
+  #key(event) {
+    const { page } = this
+    if (event.key === "Escape") return this.#escape()
+    const { element } = page.view.sheet
+    if (page.gestures.isBusy || !(event.target === document.body || element.contains(event.target))) return false
+    return this.#look(event) || this.#change(event)
+  }
+
+  /** What shows another part of the drawing. */
+  #look({ key, target }) {
+    const { camera, view } = this.page
+    if (key === "+" || key === "=") camera.zoom(ZOOM)
+    else if (key === "-") camera.zoom(1 / ZOOM)
+    else if (key === "1") camera.zoom(1 / camera.scale)
+    else if (key === "0") view.fitAll()
+    else if (key in ARROWS && this.#chosen(target) === null) camera.pan(...ARROWS[key].map((way) => -way * PAN))
+    else return false
+    return true
+  }
+
+  /** What changes an object, or makes one. */
+  #change({ key, target, shiftKey }) {
+    const { page } = this
+    const chosen = this.#chosen(target)
+    if (key === "Enter" && target === page.view.sheet.element) return this.#create(page.tools.tool)
+    if (chosen === null) return false
+    if (key === "Enter" || key === " ") page.select(chosen.name, chosen.version)
+    else if (key === "F2") page.writing.open(chosen.name, chosen.version)
+    else if (DELETING.includes(key)) this.#delete(chosen)
+    else if (key in ARROWS) page.nudges.push(chosen, ARROWS[key], shiftKey)
+    else return false
+    return true
+  }
+
+  /** The version that has the focus, or else the one that is selected and picked; null where there is none. */
+  #chosen(target) {
+    const { board, view } = this.page
+    const under = view.sheet.under(target)
+    if (under !== null || board.selected === null) return under
+    const version = board.picked(board.selected)
+    return version === null ? null : { name: board.selected, version }
+  }
+
+  /** Deletes a version, and with it a move by keys that isn't done. The focus then goes to no other version. */
+  #delete({ name, version }) {
+    const { changes, nudges } = this.page
+    nudges.end(false)
+    changes.drop(name, [version])
+  }
+
+  /** New objects by keys stand in the middle of the window, and don't hide each other. */
+  #create(kind) {
+    if (!(kind in USUAL)) return false
+    const { board, camera, changes, tools } = this.page
+    const [width, height] = USUAL[kind]
+    const shift = (board.objects().length % 10) * 24
+    const [x, y] = camera.middle.map((place) => Math.round(place) + shift - 120)
+    changes.draw(kind, { x, y, width, height, fill: tools.colour, name: "" })
+    return true
+  }
+
+  #escape() {
+    const { gestures, nudges, tools } = this.page
+    nudges.end(false)
+    if (gestures.end(false)) return true
+    if (tools.tool !== "select") tools.use("select")
+    else this.page.select(null)
+    return true
+  }
+}
+
+/** Whether what is pressed is written into a field. */
+const isWritten = (target) => target.matches?.("input:not([type=color]), textarea") ?? false

@@ -1,0 +1,155 @@
+/**
+ * What is drawn above all objects, in pixels of the window: rings and tags of versions, the handle of what is selected,
+ * what waits for the server, and specks for what is too small to be seen.
+ */
+
+import { isSameId } from "../../clients/js/grace.js"
+import { keyOf } from "./board.js"
+import { boundsOf, cornerOf, grown, meet, middleOf } from "./boxes.js"
+import { svg } from "./elements.js"
+import { atOnePlace, stripeOf } from "./sheet.js"
+import { SIDE, placed, rowsAbove } from "./tags.js"
+import { letterOf } from "./words.js"
+
+const GAP = 5
+const STRIPE_GAP = -1
+const HANDLE = 14
+const SPECK = 7
+// With more tags than these the window shows one for each object that isn't selected, which tells how many it has.
+const MANY_TAGS = 80
+
+export class Marks {
+  /**
+   * @param {{ board: import("./board.js").Board, camera: import("./camera.js").Camera,
+   *   sheet: import("./sheet.js").Sheet, waiting: import("./waiting.js").Waiting }} parts
+   * @param {SVGElement} layer above all objects @param {SVGElement} links the layer below them
+   */
+  constructor({ board, camera, sheet, waiting }, layer, links) {
+    Object.assign(this, { board, camera, sheet, waiting, layer, links })
+  }
+
+  draw() {
+    const { board, camera } = this
+    const objects = board.objects().map((name) => this.#objectOf(name)).filter(({ isSeen }) => isSeen)
+    const several = objects.filter(({ shapes }) => shapes.length > 1)
+    const rings = objects.flatMap((object) => this.#ringsOf(object))
+    const selected = objects.filter(({ isSelected, picked }) => isSelected && picked >= 0)
+    const waiting = objects.filter(({ name }) => this.waiting.has(name)).map(waitingOf)
+    const handles = selected.map((object) => this.#handle(object))
+    this.links.replaceChildren(...several.flatMap(linksOf))
+    this.layer.replaceChildren(...rings, ...objects.flatMap(specksOf), ...waiting, ...this.#tags(several), ...handles)
+    this.layer.parentNode.style.setProperty("--scale", camera.scale)
+  }
+
+  /** What is to be known of an object: its shapes, where they stand in the window, and which version is picked. */
+  #objectOf(name) {
+    const { board, camera } = this
+    const shapes = board.shapes(name)
+    const stripes = shapes.map((_, place) => stripeOf(shapes, place))
+    const boxes = shapes.map((shape, place) => camera.boxOf(stripes[place] ?? boundsOf(shape)))
+    const picked = board.picked(name)
+    return {
+      name, shapes, stripes, boxes, isSelected: board.isSelected(name),
+      isSeen: boxes.some((box) => meet(box, camera.window)),
+      picked: board.shown(name).findIndex(({ id }) => picked !== null && isSameId(id, picked.id)),
+    }
+  }
+
+  #ringsOf({ name, shapes, stripes, boxes, isSelected, picked }) {
+    const focused = this.#placeOfFocus(name)
+    const ring = (box, place) => {
+      const isPicked = place === picked && (isSelected || shapes.length > 1)
+      if (shapes.length === 1 && !isPicked && place !== focused) return []
+      return [ringOf(box, isPicked || place === focused, stripes[place] === null ? GAP : STRIPE_GAP)]
+    }
+    return boxes.flatMap(ring)
+  }
+
+  /** The place of the version of an object that has the focus by keys, or -1. */
+  #placeOfFocus(name) {
+    const { focused } = this.sheet
+    if (focused === null || keyOf(focused.name) !== keyOf(name)) return -1
+    return document.activeElement.matches(":focus-visible") ? this.board.shown(name).indexOf(focused.version) : -1
+  }
+
+  /** What changes the size when it is dragged. */
+  #handle({ name, shapes, picked }) {
+    const [x, y] = cornerOf(shapes[picked])
+    const corner = this.camera.boxOf({ x, y, width: 0, height: 0 })
+    return svg("rect", {
+      class: "handle", x: corner.x - HANDLE / 2, y: corner.y - HANDLE / 2, width: HANDLE, height: HANDLE, rx: 4,
+      "data-object": keyOf(name), "data-letter": letterOf(picked),
+    })
+  }
+
+  /** The tags of all versions, or of those objects that aren't selected only how many they have. */
+  #tags(several) {
+    const isMany = several.reduce((sum, { shapes }) => sum + shapes.length, 0) > MANY_TAGS
+    const first = [...several].sort((one, other) => other.isSelected - one.isSelected)
+    const tags = first.flatMap((object) => (isMany && !object.isSelected ? countTag(object) : letterTags(object)))
+    const seen = tags.filter(({ box }) => meet(box, this.camera.window))
+    const places = placed(seen.map(({ wanted }) => wanted), this.camera.window)
+    return seen.flatMap((tag, place) => (places[place] === null ? [] : [tagOf(tag, places[place])]))
+  }
+}
+
+/** A tag for each version: at its corner, or where several stand at one place side by side. */
+function letterTags({ name, shapes, stripes, boxes, picked }) {
+  return shapes.map((_, place) => {
+    const there = atOnePlace(shapes, place)
+    const box = boxes[place]
+    const own = { text: letterOf(place), object: keyOf(name), letter: letterOf(place), isPicked: place === picked, box }
+    if (there.length === 1) return { ...own, wanted: { x: box.x - GAP, y: box.y - GAP } }
+    const isStriped = stripes[place] !== null
+    const rows = rowsAbove(there.length, grown(box, SIDE / 2))
+    return { ...own, wanted: isStriped ? { x: middleOf(box)[0], y: box.y - GAP } : rows[there.indexOf(place)] }
+  })
+}
+
+/** One tag for all versions of an object, at its first one: it tells how many they are. */
+function countTag({ name, shapes, boxes: [box] }) {
+  const wanted = { x: box.x - GAP, y: box.y - GAP }
+  return [{ text: `×${shapes.length}`, object: keyOf(name), letter: letterOf(0), isPicked: false, box, wanted }]
+}
+
+/** The element of a tag; one that stands elsewhere than it would has a line to its version. */
+function tagOf({ text, object, letter, isPicked, wanted }, { x, y }) {
+  const element = svg("g", { class: isPicked ? "tag picked" : "tag", "data-object": object, "data-letter": letter })
+  if (Math.hypot(wanted.x - x, wanted.y - y) > SIDE / 2) {
+    element.append(svg("line", { class: "lead", x1: x, y1: y, x2: wanted.x, y2: wanted.y }))
+  }
+  const word = svg("text", { class: text.length > 1 ? "letter long" : "letter", x, y })
+  word.textContent = text
+  element.append(svg("circle", { cx: x, cy: y, r: SIDE / 2 - 1 }), word)
+  return element
+}
+
+/** What tells a version apart, and that it is picked. */
+function ringOf(box, isPicked, gap) {
+  return svg("rect", { class: isPicked ? "ring picked" : "ring", ...grown(box, gap), rx: Math.max(0, gap + 1) })
+}
+
+/** Lines from the first version to the others, where they stand elsewhere. */
+function linksOf({ boxes, shapes }) {
+  const near = atOnePlace(shapes, 0)
+  const [[x1, y1], ...others] = boxes.filter((_, place) => place === 0 || !near.includes(place)).map(middleOf)
+  return others.map(([x2, y2]) => svg("line", { class: "link", x1, y1, x2, y2 }))
+}
+
+/** What is too small to be seen. */
+function specksOf({ name, boxes }) {
+  return boxes.flatMap((box, place) => {
+    if (Math.max(box.width, box.height) >= SPECK) return []
+    const [cx, cy] = middleOf(box)
+    const own = { "data-object": keyOf(name), "data-letter": letterOf(place) }
+    return [svg("circle", { class: "speck", cx, cy, r: SPECK / 2, ...own })]
+  })
+}
+
+/** That a change of the object isn't answered yet. */
+function waitingOf({ name, boxes, picked }) {
+  const { x, y, width } = boxes[Math.max(0, picked)]
+  const element = svg("g", { class: "waiting", "data-waiting": keyOf(name), transform: `translate(${x + width} ${y})` })
+  element.append(svg("circle", { r: 10 }), ...[-4, 0, 4].map((cx) => svg("circle", { class: "dot", cx, r: 1.6 })))
+  return element
+}

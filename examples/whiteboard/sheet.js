@@ -1,0 +1,143 @@
+/** The objects on the page: an element for each version that is shown, those farther in front after the others. */
+
+import { isSameId } from "../../clients/js/grace.js"
+import { bodyOf, isThin, outlineOf, textOf } from "./bodies.js"
+import { keyOf, nameOf } from "./board.js"
+import { boundsOf } from "./boxes.js"
+import { svg } from "./elements.js"
+import { letterOf, wordsOf } from "./words.js"
+
+// So many versions at one place share it, each drawn in a stripe; of more one is drawn.
+const STRIPES = 4
+const GAP = 7
+
+export class Sheet {
+  // By object: an entry for each of its versions, with the element and what it stands by.
+  #entries = new Map()
+  // By element: the object and the version that it draws.
+  #drawn = new WeakMap()
+
+  /** @param {import("./board.js").Board} board @param {Element} element the whole drawing @param {Element} layer */
+  constructor(board, element, layer) {
+    this.board = board
+    this.element = element
+    this.layer = layer
+    /** Whether elements are being replaced: then the focus that goes comes back. */
+    this.isDrawing = false
+  }
+
+  /** Draws these objects anew, and all in their order. @param {Iterable<any>} names */
+  draw(names) {
+    this.isDrawing = true
+    const focused = this.#drawn.get(document.activeElement)
+    for (const name of names) {
+      const key = keyOf(name)
+      for (const { element } of this.#entries.get(key) ?? []) element.remove()
+      if (this.board.shown(name).length > 0) this.#entries.set(key, this.#entriesOf(name))
+      else this.#entries.delete(key)
+    }
+    this.#order()
+    if (focused !== undefined && !document.activeElement?.closest(".version")) this.#focus(focused)
+    this.isDrawing = false
+  }
+
+  /** Shows what is being drawn, or no more. @param {SVGElement | null} body */
+  sketch(body) {
+    this.layer.querySelector(".sketch")?.remove()
+    if (body !== null) this.layer.append(body)
+  }
+
+  /** The element of a version. */
+  find(name, version) {
+    const entries = this.#entries.get(keyOf(name)) ?? []
+    return entries.find(({ element }) => this.#drawn.get(element).version === version)?.element ?? null
+  }
+
+  /** The object and the version that an element of the drawing stands for, or null. */
+  under(target) {
+    const { object, letter } = target?.closest("[data-object]")?.dataset ?? {}
+    if (object === undefined) return null
+    const name = nameOf(object)
+    const version = this.board.shown(name).find((_, place) => letterOf(place) === letter)
+    return version === undefined ? null : { name, version }
+  }
+
+  /** Where a version has the focus: the object and the version, or null. */
+  get focused() {
+    return this.#drawn.get(document.activeElement) ?? null
+  }
+
+  /** The focus goes on to what became of a version, or where that is gone to the whole drawing. */
+  #focus({ name, version }) {
+    const [next] = this.board.successors(name, version)
+    const element = next && this.find(name, next)
+    const focused = element ?? this.element
+    focused.focus({ preventScroll: true })
+  }
+
+  /** Brings the elements in order: from back to front, then as the record has the objects, what is picked last. */
+  #order() {
+    const places = new Map(this.board.objects().map((name, place) => [keyOf(name), place]))
+    const placed = ([key, own]) => own.map((entry) => ({ ...entry, place: places.get(key) }))
+    const entries = [...this.#entries].flatMap(placed)
+    entries.sort((one, other) => one.z - other.z || one.place - other.place || one.isPicked - other.isPicked)
+    let next = this.layer.firstChild
+    for (const { element } of entries) {
+      if (element === next) next = next.nextSibling
+      else this.layer.insertBefore(element, next)
+    }
+  }
+
+  #entriesOf(name) {
+    const versions = this.board.shown(name)
+    const shapes = this.board.shapes(name)
+    const picked = this.board.picked(name)
+    const hasPicked = picked !== null && versions.length > 1
+    return shapes.map((shape, place) => {
+      const isPicked = picked !== null && isSameId(picked.id, versions[place].id)
+      const isMarked = isPicked && (hasPicked || this.board.isSelected(name))
+      const element = this.#version(name, shapes, place, isMarked)
+      if (hasPicked && !isPicked) element.classList.add("other")
+      this.#drawn.set(element, { name, version: versions[place] })
+      return { element, z: shape.z, isPicked }
+    })
+  }
+
+  #version(name, shapes, place, isMarked) {
+    const shape = shapes[place]
+    const letter = letterOf(place)
+    const words = wordsOf(shape) + (shapes.length > 1 ? `, version ${letter} of ${shapes.length}` : "")
+    const element = svg("g", {
+      class: isMarked ? "version picked" : "version", tabindex: 0, role: "button", "aria-label": words,
+      "aria-pressed": isMarked, "aria-keyshortcuts": "Delete F2", "data-object": keyOf(name), "data-letter": letter,
+    })
+    const stripe = stripeOf(shapes, place)
+    element.append(...bodiesOf(shape, stripe, `${keyOf(name)}-${letter}`))
+    if (shape.text !== "") element.append(textOf(stripe === null ? shape : { ...shape, ...stripe }))
+    return element
+  }
+}
+
+function bodiesOf(shape, stripe, id) {
+  const body = bodyOf(shape)
+  // Round a thin line there is more that can't be seen.
+  if (isThin(shape)) return [outlineOf(shape, "grip"), body]
+  if (stripe === null) return [body]
+  body.setAttribute("clip-path", `url(#stripe-${id})`)
+  return [svg("clipPath", { id: `stripe-${id}` }, svg("rect", stripe)), body]
+}
+
+/** The places of the versions that stand where this one does, in the order of the versions. */
+export function atOnePlace(shapes, place) {
+  const placeOf = ({ x, y, width, height }) => keyOf([x, y, width, height])
+  return [...shapes.keys()].filter((other) => placeOf(shapes[other]) === placeOf(shapes[place]))
+}
+
+/** A few versions that stand at one place share it: each is drawn in a stripe. Null where a version has none. */
+export function stripeOf(shapes, place) {
+  const there = atOnePlace(shapes, place)
+  if (there.length === 1 || there.length > STRIPES || isThin(shapes[place])) return null
+  const { x, y, width, height } = boundsOf(shapes[place])
+  const part = width / there.length
+  return { x: x + there.indexOf(place) * part, y: y - GAP, width: part, height: height + 2 * GAP }
+}

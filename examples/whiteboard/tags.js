@@ -1,0 +1,63 @@
+/** Where the tags of versions stand, so that none hides under another. */
+
+import { between } from "./boxes.js"
+
+/** The side of the square that a tag takes, in pixels of the window. */
+export const SIDE = 28
+const REACH = 9
+// The places round a tag's own that are tried, the nearest first.
+const STEPS = stepsWithin(REACH)
+const ROUND = stepsWithin(1)
+
+/**
+ * Finds a place for each tag: its own, or the nearest one that is free, in the window. A tag that finds none is null.
+ * @param {{ x: number, y: number }[]} wanted the middles of the tags, those that matter most first
+ * @param {{ width: number, height: number }} window
+ * @returns {({ x: number, y: number } | null)[]}
+ */
+export function placed(wanted, window) {
+  const taken = new Map()
+  return wanted.map((place) => {
+    const free = freePlace(place, window, taken)
+    if (free !== null) take(free, taken)
+    return free
+  })
+}
+
+/** The middles of the tags of versions that stand at one place: in rows above their box. */
+export function rowsAbove(count, { x, y, width }) {
+  const columns = Math.max(3, Math.ceil(Math.sqrt(count)), Math.floor(width / SIDE))
+  return Array.from({ length: count }, (_, place) =>
+    ({ x: x + (place % columns) * SIDE, y: y - Math.floor(place / columns) * SIDE }))
+}
+
+function stepsWithin(reach) {
+  const numbers = Array.from({ length: 2 * reach + 1 }, (_, place) => place - reach)
+  const steps = numbers.flatMap((x) => numbers.map((y) => [x, y]))
+  return steps.sort(([x, y], [otherX, otherY]) => Math.hypot(x, y) - Math.hypot(otherX, otherY))
+}
+
+function freePlace({ x, y }, { width, height }, taken) {
+  for (const [right, down] of STEPS) {
+    const place = {
+      x: between(SIDE / 2, x + right * SIDE, width - SIDE / 2),
+      y: between(SIDE / 2, y + down * SIDE, height - SIDE / 2),
+    }
+    if (isFree(place, taken)) return place
+  }
+  return null
+}
+
+// Taken places by squares of the window: only those of the squares round a place can be too near to it.
+const squareOf = ({ x, y }) => [Math.floor(x / SIDE), Math.floor(y / SIDE)]
+
+function take(place, taken) {
+  const square = squareOf(place).join()
+  taken.set(square, [...(taken.get(square) ?? []), place])
+}
+
+function isFree(place, taken) {
+  const [column, row] = squareOf(place)
+  const near = ROUND.flatMap(([right, down]) => taken.get(`${column + right},${row + down}`) ?? [])
+  return near.every(({ x, y }) => Math.abs(x - place.x) >= SIDE || Math.abs(y - place.y) >= SIDE)
+}

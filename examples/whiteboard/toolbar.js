@@ -1,0 +1,87 @@
+/** The tools above the drawing, and the buttons that change what is seen of it. */
+
+import { html, part } from "./elements.js"
+import { COLOURS, isColour } from "./shapes.js"
+
+const ZOOM = 1.25
+const HINTS = {
+  select: "Drag an object to move it, or the paper to move the view. Double-click an object to write on it.",
+  rect: "Drag on the drawing, or press Enter on it, to draw a rectangle.",
+  ellipse: "Drag on the drawing, or press Enter on it, to draw an ellipse.",
+  line: "Drag on the drawing, or press Enter on it, to draw a line.",
+  pen: "Drag on the drawing to draw by hand. Escape puts the pen away.",
+}
+
+export class Toolbar {
+  /** What the pointer does on the drawing. */
+  tool = "select"
+  /** The colour of what is drawn next. */
+  colour = [...COLOURS.keys()][3]
+
+  /** @param {import("./whiteboard.js").Page} page */
+  constructor(page) {
+    this.page = page
+    this.#makeColours()
+    part("tools").addEventListener("click", ({ target }) => {
+      const { tool } = target.closest("button")?.dataset ?? {}
+      if (tool !== undefined) this.use(tool)
+    })
+    const { camera, changes, clipboard, view } = page
+    const acts = {
+      undo: () => changes.undo(), redo: () => changes.redo(),
+      copy: () => clipboard.copy(), paste: () => clipboard.paste(),
+      "zoom-in": () => camera.zoom(ZOOM), "zoom-out": () => camera.zoom(1 / ZOOM), "fit-all": () => view.fitAll(),
+      scale: () => camera.zoom(1 / camera.scale),
+    }
+    for (const [id, act] of Object.entries(acts)) part(id).addEventListener("click", act)
+    this.use(this.tool)
+    this.#useColour(this.colour)
+  }
+
+  /** Takes another tool. */
+  use(tool) {
+    this.tool = tool
+    part("board").dataset.tool = tool
+    part("hint").textContent = HINTS[tool]
+    for (const one of document.querySelectorAll("button[data-tool]")) {
+      one.setAttribute("aria-pressed", one.dataset.tool === tool)
+    }
+  }
+
+  /** Which buttons can be pressed. */
+  draw() {
+    const { board, changes, clipboard } = this.page
+    part("undo").disabled = !changes.canUndo
+    part("redo").disabled = !changes.canRedo
+    part("copy").disabled = board.selected === null || board.picked(board.selected) === null
+    part("paste").disabled = !clipboard.isFull
+  }
+
+  #useColour(value) {
+    this.colour = value
+    for (const one of part("colours").querySelectorAll("button")) {
+      one.setAttribute("aria-pressed", one.dataset.colour === value)
+    }
+    part("own-colour").parentNode.classList.toggle("chosen", !COLOURS.has(value))
+    part("own-colour").value = value
+  }
+
+  /** Takes a colour for what is drawn next, and gives it to what is selected. */
+  #choose(value) {
+    if (!isColour(value)) return
+    this.#useColour(value)
+    this.page.changes.change({ fill: value })
+  }
+
+  #makeColours() {
+    const buttons = [...COLOURS].map(([value, name]) => {
+      const colour = html("button", { type: "button", className: "colour", title: name, dataset: { colour: value } })
+      colour.style.background = value
+      colour.setAttribute("aria-label", name)
+      colour.addEventListener("click", () => this.#choose(value))
+      return colour
+    })
+    part("colours").prepend(...buttons)
+    part("own-colour").addEventListener("change", ({ target }) => this.#choose(target.value))
+  }
+}

@@ -1,0 +1,96 @@
+/** All that shows the room. It is drawn once in a frame of the screen, and only what changed. */
+
+import { keyOf } from "./board.js"
+import { boundsOfAll } from "./boxes.js"
+import { Camera, PAGE } from "./camera.js"
+import { Edges } from "./edges.js"
+import { part } from "./elements.js"
+import { Frames } from "./frames.js"
+import { Marks } from "./marks.js"
+import { Sheet } from "./sheet.js"
+import { Waiting } from "./waiting.js"
+
+export class View {
+  #changed = new Map()
+  #isPanelOld = true
+  #frames = new Frames(() => this.#draw())
+  #panel = null
+
+  /** @param {import("./board.js").Board} board */
+  constructor(board) {
+    const look = () => this.look()
+    this.board = board
+    this.layer = part("shapes")
+    this.camera = new Camera(part("board"), look)
+    this.sheet = new Sheet(board, part("board"), this.layer)
+    this.waiting = new Waiting(board.room, look)
+    this.marks = new Marks(this, part("marks"), part("links"))
+    this.edges = new Edges(this, part("edges"))
+    for (const event of ["focusin", "focusout"]) part("board").addEventListener(event, look)
+  }
+
+  /** What is drawn after the drawing, where objects changed. @param {{ draw: () => void }} panel */
+  set panel(panel) {
+    this.#panel = panel
+    this.change([])
+  }
+
+  /** These objects are to be drawn anew, and the panel. @param {any[]} names */
+  change(names) {
+    this.#isPanelOld = true
+    this.redraw(names)
+  }
+
+  /** These objects are to be drawn anew. @param {any[]} names */
+  redraw(names) {
+    for (const name of names) this.#changed.set(keyOf(name), name)
+    this.#frames.ask()
+  }
+
+  /** What is drawn above the objects is to be drawn anew, and where they stand. */
+  look() {
+    this.#frames.ask()
+  }
+
+  /** Draws now what is to be drawn anew. */
+  now() {
+    this.#frames.now()
+  }
+
+  /** Shows all objects, or where there are none the page. */
+  fitAll() {
+    const shapes = this.board.objects().flatMap((name) => this.board.shapes(name))
+    if (shapes.length === 0) this.camera.home()
+    else this.camera.fit(boundsOfAll(shapes))
+  }
+
+  /** Shows the page, or where something stands outside it all objects. */
+  begin() {
+    const shapes = this.board.objects().flatMap((name) => this.board.shapes(name))
+    const { x, y, width, height } = boundsOfAll([PAGE, ...shapes])
+    if (x < PAGE.x || y < PAGE.y || width > PAGE.width || height > PAGE.height) this.fitAll()
+  }
+
+  /** Shows a version of an object, or all of them, where nothing of that is in the window. */
+  reach(name, version = null) {
+    const versions = this.board.shown(name)
+    const shapes = this.board.shapes(name).filter((_, place) => version === null || versions[place] === version)
+    if (shapes.length > 0 && !shapes.some((shape) => this.camera.shows(boundsOfAll([shape])))) {
+      this.camera.reach(boundsOfAll(shapes))
+    }
+  }
+
+  #draw() {
+    const { x, y, scale } = this.camera
+    const names = [...this.#changed.values()]
+    this.#changed.clear()
+    if (names.length > 0) this.sheet.draw(names)
+    this.layer.setAttribute("transform", `translate(${x} ${y}) scale(${scale})`)
+    this.marks.draw()
+    this.edges.draw()
+    part("scale").textContent = `${Math.round(scale * 100) || (scale * 100).toFixed(1)} %`
+    if (!this.#isPanelOld) return
+    this.#isPanelOld = false
+    this.#panel?.draw()
+  }
+}

@@ -8,7 +8,11 @@ const FONT = "system-ui, 'DejaVu Sans', sans-serif"
 const SIZES = [20, 17, 14, 12, 10]
 const LINE = 1.25
 const LEAST_WIDTH = 90
-const PAPER = document.createElement("canvas").getContext("2d")
+const INK = "#1d2733"
+const PAPER_COLOUR = "#ffffff"
+// On what is darker than this, of 255, letters are light.
+const DARK = 140
+const SCRATCH = document.createElement("canvas").getContext("2d")
 
 /** The element that draws a shape. */
 export function bodyOf(shape, name = "body") {
@@ -58,7 +62,15 @@ export function textOf(shape) {
     span.textContent = line
     return span
   })
-  return svg("text", { class: "name", "font-size": size }, ...spans)
+  const [ink, ground] = inksOf(shape)
+  return svg("text", { class: "name", "font-size": size, style: `fill: ${ink}; stroke: ${ground}` }, ...spans)
+}
+
+/** The colours of letters on a shape, and of what is round them: a thin shape has the paper's. */
+function inksOf(shape) {
+  if (isThin(shape)) return [INK, PAPER_COLOUR]
+  const [red, green, blue] = [1, 3, 5].map((place) => parseInt(shape.fill.slice(place, place + 2), 16))
+  return [0.3 * red + 0.59 * green + 0.11 * blue < DARK ? PAPER_COLOUR : INK, shape.fill]
 }
 
 /** The first size of the letters by which all lines fit the height, or else the smallest. */
@@ -69,8 +81,8 @@ function lettering(text, width, height) {
 
 /** The text in lines of this width, broken between words, or within those that are longer than a line. */
 function linesOf(text, width, size) {
-  PAPER.font = `${size}px ${FONT}`
-  const isTooLong = (words) => PAPER.measureText(words.trimEnd()).width > width
+  SCRATCH.font = `${size}px ${FONT}`
+  const isTooLong = (words) => SCRATCH.measureText(words.trimEnd()).width > width
   const pieces = text.split(/(?<=\s)/).flatMap((word) => (isTooLong(word) ? [...word] : [word]))
   const lines = [""]
   for (const piece of pieces) {

@@ -6,10 +6,16 @@ const [LEFT, MIDDLE] = [0, 1]
 // A notch of a wheel is some 100 pixels: so it makes the drawing a fifth larger.
 const ZOOM_PER_PIXEL = 0.002
 const LINE_PIXELS = 16
+// Two presses within this time and this far from each other are a double one. Elements that are pressed are drawn anew,
+// so the browser's own double click has nothing to come from.
+const DOUBLE_MILLISECONDS = 500
+const DOUBLE_PIXELS = 5
 
 export class Gestures {
   #drag = null
   #fingers = new Map()
+  #pressed = { time: -Infinity, place: [0, 0] }
+  #isDouble = false
 
   /** @param {import("./whiteboard.js").Page} page */
   constructor(page) {
@@ -23,7 +29,6 @@ export class Gestures {
       element.addEventListener(name, (event) => this.#lift(event, name === "pointerup"))
     }
     element.addEventListener("wheel", (event) => this.#wheel(event), { passive: false })
-    element.addEventListener("dblclick", (event) => this.#write(event))
   }
 
   /** Whether the pointer is pressed. */
@@ -50,6 +55,7 @@ export class Gestures {
     // What is written in a field is done first.
     if (document.activeElement instanceof HTMLElement) document.activeElement.blur()
     this.page.view.now()
+    this.#isDouble = this.#isPressedAgain(event)
     this.#drag = this.#dragOf(event)
     this.page.view.sheet.element.setPointerCapture(event.pointerId)
   }
@@ -74,10 +80,18 @@ export class Gestures {
     this.#drag?.move(event)
   }
 
+  #isPressedAgain({ timeStamp: time, clientX: x, clientY: y }) {
+    const { time: before, place } = this.#pressed
+    this.#pressed = { time, place: [x, y] }
+    return time - before < DOUBLE_MILLISECONDS && Math.hypot(x - place[0], y - place[1]) < DOUBLE_PIXELS
+  }
+
   /** Of two fingers the first that is lifted ends what both do. */
   #lift(event, isWhole) {
     this.#fingers.delete(event.pointerId)
     this.end(isWhole)
+    if (isWhole && this.#isDouble && event.button === LEFT) this.#write(event)
+    this.#isDouble = false
   }
 
   /** The wheel moves the drawing, with Ctrl it makes it larger; a pinch on a touch pad comes as that, too. */
@@ -91,7 +105,11 @@ export class Gestures {
     else camera.pan(-x, -y)
   }
 
+  /** A double press on a shape that moves nothing writes on it. */
   #write(event) {
+    const [x, y] = this.#pressed.place
+    if (Math.hypot(event.clientX - x, event.clientY - y) >= DOUBLE_PIXELS) return
+    this.page.view.now()
     const under = this.page.view.sheet.under(elementAt(event))
     if (under !== null && this.page.tools.tool === "select") this.page.writing.open(under.name, under.version)
   }

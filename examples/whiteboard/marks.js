@@ -137,12 +137,12 @@ function linksOf({ boxes, shapes }) {
 }
 
 /** What is too small to be seen. */
-function specksOf({ name, boxes }) {
+function specksOf({ name, shapes, boxes }) {
   return boxes.flatMap((box, place) => {
     if (Math.max(box.width, box.height) >= SPECK) return []
     const [cx, cy] = middleOf(box)
     const own = { "data-object": keyOf(name), "data-letter": letterOf(place) }
-    return [svg("circle", { class: "speck", cx, cy, r: SPECK / 2, ...own })]
+    return [svg("circle", { class: "speck", cx, cy, r: SPECK / 2, fill: shapes[place].fill, ...own })]
   })
 }
 

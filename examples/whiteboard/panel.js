@@ -14,12 +14,16 @@ const HELP =
 export class Panel {
   #release = null
   #isGoneOpen = false
+  // How far the panel is scrolled. To ask it would have the browser lay the whole page out.
+  #top = 0
+  #shown = ""
 
   /** @param {import("./whiteboard.js").Page} page @param {HTMLElement} element */
   constructor(page, element) {
     this.page = page
     this.board = page.board
     this.element = element
+    element.addEventListener("scroll", () => (this.#top = element.scrollTop))
   }
 
   /** Draws the panel anew, unless someone is writing in it. */
@@ -27,16 +31,15 @@ export class Panel {
     if (this.#release !== null) return
     const focused = document.activeElement?.dataset?.focus
     const { selected } = this.board
-    const top = this.element.dataset.shown === String(selected) ? this.element.scrollTop : 0
+    const shown = String(selected)
     this.element.replaceChildren(...(selected === null ? this.#objects() : this.#object(selected)))
-    this.element.dataset.shown = String(selected)
-    this.element.scrollTop = top
-    if (focused === undefined || !this.element.contains(document.activeElement ?? document.body)) this.#focus(focused)
+    if (this.#top !== 0) this.element.scrollTop = this.#top = this.#shown === shown ? this.#top : 0
+    this.#shown = shown
+    if (focused !== undefined && document.activeElement === document.body) this.#focus(focused)
   }
 
   /** What had the focus in the panel has it again, or where that is no more the panel. */
   #focus(focused) {
-    if (focused === undefined || document.activeElement !== document.body) return
     const next = this.element.querySelector(`[data-focus="${focused}"]`) ?? this.element
     next.focus({ preventScroll: true })
   }

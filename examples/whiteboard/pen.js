@@ -53,16 +53,12 @@ export function simplified(points, distance) {
   return points.filter((_, place) => kept.has(place))
 }
 
-/** What draws a smooth line through points. */
+/** What draws a line through points; one alone is a dot. */
 export function pathOf(points) {
-  const [[x, y], ...rest] = points
-  if (rest.length === 0) return `M ${x} ${y} l 0 0`
-  const curveBy = (point, next) => `Q ${point.join(" ")} ${half(point, next).join(" ")}`
-  const curves = rest.slice(0, -1).map((point, place) => curveBy(point, rest[place + 1]))
-  return [`M ${x} ${y}`, ...curves, `L ${rest.at(-1).join(" ")}`].join(" ")
+  const [first, ...rest] = points
+  const ways = rest.length === 0 ? [first] : rest
+  return [`M ${first.join(" ")}`, ...ways.map((point) => `L ${point.join(" ")}`)].join(" ")
 }
-
-const half = ([x, y], [otherX, otherY]) => [(x + otherX) / 2, (y + otherY) / 2]
 
 const wordOf = ([x, y], left, top) => `${Math.min(MOST, x - left)},${Math.min(MOST, y - top)}`
 

@@ -2,13 +2,14 @@
 
 import { LIMITS } from "../../clients/js/grace.js"
 import { button, html, part } from "./elements.js"
-import { countOf } from "./words.js"
+import { countOf, numberOf } from "./words.js"
 
 const WORDS_MILLISECONDS = 10000
 
-/** Tells something for some seconds, with a button where there is something to do about it. */
+/** Tells something for some seconds, once, with a button where there is something to do about it. */
 export function say(words, action = null) {
-  const line = html("p", {}, words)
+  const line = html("p", { dataset: { words } }, words)
+  for (const old of [...part("refusals").children]) if (old.dataset.words === words) old.remove()
   if (action !== null) {
     const act = () => {
       line.remove()
@@ -38,7 +39,7 @@ export function tellProgress(room) {
   const { have, of } = room.progress
   part("loading").hidden = room.isLoaded
   part("loading").querySelector("progress").value = of === 0 ? 0 : have / of
-  const words = `Loading the drawing: ${countOf(have, "entry", "entries")} of ${of.toLocaleString("en")}.`
+  const words = `Loading the drawing: ${countOf(have, "entry", "entries")} of ${numberOf(of)}.`
   part("loading").querySelector("p").textContent = of === 0 ? "Waiting for the drawing." : words
 }
 

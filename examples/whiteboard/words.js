@@ -5,6 +5,7 @@ import { POINT_KEYS } from "./pen.js"
 
 const KINDS = { rect: "Rectangle", ellipse: "Ellipse", line: "Line", pen: "Stroke" }
 const LONGEST = 40
+const NUMBERS = new Intl.NumberFormat("en")
 
 // What people are told of a version in one line: what it is called, its keys, and what stands between their values.
 const LINES = [
@@ -16,9 +17,11 @@ const TOLD = [...LINES.flatMap(([, keys]) => keys), ...POINT_KEYS]
 export const letterOf = (place) =>
   place < 26 ? String.fromCharCode(65 + place) : letterOf(Math.floor(place / 26) - 1) + letterOf(place % 26)
 
+/** A number as people read it. */
+export const numberOf = (count) => NUMBERS.format(count)
+
 /** A number of things. */
-export const countOf = (count, one, several = `${one}s`) =>
-  `${count.toLocaleString("en")} ${count === 1 ? one : several}`
+export const countOf = (count, one, several = `${one}s`) => `${numberOf(count)} ${count === 1 ? one : several}`
 
 /** What a shape is in a few words. */
 export function wordsOf({ kind, text }) {

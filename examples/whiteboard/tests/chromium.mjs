@@ -16,7 +16,11 @@ const WORDS = [
 
 const KEYS = {
   Backspace: 8, Tab: 9, Enter: 13, Escape: 27, ArrowLeft: 37, ArrowUp: 38, ArrowRight: 39, ArrowDown: 40, Delete: 46,
+  F2: 113,
 }
+/** What is held down with a key. */
+export const CONTROL = 2
+export const SHIFT = 8
 
 /** The browser. It is ended by `end`. */
 export class Chromium {
@@ -46,7 +50,7 @@ export class Chromium {
   async open(address, width, height, mobile = false) {
     const { targetId } = await this.ask("Target.createTarget", { url: "about:blank", newWindow: true })
     const { sessionId } = await this.ask("Target.attachToTarget", { targetId, flatten: true })
-    const page = new Page(this, sessionId)
+    const page = new Page(this, sessionId, targetId)
     this.pages.push(page)
     await page.ask("Runtime.enable")
     await page.ask("Page.enable")
@@ -92,9 +96,14 @@ export class Chromium {
 class Page {
   faults = []
 
-  constructor(browser, session) {
+  constructor(browser, session, target) {
     this.browser = browser
     this.session = session
+    this.target = target
+  }
+
+  close() {
+    return this.browser.ask("Target.closeTarget", { targetId: this.target })
   }
 
   ask(method, params) {
@@ -137,11 +146,11 @@ class Page {
     return place
   }
 
-  async mouse(type, [x, y]) {
+  async mouse(type, [x, y], clickCount = 1) {
     const isUp = type === "mouseMoved" && !this.isDown
     const button = isUp ? "none" : "left"
     const buttons = isUp || type === "mouseReleased" ? 0 : 1
-    await this.ask("Input.dispatchMouseEvent", { type, x, y, button, buttons, clickCount: 1 })
+    await this.ask("Input.dispatchMouseEvent", { type, x, y, button, buttons, clickCount })
   }
 
   async press(place) {
@@ -178,10 +187,44 @@ class Page {
     await this.release(to)
   }
 
+  /** Drags along all of these places. */
+  async dragAlong(places) {
+    await this.press(places[0])
+    await Promise.all(places.slice(1).map((place) => this.mouse("mouseMoved", place)))
+    await this.release(places.at(-1))
+  }
+
+  async doubleClick(place) {
+    await this.mouse("mouseMoved", place)
+    for (const count of [1, 2]) {
+      await this.mouse("mousePressed", place, count)
+      await this.mouse("mouseReleased", place, count)
+    }
+    await this.frame()
+  }
+
+  /** Turns the wheel by so many pixels. */
+  async wheel([x, y], deltaX, deltaY, modifiers = 0) {
+    await this.ask("Input.dispatchMouseEvent", { type: "mouseWheel", x, y, deltaX, deltaY, modifiers })
+    await this.frame()
+  }
+
+  /** Two fingers go from two places to two others. */
+  async pinch(from, to) {
+    const points = (places) => places.map(([x, y], id) => ({ x, y, id }))
+    await this.ask("Emulation.setTouchEmulationEnabled", { enabled: true, maxTouchPoints: 2 })
+    await this.ask("Input.dispatchTouchEvent", { type: "touchStart", touchPoints: points(from) })
+    await this.ask("Input.dispatchTouchEvent", { type: "touchMove", touchPoints: points(to) })
+    await this.ask("Input.dispatchTouchEvent", { type: "touchEnd", touchPoints: [] })
+    await this.ask("Emulation.setTouchEmulationEnabled", { enabled: false })
+    await this.frame()
+  }
+
   /** Presses a key. */
   async key(key, modifiers = 0) {
     const text = key === "Enter" ? "\r" : undefined
-    const rest = { key, code: key, windowsVirtualKeyCode: KEYS[key], modifiers }
+    const windowsVirtualKeyCode = KEYS[key] ?? (key.length === 1 ? key.toUpperCase().charCodeAt(0) : 0)
+    const rest = { key, code: key, windowsVirtualKeyCode, modifiers }
     await this.ask("Input.dispatchKeyEvent", { type: text ? "keyDown" : "rawKeyDown", text, ...rest })
     await this.ask("Input.dispatchKeyEvent", { type: "keyUp", ...rest })
     await this.frame()

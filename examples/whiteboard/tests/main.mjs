@@ -7,7 +7,9 @@ import { Chromium } from "./chromium.mjs"
 import * as connections from "./connections.mjs"
 import * as deleting from "./deleting.mjs"
 import { COUNT, PICTURES, counts, faults, isOpen, serve, step, watch } from "./people.mjs"
+import { sketching } from "./sketching.mjs"
 import * as together from "./together.mjs"
+import { undoing } from "./undoing.mjs"
 
 const keep = (page, word) => page.picture(join(PICTURES, `${word}.png`))
 
@@ -69,6 +71,8 @@ async function all(browser) {
   } finally {
     server.kill()
   }
+  await undoing(browser)
+  await sketching(browser)
   await step("a whiteboard that is killed and started again", () => connections.killed(browser))
   await step("a whiteboard whose room is gone", () => connections.roomGone())
 }

@@ -1,6 +1,7 @@
 /** What people at the whiteboard are made of: its server, pages on it, what they show, and what is done on them. */
 
 import { spawn } from "node:child_process"
+import { readFile } from "node:fs/promises"
 import { createInterface } from "node:readline"
 import { join } from "node:path"
 import { fileURLToPath } from "node:url"
@@ -139,3 +140,32 @@ export function endAll(server) {
 export function faults(...pages) {
   for (const page of pages) same("faults in a page", page.faults, [])
 }
+
+/** Two people at a whiteboard of their own, and a client beside them: what is done there, and its end. */
+export async function twoPeople(browser, act) {
+  const { server, address } = await serve("--in-memory", "--sessions", "200")
+  const pages = []
+  let room = null
+  try {
+    for (let person = 0; person < 2; person++) {
+      pages.push(await browser.open(address, 1240, 720))
+      await isOpen(pages.at(-1))
+    }
+    room = await watch(address)
+    await act({ first: pages[0], second: pages[1], room, address, server })
+    await step("no page had a fault", () => faults(...pages))
+  } finally {
+    room?.close()
+    for (const page of pages) await page.close()
+    server.kill()
+  }
+}
+
+/** Stops the room's server, or has it go on: meanwhile it answers nothing. */
+export async function signalRoom(server, signal) {
+  const [child] = (await readFile(`/proc/${server.pid}/task/${server.pid}/children`, "utf8")).trim().split(" ")
+  process.kill(Number(child), signal)
+}
+
+/** What is told for some seconds. */
+export const TOLD = `[...document.querySelectorAll("#refusals p")].map((one) => one.textContent)`

@@ -34,19 +34,27 @@ export class Keys {
     const { page } = this
     if (event.key === "Escape") return this.#escape()
     const { element } = page.view.sheet
-    if (page.gestures.isBusy || !(event.target === document.body || element.contains(event.target))) return false
-    return this.#look(event) || this.#change(event)
+    if (page.gestures.isBusy) return false
+    if (this.#zoom(event)) return true
+    const isOnDrawing = event.target === document.body || element.contains(event.target)
+    return isOnDrawing && (this.#change(event) || this.#pan(event))
   }
 
-  /** What shows another part of the drawing. */
-  #look({ key, target }) {
+  /** What shows the drawing larger or smaller. */
+  #zoom({ key }) {
     const { camera, view } = this.page
     if (key === "+" || key === "=") camera.zoom(ZOOM)
     else if (key === "-") camera.zoom(1 / ZOOM)
     else if (key === "1") camera.zoom(1 / camera.scale)
     else if (key === "0") view.fitAll()
-    else if (key in ARROWS && this.#chosen(target) === null) camera.pan(...ARROWS[key].map((way) => -way * PAN))
     else return false
+    return true
+  }
+
+  /** An arrow where nothing is chosen shows what is farther that way. */
+  #pan({ key }) {
+    if (!(key in ARROWS)) return false
+    this.page.camera.pan(...ARROWS[key].map((way) => -way * PAN))
     return true
   }
 

@@ -5,7 +5,7 @@
 
 import { isSameId } from "../../clients/js/grace.js"
 import { keyOf } from "./board.js"
-import { boundsOf, cornerOf, grown, meet, middleOf } from "./boxes.js"
+import { boundsOf, boundsOfAll, cornerOf, grown, meet, middleOf } from "./boxes.js"
 import { svg } from "./elements.js"
 import { atOnePlace, stripeOf } from "./sheet.js"
 import { SIDE, placed, rowsAbove } from "./tags.js"
@@ -17,6 +17,9 @@ const HANDLE = 14
 const SPECK = 7
 // With more tags than these the window shows one for each object that isn't selected, which tells how many it has.
 const MANY_TAGS = 80
+// Of an object with more versions than these the tags stand in rows above all of it, and only what is picked or under
+// the pointer has a ring.
+const FEW = 6
 
 export class Marks {
   /**
@@ -25,7 +28,28 @@ export class Marks {
    * @param {SVGElement} layer above all objects @param {SVGElement} links the layer below them
    */
   constructor({ board, camera, sheet, waiting }, layer, links) {
-    Object.assign(this, { board, camera, sheet, waiting, layer, links })
+    Object.assign(this, { board, camera, sheet, waiting, layer, links, hovered: null })
+    for (const event of ["pointerover", "pointerout"]) {
+      layer.addEventListener(event, ({ target }) => this.#hover(event === "pointerover" ? target : null))
+    }
+  }
+
+  /** Marks the version whose tag is under the pointer. */
+  #hover(target) {
+    const { object, letter } = target?.closest(".tag")?.dataset ?? {}
+    const hovered = object === undefined ? null : `${object} ${letter}`
+    if (hovered === this.hovered) return
+    this.hovered = hovered
+    this.layer.querySelector(".ring.hovered")?.remove()
+    const found = hovered === null ? null : this.sheet.under(target)
+    if (found !== null) this.layer.prepend(this.#ringOfHovered(found))
+  }
+
+  #ringOfHovered({ name, version }) {
+    const { boxes } = this.#objectOf(name)
+    const ring = ringOf(boxes[this.board.shown(name).indexOf(version)], false, GAP)
+    ring.classList.add("hovered")
+    return ring
   }
 
   draw() {
@@ -59,7 +83,7 @@ export class Marks {
     const focused = this.#placeOfFocus(name)
     const ring = (box, place) => {
       const isPicked = place === picked && (isSelected || shapes.length > 1)
-      if (shapes.length === 1 && !isPicked && place !== focused) return []
+      if ((shapes.length === 1 || shapes.length > FEW) && !isPicked && place !== focused) return []
       return [ringOf(box, isPicked || place === focused, stripes[place] === null ? GAP : STRIPE_GAP)]
     }
     return boxes.flatMap(ring)
@@ -93,16 +117,14 @@ export class Marks {
   }
 }
 
-/** A tag for each version: at its corner, or where several stand at one place side by side. */
+/** A tag for each version: at its corner, in its stripe, or where they are many in rows above all of them. */
 function letterTags({ name, shapes, stripes, boxes, picked }) {
-  return shapes.map((_, place) => {
-    const there = atOnePlace(shapes, place)
-    const box = boxes[place]
+  const rows = rowsAbove(shapes.length, grown(boundsOfAll(boxes), GAP + 2))
+  return boxes.map((box, place) => {
     const own = { text: letterOf(place), object: keyOf(name), letter: letterOf(place), isPicked: place === picked, box }
-    if (there.length === 1) return { ...own, wanted: { x: box.x - GAP, y: box.y - GAP } }
-    const isStriped = stripes[place] !== null
-    const rows = rowsAbove(there.length, grown(box, SIDE / 2))
-    return { ...own, wanted: isStriped ? { x: middleOf(box)[0], y: box.y - GAP } : rows[there.indexOf(place)] }
+    if (shapes.length > FEW) return { ...own, wanted: rows[place] }
+    const x = stripes[place] === null ? box.x - GAP : middleOf(box)[0]
+    return { ...own, wanted: { x, y: box.y - GAP } }
   })
 }
 

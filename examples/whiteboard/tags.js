@@ -24,11 +24,12 @@ export function placed(wanted, window) {
   })
 }
 
-/** The middles of the tags of versions that stand at one place: in rows above their box. */
+/** The middles of so many tags in rows above a box, which are read from left to right and from above. */
 export function rowsAbove(count, { x, y, width }) {
   const columns = Math.max(3, Math.ceil(Math.sqrt(count)), Math.floor(width / SIDE))
-  return Array.from({ length: count }, (_, place) =>
-    ({ x: x + (place % columns) * SIDE, y: y - Math.floor(place / columns) * SIDE }))
+  const top = y - Math.ceil(count / columns) * SIDE
+  const placeOf = (column, row) => ({ x: x + (column + 0.5) * SIDE, y: top + (row + 0.5) * SIDE })
+  return Array.from({ length: count }, (_, place) => placeOf(place % columns, Math.floor(place / columns)))
 }
 
 function stepsWithin(reach) {

@@ -5,7 +5,7 @@ import { COLOURS, isColour } from "./shapes.js"
 
 const ZOOM = 1.25
 const HINTS = {
-  select: "Drag an object to move it, or the paper to move the view. Double-click an object to write on it.",
+  select: "Drag an object to move it, the paper to move the view.",
   rect: "Drag on the drawing, or press Enter on it, to draw a rectangle.",
   ellipse: "Drag on the drawing, or press Enter on it, to draw an ellipse.",
   line: "Drag on the drawing, or press Enter on it, to draw a line.",

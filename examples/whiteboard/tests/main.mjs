@@ -6,7 +6,10 @@ import { holds, same } from "../../../clients/js/tests/checks.js"
 import { Chromium } from "./chromium.mjs"
 import * as connections from "./connections.mjs"
 import * as deleting from "./deleting.mjs"
+import { looking } from "./looking.mjs"
+import { opening } from "./opening.mjs"
 import { COUNT, PICTURES, counts, faults, isOpen, serve, step, watch } from "./people.mjs"
+import { saving } from "./saving.mjs"
 import { sketching } from "./sketching.mjs"
 import * as together from "./together.mjs"
 import { undoing } from "./undoing.mjs"
@@ -73,6 +76,9 @@ async function all(browser) {
   }
   await undoing(browser)
   await sketching(browser)
+  await looking(browser)
+  await opening(browser)
+  await saving(browser)
   await step("a whiteboard that is killed and started again", () => connections.killed(browser))
   await step("a whiteboard whose room is gone", () => connections.roomGone())
 }

@@ -1,6 +1,7 @@
 /**
  * A whiteboard for several people on a GRACE room. The page's address names the server and the room:
- * `?server=ws://localhost:7000/&room=drawing`. A page that is loaded anew goes on as the site that it was.
+ * `?server=ws://localhost:7000/&room=drawing`. Without a server it is the page's own host: over TLS by the path that
+ * is the room's name, as a proxy has it, and else at port 7000. A page that is loaded anew goes on as its old site.
  */
 
 import { Room } from "../../clients/js/grace.js"
@@ -104,9 +105,14 @@ export class Page {
   }
 }
 
+/** The server of a room where the page's address doesn't name one. */
+const usualServer = (roomName) =>
+  location.protocol === "https:" ? `wss://${location.host}/${roomName}` : `ws://${location.hostname}:7000/`
+
 try {
   const query = new URLSearchParams(location.search)
-  new Page(query.get("server") ?? `ws://${location.hostname}:7000/`, query.get("room") ?? "drawing")
+  const roomName = query.get("room") ?? "drawing"
+  new Page(query.get("server") ?? usualServer(roomName), roomName)
 } catch (fault) {
   say(fault.message)
   throw fault

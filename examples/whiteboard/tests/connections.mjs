@@ -137,3 +137,24 @@ export async function roomGone() {
   process.kill(Number(child), "SIGKILL")
   same("the status", await closed, 3)
 }
+
+/** With --host the page and its room are served at another address of this machine, and at that one alone. */
+export async function atAnotherAddress(browser) {
+  const { server, address } = await serve("--in-memory", "--host", "127.0.0.2")
+  try {
+    const { hostname, port } = new URL(address)
+    same("the address to open", hostname, "127.0.0.2")
+    same("the room's address", new URL((await pageOf(address)).searchParams.get("server")).hostname, "127.0.0.2")
+    const elsewhere = await fetch(`http://127.0.0.1:${port}/`).then(() => "an answer", () => "nothing")
+    same("what is at this machine's own address", elsewhere, "nothing")
+    const pages = [await browser.open(address, 1024, 700), await browser.open(address, 1600, 1000)]
+    for (const page of pages) await isOpen(page)
+    await draw(pages[0], "rect", [120, 200], [380, 360])
+    await pages[1].comes("the rectangle", `${COUNT} === 1`)
+    same("what both show", await pages[0].look(BODIES), await pages[1].look(BODIES))
+    faults(...pages)
+    for (const page of pages) await page.close()
+  } finally {
+    endAll(server)
+  }
+}

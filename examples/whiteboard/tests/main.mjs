@@ -81,6 +81,7 @@ async function all(browser) {
   await saving(browser)
   await step("a whiteboard that is killed and started again", () => connections.killed(browser))
   await step("a whiteboard whose room is gone", () => connections.roomGone())
+  await step("a whiteboard at another address", () => connections.atAnotherAddress(browser))
 }
 
 await mkdir(PICTURES, { recursive: true })

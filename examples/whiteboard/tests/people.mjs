@@ -39,7 +39,7 @@ export async function serve(...words) {
   const server = spawn(RUN, ["people", "--sessions", "50", ...given], options)
   const lines = createInterface({ input: server.stdout })
   const line = await new Promise((tell, fail) => {
-    lines.once("line", tell)
+    lines.on("line", (words) => words.startsWith("open ") && tell(words))
     server.once("close", () => fail(new Error("the whiteboard's server ended")))
   })
   return { server, address: /http:\S+/.exec(line)[0] }

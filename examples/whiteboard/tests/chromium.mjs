@@ -28,11 +28,12 @@ export class Chromium {
   #waiting = new Map()
   pages = []
 
-  static async start() {
+  /** Starts one, with further words of its command line. */
+  static async start(...more) {
     const browser = new Chromium()
     browser.folder = await mkdtemp(join(tmpdir(), "whiteboard-"))
     const program = process.env.CHROMIUM ?? "chromium"
-    const words = [`--user-data-dir=${browser.folder}`, ...WORDS]
+    const words = [`--user-data-dir=${browser.folder}`, ...more, ...WORDS]
     browser.process = spawn(program, words, { stdio: "ignore", detached: true })
     browser.closed = new Promise((tell) => browser.process.on("close", tell).on("error", tell))
     await browser.#connect()

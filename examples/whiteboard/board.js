@@ -13,6 +13,8 @@ export class Board {
   // By object: the versions that were shown before the last news.
   #before = new Map()
   #objects = null
+  // By version, which never changes: the shape that its attributes make.
+  #shapes = new WeakMap()
 
   /** @param {import("../../clients/js/grace.js").Room} room */
   constructor(room) {
@@ -53,7 +55,7 @@ export class Board {
 
   /** The shapes of an object's shown versions, as far as one is dragged that which it would become. */
   shapes(name) {
-    return this.shown(name).map((version) => shapeOf(this.room.kind(name), this.#attributes(name, version)))
+    return this.shown(name).map((version) => this.#previewOf(name, version) ?? this.#shapeOf(name, version))
   }
 
   /** The shown versions that somebody deleted while others changed them, without those that are kept. */
@@ -86,10 +88,16 @@ export class Board {
     return objects.map((name) => this.#lost(name)).filter((lost) => lost !== null)
   }
 
-  #attributes(name, version) {
+  #previewOf(name, version) {
     const { preview } = this
-    const isIt = preview !== null && preview.version === version && keyOf(preview.name) === keyOf(name)
-    return isIt ? new Map([...version.attributes, ...Object.entries(preview.attributes)]) : version.attributes
+    if (preview === null || preview.version !== version || keyOf(preview.name) !== keyOf(name)) return null
+    return shapeOf(this.room.kind(name), new Map([...version.attributes, ...Object.entries(preview.attributes)]))
+  }
+
+  #shapeOf(name, version) {
+    const shape = this.#shapes.get(version) ?? shapeOf(this.room.kind(name), version.attributes)
+    this.#shapes.set(version, shape)
+    return shape
   }
 
   #rename(key, name) {

@@ -97,7 +97,8 @@ export class Gestures {
   /** The wheel moves the drawing, with Ctrl it makes it larger; a pinch on a touch pad comes as that, too. */
   #wheel(event) {
     event.preventDefault()
-    const { camera } = this.page
+    const { camera, writing } = this.page
+    writing.end()
     const unit = event.deltaMode === WheelEvent.DOM_DELTA_PIXEL ? 1 : LINE_PIXELS
     const [x, y] = [event.deltaX * unit, event.deltaY * unit]
     if (event.ctrlKey) camera.zoom(Math.exp(-y * ZOOM_PER_PIXEL), camera.inWindow(event))

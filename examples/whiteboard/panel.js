@@ -12,7 +12,9 @@ const HELP =
   "Arrow keys move it, with Shift they change its size; the Delete key deletes it."
 
 export class Panel {
+  // They give back what is held while someone writes in the panel, and while she presses on it.
   #release = null
+  #pressed = null
   #isGoneOpen = false
   // How far the panel is scrolled. To ask it would have the browser lay the whole page out.
   #top = 0
@@ -24,11 +26,29 @@ export class Panel {
     this.board = page.board
     this.element = element
     element.addEventListener("scroll", () => (this.#top = element.scrollTop))
+    element.addEventListener("pointerdown", () => this.#press())
+    for (const event of ["pointerup", "pointercancel"]) addEventListener(event, () => this.#lift())
   }
 
-  /** Draws the panel anew, unless someone is writing in it. */
+  /** What is pressed stays where it is until it is released, and others' news is kept back. */
+  #press() {
+    this.#pressed ??= this.page.room.hold()
+  }
+
+  /** The click comes before what is kept back. */
+  #lift() {
+    const release = this.#pressed
+    if (release === null) return
+    setTimeout(() => {
+      this.#pressed = null
+      release()
+      this.page.view.change([])
+    })
+  }
+
+  /** Draws the panel anew, unless someone is writing in it, or presses on it. */
   draw() {
-    if (this.#release !== null) return
+    if (this.#release !== null || this.#pressed !== null) return
     const focused = document.activeElement?.dataset?.focus
     const { selected } = this.board
     const shown = String(selected)
@@ -134,11 +154,14 @@ export class Panel {
   #order(name, picked) {
     const others = this.board.objects().filter((other) => keyOf(other) !== keyOf(name))
     const places = others.flatMap((other) => this.board.shapes(other)).map(({ z }) => z)
-    const to = (z) => () => this.page.changes.put(name, picked, { z })
+    const most = places.reduce((one, z) => Math.max(one, z), 0)
+    const least = places.reduce((one, z) => Math.min(one, z), 0)
+    const { z: own } = this.board.shapes(name)[this.board.shown(name).indexOf(picked)]
+    const { changes, clipboard } = this.page
     return html("div", { className: "actions" },
-      button("To front", "front", to(places.reduce((most, z) => Math.max(most, z), 0) + 1)),
-      button("To back", "back", to(places.reduce((least, z) => Math.min(least, z), 0) - 1)),
-      button("Copy", "copy", () => this.page.clipboard.copy()))
+      button("To front", "front", () => changes.change({ z: own > most ? own : most + 1 })),
+      button("To back", "back", () => changes.change({ z: own < least ? own : least - 1 })),
+      button("Copy", "copy", () => clipboard.copy()))
   }
 
   /** What ends versions: the picked one, or all others. A key that is held down presses no other version's button. */

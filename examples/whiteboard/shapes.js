@@ -39,7 +39,8 @@ export const isColour = (value) => /^#[0-9a-f]{6}$/.test(value)
 
 /** As much of a text as a value takes. */
 export function fitting(text) {
-  let fit = text.toWellFormed()
+  // No letter takes less than a byte.
+  let fit = text.slice(0, TEXT_BYTES).toWellFormed()
   while (ENCODER.encode(fit).length > TEXT_BYTES) fit = [...fit].slice(0, -1).join("")
   return fit
 }

@@ -37,7 +37,8 @@ export function tellRenewed(roomName, { words, text }) {
 /** How far the drawing is loaded. */
 export function tellProgress(room) {
   const { have, of } = room.progress
-  part("loading").hidden = room.isLoaded
+  // A page that is loaded anew shows what it had meanwhile.
+  part("loading").hidden = room.isLoaded || room.objects().length > 0
   part("loading").querySelector("progress").value = of === 0 ? 0 : have / of
   const words = `Loading the drawing: ${countOf(have, "entry", "entries")} of ${numberOf(of)}.`
   part("loading").querySelector("p").textContent = of === 0 ? "Waiting for the drawing." : words

@@ -14,9 +14,14 @@ export class Writing {
     this.page = page
   }
 
+  /** Ends what is being written, if something is. */
+  end() {
+    this.#end?.(true)
+  }
+
   /** Opens the field on a version. Enter or another press ends it, Escape breaks it off. */
   open(name, version) {
-    this.#end?.(true)
+    this.end()
     const { page } = this
     const release = page.room.hold()
     page.select(name, version)

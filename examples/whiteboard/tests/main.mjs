@@ -55,6 +55,7 @@ async function inOneRoom(browser, address) {
   await step("a page is loaded anew", () => connections.loadedAnew(first, second, room))
   await step("each thing done is one entry", () => together.onePut(first, room))
   await step("what other clients put there", () => together.oddShapes(first, second, room))
+  await step("a press while others draw", () => together.pressMeanwhile(first, room))
   await step("a key deletes", () => deleting.deleteByKey(first, second, room))
   await step("a button deletes", () => deleting.deleteByButton(first, second, room))
   await step("one of two versions is deleted", () => deleting.deleteVersion(first, second, room))

@@ -2,7 +2,7 @@
 
 import { holds, same } from "../../../clients/js/tests/checks.js"
 import {
-  BODIES, CARDS, COUNT, STATE, VERSIONS, added, askedForNews, draw, isOpen, onScreen, tabTo,
+  BODIES, CARDS, COUNT, HEADING, STATE, VERSIONS, added, askedForNews, draw, isOpen, onScreen, tabTo,
 } from "./people.mjs"
 
 export async function twoDraw(first, second) {
@@ -152,4 +152,27 @@ export async function oddShapes(first, second, room) {
     await page.comes("both are gone", `${body(far.name)} === null && ${body(turned.name)} === null`)
   }
   same("what has the focus", await first.look("document.activeElement.id"), "board")
+}
+
+/** Others' news draws the panel anew all the time: what one presses on stays until it is released. */
+export async function pressMeanwhile(first, room) {
+  const { object, version } = room.create("rect", { x: 40, y: 40, width: 60, height: 60, name: "Buoy" })
+  const item = `[data-focus="${object}"]`
+  await first.comes("the new object", `document.querySelector('${item}') !== null`)
+  let last = version
+  const moves = setInterval(() => (last = room.put(object, last, { x: last.attributes.get("x") + 2 }).version), 30)
+  try {
+    const place = await first.middleOf(item)
+    await first.press(place)
+    await new Promise((resolve) => setTimeout(resolve, 500))
+    await first.release(place)
+    same("what is selected", await first.look(HEADING), "Rectangle “Buoy”")
+  } finally {
+    clearInterval(moves)
+  }
+  await room.settled()
+  const x = last.attributes.get("x")
+  await first.comes("all moves", `document.querySelector('[data-object="${object}"] .body').getBBox().x === ${x}`)
+  room.drop(object, last)
+  await first.comes("it is gone", `document.querySelector('[data-object="${object}"]') === null`)
 }

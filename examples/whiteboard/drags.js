@@ -8,7 +8,7 @@ import { LEAST, attributesOf, placeAnew, shapeOf, sizeAnew } from "./shapes.js"
 // So many pixels of the window a pointer may tremble in a press that is no drag.
 const TREMBLE = 2
 // So far from the pointer's way a stroke may pass, in pixels of the window.
-const NEAR = 0.7
+const NEAR = 0.3
 
 /** Moves the drawing in the window. A press that goes nowhere selects nothing. */
 export class Pan {
@@ -151,7 +151,7 @@ export class Stroke {
     const { camera, changes, view, tools } = this.page
     view.sheet.sketch(null)
     if (!isWhole) return
-    const strokes = strokesOf(simplified(this.points, Math.max(0.5, NEAR / camera.scale)))
+    const strokes = strokesOf(simplified(this.points, NEAR / camera.scale))
     const parts = strokes.map(({ texts, ...box }) => ({ ...box, fill: tools.colour, ...texts }))
     changes.step(() => parts.forEach((attributes) => changes.create("pen", attributes)))
   }

@@ -27,7 +27,9 @@ export class Panel {
     this.element = element
     element.addEventListener("scroll", () => (this.#top = element.scrollTop))
     element.addEventListener("pointerdown", () => this.#press())
-    for (const event of ["pointerup", "pointercancel"]) addEventListener(event, () => this.#lift())
+    addEventListener("click", () => this.#lift())
+    // Where no click comes of it.
+    for (const event of ["pointerup", "pointercancel"]) addEventListener(event, () => setTimeout(() => this.#lift()))
   }
 
   /** What is pressed stays where it is until it is released, and others' news is kept back. */
@@ -35,15 +37,13 @@ export class Panel {
     this.#pressed ??= this.page.room.hold()
   }
 
-  /** The click comes before what is kept back. */
+  /** What the click does comes before what is kept back. */
   #lift() {
     const release = this.#pressed
     if (release === null) return
-    setTimeout(() => {
-      this.#pressed = null
-      release()
-      this.page.view.change([])
-    })
+    this.#pressed = null
+    release()
+    this.page.view.change([])
   }
 
   /** Draws the panel anew, unless someone is writing in it, or presses on it. */
@@ -96,14 +96,13 @@ export class Panel {
     const names = this.page.gone.objects()
     if (names.length === 0) return []
     const summary = html("summary", { textContent: `Deleted (${names.length})`, dataset: { focus: "gone" } })
-    const details = html("details", { className: "gone", open: this.#isGoneOpen }, summary)
-    const fill = () => {
-      this.#isGoneOpen = details.open
-      if (details.open && details.children.length === 1) details.append(this.#goneList(names))
-    }
-    fill()
-    details.addEventListener("toggle", fill)
-    return [details]
+    summary.addEventListener("click", (event) => {
+      event.preventDefault()
+      this.#isGoneOpen = !this.#isGoneOpen
+      this.page.view.change([])
+    })
+    const list = this.#isGoneOpen ? [this.#goneList(names)] : []
+    return [html("details", { className: "gone", open: this.#isGoneOpen }, summary, ...list)]
   }
 
   #goneList(names) {

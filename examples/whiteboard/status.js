@@ -5,11 +5,13 @@ import { button, html, part } from "./elements.js"
 import { countOf, numberOf } from "./words.js"
 
 const WORDS_MILLISECONDS = 10000
+const ACTION_MILLISECONDS = 20000
 
-/** Tells something for some seconds, once, with a button where there is something to do about it. */
+/** Tells something for some seconds, once, with a button where there is something to do about it: one at a time. */
 export function say(words, action = null) {
-  const line = html("p", { dataset: { words } }, words)
-  for (const old of [...part("refusals").children]) if (old.dataset.words === words) old.remove()
+  const kind = action === null ? words : "action"
+  const line = html("p", { dataset: { kind } }, words)
+  for (const old of [...part("refusals").children]) if (old.dataset.kind === kind) old.remove()
   if (action !== null) {
     const act = () => {
       line.remove()
@@ -18,7 +20,7 @@ export function say(words, action = null) {
     line.append(button(action.words, "act", act))
   }
   part("refusals").append(line)
-  setTimeout(() => line.remove(), action === null ? WORDS_MILLISECONDS : 6 * WORDS_MILLISECONDS)
+  setTimeout(() => line.remove(), action === null ? WORDS_MILLISECONDS : ACTION_MILLISECONDS)
 }
 
 /** Tells that the room was begun anew, and offers what the page had of it as a file, until the person closes that. */

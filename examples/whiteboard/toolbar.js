@@ -38,8 +38,9 @@ export class Toolbar {
     this.#useColour(this.colour)
   }
 
-  /** Takes another tool. */
+  /** Takes another tool. What one draws next isn't what was selected. */
   use(tool) {
+    if (tool !== "select" && this.page.board.selected !== null) this.page.select(null)
     this.tool = tool
     part("board").dataset.tool = tool
     part("hint").textContent = HINTS[tool]

@@ -9,6 +9,7 @@ import * as deleting from "./deleting.mjs"
 import { looking } from "./looking.mjs"
 import { opening } from "./opening.mjs"
 import { COUNT, PICTURES, counts, faults, isOpen, serve, step, watch } from "./people.mjs"
+import { plan } from "./plan.mjs"
 import { saving } from "./saving.mjs"
 import { sketching } from "./sketching.mjs"
 import * as together from "./together.mjs"
@@ -75,6 +76,7 @@ async function all(browser) {
   } finally {
     server.kill()
   }
+  await plan(browser)
   await undoing(browser)
   await sketching(browser)
   await looking(browser)

@@ -52,13 +52,16 @@ export const pageOf = async (address) =>
 /** A client beside the pages: what it has of the record tells what they did. */
 export async function watch(address) {
   const server = (await pageOf(address)).searchParams.get("server")
-  const room = new Room(server, "people", { connect: (it) => new WebSocket(it), pollMilliseconds: 30 })
+  const often = { pollMilliseconds: 30, idleMilliseconds: 30 }
+  const room = new Room(server, "people", { connect: (it) => new WebSocket(it), ...often })
   await comes("a client beside the pages", () => room.state === "open")
   return room
 }
 
 /** What an act adds to the record, each as its word and what it gives. It may be more than is awaited. */
 export async function added(room, count, act) {
+  // What was done before has come by then.
+  await new Promise((resolve) => setTimeout(resolve, 200))
   const start = room.record.length
   await act()
   await comes("the entries", () => room.record.length >= start + count)

@@ -170,6 +170,7 @@ export async function pressMeanwhile(first, room) {
   } finally {
     clearInterval(moves)
   }
+  await first.key("Escape")
   await room.settled()
   const x = last.attributes.get("x")
   await first.comes("all moves", `document.querySelector('[data-object="${object}"] .body').getBBox().x === ${x}`)

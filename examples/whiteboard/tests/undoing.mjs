@@ -48,6 +48,7 @@ async function goneOnFrom(first, second, room) {
   await second.click('[data-colour="#4c9f70"]')
   const green = `document.querySelector('.version[aria-label="Ellipse"] .body').getAttribute("fill") === "#4c9f70"`
   await first.comes("the other's colour", green)
+  await comes("it in the record", () => room.record.at(-1).at(-1)[0][0] === "fill")
   same("what is done", await added(room, 0, () => first.key(...UNDO)), [])
   await first.comes("what is told", `${TOLD}.length === 1`)
   same("what is done of the creation", await added(room, 0, () => first.key(...UNDO)), [])

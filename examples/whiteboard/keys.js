@@ -20,7 +20,8 @@ export class Keys {
 
   /** A key with Ctrl: whether it means something here. */
   #command({ key, shiftKey }) {
-    const { changes, clipboard } = this.page
+    const { changes, clipboard, gestures } = this.page
+    if (gestures.isBusy) return false
     const word = key.toLowerCase()
     if (word === "z" && !shiftKey) changes.undo()
     else if (word === "y" || word === "z") changes.redo()

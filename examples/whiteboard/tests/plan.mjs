@@ -47,8 +47,7 @@ async function twoDrawPlan(first, second) {
   await first.key("Escape")
   await first.key("Escape")
   same("what both show", await first.look(BODIES), await second.look(BODIES))
-  const words = ["Stroke", "Rectangle “Harbour office”", "Ellipse “Fish market, every morning from six”", "Line",
-    "Rectangle “Park”", "Ellipse", "Stroke"]
-  same("the list", await first.look(LIST), words)
+  const shops = ["Rectangle “Harbour office”", "Ellipse “Fish market, every morning from six”"]
+  same("the list", await first.look(LIST), ["Stroke", ...shops, "Line", "Rectangle “Park”", "Ellipse", "Stroke"])
   await first.picture(join(PICTURES, "plan.png"))
 }

@@ -1,6 +1,7 @@
 //! `grace serve`: serves sessions over WebSocket.
 
 ghost use Rattle.std.specs.Prelude.{◌≡◌};
+ghost use Rattle.std.specs.Thread.{IsSend};
 ghost use Rattle.room_lock.specs.Planned.{IsLedgerOf};
 ghost use Rattle.server.specs.Faults.{of_serving};
 
@@ -169,18 +170,24 @@ where
 {
     let watch = streams.watch;
     let (running, stop) = crossbeam_channel::bounded::<(), _>(alloc, 1)?;
-    let served = thread::scope(thread::scope_env(), rt, |scope| {
-        let reporter = match period {
-            Some(period) => scope.spawn(move || watch.report_every(period, &stop)).ok(),
-            None => None,
-        };
-        let served = serve_streams(rt, alloc, rooms, streams, workers, watch, keeper, output);
-        drop(running);
-        if let Some(reporter) = reporter {
-            reporter.join(rt);
-        }
-        served
-    });
+    let served = thread::scope(
+        thread::scope_env(),
+        rt,
+        |scope| -> Result<(), ServeFault>
+            requires { IsSend P.row × IsSend R.Stream.row × IsSend K.Receipt.row }
+        {
+            let reporter = match period {
+                Some(period) => scope.spawn(move || watch.report_every(period, &stop)).ok(),
+                None => None,
+            };
+            let served = serve_streams(rt, alloc, rooms, streams, workers, watch, keeper, output);
+            drop(running);
+            if let Some(reporter) = reporter {
+                reporter.join(rt);
+            }
+            served
+        },
+    );
     match served {
         Ok(()) => Ok(()),
         Err(fault) => Err(fault_of(fault)),

@@ -2,6 +2,7 @@
 
 import contextlib
 import re
+import signal
 import sys
 import textwrap
 import threading
@@ -187,12 +188,14 @@ def refused_there():
             for put in range(4):
                 first.put(made.name, (), {f"k{16 * put + key}": 1 for key in range(16)})
             first.settled(PATIENCE)
-            # The object has all the keys that it may, which the second hasn't seen.
+            # The object has all the keys that it may, which the second hasn't seen. No answer comes in between.
+            server.process.send_signal(signal.SIGSTOP)
             refused = second.set(made.name, (), "one-more", 1)
             behind = second.set(made.name, refused.version, "one-more", 2)
             apart = second.create("line", {"x": 7})
             on_it = second.set(apart.name, (), "x", 8)
             names = [apart.name, on_it.name]
+            server.process.send_signal(signal.SIGCONT)
             errors = [change.done.exception(PATIENCE).word for change in (refused, behind)]
             same("the refusals", errors, ["too-many-keys", "withdrawn"])
             same("what is shown again", shown(second, made.name), [((), {})])

@@ -1,5 +1,6 @@
 /** What a room tells of its connection: changes that wait, a server that is silent, how far it is loaded, its pace. */
 
+import { readFileSync, readdirSync } from "node:fs"
 import { createServer } from "node:net"
 import { Room } from "../grace.js"
 import { comes, holds, same } from "./checks.js"
@@ -20,13 +21,21 @@ function heard(room) {
   return news
 }
 
+/** Stops a program, and awaits that all of its threads stand: until then it may answer. */
+async function stop(program) {
+  program.kill("SIGSTOP")
+  const folder = `/proc/${program.pid}/task`
+  const stands = (thread) => readFileSync(`${folder}/${thread}/stat`, "utf8").includes(") T ")
+  await comes("the program stands", () => readdirSync(folder).every(stands))
+}
+
 /** A server that stops makes changes wait: this is told after a second, then each second, and taken back at the end. */
 async function saving(client, server) {
   const room = await client()
   const made = room.create("rect")
   await made.done
   const news = heard(room)
-  server.program.kill("SIGSTOP")
+  await stop(server.program)
   try {
     const start = performance.now()
     room.set(made.name, [], "x", 1)
@@ -39,9 +48,9 @@ async function saving(client, server) {
       same("its state", state, "saving")
       holds(`after ${before} ms came ${milliseconds} ms`, milliseconds >= 1000 && milliseconds - before < 1000 + LATE)
       holds(`${milliseconds} ms were told after ${at - start} ms`, at - start - milliseconds < LATE)
-      // The server is silent from the moment on that it is asked, which may be a little later.
-      if (milliseconds < 3000) same("whether places are spoken of", words.includes("places"), false)
-      if (milliseconds > 3000 + LATE) same("whether places are spoken of then", words.includes("places"), true)
+      // The server is silent from the moment on that it is asked, which may be a little sooner or later.
+      const isSilent = milliseconds > 3000
+      if (Math.abs(milliseconds - 3000) > LATE) same(`after ${milliseconds} ms`, words.includes("places"), isSilent)
       before = milliseconds
     }
   } finally {

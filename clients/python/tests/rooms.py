@@ -1,6 +1,7 @@
 """Clients in one room of `grace serve`: what they see of each other, and of refusals."""
 
 import contextlib
+import os
 import re
 import signal
 import sys
@@ -72,6 +73,12 @@ def agree(*rooms):
         same("whether all changes are answered", room.settled(PATIENCE), True)
     for room in rooms:
         same("whether all news came", room.refresh(PATIENCE), True)
+
+
+def stop(server):
+    """Stops the program, and awaits that all of it stands: until then it may answer."""
+    server.process.send_signal(signal.SIGSTOP)
+    os.waitid(os.P_PID, server.process.pid, os.WSTOPPED)
 
 
 def raised(what, kind, call, *given):
@@ -189,7 +196,7 @@ def refused_there():
                 first.put(made.name, (), {f"k{16 * put + key}": 1 for key in range(16)})
             first.settled(PATIENCE)
             # The object has all the keys that it may, which the second hasn't seen. No answer comes in between.
-            server.process.send_signal(signal.SIGSTOP)
+            stop(server)
             refused = second.set(made.name, (), "one-more", 1)
             behind = second.set(made.name, refused.version, "one-more", 2)
             apart = second.create("line", {"x": 7})

@@ -9,7 +9,7 @@ import time
 
 from grace import Room
 from relay import Relay
-from rooms import PATIENCE, Heard, agree, comes, entered
+from rooms import PATIENCE, Heard, agree, comes, entered, stop
 from serving import Server, Wrong, same
 
 # The machine may be busy, and a thread late by so many seconds. None is early.
@@ -31,7 +31,7 @@ def saving():
         agree(room)
         times = []
         room.on("state", lambda news: (times.append(time.monotonic()), heard.news.append(("state", news))))
-        server.process.send_signal(signal.SIGSTOP)
+        stop(server)
         try:
             start = time.monotonic()
             room.set(made.name, (), "x", 1)
@@ -46,8 +46,8 @@ def saving():
         for news, told in zip(heard.of("state"), times):
             same("the state", news.state, "saving")
             in_time("it is told", told - start, news.seconds)
-            # The server is silent from the moment on that it is asked, which may be a little later.
-            if news.seconds < 3 or news.seconds > 3 + LATE:
+            # The server is silent from the moment on that it is asked, which may be a little sooner or later.
+            if abs(news.seconds - 3) > LATE:
                 same("whether places are spoken of", "places" in news.words, news.seconds > 3)
         same("whether all is answered", room.settled(PATIENCE), True)
         comes("it is told", lambda: heard.of("state")[-1].state == "open")

@@ -87,9 +87,14 @@ class Carry {
     const { board, changes, view } = this.page
     board.preview = null
     const version = board.selected === null ? null : board.picked(board.selected)
-    if (isWhole && this.attributes !== null && version !== null) changes.put(board.selected, version, this.attributes)
+    if (isWhole && this.#isOther() && version !== null) changes.put(board.selected, version, this.attributes)
     this.release()
     view.change([this.name])
+  }
+
+  /** Whether the drag ends elsewhere than it began. */
+  #isOther() {
+    return Object.entries(this.attributes ?? {}).some(([key, value]) => this.version.attributes.get(key) !== value)
   }
 }
 

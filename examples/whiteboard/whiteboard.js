@@ -9,6 +9,7 @@ import { Board } from "./board.js"
 import { Changes } from "./changes.js"
 import { Clipboard } from "./clipboard.js"
 import { part } from "./elements.js"
+import { Frames } from "./frames.js"
 import { Gestures } from "./gestures.js"
 import { Gone } from "./gone.js"
 import { Keys } from "./keys.js"
@@ -24,6 +25,7 @@ import { Writing } from "./writing.js"
 /** The page: its parts, and what they ask of each other. */
 export class Page {
   say = say
+  #progress = new Frames(() => tellProgress(this.room))
 
   constructor(address, roomName) {
     this.room = new Room(address, roomName, { storage: true })
@@ -98,7 +100,7 @@ export class Page {
   }
 
   #load() {
-    tellProgress(this.room)
+    this.#progress.ask()
     if (!this.room.isLoaded) return
     this.view.begin()
     this.view.change([])

@@ -3,7 +3,8 @@
 import { createServer } from "node:net"
 import { join } from "node:path"
 import { holds, same } from "../../../clients/js/tests/checks.js"
-import { COUNT, HEADING, PICTURES, STATE, isOpen, pageOf, serve, step, watch } from "./people.mjs"
+import { PASS, Proxy } from "../../../clients/js/tests/proxy.js"
+import { COUNT, HEADING, PICTURES, STATE, isOpen, pageOf, serve, signalRoom, step, watch } from "./people.mjs"
 
 const OBJECTS = 200
 // A person takes what comes within some one and a half seconds for at once. Other programs on the machine may take its
@@ -17,6 +18,7 @@ export async function opening(browser) {
     await step("an empty room says so once that is known", () => emptyRoom(browser, address))
     await step("a server that doesn't answer", () => silentServer(browser, address))
     await step(`a room of ${OBJECTS} objects opens in time`, () => fullRoom(browser, address))
+    await step("a bar tells how far a room is loaded", () => loadingBar(browser, address, server))
   } finally {
     server.kill()
   }
@@ -60,6 +62,7 @@ async function silentServer(browser, address) {
   const place = await pageOf(address)
   place.searchParams.set("server", `ws://127.0.0.1:${silent.address().port}/`)
   const page = await browser.open(place.href, 1240, 720)
+  await page.comes("the page", `document.getElementById("state") !== null`)
   await page.comes("the words", `${STATE}.includes("All its places may be taken")`)
   same("the heading", await page.look(HEADING), "Loading")
   await page.picture(join(PICTURES, "silent.png"))
@@ -82,17 +85,39 @@ async function fullRoom(browser, address) {
   holds(`it opens within ${BOUND_MILLISECONDS} ms: ${times.map(Math.round)}`, Math.min(...times) <= BOUND_MILLISECONDS)
 }
 
-/** How long it takes from the address to all objects. The bar goes from nothing towards its end. */
+/** How long it takes from the address to all objects. */
 async function timeToOpen(browser, address, isFirst) {
   const { page, start } = await openNoting(browser, address)
   await page.comes("all objects", `${COUNT} === ${OBJECTS}`)
   const time = performance.now() - start
   same("the headings", await page.look("told.headings"), ["Loading", `Objects (${OBJECTS})`])
-  const progress = await page.look("told.progress")
-  const isOn = progress.every((value, place) => value >= (progress[place - 1] ?? 0))
-  holds(`the bar goes on: ${progress}`, progress.length > 2 && isOn)
   same("faults in the page", page.faults, [])
   if (isFirst) await page.picture(join(PICTURES, "many.png"))
   await page.close()
   return time
+}
+
+/** The server rests for a moment after the first entries: meanwhile the page tells how many it has. */
+async function loadingBar(browser, address, server) {
+  const place = await pageOf(address)
+  const proxy = await Proxy.start(new URL(place.searchParams.get("server")).port)
+  place.searchParams.set("server", `ws://${proxy.address}/`)
+  const rest = async () => {
+    await signalRoom(server, "SIGSTOP")
+    setTimeout(() => signalRoom(server, "SIGCONT"), 700)
+  }
+  let pulls = 0
+  proxy.whatToDo = (text) => {
+    if (text.startsWith('["pull"') && ++pulls === 2) rest()
+    return PASS
+  }
+  const { page } = await openNoting(browser, place.href)
+  await page.comes("a part", "told.progress.some((value) => value > 0 && value < 1)")
+  const words = await page.look(`document.getElementById("loading").textContent`)
+  holds(`the words: ${words}`, /^Loading the drawing: \d+ entries of 20\d\.$/.test(words))
+  await page.picture(join(PICTURES, "loading.png"))
+  await page.comes("all objects", `${COUNT} === ${OBJECTS}`)
+  same("the bar", await page.look("document.getElementById('loading').hidden"), true)
+  await page.close()
+  proxy.end()
 }

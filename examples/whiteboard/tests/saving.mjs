@@ -23,6 +23,10 @@ async function oneChange(first, second, room) {
     await first.release(places.at(-1))
   }
   same("a drag through 31 places", await added(room, 1, drag), [["put", [["x", 500], ["y", 350]]]])
+  const back = async () => {
+    await first.dragAlong([places.at(-1), places[0], places.at(-1)])
+  }
+  same("a drag back to where it began", await added(room, 0, back), [])
   same("what waits then", await first.look(`document.querySelectorAll(".waiting").length`), 0)
 }
 

@@ -2,7 +2,8 @@
 
 import { between, meet, middleOf } from "./boxes.js"
 
-const LEAST = 0.002
+// So small that objects as far apart as can be drawn are seen in a small window.
+const LEAST = 0.0005
 const MOST = 16
 const EDGE = 40
 

@@ -29,7 +29,7 @@ export const USUAL = { x: 0, y: 0, width: 120, height: 80, fill: PLAIN, name: ""
 export const placeOf = ({ x, y }) => ({ x: Math.round(x), y: Math.round(y) })
 
 /** The size of a shape, as attributes have it. */
-export const sizeOf = ({ width, height }) => ({ width: Math.round(width), height: Math.round(height) })
+const sizeOf = ({ width, height }) => ({ width: Math.round(width), height: Math.round(height) })
 
 /** All attributes of a shape that is drawn by two corners: what a new object gets. */
 export const attributesOf = (shape) => ({ ...placeOf(shape), ...sizeOf(shape), fill: shape.fill, name: shape.text })

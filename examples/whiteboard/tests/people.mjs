@@ -3,7 +3,6 @@
 import { spawn } from "node:child_process"
 import { readFile } from "node:fs/promises"
 import { createInterface } from "node:readline"
-import { join } from "node:path"
 import { fileURLToPath } from "node:url"
 import { Room } from "../../../clients/js/grace.js"
 import { comes, same } from "../../../clients/js/tests/checks.js"

@@ -5,7 +5,7 @@ import { between, meet, middleOf } from "./boxes.js"
 // So small that objects as far apart as can be drawn are seen in a small window.
 const LEAST = 0.0005
 const MOST = 16
-const EDGE = 40
+const EDGE = 52
 
 /** The part of the drawing that is seen where nothing else is asked for. */
 export const PAGE = { x: 0, y: 0, width: 1200, height: 800 }

@@ -5,17 +5,17 @@ use Rattle.std.specs.List.{range_with_len}
 use Rattle.std.specs.List.Sorted.{IsStrictlyIncreasing}
 use Rattle.std.proofs.lemmas.Bool.{cases_Bool}
 use Rattle.std.proofs.lemmas.List.{map_more, reverse-append}
-use Rattle.op_names.specs.Names.{Name}
+use Rattle.base_types.specs.Names.{Name}
 use Rattle.rules.specs.declared.history.Op.{Op}
 use Rattle.rules.specs.Bodies.{pairs_in}
 use Rattle.rules.specs.Operations.{IsCausallyOrdered, before, is_change_on}
 use Rattle.rules.proofs.Lists.{In, In-from_Contains, Contains-from_In, In-filter_back, In-map_back, In-range_back}
 use Rattle.rules.proofs.Relation.{not_before_self}
-use Rattle.places.specs.Members.{has}
-use Rattle.places.specs.Changes.{at, AreChangesOf}
+use Rattle.places.specs.steps.PlaceSet.{has}
+use Rattle.places.specs.steps.Changes.{at, AreChangesOf}
 use Rattle.places.proofs.ChangesAt.{at_in}
 use Rattle.places.proofs.Rising.{among_places}
-use Rattle.attributes.specs.Pairs.{given_backwards}
+use Rattle.attributes.specs.steps.Pairs.{given_backwards}
 
 pub is_change : (k : List Op) (members : List ℕ) → All (λ place. place < length k) members → (x : Op) → In x (map (at k) members) → In x k
 is_change k members w x m =

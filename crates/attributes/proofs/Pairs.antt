@@ -6,10 +6,10 @@ use Rattle.std.specs.Option.{option_or}
 use Rattle.std.proofs.lemmas.Bool.{cases_Bool, true≢false}
 use Rattle.std.proofs.lemmas.List.Folds.{find-append}
 use Rattle.std.proofs.lemmas.Slice.Eq.{bytes_eq-Decides}
-use Rattle.op_names.specs.Texts.{Bytes}
+use Rattle.base_types.specs.Texts.{Bytes}
 use Rattle.rules.specs.AttrLists.{Attr, same_key}
 use Rattle.rules.proofs.Lists.{In, In-append_cases, any_back, any_none, find_some}
-use Rattle.attributes.specs.Pairs.{with_all, with_new}
+use Rattle.attributes.specs.steps.Pairs.{with_new_attrs, with_new}
 
 -- ---- look-up
 
@@ -45,7 +45,7 @@ attr_of-new key attr attrs = elim (cases_Bool (list_any (same_key attr) attrs)) 
       ])
 ]
 
-pub attr_of-all : (key : Bytes) (attrs xs : List Attr) → attr_of key (with_all attrs xs) ≡ option_or (attr_of key attrs) (attr_of key xs)
+pub attr_of-all : (key : Bytes) (attrs xs : List Attr) → attr_of key (with_new_attrs attrs xs) ≡ option_or (attr_of key attrs) (attr_of key xs)
 attr_of-all key attrs [] = sym (or_none (attr_of key attrs))
 attr_of-all key attrs (x ∷ xs) =
     attr_of-all key (with_new x attrs) xs
@@ -53,7 +53,7 @@ attr_of-all key attrs (x ∷ xs) =
     ∙ or_associative (attr_of key attrs) (attr_of key (x ∷ [])) (attr_of key xs)
     ∙ ap (option_or (attr_of key attrs)) (sym (find_cons (λ (a : Attr). bytes_eq a.0 key) x xs))
 
-pub with_all-append : (attrs xs ys : List Attr) → with_all attrs (xs ++ ys) ≡ with_all (with_all attrs xs) ys
+pub with_all-append : (attrs xs ys : List Attr) → with_new_attrs attrs (xs ++ ys) ≡ with_new_attrs (with_new_attrs attrs xs) ys
 with_all-append attrs [] ys = refl
 with_all-append attrs (x ∷ xs) ys = with_all-append (with_new x attrs) xs ys
 
@@ -81,7 +81,7 @@ Apart-new attr attrs a = elim (cases_Bool (list_any (same_key attr) attrs)) [
       true≢false (sym ((bytes_eq-Decides attr.0 x.0).1 (sym d)) ∙ any_none (same_key attr) x attrs e m)))
 ]
 
-pub Apart-all : (attrs xs : List Attr) → Apart attrs → Apart (with_all attrs xs)
+pub Apart-all : (attrs xs : List Attr) → Apart attrs → Apart (with_new_attrs attrs xs)
 Apart-all attrs [] a = a
 Apart-all attrs (x ∷ xs) a = Apart-all (with_new x attrs) xs (Apart-new x attrs a)
 

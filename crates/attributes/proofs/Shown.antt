@@ -6,9 +6,9 @@ use Rattle.std.specs.List.Sorted.{IsPermutation, IsSorted, IsStrictlyIncreasing}
 use Rattle.std.proofs.lemmas.List.Folds.{find-append}
 use Rattle.std.proofs.lemmas.List.Sorted.{Contains-permutation, IsPermutation-sym}
 use Rattle.std.proofs.lemmas.Slice.Eq.{bytes_eq-Decides}
-use Rattle.op_names.specs.Names.{Name}
-use Rattle.op_names.specs.Texts.{Bytes}
-use Rattle.op_names.specs.declared.value.Value.{Value}
+use Rattle.base_types.specs.Names.{Name}
+use Rattle.base_types.specs.Texts.{Bytes}
+use Rattle.base_types.specs.declared.value.Value.{Value}
 use Rattle.rules.specs.declared.history.Op.{Op}
 use Rattle.rules.specs.AttrLists.{Attr}
 use Rattle.rules.specs.Bodies.{pairs_in, value_in}
@@ -23,8 +23,8 @@ use Rattle.rules.proofs.Sorting.{Rises, sort_is}
 use Rattle.rules.proofs.Decided.{value_is_last}
 use Rattle.rules.proofs.Reordered.{In-each_once, Once-each_once, key_cmp_total, one_key, same_key_is, same_key_itself, untied_with_values, in_keys}
 use Rattle.rules.proofs.Sorted.{sorted_rises}
-use Rattle.places.specs.Changes.{at, AreChangesOn}
-use Rattle.attributes.specs.Pairs.{given_backwards, with_all}
+use Rattle.places.specs.steps.Changes.{at, AreChangesOn}
+use Rattle.attributes.specs.steps.Pairs.{given_backwards, with_new_attrs}
 use Rattle.attributes.proofs.Pairs.{Apart, Apart-all, attr_of, attr_of-all, attr_if_in}
 use Rattle.attributes.proofs.Members.{is_change, members_ordered, not_before_itself}
 
@@ -127,13 +127,13 @@ with_value key attrs v e = go (attr_of key attrs) refl e
 -- the pairs that the program ends with
 pub attributes_are : {object : Name} (k : List Op) (members : List ℕ) (initial : List Attr) (first all pairs : List Attr) → AreChangesOn object k
     → IsStrictlyIncreasing members → All (λ place. place < length k) members → is_compatible (conflict k) (map (at k) members) ≡ true
-    → first ≡ with_all [] (given_backwards (map (at k) members)) → all ≡ with_all first initial → IsPermutation all pairs → IsSorted key_cmp pairs
+    → first ≡ with_new_attrs [] (given_backwards (map (at k) members)) → all ≡ with_new_attrs first initial → IsPermutation all pairs → IsSorted key_cmp pairs
     → pairs ≡ attributes initial (map (at k) members)
 attributes_are k members initial first all pairs w rises within compatible e f p s =
     let l : List Op = map (at k) members in
-    let apart : Apart all = subst Apart (sym (f ∙ ap (λ z. with_all z initial) e)) (Apart-all (with_all [] (given (reverse l))) initial (Apart-all [] (given (reverse l)) tt)) in
+    let apart : Apart all = subst Apart (sym (f ∙ ap (λ z. with_new_attrs z initial) e)) (Apart-all (with_new_attrs [] (given (reverse l))) initial (Apart-all [] (given (reverse l)) tt)) in
     let looked : (key : Bytes) → attr_of key all ≡ option_or (attr_of key (given (reverse l))) (attr_of key initial) =
-    λ key. ap (attr_of key) (f ∙ ap (λ z. with_all z initial) e) ∙ attr_of-all key (with_all [] (given (reverse l))) initial ∙ ap (λ o. option_or o (attr_of key initial)) (attr_of-all key [] (given (reverse l))) in
+    λ key. ap (attr_of key) (f ∙ ap (λ z. with_new_attrs z initial) e) ∙ attr_of-all key (with_new_attrs [] (given (reverse l))) initial ∙ ap (λ o. option_or o (attr_of key initial)) (attr_of-all key [] (given (reverse l))) in
     let valued : (key : Bytes) → option_map (λ (attr : Attr). attr.1) (attr_of key all) ≡ value_of_key initial l key =
     λ key. ap (option_map (λ (attr : Attr). attr.1)) (looked key) ∙ first_given initial key (reverse l)
     ∙ sym (value_is_last k l l compatible (λ x m. m) (λ x m. m) (members_ordered k members w.listed.ordered rises within) (λ x m. not_before_itself w.listed x (is_change k members within x m)) initial key) in

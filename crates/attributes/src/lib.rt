@@ -4,30 +4,34 @@
 ghost use Rattle.std.specs.Prelude.{◌≡◌, ◌<◌, [], true, length, map, bytes_eq, All, IfOk, OnOk};
 ghost use Rattle.std.specs.List.{list_any};
 ghost use Rattle.std.specs.List.Sorted.{IsPermutation, IsSorted};
-ghost use Rattle.op_names.specs.Names.{Name};
+ghost use Rattle.base_types.specs.Names.{Name};
 ghost use Rattle.rules.specs.Bodies.{pairs_in};
 ghost use Rattle.rules.specs.Groups.{is_compatible};
 ghost use Rattle.rules.specs.Conflicts.{conflict};
 ghost use Rattle.rules.specs.Versions.{attributes, key_cmp};
-ghost use Rattle.places.specs.Changes.{at, AreChangesOn};
-ghost use Rattle.attributes.specs.Pairs.{given_backwards, with_all, with_new};
+ghost use Rattle.places.specs.steps.Changes.{at, AreChangesOn};
+ghost use Rattle.attributes.specs.steps.Pairs.{given_backwards, with_new_attrs, with_new};
 
-use op_names::{Key, NoMemory, Value};
-use places::Members;
+use base_types::{Key, NoMemory, Value};
+use places::PlaceSet;
 use rules::{Attrs, Body, SharedOp};
 use std::alloc::Global;
 
-/// The attributes of an object that was created with these initial attributes and changed by the
-/// changes at these places: each key with its value, in order of key. A key has the value that the
-/// last put of it gives; without one, the initial value. Fails only with `NoMemory`.
+/// The attributes of a version, in order of key: the initial attributes of its object, and the
+/// changes of its group, by their places in causal order. A key has the value of its last put, or
+/// else its initial value.
 ///
-/// Takes time with the number of the places, of the pairs that their puts give and of the initial
-/// attributes, and for each pair with the number of keys. Copies only what it gives.
+/// Compares each pair of the puts and of the initial attributes with the keys found so far. Copies
+/// only what it returns.
+///
+/// # Errors
+///
+/// `NoMemory` if an allocation failed.
 pub fn attributes_of(
     alloc: Global,
     initial: &Attrs,
     ops: &[SharedOp],
-    members: &Members,
+    members: &PlaceSet,
 ) -> Result<Vec<(Key, Value)>, NoMemory>
     requires changes { (object : Name) × AreChangesOn object ops.now }
     requires within { All (λ place. place < length ops.now) members.now }
@@ -47,11 +51,11 @@ pub fn attributes_of(
 fn last_given(
     alloc: Global,
     ops: &[SharedOp],
-    members: &Members,
+    members: &PlaceSet,
 ) -> Result<Vec<(Key, Value)>, NoMemory>
     requires { All (λ place. place < length ops.now) members.now }
     ensures { IfOk result (λ pairs.
-        pairs.items ≡ with_all [] (given_backwards (map (at ops.now) members.now))) }
+        pairs.items ≡ with_new_attrs [] (given_backwards (map (at ops.now) members.now))) }
 {
     let places = members.list(alloc)?;
     let mut pairs = Vec::new(alloc);
@@ -64,7 +68,7 @@ fn last_given(
 
 /// Adds what a put gives: those of its pairs whose keys aren't there yet. A drop gives nothing.
 fn add_given(alloc: Global, pairs: &mut Vec<(Key, Value)>, body: &Body) -> Result<(), NoMemory>
-    ensures { OnOk result (pairs.new.items ≡ with_all pairs.old.items (pairs_in body.now)) }
+    ensures { OnOk result (pairs.new.items ≡ with_new_attrs pairs.old.items (pairs_in body.now)) }
 {
     match body {
         Body::Put { pairs: given, .. } => add_missing(alloc, pairs, given.pairs()),
@@ -78,7 +82,7 @@ fn add_missing(
     pairs: &mut Vec<(Key, Value)>,
     others: &[(Key, Value)],
 ) -> Result<(), NoMemory>
-    ensures { OnOk result (pairs.new.items ≡ with_all pairs.old.items others.now) }
+    ensures { OnOk result (pairs.new.items ≡ with_new_attrs pairs.old.items others.now) }
 {
     for other in others {
         add_new(alloc, pairs, &other.0, &other.1)?;

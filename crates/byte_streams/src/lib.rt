@@ -1,4 +1,4 @@
-//! Streams of bytes: reads and writes that no signal ends, and bytes that are written whole.
+//! Byte streams: reads and writes that survive signals, and writes of all bytes.
 #![tactic(auto)]
 
 mod uninterrupted;

@@ -1,4 +1,4 @@
-//! A stream whose reads and writes no signal ends.
+//! A stream that retries calls which a signal interrupted.
 
 ghost use Rattle.std.specs.Prelude.{◌≢◌, IfErr};
 ghost use Rattle.std.specs.Io.{ReadsAtMost, WritesAtMost};
@@ -8,8 +8,8 @@ ghost use Rattle.std.specs.IoError.{error_kind};
 use std::io;
 use std::io::{ErrorKind, Read, Write};
 
-/// A stream. What a signal interrupts is tried again: a read with a bound on its time is interrupted
-/// where the program is stopped and goes on, and that must end no session.
+/// A stream whose reads and writes are retried when a signal interrupts them (`EINTR`). A read with
+/// a timeout is interrupted when the process is stopped and continued. That must not end a session.
 #[derive(Drop)]
 pub struct Uninterrupted<S> {
     pub stream: S,

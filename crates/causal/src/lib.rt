@@ -1,40 +1,40 @@
-//! A room's operations so far, and which operation may come next.
+//! The operations of a room so far, and whether an operation may come next.
 #![tactic(auto)]
 
 ghost use Rattle.std.specs.Prelude.{◌≡◌, ◌-◌, ◌<◌, ◌≤◌, ◌++◌, ◌∷◌, ◌||◌, [], ℕ, true, false, map, position, None, Some, IfSome, IfOk, IfErr, OnOk, OnErr, IsOk, Contains, vec_len, slice_index, slice_index_or};
 ghost use Rattle.std.specs.Option.{option_copied};
-ghost use Rattle.op_names.specs.Names.{is_site, same_name};
+ghost use Rattle.base_types.specs.Names.{is_site, same_name};
 ghost use Rattle.rules.specs.Operations.{IsHistory, operation};
 ghost use Rattle.rules.specs.Admission.{count_at_site, is_ahead, is_not_closed, causal_refusal};
-ghost use Rattle.causal.specs.Index.{at_number, places_of, has_fewer, lacks, knows, lacks_beyond};
+ghost use Rattle.causal.specs.steps.Index.{at_number, places_of, has_fewer, lacks, knows, lacks_beyond};
 
-use op_names::{MAX_SITE, NoMemory, OpName};
+use base_types::{MAX_SITE, NoMemory, OpName};
 use rules::{Op, Refusal, SharedOp};
 use state_vector::StateVector;
 use std::alloc::Global;
 use std::marker::Model;
 use thiserror::Error;
 
-/// Why an operation is not admitted, the first cause that applies in this order.
+/// Why an operation may not come next: the first variant that applies, in this order.
 #[derive(Clone, Copy, Debug, PartialEq, Eq, Error)]
 pub enum NotAdmitted {
     /// Its number is not its site's next one.
     #[error("the number is not the site's next one")]
     WrongSeq,
-    /// Its vector counts other than the earlier operations of its own site.
+    /// Its vector does not count exactly the earlier operations of its own site.
     #[error("the vector counts other than the site's earlier operations")]
     OwnCount,
-    /// Its vector counts an operation that is not there.
+    /// Its vector counts an operation that is not in the history.
     #[error("the vector counts an operation that is not there")]
     Ahead,
-    /// Its vector counts an operation and not all that that one's vector counts.
+    /// Its vector counts an operation, but not everything which that operation's vector counts.
     #[error("the vector counts an operation and not all that that one counts")]
     NotClosed,
 }
 
 impl From<NotAdmitted> for Refusal {
     ghost use Rattle.std.specs.Prelude.{◌≡◌};
-    ghost use Rattle.causal.specs.NotAdmitted.{refusal_of};
+    ghost use Rattle.causal.specs.steps.NotAdmitted.{refusal_of};
 
     ghost from_gives = { λ fault refusal. refusal ≡ refusal_of fault };
 
@@ -48,8 +48,8 @@ impl From<NotAdmitted> for Refusal {
     }
 }
 
-/// The operations of a room so far, in the order in which they were added. A look-up by name takes
-/// the same time however many there are.
+/// The operations of a room, in the order in which they were added. A look-up by name takes
+/// constant time.
 #[derive(Drop)]
 pub struct Past {
     operations: Vec<SharedOp>,
@@ -59,15 +59,16 @@ pub struct Past {
 
 impl Model for Past {
     ghost use Rattle.std.specs.Prelude.{◌-◌, map, min, vec_capacity, vec_len};
-    ghost use Rattle.causal.specs.Past.{PastState};
-    ghost use Rattle.causal.specs.Index.{IsIndex};
+    ghost use Rattle.causal.specs.steps.Past.{PastState};
+    ghost use Rattle.causal.specs.steps.Index.{IsIndex};
 
     ghost Value = { PastState };
 
     ghost view = { λ p. record {
       history = p.operations.items;
       reserve = map
-          (λ list. min (vec_capacity p.operations - vec_len p.operations) (vec_capacity list - vec_len list))
+          (λ list. min (vec_capacity p.operations - vec_len p.operations)
+          (vec_capacity list - vec_len list))
           p.places.items;
     } };
 
@@ -105,9 +106,13 @@ fn places_of(lists: &[Vec<usize>], site: u32) -> &[usize]
 }
 
 impl Past {
-    ghost use Rattle.causal.specs.NotAdmitted.{refusal_of};
+    ghost use Rattle.causal.specs.steps.NotAdmitted.{refusal_of};
 
-    /// No operations yet. Otherwise `NoMemory`.
+    /// An empty history.
+    ///
+    /// # Errors
+    ///
+    /// `NoMemory` if an allocation failed.
     pub fn new(alloc: Global) -> Result<Past, NoMemory>
         ensures { IfOk result (λ past. past.history ≡ []) }
     {
@@ -118,7 +123,7 @@ impl Past {
         })
     }
 
-    /// The number of a site's operations, 0 for a site that has none.
+    /// The number of a site's operations, 0 if it has none.
     pub fn count(&self, site: u32) -> u32
         ensures count { result ≡ count_at_site self.now.history site }
         ensures history { IsHistory self.now.history }
@@ -239,14 +244,19 @@ impl Past {
         self.lacks_some(seen, own, latest, seen.pairs())
     }
 
-    /// Whether an operation of this name and this vector may come next. Otherwise `WrongSeq`,
-    /// `OwnCount`, `Ahead` or `NotClosed`, the first that applies. Takes time with the vector's
-    /// length, and that again for each site of which neither its author's last operation nor the
-    /// latest that it counts has counted as much; none with the length of the history.
+    /// Tells whether an operation of this name and this vector may come next (Sun and Chen, 2002).
+    ///
+    /// Takes time linear in the vector. It compares whole vectors again only for some sites: those
+    /// where neither the author's last operation nor the latest counted operation counts as much.
+    /// The time does not depend on the length of the history.
+    ///
+    /// # Errors
+    ///
+    /// `WrongSeq`, `OwnCount`, `Ahead` or `NotClosed`, the first that applies in this order.
     #[tactic(auto, unfolding(rules::specs::Admission::causal_refusal))]
     pub fn admit(&self, name: OpName, seen: &StateVector) -> Result<(), NotAdmitted>
         ensures admitted { OnOk result (causal_refusal self.now.history name seen.now ≡ None) }
-        ensures refused { IfErr result
+        ensures refusal { IfErr result
             (λ fault. causal_refusal self.now.history name seen.now ≡ Some (refusal_of fault)) }
     {
         let earlier = name.seq() - 1;
@@ -265,9 +275,13 @@ impl Past {
         Ok(())
     }
 
-    /// Takes the memory for one more operation of a site, so that adding it can't fail; otherwise
-    /// `NoMemory`. For a site that is not from 1 to 256 there is nothing to take. No answer
-    /// changes, and no site has memory for fewer operations than before, whatever the result.
+    /// Reserves memory for one more operation of a site, so that `add` can't fail. Does nothing for
+    /// a site that is not from 1 to 256. The history stays as it is. Memory that was reserved
+    /// before stays reserved.
+    ///
+    /// # Errors
+    ///
+    /// `NoMemory` if an allocation failed.
     pub fn reserve(&mut self, site: u32) -> Result<(), NoMemory>
         ensures history { self.new.history ≡ self.old.history }
         ensures kept { (k : ℕ) → slice_index self.old.reserve k ≤ slice_index self.new.reserve k }
@@ -283,8 +297,12 @@ impl Past {
         Ok(())
     }
 
-    /// Adds an operation that is admitted. `NoMemory` only where none was reserved for it, and then
-    /// the history stays.
+    /// Adds an operation that is admitted.
+    ///
+    /// # Errors
+    ///
+    /// `NoMemory` if no memory was reserved for it and an allocation failed. The history stays as
+    /// it is.
     pub fn add(&mut self, op: SharedOp) -> Result<(), NoMemory>
         requires admitted { causal_refusal self.old.history op.name op.seen ≡ None }
         ensures ok { OnOk result (self.new.history ≡ self.old.history ++ op ∷ []) }

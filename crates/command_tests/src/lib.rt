@@ -1,5 +1,5 @@
-//! Scripts and checks: tests of the public calls of `world` and `commands`, in rooms of small limits and over
-//! readers and writers that fail or are interrupted.
+//! Tests of the public calls of `world` and `commands`: in rooms of small limits, and over readers
+//! and writers that fail or are interrupted.
 #![tactic(auto)]
 
 #[cfg(test)]

@@ -42,6 +42,51 @@ impl Write for Closed {
     }
 }
 
+/// A writer that counts flushes, and fails each of them if it is told so.
+#[derive(Drop)]
+struct Flushing {
+    held: Vec<u8>,
+    flushes: u32,
+    /// Whether all that was written was flushed.
+    is_flushed: bool,
+    fails: bool,
+}
+
+impl Flushing {
+    fn new(rt: &impl AllocGlobal, fails: bool) -> Flushing {
+        Flushing {
+            held: Vec::new(rt.alloc()),
+            flushes: 0,
+            is_flushed: true,
+            fails,
+        }
+    }
+
+    /// Returns whether this text was written, and one flush followed it.
+    fn has_flushed(&self, text: &str) -> bool {
+        self.held.as_slice() == text.as_bytes() && self.is_flushed && self.flushes == 1
+    }
+}
+
+impl Write for Flushing {
+    fn write(&mut self, bytes: &[u8]) -> io::Result<usize> {
+        self.is_flushed = false;
+        match self.held.extend_from_slice(bytes) {
+            Ok(()) => Ok(bytes.len()),
+            Err(_) => Err(io::Error::from(ErrorKind::OutOfMemory)),
+        }
+    }
+
+    fn flush(&mut self) -> io::Result<()> {
+        self.flushes = self.flushes.saturating_add(1);
+        if self.fails {
+            return Err(io::Error::from(ErrorKind::BrokenPipe));
+        }
+        self.is_flushed = true;
+        Ok(())
+    }
+}
+
 /// What a command did: its status, and what it wrote to output and to errors.
 #[derive(Drop)]
 struct Outcome {

@@ -3,10 +3,10 @@ use Rattle.std.proofs.Common.{◌≡◌, ◌≢◌, ℕ, ◌<◌, List, [], ◌�
 use Rattle.std.proofs.Math.Bool.{and-false}
 use Rattle.std.specs.List.{list_all}
 use Rattle.std.specs.Option.{option_map}
-use Rattle.op_names.specs.Repeats.{first_repeat}
-use Rattle.op_names.specs.Texts.{is_room_name}
-use Rattle.op_names.specs.declared.fault.NameFault.{NameFault}
-use Rattle.op_names.specs.declared.fault.NameFault.TheVariants as name
+use Rattle.base_types.specs.Repeats.{first_repeat}
+use Rattle.base_types.specs.Texts.{is_room_name}
+use Rattle.base_types.specs.declared.fault.NameFault.{NameFault}
+use Rattle.base_types.specs.declared.fault.NameFault.TheVariants as name
 use Rattle.room_core.specs.declared.fault.RoomsFault.{RoomsFault}
 use Rattle.room_core.specs.declared.fault.RoomsFault.TheVariants as rooms
 use Rattle.commands.specs.declared.fault.Fault.{Fault}

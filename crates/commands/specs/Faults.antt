@@ -1,13 +1,16 @@
--- What each fault of a layer below is to the program, and the status that it ends with.
+-- The program's fault for each fault of a layer below, and its exit status.
 use Rattle.std.specs.Prelude.{ℕ}
-use Rattle.op_names.specs.declared.fault.NameFault.{NameFault}
-use Rattle.op_names.specs.declared.fault.NameFault.TheVariants as name
+use Rattle.base_types.specs.declared.fault.NameFault.{NameFault}
+use Rattle.base_types.specs.declared.fault.NameFault.TheVariants as name
 use Rattle.room_core.specs.declared.fault.RoomsFault.{RoomsFault}
 use Rattle.room_core.specs.declared.fault.RoomsFault.TheVariants as rooms
 use Rattle.world.specs.declared.fault.ScriptFault.{ScriptFault}
 use Rattle.world.specs.declared.fault.ScriptFault.TheVariants as script
 use Rattle.commands.specs.declared.fault.Fault.{Fault}
-use Rattle.commands.specs.declared.fault.Fault.TheVariants.{BadRoomName, RoomNamedTwice, Input, Output, CannotListen, Accept, NoWorker, RoomsTorn, CannotConnect, Session, NoMemory}
+use Rattle.commands.specs.declared.fault.Fault.TheVariants.{BadRoomName, RoomNamedTwice, Input}
+use Rattle.commands.specs.declared.fault.Fault.TheVariants.{Output, CannotListen, Accept, NoWorker}
+use Rattle.commands.specs.declared.fault.Fault.TheVariants.{RoomsTorn, CannotConnect, Session}
+use Rattle.commands.specs.declared.fault.Fault.TheVariants.{NoMemory}
 
 abbrev pub status_of : Fault → ℕ
 status_of BadRoomName = 2

@@ -1,5 +1,6 @@
--- What the program says of a record that is written anew.
-use Rattle.std.specs.Prelude.{◌≡◌, ℕ, Bool, true, false, List, Option, Result, Ok, Err, IfSome, codes, string_bytes}
+-- What the program writes for a record that is rewritten.
+use Rattle.std.specs.Prelude.{◌≡◌, ℕ, Bool, true, false, List, Option, Result, Ok, Err, IfSome}
+use Rattle.std.specs.Prelude.{codes, string_bytes}
 use Rattle.std.specs.Io.KnownBytes.{Appends}
 use Rattle.byte_streams.specs.Fronts.{AppendsFront}
 use Rattle.wire.specs.Lines.{lines_of}
@@ -21,7 +22,7 @@ abbrev pub is_record : Migrated → Bool
 is_record (Text text) = true
 is_record (BadRecord number) = false
 
--- the status that the program ends with, after it has told that, or by a fault
+-- the exit status after a record, other bytes, or a fault
 abbrev pub record_status : Bool → ℕ
 record_status true = 0
 record_status false = 1
@@ -30,33 +31,34 @@ abbrev pub end_status : Result Bool Fault → ℕ
 end_status (Ok is_one) = record_status is_one
 end_status (Err fault) = status_of fault
 
--- what migrating these bytes tells was added to what a writer holds
+-- the result of rewriting these bytes was appended to what a writer holds
 pub record Tells (before after : Option (List ℕ)) (is_one : Bool) (entries : List ℕ) : Type 0 where
   pub migrated : Migrated
   pub right : IsMigrated (lines_of entries) migrated
   pub kind : is_one ≡ is_record migrated
   pub text : Appends before after (told_text migrated)
 
--- a front of that was added
+-- a prefix of the result was appended
 pub record TellsFront (before after : Option (List ℕ)) (entries : List ℕ) : Type 0 where
   pub migrated : Migrated
   pub right : IsMigrated (lines_of entries) migrated
   pub front : AppendsFront before after (told_text migrated)
 
--- Of which bytes this is so: of all that a reader gives, where they are known,
+-- The bytes of which a statement is made: all that a reader gives, if they are known,
 abbrev pub OfReader : Option (List ℕ) → (List ℕ → Type 0) → Type 0
 OfReader bytes P = IfSome bytes P
 
--- or of some.
+-- or some bytes.
 abbrev pub OfSome : (List ℕ → Type 0) → Type 0
 OfSome P = (entries : List ℕ) × P entries
 
--- the record was told, and the status says whether it is one
-pub record Told (Of : (List ℕ → Type 0) → Type 0) (before after : Option (List ℕ)) (status : ℕ) : Type 0 where
+-- the result was written, and the status says whether the bytes are a record
+pub record Told
+    (Of : (List ℕ → Type 0) → Type 0) (before after : Option (List ℕ)) (status : ℕ) : Type 0 where
   pub is_one : Bool
   pub told : Of (Tells before after is_one)
   pub ends : status ≡ record_status is_one
 
--- what the program does with a record
+-- the effect of the command on a record
 abbrev pub Migrates : ((List ℕ → Type 0) → Type 0) → Option (List ℕ) → Option (List ℕ) → ℕ → Type 0
 Migrates Of before after = Ends (Told Of before after) (Of (TellsFront before after)) before after

@@ -2,8 +2,8 @@
 use Rattle.std.specs.Prelude.{ℕ, List, map, Option, Some, option_map, bytes_eq, if◌then◌else◌}
 use Rattle.std.specs.Borrow.{Bor}
 use Rattle.std.specs.List.{list_all}
-use Rattle.op_names.specs.Texts.{is_room_name}
-use Rattle.op_names.specs.Repeats.{first_repeat}
+use Rattle.base_types.specs.Texts.{is_room_name}
+use Rattle.base_types.specs.Repeats.{first_repeat}
 use Rattle.commands.specs.declared.fault.Fault.{Fault}
 use Rattle.commands.specs.declared.fault.Fault.TheVariants.{BadRoomName, RoomNamedTwice}
 
@@ -11,7 +11,8 @@ use Rattle.commands.specs.declared.fault.Fault.TheVariants.{BadRoomName, RoomNam
 abbrev pub texts_of : List (Bor (List ℕ)) → List (List ℕ)
 texts_of names = map (λ name. name.now) names
 
--- what is wrong with the names, if something is: that one is bad, or else that one stands twice
+-- the mistake in the names, if there is one: a bad name, or else a name that occurs twice
 abbrev pub mistake_in : List (List ℕ) → Option Fault
 mistake_in names =
-    if list_all is_room_name names then option_map (λ place. RoomNamedTwice) (first_repeat bytes_eq names) else Some BadRoomName
+    if list_all is_room_name names
+    then option_map (λ place. RoomNamedTwice) (first_repeat bytes_eq names) else Some BadRoomName

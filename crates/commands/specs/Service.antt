@@ -1,35 +1,37 @@
--- What the program does with a script.
+-- The effect of a script.
 use Rattle.std.specs.Prelude.{ℕ, ◌≡◌, ◌⊎◌, List, Option, Some, None, IsSome}
 use Rattle.rules.specs.Limits.{full_limits}
-use Rattle.world.specs.State.{State, new_world}
+use Rattle.world.specs.State.{WorldState, new_world}
 use Rattle.byte_streams.specs.Fronts.{AppendsFront}
 use Rattle.world.specs.Script.{AnswersScript, output_of}
 use Rattle.commands.specs.declared.fault.Fault.{Fault}
 use Rattle.commands.specs.declared.fault.Fault.TheVariants.{Input, Output, NoMemory}
 use Rattle.commands.specs.Names.{mistake_in}
 
--- rooms of these names with full limits, in which nothing has happened
-abbrev pub start : List (List ℕ) → State
+-- rooms of these names with full limits and empty records
+abbrev pub start : List (List ℕ) → WorldState
 start names = new_world names full_limits
 
--- a script of these bytes is answered from the start, and the text added to what a writer holds
-pub record Serves (before after : Option (List ℕ)) (names : List (List ℕ)) (bytes : List ℕ) : Type 0 where
-  pub new : State
+-- the script of these bytes is answered from the start, and the text appended to what a writer
+-- holds
+pub record Serves
+    (before after : Option (List ℕ)) (names : List (List ℕ)) (bytes : List ℕ) : Type 0 where
+  pub new : WorldState
   pub answers : AnswersScript before after (start names) bytes new
 
--- some front of that text is added
+-- a prefix of that text is appended
 abbrev pub ServesFront : Option (List ℕ) → Option (List ℕ) → List (List ℕ) → List ℕ → Type 0
 ServesFront before after names bytes = AppendsFront before after (output_of (start names) bytes)
 
--- why a script in rooms of these names may end early: a mistake in the names, or where there is none input or output;
--- or want of memory
+-- Why a script in rooms of these names may end early: a mistake in the names; if there is none,
+-- failed input or output; or a failed allocation.
 abbrev pub MayEnd : List (List ℕ) → Fault → Type 0
 MayEnd names Input = mistake_in names ≡ None
 MayEnd names Output = mistake_in names ≡ None
 MayEnd names NoMemory = Unit {0}
 MayEnd names fault = mistake_in names ≡ Some fault
 
--- which statuses there may be
+-- the possible statuses
 pub record IsStatus (names : List (List ℕ)) (status : ℕ) : Type 0 where
   pub known : (status ≡ 0) ⊎ (status ≡ 2) ⊎ (status ≡ 3) ⊎ (status ≡ 4)
   pub two : status ≡ 2 → IsSome (mistake_in names)

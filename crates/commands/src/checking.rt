@@ -1,9 +1,11 @@
 //! `grace check RECORD TRANSCRIPT`: checks a room's record and a transcript of it.
 
-ghost use Rattle.std.specs.Prelude.{◌≡◌, ◌≤◌, ◌⊎◌, IfErr, IfOk, IfSome, OnErr, OnOk, length, string_bytes};
+ghost use Rattle.std.specs.Prelude.{◌≡◌, ◌≤◌, ◌⊎◌, IfErr, IfOk, IfSome, OnErr, OnOk, length};
+ghost use Rattle.std.specs.Prelude.{string_bytes};
 ghost use Rattle.std.specs.Io.KnownBytes.{Appends, IsAtEnd};
 ghost use Rattle.byte_streams.specs.Fronts.{AppendsFront};
-ghost use Rattle.commands.specs.Checks.{Checks, OfReaders, OfSome, Tells, TellsFront, end_status, verdict_line};
+ghost use Rattle.commands.specs.Checks.{Checks, OfReaders, OfSome, Tells, TellsFront, end_status};
+ghost use Rattle.commands.specs.Checks.{verdict_line};
 ghost use Rattle.commands.specs.Ends.{EndsEarly};
 
 use crate::fault::Fault;
@@ -14,11 +16,14 @@ use std::fs::File;
 use std::io::{Read, Write};
 use std::rt::Files;
 
-/// How many bytes a file that is read whole may have.
+/// The most bytes of a file that is read whole: 1 GiB.
 pub const MAX_FILE_LEN: usize = 1_073_741_824;
 
-/// All the bytes that are left, at most `limit`. `Input` where there are more, or a read fails;
-/// `NoMemory`.
+/// Reads all remaining bytes, at most `limit`.
+///
+/// # Errors
+/// `Input` if there are more than `limit` bytes, or if a read failed.
+/// `NoMemory` if an allocation failed.
 pub fn read_up_to<R: Read>(alloc: Global, input: &mut R, limit: usize) -> Result<Vec<u8>, Fault>
     ensures all { IfOk result (λ bytes. IfSome (R.remaining input.old) (λ all. bytes.items ≡ all)) }
     ensures most { IfOk result (λ bytes. length bytes.items ≤ limit) }
@@ -43,7 +48,7 @@ pub fn read_up_to<R: Read>(alloc: Global, input: &mut R, limit: usize) -> Result
     Err(Fault::Input)
 }
 
-/// All bytes of a file.
+/// Reads all bytes of a file, at most `MAX_FILE_LEN`.
 pub(crate) fn read_whole<R: Read>(alloc: Global, input: &mut R) -> Result<Vec<u8>, Fault>
     ensures all { IfOk result (λ bytes. IfSome (R.remaining input.old) (λ all. bytes.items ≡ all)) }
     ensures most { IfOk result (λ bytes. length bytes.items ≤ MAX_FILE_LEN) }
@@ -53,7 +58,7 @@ pub(crate) fn read_whole<R: Read>(alloc: Global, input: &mut R) -> Result<Vec<u8
     read_up_to(alloc, input, MAX_FILE_LEN)
 }
 
-/// All bytes of the file of this name.
+/// Reads all bytes of the file of this name.
 pub(crate) fn read_at<H: Files>(rt: &H, alloc: Global, path: &str) -> Result<Vec<u8>, Fault>
     ensures most { IfOk result (λ bytes. length bytes.items ≤ MAX_FILE_LEN) }
     ensures fault { IfErr result (λ fault. (fault ≡ Fault.Input) ⊎ (fault ≡ Fault.NoMemory)) }
@@ -78,7 +83,7 @@ fn verdict_line(alloc: Global, verdict: Verdict) -> Result<String, Fault>
     Ok(line)
 }
 
-/// Writes a line, and hands it on.
+/// Writes a line and flushes the output.
 pub(crate) fn write_line<W: Write>(output: &mut W, line: &[u8]) -> Result<(), Fault>
     ensures ok { OnOk result (Appends (W.contents output.old) (W.contents output.new) line.now) }
     ensures front { OnErr result
@@ -91,7 +96,7 @@ pub(crate) fn write_line<W: Write>(output: &mut W, line: &[u8]) -> Result<(), Fa
     Ok(())
 }
 
-/// The verdict on these bytes, whose line it writes.
+/// Judges these bytes, and writes the line of the verdict.
 fn judge<W: Write>(
     alloc: Global,
     entries: &[u8],
@@ -110,7 +115,7 @@ fn judge<W: Write>(
     Ok(verdict)
 }
 
-/// The verdict on what two readers give, whose line it writes.
+/// Judges what two readers give, and writes the line of the verdict.
 fn judge_over<A: Read, B: Read, W: Write>(
     alloc: Global,
     first: &mut A,
@@ -130,7 +135,7 @@ fn judge_over<A: Read, B: Read, W: Write>(
     judge(alloc, entries.as_slice(), transcript.as_slice(), output)
 }
 
-/// The verdict on the bytes of the files of these names, whose line it writes.
+/// Judges the files of these names, and writes the line of the verdict.
 fn judge_at<H: Files, W: Write>(
     rt: &H,
     alloc: Global,
@@ -150,7 +155,7 @@ fn judge_at<H: Files, W: Write>(
     judge(alloc, entries.as_slice(), transcript.as_slice(), output)
 }
 
-/// The status of an end. A fault comes with its line.
+/// The exit status. Writes the line of a fault to `errors`.
 fn end_with<E: Write>(end: Result<Verdict, Fault>, errors: &mut E) -> u8
     ensures { result ≡ end_status end }
 {
@@ -165,13 +170,18 @@ fn end_with<E: Write>(end: Result<Verdict, Fault>, errors: &mut E) -> u8
 }
 
 /// Reads a room's record from the first reader and then a transcript of it from the second, each to
-/// its end, writes the line of the verdict on them, and gives the status: 0 where the record is legal
-/// and the transcript true of it, 1 after another verdict, 3 where input or output failed or a file
-/// is longer than 1,073,741,824 bytes, 4 for want of memory. 3 and 4 come with a line on `errors`.
+/// its end. Writes the line of the verdict, flushes, and returns the exit status:
 ///
-/// The clauses say which statuses there are, which verdict was written before 0 and 1, and what was
-/// written before 3 and 4, of readers whose bytes are known and a writer that tells what it holds.
-/// When it is 3 and not 4, and the line on `errors`, tests alone show.
+/// - 0 if the record is legal and the transcript true of it;
+/// - 1 after any other verdict;
+/// - 3 if input or output failed, or if a file has more than 1,073,741,824 bytes;
+/// - 4 if an allocation failed.
+///
+/// Before 3 and 4 it writes a line to `errors`.
+///
+/// The clauses assume readers whose bytes are known and a writer that reports what it holds. They
+/// state the possible statuses, and what was written before each. Tests show when the status is 3
+/// and when 4, and the line on `errors`.
 pub fn check_over<A: Read, B: Read, W: Write, E: Write>(
     alloc: Global,
     first: &mut A,
@@ -185,11 +195,11 @@ pub fn check_over<A: Read, B: Read, W: Write, E: Write>(
     end_with(judge_over(alloc, first, second, output), errors)
 }
 
-/// Does as `check_over` with the files of these names: the first is read whole, then the second is
-/// opened. A file that can't be opened is an input that failed.
+/// Like `check_over`, for the files of these names. Reads the first whole before it opens the
+/// second. A file that cannot be opened counts as failed input.
 ///
-/// The clauses say which statuses there are, and that there are bytes on which the verdict was
-/// written before 0 and 1. That they are those of the files, no clause can say.
+/// The clauses state the possible statuses. They state that before 0 and 1 the verdict on some
+/// bytes was written. That these are the bytes of the files, no clause can state.
 pub fn check_at<H: Files, W: Write, E: Write>(
     rt: &H,
     alloc: Global,

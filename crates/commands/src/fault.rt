@@ -1,9 +1,9 @@
-//! What ends a command early: its line on standard error, and its status.
+//! Why a command ends early, with its line on standard error and its exit status.
 
 ghost use Rattle.std.specs.Prelude.{◌≡◌};
 ghost use Rattle.commands.specs.declared.fault.Fault.TheVariants.{NoMemory};
 
-use op_names::{NameFault, NoMemory};
+use base_types::{NameFault, NoMemory};
 use std::alloc::{AllocError, AllocFailed};
 use std::io;
 use std::io::Write;
@@ -13,26 +13,37 @@ use world::{RoomsFault, ScriptFault};
 /// Why a command ends early.
 #[derive(Clone, Copy, Debug, Error)]
 pub enum Fault {
+    /// A name on the command line is no name of a room.
     #[error("bad room name")]
     BadRoomName,
+    /// Two names on the command line are the same.
     #[error("room named twice")]
     RoomNamedTwice,
+    /// A read failed, a file could not be opened, or it is too long.
     #[error("input failed")]
     Input,
+    /// A write or a flush failed.
     #[error("output failed")]
     Output,
+    /// The server could not listen on the address.
     #[error("cannot listen: {0}")]
     CannotListen(io::Error),
+    /// The server could not accept a connection.
     #[error("accept failed")]
     Accept,
+    /// The server could not start a worker.
     #[error("no worker")]
     NoWorker,
+    /// The server could not close the rooms.
     #[error("rooms torn")]
     RoomsTorn,
+    /// The client could not connect to the address.
     #[error("cannot connect: {0}")]
     CannotConnect(io::Error),
+    /// The stream failed, or the server sent an unexpected message.
     #[error("session failed")]
     Session,
+    /// An allocation failed.
     #[error("no memory")]
     NoMemory,
 }
@@ -40,7 +51,7 @@ pub enum Fault {
 impl Fault {
     ghost use Rattle.commands.specs.Faults.{status_of};
 
-    /// 2 for the command line, 3 for input, output, connections and rooms, 4 for memory.
+    /// The exit status: 2 for the command line, 4 for memory, 3 for anything else.
     pub fn status(self) -> u8
         ensures { result ≡ status_of self }
     {
@@ -58,7 +69,7 @@ impl Fault {
         }
     }
 
-    /// Writes its line. A write that fails changes nothing.
+    /// Writes the line of the fault. Ignores a failed write.
     pub fn write_line<E: Write>(self, errors: &mut E) {
         let _ = writeln!(errors, "grace: {self}");
         let _ = errors.flush();

@@ -1,9 +1,10 @@
-//! The commands that need readers and writers alone, `script`, `check` and `migrate`; and what every command has:
-//! the fault that ends it early, and the names of rooms.
+//! The commands `script`, `check` and `migrate`, which need only readers and writers. Also what
+//! every command shares: the fault that ends it early, and parsing the names of rooms.
 #![tactic(auto)]
 
 mod checking;
 mod fault;
+pub mod laws;
 mod migrating;
 mod script;
 

@@ -1,11 +1,12 @@
-//! `grace migrate RECORD`: writes a room's record anew, in the forms that are written today.
+//! `grace migrate RECORD`: rewrites a room's record in the current forms.
 
 ghost use Rattle.std.specs.Prelude.{◌≡◌, IfErr, IfOk, OnOk, string_bytes};
 ghost use Rattle.std.specs.Io.KnownBytes.{Appends};
 ghost use Rattle.byte_streams.specs.Fronts.{AppendsFront};
 ghost use Rattle.history_check.specs.declared.migration.Migrated.TheVariants.{BadRecord};
 ghost use Rattle.commands.specs.Ends.{EndsEarly};
-ghost use Rattle.commands.specs.Migrations.{Migrates, OfReader, OfSome, Tells, TellsFront, end_status, told_text};
+ghost use Rattle.commands.specs.Migrations.{Migrates, OfReader, OfSome, Tells, TellsFront};
+ghost use Rattle.commands.specs.Migrations.{end_status, told_text};
 
 use crate::checking::{read_at, read_whole, write_line};
 use crate::fault::Fault;
@@ -14,7 +15,7 @@ use std::alloc::Global;
 use std::io::{Read, Write};
 use std::rt::Files;
 
-/// The line that tells the first bad line of a record.
+/// The line for the first bad line of a record.
 fn bad_line(alloc: Global, number: usize) -> Result<String, Fault>
     ensures ok { IfOk result (λ line. string_bytes line ≡ told_text (BadRecord number)) }
     ensures fault { IfErr result (λ fault. fault ≡ Fault.NoMemory) }
@@ -23,7 +24,7 @@ fn bad_line(alloc: Global, number: usize) -> Result<String, Fault>
     Ok(line)
 }
 
-/// Writes the new text of a record, or the line that tells why there is none.
+/// Writes the new text of a record, or the line for its first bad line.
 fn tell<W: Write>(alloc: Global, migrated: &Migrated, output: &mut W) -> Result<(), Fault>
     ensures ok { OnOk result
         (Appends (W.contents output.old) (W.contents output.new) (told_text migrated.now)) }
@@ -41,7 +42,8 @@ fn tell<W: Write>(alloc: Global, migrated: &Migrated, output: &mut W) -> Result<
     Ok(())
 }
 
-/// Writes the record of these bytes anew, or tells its first bad line. Are they a record?
+/// Rewrites the record of these bytes, or reports its first bad line. Returns whether the bytes are
+/// a record.
 fn migrate_bytes<W: Write>(alloc: Global, entries: &[u8], output: &mut W) -> Result<bool, Fault>
     ensures ok { IfOk result (λ is_one.
         Tells (W.contents output.old) (W.contents output.new) is_one entries.now) }
@@ -54,7 +56,7 @@ fn migrate_bytes<W: Write>(alloc: Global, entries: &[u8], output: &mut W) -> Res
     Ok(matches!(migrated, Migrated::Text(_)))
 }
 
-/// Does so with what a reader gives.
+/// The same for what a reader gives.
 fn migrate_reader<R: Read, W: Write>(
     alloc: Global,
     input: &mut R,
@@ -63,14 +65,15 @@ fn migrate_reader<R: Read, W: Write>(
     ensures ok { IfOk result (λ is_one. OfReader (R.remaining input.old)
         (Tells (W.contents output.old) (W.contents output.new) is_one)) }
     ensures fault { IfErr result (EndsEarly
-        (OfReader (R.remaining input.old) (TellsFront (W.contents output.old) (W.contents output.new)))
+        (OfReader (R.remaining input.old)
+        (TellsFront (W.contents output.old) (W.contents output.new)))
         (W.contents output.old) (W.contents output.new)) }
 {
     let entries = read_whole(alloc, input)?;
     migrate_bytes(alloc, entries.as_slice(), output)
 }
 
-/// Does so with the bytes of the file of this name.
+/// The same for the file of this name.
 fn migrate_file<H: Files, W: Write>(
     rt: &H,
     alloc: Global,
@@ -87,7 +90,7 @@ fn migrate_file<H: Files, W: Write>(
     migrate_bytes(alloc, entries.as_slice(), output)
 }
 
-/// The status of an end. A fault comes with its line.
+/// The exit status. Writes the line of a fault to `errors`.
 fn end_with<E: Write>(end: Result<bool, Fault>, errors: &mut E) -> u8
     ensures { result ≡ end_status end }
 {
@@ -101,14 +104,19 @@ fn end_with<E: Write>(end: Result<bool, Fault>, errors: &mut E) -> u8
     }
 }
 
-/// Reads a room's record to its end, writes its entries anew in the forms that are written today, and
-/// gives the status 0. Of what is no legal record it writes `bad record line N` instead, with the
-/// first such line, as `check_over` does, and gives 1. The status is 3 where input or output failed or
-/// the record is longer than 1,073,741,824 bytes, and 4 if an allocation failed. 3 and 4 come with a
-/// line on `errors`.
+/// Reads a room's record to its end and writes its entries in the current forms. Instead writes
+/// `bad record line N` with the first bad line, as `check_over` does, if the record is not legal.
+/// Flushes, and returns the exit status:
 ///
-/// The clauses say which statuses there are, and what was written before each, of a reader whose
-/// bytes are known and a writer that tells what it holds.
+/// - 0 if the record is legal;
+/// - 1 if it is not;
+/// - 3 if input or output failed, or if the record has more than 1,073,741,824 bytes;
+/// - 4 if an allocation failed.
+///
+/// Before 3 and 4 it writes a line to `errors`.
+///
+/// The clauses assume a reader whose bytes are known and a writer that reports what it holds. They
+/// state the possible statuses, and what was written before each.
 pub fn migrate_over<R: Read, W: Write, E: Write>(
     alloc: Global,
     input: &mut R,
@@ -121,8 +129,8 @@ pub fn migrate_over<R: Read, W: Write, E: Write>(
     end_with(migrate_reader(alloc, input, output), errors)
 }
 
-/// Does as `migrate_over` with the file of this name. A file that can't be opened is an input that
-/// failed. That the bytes are those of the file, no clause can say.
+/// Like `migrate_over`, for the file of this name. A file that cannot be opened counts as failed
+/// input. That the bytes are those of the file, no clause can state.
 pub fn migrate_at<H: Files, W: Write, E: Write>(
     rt: &H,
     alloc: Global,

@@ -1,19 +1,23 @@
-//! `grace script ROOM..`: answers a script's lines.
+//! `grace script ROOM..`: answers the lines of a script.
 
 ghost use Rattle.std.specs.Prelude.{◌≡◌, ◌≢◌, IfErr, IfOk, IfSome, None, OnErr, OnOk, true, false};
 ghost use Rattle.std.specs.List.{list_all};
-ghost use Rattle.op_names.specs.Texts.{is_room_name};
+ghost use Rattle.base_types.specs.Texts.{is_room_name};
 ghost use Rattle.commands.specs.Names.{texts_of, mistake_in};
 ghost use Rattle.commands.specs.Service.{IsStatus, MayEnd, Serves, ServesFront};
 
 use crate::fault::Fault;
-use op_names::RoomName;
+use base_types::RoomName;
 use rules::Limits;
 use std::alloc::Global;
 use std::io::{Read, Write};
 use world::World;
 
-/// The names of rooms that these texts are, or the fault of the first that is none.
+/// Parses the names of rooms.
+///
+/// # Errors
+/// `BadRoomName` if a text is no name.
+/// `NoMemory` if an allocation failed.
 pub fn room_names(alloc: Global, names: &[&str]) -> Result<Vec<RoomName>, Fault>
     ensures ok { IfOk result (λ rooms. rooms.items ≡ texts_of names.now) }
     ensures good { OnOk result (list_all is_room_name (texts_of names.now) ≡ true) }
@@ -47,13 +51,18 @@ fn script<R: Read, W: Write>(
     Ok(())
 }
 
-/// Answers a script in rooms of these names with full limits, and gives the status: 0 where the
-/// input came to its end, 2 for a bad room name or, where all are good, a room named twice, 3 where
-/// input or output failed, 4 for want of memory. All but 0 come with a line on `errors`.
+/// Answers a script in rooms of these names with full limits, and returns the exit status:
 ///
-/// The clauses say which statuses there are, when it is 2, and what was written, of a reader whose
-/// bytes are known and a writer that tells what it holds. That 3 and 4 are told apart, and the line
-/// on `errors`, tests alone show.
+/// - 0 at the end of the input;
+/// - 2 for a bad room name, or, if all are good, for a room named twice;
+/// - 3 if input or output failed;
+/// - 4 if an allocation failed.
+///
+/// Before all but 0 it writes a line to `errors`.
+///
+/// The clauses assume a reader whose bytes are known and a writer that reports what it holds. They
+/// state the possible statuses, when the status is 2, and what was written. Tests show when the
+/// status is 3 and when 4, and the line on `errors`.
 pub fn script_over<R: Read, W: Write, E: Write>(
     alloc: Global,
     names: &[&str],

@@ -4,7 +4,7 @@ use Rattle.std.specs.Prelude.{filter, nat_lt, All}
 use Rattle.std.specs.List.{list_any}
 use Rattle.std.proofs.lemmas.Bool.{and_right, true≢false, cases_Bool, cases_lt, cases_order, eq-eqb, ne_eqb, lt-ltb, le-ltb, or_right, false_from_ne_true}
 use Rattle.state_vector.specs.Vectors.{counts}
-use Rattle.op_names.specs.Names.{Name}
+use Rattle.base_types.specs.Names.{Name}
 use Rattle.rules.specs.declared.history.Op.{Op}
 use Rattle.rules.specs.Bodies.{are_at_odds}
 use Rattle.rules.specs.Operations.{same_op}
@@ -12,9 +12,9 @@ use Rattle.rules.specs.Conflicts.{base, conflict, direct_conflict, members}
 use Rattle.rules.proofs.Counted.{same_name-true}
 use Rattle.rules.proofs.Lists.{any_back, filter_agree}
 use Rattle.rules.proofs.Changes.{in_known_back}
-use Rattle.places.specs.Members.{has, with_place, places, with_all}
-use Rattle.conflict.specs.Rows.{conflicts_below, is_in_row, with_those}
-use Rattle.places.specs.Changes.{AreChangesOf, at, clash_of, base_places, places_counted}
+use Rattle.places.specs.steps.PlaceSet.{has, with_place, places, with_places}
+use Rattle.conflict.specs.steps.Rows.{conflicts_below, is_in_row, with_those}
+use Rattle.places.specs.steps.Changes.{AreChangesOf, at, is_conflict_of, base_places, places_counted}
 use Rattle.places.proofs.Places.{In-places, below, has_if_in, in_if_has, has-filter, has-filter_past, all_below, in_all}
 use Rattle.places.proofs.ChangesAt.{has-places_of}
 use Rattle.places.proofs.WordPlaces.{Up, same_set, up_range, up_filter, up_with_place, up_with_all, has-with_place, has-with_all, has-kept, or_turned}
@@ -22,7 +22,7 @@ use Rattle.conflict.proofs.Growth.{base_within, never_before}
 use Rattle.conflict.proofs.Rows.{direct_if_known, direct_if_unknown}
 use Rattle.conflict.proofs.InConflict.{conflicting_at}
 
-with_those-filter : (test : ℕ → Bool) (direct ps : List ℕ) → with_those test direct ps ≡ with_all direct (filter test ps)
+with_those-filter : (test : ℕ → Bool) (direct ps : List ℕ) → with_those test direct ps ≡ with_places direct (filter test ps)
 with_those-filter test direct [] = refl
 with_those-filter test direct (p ∷ ps) = elim (cases_Bool (test p)) [
   | inl t ↦ rw t (with_those-filter test (with_place p direct) ps)
@@ -89,15 +89,15 @@ module _ {object : Name} (k : List Op) (o : Op) (w : AreChangesOf object (k ++ o
         (has-filter_past counted (length k) x g) (has_no_place x g) (has-filter_past is_direct (length k) x g)
   ]
 
-  has_both : (x : ℕ) → has (with_all first second) x ≡ has (filter is_direct (places (length k))) x
+  has_both : (x : ℕ) → has (with_places first second) x ≡ has (filter is_direct (places (length k))) x
   has_both x =
       has-with_all first second x
       ∙ (λ i. has-kept outside (places_counted k o.seen) x i || has-kept at_odds (filter unknown (places (length k))) x i)
       ∙ (λ i. (has (places_counted k o.seen) x && outside x) || (has-kept unknown (places (length k)) x i && at_odds x))
       ∙ each x
 
-  both : with_all first second ≡ filter is_direct (places (length k))
-  both = same_set (with_all first second) (filter is_direct (places (length k)))
+  both : with_places first second ≡ filter is_direct (places (length k))
+  both = same_set (with_places first second) (filter is_direct (places (length k)))
       (up_with_all first second (up_filter outside (places_counted k o.seen) (up_filter counted (places (length k)) (up_range 0 (length k)))))
       (up_filter is_direct (places (length k)) (up_range 0 (length k)))
       has_both
@@ -109,7 +109,7 @@ module _ {object : Name} (k : List Op) (o : Op) (w : AreChangesOf object (k ++ o
       let same_others : others ≡ filter unknown (places (length k)) = u ∙ (λ i. filter (λ x. not (has (n i) x)) (a i)) in
       let same_direct : direct ≡ first = m ∙ (λ i. filter (λ x. not (has (b i) x)) (n i)) in
       let same_second : filter at_odds listed ≡ second = ap (filter at_odds) l ∙ c ∙ ap (filter at_odds) same_others in
-      r ∙ with_those-filter at_odds direct listed ∙ (λ i. with_all (same_direct i) (same_second i)) ∙ both
+      r ∙ with_those-filter at_odds direct listed ∙ (λ i. with_places (same_direct i) (same_second i)) ∙ both
 
 -- places of a part of the first n
 pub others_below : (n : ℕ) (known all others : List ℕ) → all ≡ places n → others ≡ filter (λ x. not (has known x)) all → All (λ x. x < n) others
@@ -156,10 +156,10 @@ module _ {object : Name} (k : List Op) (w : AreChangesOf object k) where
     ]
 
     pub row_begun : (lowest : ℕ) (conflicting : List ℕ) → All (λ place. lowest ≤ place) direct → All (λ other. other < length k) based
-        → conflicting ≡ filter (conflicts_below (clash_of k) based (length k)) (places (length k)) → conflicting ≡ filter (row_below k direct based lowest) (places (length k))
-    row_begun lowest conflicting low inside e = e ∙ filter_agree (conflicts_below (clash_of k) based (length k)) (row_below k direct based lowest) (places (length k)) (λ p m.
+        → conflicting ≡ filter (conflicts_below (is_conflict_of k) based (length k)) (places (length k)) → conflicting ≡ filter (row_below k direct based lowest) (places (length k))
+    row_begun lowest conflicting low inside e = e ∙ filter_agree (conflicts_below (is_conflict_of k) based (length k)) (row_below k direct based lowest) (places (length k)) (λ p m.
         let l = below (length k) p m in
-        sym (has-filter (conflicts_below (clash_of k) based (length k)) (length k) p l) ∙ sym (ap (λ (r : List ℕ). has r p) e) ∙ conflicting_at k based conflicting p inside l e
+        sym (has-filter (conflicts_below (is_conflict_of k) based (length k)) (length k) p l) ∙ sym (ap (λ (r : List ℕ). has r p) e) ∙ conflicting_at k based conflicting p inside l e
         ∙ left_out (nat_lt p lowest && has_direct p) (list_any (λ other. conflict k (at k other) (at k p)) based) (none_below_lowest lowest p low))
 
     one_more : (p x : ℕ) (q : Bool) → has_direct p ≡ true → (((nat_lt x p && has_direct x) || q) || eqb p x) ≡ ((nat_lt x (p + 1) && has_direct x) || q)
@@ -202,8 +202,8 @@ module _ {object : Name} (k : List Op) (w : AreChangesOf object k) where
 
 -- where no change is in direct conflict, those that the base is in conflict with are the row
 pub row_if_none : (k : List Op) (based direct conflicting : List ℕ) → direct ≡ [] → All (λ other. other < length k) based
-    → conflicting ≡ filter (conflicts_below (clash_of k) based (length k)) (places (length k)) → conflicting ≡ filter (is_in_row k direct based) (places (length k))
-row_if_none k based direct conflicting none low e = e ∙ filter_agree (conflicts_below (clash_of k) based (length k)) (is_in_row k direct based) (places (length k)) (λ p m.
+    → conflicting ≡ filter (conflicts_below (is_conflict_of k) based (length k)) (places (length k)) → conflicting ≡ filter (is_in_row k direct based) (places (length k))
+row_if_none k based direct conflicting none low e = e ∙ filter_agree (conflicts_below (is_conflict_of k) based (length k)) (is_in_row k direct based) (places (length k)) (λ p m.
     let l = below (length k) p m in
-    sym (has-filter (conflicts_below (clash_of k) based (length k)) (length k) p l) ∙ sym (ap (λ (r : List ℕ). has r p) e) ∙ conflicting_at k based conflicting p low l e
+    sym (has-filter (conflicts_below (is_conflict_of k) based (length k)) (length k) p l) ∙ sym (ap (λ (r : List ℕ). has r p) e) ∙ conflicting_at k based conflicting p low l e
     ∙ ap (λ (ms : List ℕ). is_in_row k ms based p) (sym none))

@@ -3,8 +3,8 @@ use Rattle.std.proofs.Common.{◌≡◌, ℕ, ◌+◌, ◌<◌, Bool, true, fals
 use Rattle.std.specs.Prelude.{filter, Result, Ok, Err, OnOk, OnErr}
 use Rattle.std.proofs.lemmas.Bool.{cases_eq, cases_lt, false_from_ne_true}
 use Rattle.rules.proofs.Lists.{In, filter_agree}
-use Rattle.places.specs.Members.{with_place, places}
-use Rattle.conflict.specs.Indexes.{IsIndex}
+use Rattle.places.specs.steps.PlaceSet.{with_place, places}
+use Rattle.conflict.specs.steps.Indexes.{IsIndex}
 use Rattle.places.proofs.Places.{below, kept_next, left_next, put_next}
 
 pub filter_none : {X : Type 0} (p : X → Bool) (xs : List X) → ((x : X) → In x xs → p x ≡ false) → filter p xs ≡ []

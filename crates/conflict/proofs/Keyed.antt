@@ -5,8 +5,8 @@ use Rattle.std.specs.List.{list_any}
 use Rattle.std.proofs.lemmas.Bool.{true≢false, cases_eq, cases_lt, or_cases, or_left, or_right, eq-eqb, eqb-true, false_from_ne_true}
 use Rattle.std.proofs.lemmas.List.Folds.{list_any_at}
 use Rattle.std.proofs.lemmas.List.{get_or_append_left, get_or_at, get_or_past, get_or-set_same, get_or-set_other, length-append, length-set}
-use Rattle.op_names.specs.Names.{Name}
-use Rattle.op_names.specs.Texts.{Bytes}
+use Rattle.base_types.specs.Names.{Name}
+use Rattle.base_types.specs.Texts.{Bytes}
 use Rattle.rules.specs.declared.history.Op.{Op}
 use Rattle.rules.specs.declared.history.Body.{Body}
 use Rattle.rules.specs.declared.history.Body.TheVariants.{New, Put, DropVersion}
@@ -16,9 +16,9 @@ use Rattle.rules.proofs.Bodies.{differ_is, key_there}
 use Rattle.rules.proofs.Lists.{In, In-filter, In-filter_back, In-map_back, any_from, any_back, filter_agree, filter_inner}
 use Rattle.rules.proofs.Relation.{same_answer}
 use Rattle.rules.proofs.Reordered.{same_key_is, same_key_itself}
-use Rattle.places.specs.Members.{has, with_place, places}
-use Rattle.places.specs.Changes.{at, nothing}
-use Rattle.conflict.specs.Indexes.{OfKey, KeyIndex, AreByKey, IsUnder, key_at, gives, of_key, is_drop_at, is_drop_or_gives, with_drop}
+use Rattle.places.specs.steps.PlaceSet.{has, with_place, places}
+use Rattle.places.specs.steps.Changes.{at, nothing}
+use Rattle.conflict.specs.steps.Indexes.{OfKey, KeyIndex, AreByKey, IsUnder, key_at, gives, of_key, is_drop_at, is_drop_or_gives, with_drop}
 use Rattle.places.proofs.Places.{In-places, in_if_has, has_if_in, has-filter, below, left_next, put_next}
 use Rattle.places.proofs.WordPlaces.{has-with_place}
 use Rattle.places.proofs.ChangesAt.{at_in, at_push, place_of}

@@ -6,7 +6,7 @@ use Rattle.std.proofs.lemmas.Bool.{true≢false, false_from_ne_true, or_cases, o
 use Rattle.std.proofs.lemmas.List.{length-append, map-append}
 use Rattle.std.proofs.lemmas.List.FromFn.{map-range_with_len_more, get_or-map-range_with_len, length-map-range_with_len}
 use Rattle.state_vector.specs.Vectors.{counts}
-use Rattle.op_names.specs.Names.{Name, is_op_name}
+use Rattle.base_types.specs.Names.{Name, is_op_name}
 use Rattle.rules.specs.declared.history.Op.{Op}
 use Rattle.rules.specs.Bodies.{are_at_odds}
 use Rattle.rules.specs.Operations.{before, same_op}
@@ -15,12 +15,12 @@ use Rattle.rules.proofs.Lists.{In, In-from_Contains, Contains-from_In, In-append
 use Rattle.rules.proofs.Relation.{same_answer, conflict_symmetric}
 use Rattle.rules.proofs.Counted.{same_name-true, same_name-refl}
 use Rattle.rules.proofs.Changes.{in_known_back}
-use Rattle.places.specs.Members.{has, places}
-use Rattle.places.specs.Relations.{IsRelation}
-use Rattle.conflict.specs.Indexes.{SiteIndex, KeyIndex}
-use Rattle.conflict.specs.Stored.{AreStored}
-use Rattle.places.specs.Changes.{AreChangesOf, AreChangesOn, Added, IsAddition, at, places_of, base_places, new_conflicts}
-use Rattle.conflict.specs.Rows.{earlier_conflicts, is_in_row, has_earlier_conflict, places_in_conflict}
+use Rattle.places.specs.steps.PlaceSet.{has, places}
+use Rattle.places.specs.steps.Relations.{IsRelation}
+use Rattle.conflict.specs.steps.Indexes.{SiteIndex, KeyIndex}
+use Rattle.conflict.specs.steps.Stored.{AreStored}
+use Rattle.places.specs.steps.Changes.{AreChangesOf, AreChangesOn, Added, IsAddition, at, places_of, base_places, new_conflicts}
+use Rattle.conflict.specs.steps.Rows.{earlier_conflicts, is_in_row, has_earlier_conflict, places_in_conflict}
 use Rattle.places.proofs.Places.{In-places, below, has-filter, has-filter_past, kept_next, left_next}
 use Rattle.places.proofs.ChangesAt.{at_in, place_of, one_place_each, at_push, at_last, has-places_of, any-places_of}
 use Rattle.conflict.proofs.Sited.{by_site_push}

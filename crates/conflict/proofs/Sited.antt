@@ -6,14 +6,14 @@ use Rattle.std.specs.List.Sorted.{IsNonDecreasingBy, IsStrictlyIncreasing, IsPar
 use Rattle.std.proofs.lemmas.Bool.{true≢false, cases_Bool, cases_eq, cases_lt, eq-eqb, eqb-true, le-leb, false_from_ne_true}
 use Rattle.std.proofs.lemmas.List.{get_or_append_left, get_or_at, get_or_default, get_or-map, get_or-set_same, get_or-set_other, length-append, length-map, length-set, map_push}
 use Rattle.std.proofs.lemmas.List.Kept.{AllPairs-from_increasing}
-use Rattle.op_names.specs.Names.{Name}
+use Rattle.base_types.specs.Names.{Name}
 use Rattle.state_vector.specs.Vectors.{Vector, count_of, counts}
 use Rattle.rules.specs.declared.history.Op.{Op}
 use Rattle.rules.proofs.Lists.{In, In-from_Contains, Contains-from_In, In-filter, In-filter_back, any_from, any_back, filter_agree}
 use Rattle.rules.proofs.Relation.{same_answer}
-use Rattle.places.specs.Members.{has, with_place, places, with_all}
-use Rattle.places.specs.Changes.{AreChangesOf, at}
-use Rattle.conflict.specs.Indexes.{IsIndex, OfSite, SiteIndex, AreBySite, AreInOrder, IsRising, site_at, of_site, numbered, with_change, counted_of, with_counted}
+use Rattle.places.specs.steps.PlaceSet.{has, with_place, places, with_places}
+use Rattle.places.specs.steps.Changes.{AreChangesOf, at}
+use Rattle.conflict.specs.steps.Indexes.{IsIndex, OfSite, SiteIndex, AreBySite, AreInOrder, IsRising, site_at, of_site, numbered, with_change, counted_of, with_counted}
 use Rattle.places.proofs.Places.{In-places, below, has_if_in, in_if_has, kept_next, put_next}
 use Rattle.places.proofs.ChangesAt.{at_in, at_push}
 use Rattle.places.proofs.WordPlaces.{Up, same_set, up_range, up_filter, up_with_all, has-with_all, kept_rises, or_turned, or_grouped}
@@ -224,12 +224,12 @@ module _ (of : OfSite) (r : IsRising of) (number j : ℕ) (point : IsPartitionPo
 module _ (seen : Vector) where
   up_counted : (known : List ℕ) (sites : List OfSite) → Up known → Up (with_counted seen known sites)
   up_counted known [] u = u
-  up_counted known (of ∷ sites) u = up_counted (with_all known (counted_of seen of)) sites (up_with_all known (counted_of seen of) u)
+  up_counted known (of ∷ sites) u = up_counted (with_places known (counted_of seen of)) sites (up_with_all known (counted_of seen of) u)
 
   has_counted : (known : List ℕ) (sites : List OfSite) (x : ℕ) → has (with_counted seen known sites) x ≡ (has known x || list_any (λ (of : OfSite). has (counted_of seen of) x) sites)
   has_counted known [] x = or_turned false (has known x)
   has_counted known (of ∷ sites) x =
-      has_counted (with_all known (counted_of seen of)) sites x
+      has_counted (with_places known (counted_of seen of)) sites x
       ∙ ap (λ b. b || list_any (λ (of : OfSite). has (counted_of seen of) x) sites) (has-with_all known (counted_of seen of) x)
       ∙ sym (or_grouped (has known x) (has (counted_of seen of) x) (list_any (λ (of : OfSite). has (counted_of seen of) x) sites))
 

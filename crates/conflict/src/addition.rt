@@ -1,28 +1,28 @@
-//! A change that is to be put with those on its object.
+//! A change that is planned for an object.
 
 ghost use Rattle.std.specs.Prelude.{◌≡◌, ◌+◌, ◌<◌, ◌^◌, ◌++◌, ◌∷◌, [], List, length};
 ghost use Rattle.rules.specs.declared.history.Op.{Op};
-ghost use Rattle.places.specs.Changes.{IsAddition};
+ghost use Rattle.places.specs.steps.Changes.{IsAddition};
 
-use crate::Clashes;
+use crate::ObjectChanges;
 use crate::joins::add_row;
-use op_names::{NoMemory, OpName};
-use places::{Members, Relation};
+use base_types::{NoMemory, OpName};
+use places::{PlaceSet, Relation};
 use rules::SharedOp;
 use std::alloc::Global;
 use std::marker::Model;
 
-/// A change that `Clashes` has planned, with the places of its base and of the changes that it is in
-/// conflict with.
+/// A change that `ObjectChanges::plan` made ready, with the places of its base and of the changes
+/// that it conflicts with.
 #[derive(Drop)]
 pub struct Addition {
     op: SharedOp,
-    base: Members,
-    row: Members,
+    base: PlaceSet,
+    row: PlaceSet,
 }
 
 impl Model for Addition {
-    ghost use Rattle.places.specs.Changes.{Added};
+    ghost use Rattle.places.specs.steps.Changes.{Added};
 
     ghost Value = { Added };
 
@@ -31,7 +31,7 @@ impl Model for Addition {
 }
 
 impl Addition {
-    pub(crate) fn new(op: SharedOp, base: Members, row: Members) -> Addition
+    pub(crate) fn new(op: SharedOp, base: PlaceSet, row: PlaceSet) -> Addition
         ensures { result ≡ record { op = op; base = base; row = row } }
     {
         Addition { op, base, row }
@@ -45,13 +45,13 @@ impl Addition {
     }
 
     /// The places of the changes that it is in conflict with.
-    pub(crate) fn row(&self) -> &Members
+    pub(crate) fn row(&self) -> &PlaceSet
         ensures { result.now ≡ self.now.row }
     {
         &self.row
     }
 
-    pub(crate) fn into_parts(self) -> (SharedOp, Members, Members)
+    pub(crate) fn into_parts(self) -> (SharedOp, PlaceSet, PlaceSet)
         ensures { result ≡ (self.op, self.base, self.row) }
     {
         (self.op, self.base, self.row)
@@ -61,25 +61,26 @@ impl Addition {
 /// The changes on an object and one that is planned for them, as a relation.
 #[derive(Drop)]
 pub struct WithAddition<'a> {
-    changes: &'a Clashes,
+    changes: &'a ObjectChanges,
     addition: &'a Addition,
 }
 
 impl<'a> Model for WithAddition<'a> {
     ghost use Rattle.std.specs.Prelude.{◌+◌, ◌<◌, ◌^◌, List, [], ◌∷◌, ◌++◌, length};
     ghost use Rattle.rules.specs.declared.history.Op.{Op};
-    ghost use Rattle.places.specs.Changes.{IsAddition};
+    ghost use Rattle.places.specs.steps.Changes.{IsAddition};
 
     ghost Value = { List Op };
 
     ghost view = { λ all. all.changes.now.ops ++ all.addition.now.op ∷ [] };
 
-    ghost invariant = { λ all. IsAddition all.changes.now.object all.changes.now.ops all.addition.now
+    ghost invariant = { λ all. IsAddition all.changes.now.object all.changes.now.ops
+        all.addition.now
         × (length all.changes.now.ops + 1 < 2 ^ 32) };
 }
 
 impl<'a> WithAddition<'a> {
-    pub(crate) fn new(changes: &'a Clashes, addition: &'a Addition) -> WithAddition<'a>
+    pub(crate) fn new(changes: &'a ObjectChanges, addition: &'a Addition) -> WithAddition<'a>
         requires ready { IsAddition changes.now.object changes.now.ops addition.now }
         requires few { length changes.now.ops + 1 < 2 ^ 32 }
         ensures { result ≡ changes.now.ops ++ addition.now.op ∷ [] }
@@ -91,13 +92,13 @@ impl<'a> WithAddition<'a> {
 impl<'a> Relation for WithAddition<'a> {
     ghost use Rattle.std.specs.Prelude.{length};
     ghost use Rattle.rules.specs.Conflicts.{conflict};
-    ghost use Rattle.places.specs.Changes.{at};
+    ghost use Rattle.places.specs.steps.Changes.{at};
 
     ghost size = { λ ops. length ops };
 
     ghost name_at = { λ ops i. (at ops i).name };
 
-    ghost clashes = { λ ops i j. conflict ops (at ops i) (at ops j) };
+    ghost conflicts = { λ ops i j. conflict ops (at ops i) (at ops j) };
 
     fn len(&self) -> u32 {
         self.changes.len() + 1
@@ -111,7 +112,7 @@ impl<'a> Relation for WithAddition<'a> {
         }
     }
 
-    fn clash(&self, i: u32, j: u32) -> bool {
+    fn is_conflict(&self, i: u32, j: u32) -> bool {
         let last = self.changes.len();
         if i == j {
             false
@@ -120,11 +121,11 @@ impl<'a> Relation for WithAddition<'a> {
         } else if j == last {
             self.addition.row().has(i)
         } else {
-            self.changes.clash(i, j)
+            self.changes.is_conflict(i, j)
         }
     }
 
-    fn in_conflict_with(&self, alloc: Global, scope: &Members) -> Result<Members, NoMemory> {
+    fn in_conflict_with(&self, alloc: Global, scope: &PlaceSet) -> Result<PlaceSet, NoMemory> {
         let mut conflicting = self.changes.conflicting_places(alloc, scope)?;
         add_row(
             &mut conflicting,

@@ -1,29 +1,29 @@
-//! The places of puts by the keys that they give values, and the places of drops.
+//! The places of puts by their keys, and the places of drops.
 
 ghost use Rattle.std.specs.Prelude.{◌≡◌, ℕ, ◌+◌, ◌<◌, ◌≤◌, ◌^◌, ◌||◌, List, [], ◌∷◌, true, false, length, bytes_eq, IfOk, OnOk, OnErr, MatchBool};
 ghost use Rattle.std.specs.List.{list_any};
-ghost use Rattle.op_names.specs.Texts.{Bytes};
+ghost use Rattle.base_types.specs.Texts.{Bytes};
 ghost use Rattle.rules.specs.declared.history.Op.{Op};
 ghost use Rattle.rules.specs.Bodies.{is_drop_body, pairs_in};
-ghost use Rattle.places.specs.Members.{has, with_place};
-ghost use Rattle.places.specs.Changes.{at};
-ghost use Rattle.conflict.specs.Indexes.{gives, is_drop_at, is_drop_or_gives, key_at, of_key, with_drop, with_key_at, with_new_key, AreByKey, IsPlaceOf, IsUnder};
+ghost use Rattle.places.specs.steps.PlaceSet.{has, with_place};
+ghost use Rattle.places.specs.steps.Changes.{at};
+ghost use Rattle.conflict.specs.steps.Indexes.{gives, is_drop_at, is_drop_or_gives, key_at, of_key, with_drop, with_key_at, with_new_key, AreByKey, IsPlaceOf, IsUnder};
 
-use op_names::{Key, NoMemory, Value};
-use places::Members;
+use base_types::{Key, NoMemory, Value};
+use places::PlaceSet;
 use rules::{Body, Op, SharedOp};
 use std::alloc::Global;
 use std::marker::Model;
 
-/// The places of the puts on an object that give a key a value.
+/// The places of the puts that give a key a value.
 #[derive(Drop)]
 struct KeyPuts {
     key: Key,
-    places: Members,
+    places: PlaceSet,
 }
 
 impl Model for KeyPuts {
-    ghost use Rattle.conflict.specs.Indexes.{OfKey};
+    ghost use Rattle.conflict.specs.steps.Indexes.{OfKey};
 
     ghost Value = { OfKey };
 
@@ -31,16 +31,16 @@ impl Model for KeyPuts {
 }
 
 impl KeyPuts {
-    /// The key's first put.
+    /// The key with its first put.
     fn of_one(alloc: Global, key: &Key, place: u32) -> Result<KeyPuts, NoMemory>
         ensures { IfOk result (λ of. of ≡ record { key = key.now; places = place ∷ [] }) }
     {
-        let places = Members::from_places(alloc, &[place])?;
+        let places = PlaceSet::from_places(alloc, &[place])?;
         let key = key.copy(alloc)?;
         Ok(KeyPuts { key, places })
     }
 
-    /// Puts a place in. On `NoMemory` all stays as it is.
+    /// Adds a place. `NoMemory` leaves all as it is.
     fn add(&mut self, place: u32) -> Result<(), NoMemory>
         ensures ok { OnOk result
             (self.new ≡ record { key = self.old.key; places = with_place place self.old.places }) }
@@ -75,17 +75,17 @@ fn is_drop(body: &Body) -> bool
     matches!(body, Body::DropVersion { .. })
 }
 
-/// The first changes on an object, as many as `len`: the puts by key, and the drops. Where memory is
-/// refused, the next put may be in under some of its keys too.
+/// The first `len` changes of an object: the puts by key, and the drops. If an allocation failed,
+/// the next put may also be under some of its keys.
 #[derive(Drop)]
 pub(crate) struct ByKey {
     len: u32,
     keys: Vec<KeyPuts>,
-    drops: Members,
+    drops: PlaceSet,
 }
 
 impl Model for ByKey {
-    ghost use Rattle.conflict.specs.Indexes.{KeyIndex};
+    ghost use Rattle.conflict.specs.steps.Indexes.{KeyIndex};
 
     ghost Value = { KeyIndex };
 
@@ -100,11 +100,11 @@ impl ByKey {
         ByKey {
             len: 0,
             keys: Vec::new(alloc),
-            drops: Members::empty(alloc),
+            drops: PlaceSet::empty(alloc),
         }
     }
 
-    /// Where the key stands, if it does.
+    /// The place of the key in the index, if it is there.
     fn find(&self, key: &Key) -> Option<usize>
         ensures { let count = length self.now.keys
             in IsPlaceOf (λ i. (key_at self.now.keys i).key) count key.now result }
@@ -112,7 +112,7 @@ impl ByKey {
         self.keys.iter().position(|puts| puts.key == *key)
     }
 
-    /// Puts the next change in under the key that stands there.
+    /// Adds the next change under the key at this place of the index.
     fn grow(&mut self, i: usize) -> Result<(), NoMemory>
         requires there { i < length self.old.keys }
         ensures ok { OnOk result (self.new ≡ with_key_at i self.old) }
@@ -121,7 +121,7 @@ impl ByKey {
         self.keys[i].add(self.len)
     }
 
-    /// Puts the next change in, the first under the key.
+    /// Adds the next change under a new key.
     fn begin(&mut self, alloc: Global, key: &Key) -> Result<(), NoMemory>
         ensures ok { OnOk result (self.new ≡ with_new_key key.now self.old) }
         ensures err { OnErr result (self.new ≡ self.old) }
@@ -131,7 +131,7 @@ impl ByKey {
         Ok(())
     }
 
-    /// Puts the next change in under one of its keys. One look-up.
+    /// Adds the next change under one of its keys. One look-up.
     fn insert(&mut self, alloc: Global, ops: &[SharedOp], key: &Key) -> Result<(), NoMemory>
         // What is put in.
         requires more { self.old.len < length ops.now }
@@ -150,7 +150,7 @@ impl ByKey {
         }
     }
 
-    /// Puts the next change in under each of its keys. On `NoMemory` it is in under some of them.
+    /// Adds the next change under each of its keys. After `NoMemory` it may be under some of them.
     fn insert_all(
         &mut self,
         alloc: Global,
@@ -171,7 +171,8 @@ impl ByKey {
         Ok(())
     }
 
-    /// Puts the next change in, a put of these pairs. On `NoMemory` it is in under some of its keys.
+    /// Adds the next change, a put of these pairs. After `NoMemory` it may be under some of its
+    /// keys.
     fn add_put(
         &mut self,
         alloc: Global,
@@ -193,7 +194,7 @@ impl ByKey {
         Ok(())
     }
 
-    /// Puts the next change in, a drop. On `NoMemory` all stays as it is.
+    /// Adds the next change, a drop. `NoMemory` leaves all as it is.
     fn add_drop(&mut self) -> Result<(), NoMemory>
         requires few { self.old.len + 1 < 2 ^ 32 }
         ensures ok { OnOk result (self.new ≡ with_drop self.old) }
@@ -212,7 +213,7 @@ impl ByKey {
         &ops[self.len as usize]
     }
 
-    /// Puts the next change in: one look-up for each of its keys. On `NoMemory` it may be in under
+    /// Adds the next change. One look-up for each of its keys. After `NoMemory` it may be under
     /// some of them.
     fn add(&mut self, alloc: Global, ops: &[SharedOp]) -> Result<(), NoMemory>
         requires more { self.old.len < length ops.now }
@@ -231,8 +232,8 @@ impl ByKey {
         }
     }
 
-    /// Puts the changes in that have come since. On `NoMemory` some of them are in, the last one maybe
-    /// under some of its keys only.
+    /// Adds the changes that are not in the index yet. After `NoMemory` some of them are added, the
+    /// last one perhaps under some of its keys.
     pub(crate) fn catch_up(&mut self, alloc: Global, ops: &[SharedOp]) -> Result<(), NoMemory>
         requires few { length ops.now < 2 ^ 32 }
         requires keys { AreByKey ops.now self.old }
@@ -244,7 +245,7 @@ impl ByKey {
         Ok(())
     }
 
-    /// Does one of the changes that aren't in it give the key a value?
+    /// Does a change that is not in the index yet give the key a value?
     fn is_key_of_last(&self, ops: &[SharedOp], key: &Key) -> bool
         requires few { length ops.now < 2 ^ 32 }
         ensures { MatchBool result
@@ -260,7 +261,7 @@ impl ByKey {
         false
     }
 
-    /// Does one of the changes give the key a value?
+    /// Does a change give the key a value?
     pub(crate) fn has(&self, ops: &[SharedOp], key: &Key) -> bool
         requires few { length ops.now < 2 ^ 32 }
         requires keys { AreByKey ops.now self.now }
@@ -269,8 +270,8 @@ impl ByKey {
         self.find(key).is_some() || self.is_key_of_last(ops, key)
     }
 
-    /// Is one of the changes that aren't in it a drop at one of these places?
-    fn is_last_drop_at(&self, ops: &[SharedOp], members: &Members) -> bool
+    /// Is a change that is not in the index yet a drop at one of these places?
+    fn is_last_drop_at(&self, ops: &[SharedOp], members: &PlaceSet) -> bool
         requires few { length ops.now < 2 ^ 32 }
         ensures { MatchBool result
             ((place : ℕ) × (is_drop_at ops.now place ≡ true) × (has members.now place ≡ true))
@@ -285,9 +286,9 @@ impl ByKey {
         false
     }
 
-    /// Is one of the changes a drop at one of these places? Goes by words of 64 places over the drops
-    /// in it, and over the changes that aren't in it.
-    pub(crate) fn has_drop_at(&self, ops: &[SharedOp], members: &Members) -> bool
+    /// Is a change at one of these places a drop? Takes 64 places of the indexed drops at a time,
+    /// and each change that is not in the index yet.
+    pub(crate) fn has_drop_at(&self, ops: &[SharedOp], members: &PlaceSet) -> bool
         requires few { length ops.now < 2 ^ 32 }
         requires keys { AreByKey ops.now self.now }
         ensures { result ≡ list_any (is_drop_at ops.now) members.now }
@@ -295,9 +296,9 @@ impl ByKey {
         self.drops.intersects(members) || self.is_last_drop_at(ops, members)
     }
 
-    /// Puts in the places under the key: those of the changes in it that give the key a value, and maybe
-    /// of the next one. One look-up.
-    fn insert_puts(&self, key: &Key, members: &mut Members) -> Result<(), NoMemory>
+    /// Adds the places under the key to a set: the indexed changes that give the key a value, and
+    /// perhaps the next change. One look-up.
+    fn insert_puts(&self, key: &Key, members: &mut PlaceSet) -> Result<(), NoMemory>
         ensures { OnOk result ((ops : List Op) (place : ℕ) → AreByKey ops self.now
             → place < self.now.len
             → has members.new place ≡ (has members.old place || of_key ops key.now place)) }
@@ -308,9 +309,9 @@ impl ByKey {
         }
     }
 
-    /// The places of the changes in it that are drops or give one of the keys a value, and maybe of the
-    /// next one.
-    fn drops_and_puts(&self, alloc: Global, pairs: &[(Key, Value)]) -> Result<Members, NoMemory>
+    /// The places of the indexed changes that are drops or give one of the keys a value, and
+    /// perhaps of the next change.
+    fn drops_and_puts(&self, alloc: Global, pairs: &[(Key, Value)]) -> Result<PlaceSet, NoMemory>
         ensures { IfOk result (λ found. (ops : List Op) (place : ℕ) → AreByKey ops self.now
             → place < self.now.len → has found place ≡ is_drop_or_gives ops pairs.now place) }
     {
@@ -321,8 +322,8 @@ impl ByKey {
         Ok(found)
     }
 
-    /// Puts in the places of the changes that aren't in it, where there are so many in all.
-    fn insert_last(&self, count: u32, members: &mut Members) -> Result<(), NoMemory>
+    /// Adds the places of the changes that are not in the index yet, of `count` in all.
+    fn insert_last(&self, count: u32, members: &mut PlaceSet) -> Result<(), NoMemory>
         ensures kept { OnOk result ((place : ℕ) → has members.old place ≡ true
             → has members.new place ≡ true) }
         ensures last { OnOk result ((place : ℕ) → self.now.len ≤ place → place < count
@@ -334,14 +335,14 @@ impl ByKey {
         Ok(())
     }
 
-    /// The places of the changes, so many in all, that are drops, that give one of the keys a value, or
-    /// that aren't in it. One look-up a key.
-    pub(crate) fn at_odds_perhaps(
+    /// The places of the changes that may be at odds with a put of these pairs: drops, puts of one
+    /// of its keys, and changes that are not in the index yet. One look-up a key.
+    pub(crate) fn maybe_at_odds(
         &self,
         alloc: Global,
         count: u32,
         pairs: &[(Key, Value)],
-    ) -> Result<Members, NoMemory>
+    ) -> Result<PlaceSet, NoMemory>
         ensures { IfOk result (λ found. (ops : List Op) (place : ℕ) → AreByKey ops self.now
             → place < count → is_drop_or_gives ops pairs.now place ≡ true
             → has found place ≡ true) }

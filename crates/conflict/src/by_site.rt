@@ -1,43 +1,47 @@
-//! The places of changes by the sites that they come from.
+//! The places of changes by their sites.
 
 ghost use Rattle.std.specs.Prelude.{◌≡◌, ℕ, ◌+◌, ◌<◌, ◌^◌, [], ◌∷◌, length, IfOk, OnOk, OnErr};
-ghost use Rattle.places.specs.Members.{with_all};
-ghost use Rattle.places.specs.Changes.{places_counted};
-ghost use Rattle.conflict.specs.Indexes.{counted_of, site_at, with_counted, with_new_site, with_change, with_change_at, AreBySite, AreInOrder, IsPlaceOf, IsRising};
+ghost use Rattle.places.specs.steps.PlaceSet.{with_places};
+ghost use Rattle.places.specs.steps.Changes.{places_counted};
+ghost use Rattle.conflict.specs.steps.Indexes.{counted_of, site_at, with_counted, with_new_site, with_change, with_change_at, AreBySite, AreInOrder, IsPlaceOf, IsRising};
 
-use op_names::{NoMemory, OpName};
-use places::Members;
+use base_types::{NoMemory, OpName};
+use places::PlaceSet;
 use rules::SharedOp;
 use state_vector::StateVector;
 use std::alloc::Global;
 use std::marker::Model;
 
-/// The changes of a site on an object.
+/// The changes of one site on an object.
 #[derive(Drop)]
 struct SiteChanges {
     site: u32,
     /// The number of each and its place, in order of arrival.
     changes: Vec<(u32, u32)>,
-    places: Members,
+    places: PlaceSet,
 }
 
 impl Model for SiteChanges {
-    ghost use Rattle.conflict.specs.Indexes.{OfSite};
+    ghost use Rattle.conflict.specs.steps.Indexes.{OfSite};
 
     ghost Value = { OfSite };
 
-    ghost view = { λ of. record { site = of.site; changes = of.changes.items; places = of.places } };
+    ghost view = { λ of. record {
+      site = of.site;
+      changes = of.changes.items;
+      places = of.places;
+    } };
 }
 
 impl SiteChanges {
-    /// The site's first change.
+    /// The site with its first change.
     fn of_one(alloc: Global, name: OpName, place: u32) -> Result<SiteChanges, NoMemory>
         ensures { IfOk result (λ of. of
             ≡ record { site = name.0; changes = (name.1, place) ∷ []; places = place ∷ [] }) }
     {
         let mut changes = Vec::new(alloc);
         changes.push((name.seq(), place))?;
-        let places = Members::from_places(alloc, &[place])?;
+        let places = PlaceSet::from_places(alloc, &[place])?;
         Ok(SiteChanges {
             site: name.site(),
             changes,
@@ -45,7 +49,7 @@ impl SiteChanges {
         })
     }
 
-    /// Puts the next change in. On `NoMemory` all stays as it is.
+    /// Adds the next change. `NoMemory` leaves all as it is.
     fn add(&mut self, number: u32, place: u32) -> Result<(), NoMemory>
         ensures ok { OnOk result (self.new ≡ with_change number place self.old) }
         ensures err { OnErr result (self.new ≡ self.old) }
@@ -56,29 +60,29 @@ impl SiteChanges {
         Ok(())
     }
 
-    /// Puts the places of the changes in that a vector counts: all, or those before the first that it
-    /// doesn't count.
+    /// Adds the places of the changes that a vector counts to a set: all, or those before the first
+    /// that it doesn't count.
     fn insert_counted(
         &self,
         alloc: Global,
         seen: &StateVector,
-        known: &mut Members,
+        known: &mut PlaceSet,
     ) -> Result<(), NoMemory>
         requires { IsRising self.now }
-        ensures { OnOk result (known.new ≡ with_all known.old (counted_of seen.now self.now)) }
+        ensures { OnOk result (known.new ≡ with_places known.old (counted_of seen.now self.now)) }
     {
         let number = seen.count(self.site);
         let counted = self.changes.partition_point(|change| change.0 <= number);
         if counted == self.changes.len() {
             return known.insert_all(&self.places);
         }
-        let earlier = Members::first_places(alloc, self.changes[counted].1)?;
+        let earlier = PlaceSet::first_places(alloc, self.changes[counted].1)?;
         let places = self.places.intersection(alloc, &earlier)?;
         known.insert_all(&places)
     }
 }
 
-/// The first changes on an object, as many as `len`, by site.
+/// The first `len` changes of an object, by site.
 #[derive(Drop)]
 pub(crate) struct BySite {
     len: u32,
@@ -86,7 +90,7 @@ pub(crate) struct BySite {
 }
 
 impl Model for BySite {
-    ghost use Rattle.conflict.specs.Indexes.{SiteIndex};
+    ghost use Rattle.conflict.specs.steps.Indexes.{SiteIndex};
 
     ghost Value = { SiteIndex };
 
@@ -103,7 +107,7 @@ impl BySite {
         }
     }
 
-    /// Where the site stands, if it does.
+    /// The place of the site in the index, if it is there.
     fn find(&self, site: u32) -> Option<usize>
         ensures { let count = length self.now.sites
             in IsPlaceOf (λ i. (site_at self.now.sites i).site) count site result }
@@ -111,7 +115,7 @@ impl BySite {
         self.sites.iter().position(|changes| changes.site == site)
     }
 
-    /// Puts the next change in, whose site stands there.
+    /// Adds the next change under the site at this place of the index.
     fn grow(&mut self, i: usize, number: u32) -> Result<(), NoMemory>
         requires there { i < length self.old.sites }
         requires few { self.old.len + 1 < 2 ^ 32 }
@@ -123,7 +127,7 @@ impl BySite {
         Ok(())
     }
 
-    /// Puts the next change in, the first of its site.
+    /// Adds the next change, the first of its site.
     fn begin(&mut self, alloc: Global, name: OpName) -> Result<(), NoMemory>
         requires few { self.old.len + 1 < 2 ^ 32 }
         ensures ok { OnOk result (self.new ≡ with_new_site name self.old) }
@@ -135,7 +139,7 @@ impl BySite {
         Ok(())
     }
 
-    /// Puts the next change in.
+    /// Adds the next change.
     fn add(&mut self, alloc: Global, ops: &[SharedOp]) -> Result<(), NoMemory>
         requires more { self.old.len < length ops.now }
         requires few { length ops.now < 2 ^ 32 }
@@ -150,7 +154,7 @@ impl BySite {
         }
     }
 
-    /// Puts the changes in that have come since. On `NoMemory` some of them are in.
+    /// Adds the changes that are not in the index yet. After `NoMemory` some of them are added.
     pub(crate) fn catch_up(&mut self, alloc: Global, ops: &[SharedOp]) -> Result<(), NoMemory>
         requires few { length ops.now < 2 ^ 32 }
         requires sites { AreBySite ops.now self.old }
@@ -162,25 +166,26 @@ impl BySite {
         Ok(())
     }
 
-    /// The places of the changes in it that a vector counts: one look-up for each site.
-    fn counted_places(&self, alloc: Global, seen: &StateVector) -> Result<Members, NoMemory>
+    /// The places of the indexed changes that a vector counts. One look-up a site.
+    fn counted_places(&self, alloc: Global, seen: &StateVector) -> Result<PlaceSet, NoMemory>
         requires { (i : ℕ) → i < length self.now.sites → IsRising (site_at self.now.sites i) }
         ensures { IfOk result (λ counted. counted ≡ with_counted seen.now [] self.now.sites) }
     {
-        let mut counted = Members::empty(alloc);
+        let mut counted = PlaceSet::empty(alloc);
         for changes in &self.sites {
             changes.insert_counted(alloc, seen, &mut counted)?;
         }
         Ok(counted)
     }
 
-    /// The places of the changes that a vector counts: by the sites, and then the last changes one by one.
+    /// The places of the changes that a vector counts: the indexed ones by site, then the others
+    /// one by one.
     pub(crate) fn known_places(
         &self,
         alloc: Global,
         ops: &[SharedOp],
         seen: &StateVector,
-    ) -> Result<Members, NoMemory>
+    ) -> Result<PlaceSet, NoMemory>
         requires few { length ops.now < 2 ^ 32 }
         requires sites { AreBySite ops.now self.now }
         requires order { AreInOrder ops.now }

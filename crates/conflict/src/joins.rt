@@ -1,18 +1,18 @@
-//! Places put together from the rows of others.
+//! Unions of the rows of places.
 
 ghost use Rattle.std.specs.Prelude.{◌≡◌, ◌<◌, [], length, All, IfOk, OnOk};
-ghost use Rattle.conflict.specs.Rows.{with_row, with_rows};
+ghost use Rattle.conflict.specs.steps.Rows.{with_row, with_rows};
 
-use op_names::NoMemory;
-use places::Members;
+use base_types::NoMemory;
+use places::PlaceSet;
 use std::alloc::Global;
 
-/// Puts in the places of the row of a place, where that place is in the scope, and the place
-/// itself, where the row has one of the scope.
+/// Adds the row of a place if the place is in the scope, and the place itself if its row has a
+/// place in the scope.
 pub(crate) fn add_row(
-    members: &mut Members,
-    scope: &Members,
-    row: &Members,
+    members: &mut PlaceSet,
+    scope: &PlaceSet,
+    row: &PlaceSet,
     place: u32,
 ) -> Result<(), NoMemory>
     ensures { OnOk result (members.new ≡ with_row scope.now row.now place members.old) }
@@ -26,17 +26,17 @@ pub(crate) fn add_row(
     Ok(())
 }
 
-/// What the rows at some places, one after another, add to no places.
+/// What the rows at some places, one after another, add to the empty set.
 pub(crate) fn union_of_rows(
     alloc: Global,
-    rows: &[Members],
+    rows: &[PlaceSet],
     places: &[u32],
-    scope: &Members,
-) -> Result<Members, NoMemory>
+    scope: &PlaceSet,
+) -> Result<PlaceSet, NoMemory>
     requires { All (λ place. place < length rows.now) places.now }
     ensures { IfOk result (λ joined. joined ≡ with_rows scope.now rows.now [] places.now) }
 {
-    let mut joined = Members::empty(alloc);
+    let mut joined = PlaceSet::empty(alloc);
     for place in places {
         add_row(&mut joined, scope, &rows[*place as usize], *place)?;
     }

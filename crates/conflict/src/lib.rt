@@ -1,12 +1,12 @@
-//! The changes on an object by their places, and the conflicts between them.
+//! The changes of one object, by their places, and the conflicts between them.
 #![tactic(auto)]
 
 mod addition;
 mod by_key;
 mod by_site;
-mod clashes;
 mod joins;
 pub mod laws;
+mod object_changes;
 
 pub use addition::{Addition, WithAddition};
-pub use clashes::Clashes;
+pub use object_changes::ObjectChanges;

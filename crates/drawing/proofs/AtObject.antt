@@ -2,7 +2,7 @@
 use Rattle.std.proofs.Common.{◌≡◌, true, List, [], ◌∷◌, ◌++◌, map, sym, ap, ◌∙◌, subst, None, Some}
 use Rattle.std.specs.Map.{lookup}
 use Rattle.std.proofs.lemmas.Bool.{and_from}
-use Rattle.op_names.specs.Names.{Name, same_name}
+use Rattle.base_types.specs.Names.{Name, same_name}
 use Rattle.state_vector.specs.Vectors.{is_vector}
 use Rattle.rules.specs.declared.history.Op.{Op}
 use Rattle.rules.specs.declared.history.Entry.{Entry}
@@ -13,11 +13,11 @@ use Rattle.rules.specs.Operations.{IsCausallyOrdered, IsHistory, is_change_on, o
 use Rattle.rules.specs.Records.{operations, version_conditions}
 use Rattle.rules.specs.Versions.{versions}
 use Rattle.rules.proofs.Counted.{same_name-refl}
-use Rattle.places.specs.Changes.{AreChangesOf}
-use Rattle.shape.specs.Objects.{IsNextChange, Stored, change_refusal, shown_ids, with_change}
+use Rattle.places.specs.steps.Changes.{AreChangesOf}
+use Rattle.shape.specs.steps.Objects.{IsNextChange, Stored, change_refusal, shown_ids, with_change}
 use Rattle.shape.proofs.Next.{next_history, next_change, object_with_change}
 use Rattle.shape.proofs.Objects.{refusal_beside, versions_beside}
-use Rattle.drawing.specs.Objects.{objects_with_changes, without_spare}
+use Rattle.drawing.specs.steps.Objects.{objects_with_changes, without_spare}
 use Rattle.drawing.proofs.Lookup.{is_there}
 
 module _ (l : LimitValues) (r : List Entry) (shapes : List (Name × Stored)) (are : without_spare shapes ≡ objects_with_changes l r) (o : Op) (changes : is_change_body o.body ≡ true) where

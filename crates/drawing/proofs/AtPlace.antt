@@ -4,8 +4,8 @@ use Rattle.std.specs.Prelude.{is_some, length, nat_lt, slice_get}
 use Rattle.std.specs.List.{position, position_or_len}
 use Rattle.std.specs.Map.{lookup, set_value, keys_of, values_of}
 use Rattle.indexmap.specs.IndexMap.{set_value_at}
-use Rattle.op_names.specs.Names.{Name}
-use Rattle.shape.specs.Objects.{Stored}
+use Rattle.base_types.specs.Names.{Name}
+use Rattle.shape.specs.steps.Objects.{Stored}
 
 pub none_found : (found : Option Stored) → false ≡ is_some found → found ≡ None
 none_found None e = refl

@@ -3,7 +3,7 @@ use Rattle.std.proofs.Common.{◌≡◌, Bool, true, false, cond, not, List, [],
 use Rattle.std.specs.Prelude.{find, filter, option_map, is_some}
 use Rattle.std.specs.Map.{lookup}
 use Rattle.std.proofs.lemmas.Bool.{and_parts, cases_Bool, not-true}
-use Rattle.op_names.specs.Names.{Name, same_name}
+use Rattle.base_types.specs.Names.{Name, same_name}
 use Rattle.rules.specs.declared.history.Op.{Op}
 use Rattle.rules.specs.declared.history.Entry.{Entry}
 use Rattle.rules.specs.declared.limits.LimitValues.{LimitValues}
@@ -14,8 +14,8 @@ use Rattle.rules.specs.Records.{operations, objects}
 use Rattle.rules.proofs.Counted.{same_name-true}
 use Rattle.rules.proofs.Lists.{Contains-from_In, find_agree, find_is}
 use Rattle.state_vector.specs.Vectors.{counts}
-use Rattle.shape.specs.Objects.{Object, Stored, IsOf}
-use Rattle.drawing.specs.Objects.{object_with_changes, objects_with_changes, without_spare}
+use Rattle.shape.specs.steps.Objects.{Object, Stored, IsOf}
+use Rattle.drawing.specs.steps.Objects.{object_with_changes, objects_with_changes, without_spare}
 use Rattle.drawing.proofs.WithChanges.{objects_with_changes_at, same_name-sym}
 
 lookup_without_spare : (t : Name → Bool) (shapes : List (Name × Stored)) → option_map (λ (d : Stored). d.object) (lookup t shapes) ≡ lookup t (without_spare shapes)

@@ -1,7 +1,7 @@
 -- The operation that comes next after a history has a new name.
 use Rattle.std.proofs.Common.{◌≡◌, ◌≢◌, ◌+◌, not, List, ◌∙◌, ap, refl, arith, Option, Some, None, ◌&&◌, false}
 use Rattle.std.proofs.lemmas.Bool.{and_parts, false_from_ne_true}
-use Rattle.op_names.specs.Names.{Name, same_name}
+use Rattle.base_types.specs.Names.{Name, same_name}
 use Rattle.rules.specs.declared.history.Op.{Op}
 use Rattle.rules.specs.Admission.{count_at_site}
 use Rattle.rules.specs.Bodies.{is_change_body}

@@ -4,7 +4,7 @@ use Rattle.std.specs.Prelude.{filter}
 use Rattle.std.specs.List.{IsDistinct}
 use Rattle.std.specs.Map.{keys_of, lookup, set_value}
 use Rattle.std.proofs.lemmas.List.{append-nil, length_push}
-use Rattle.op_names.specs.Names.{Name, same_name}
+use Rattle.base_types.specs.Names.{Name, same_name}
 use Rattle.rules.specs.declared.history.Op.{Op}
 use Rattle.rules.specs.declared.history.Entry.{Entry}
 use Rattle.rules.specs.declared.history.Entry.TheVariants.{Join, Operation}
@@ -14,8 +14,8 @@ use Rattle.rules.specs.Operations.{is_change_on, object_of}
 use Rattle.rules.specs.Records.{objects, operations}
 use Rattle.rules.proofs.Lists.{In}
 use Rattle.rules.proofs.Records.{filter-push, objects-creation, objects-join, operations-join, operations-push}
-use Rattle.shape.specs.Objects.{Stored, with_change}
-use Rattle.drawing.specs.Objects.{objects_with_changes, without_spare}
+use Rattle.shape.specs.steps.Objects.{Stored, with_change}
+use Rattle.drawing.specs.steps.Objects.{objects_with_changes, without_spare}
 use Rattle.drawing.proofs.WithChanges.{objects_with_changes_at, objects_with_changes_push, objects_with_changes_set}
 
 -- a change creates nothing

@@ -3,7 +3,7 @@ use Rattle.std.proofs.Common.{◌≡◌, true, false, not, refl, sym, ap, ◌∙
 use Rattle.std.specs.Prelude.{Bool, IfErr, Option, Result, Ok, Err, is_some}
 use Rattle.std.specs.Result.{IsErrAnd}
 use Rattle.std.specs.Map.{lookup}
-use Rattle.op_names.specs.Names.{Name, same_name}
+use Rattle.base_types.specs.Names.{Name, same_name}
 use Rattle.state_vector.specs.Vectors.{counts}
 use Rattle.rules.specs.declared.history.Op.{Op}
 use Rattle.rules.specs.declared.refusal.Refusal.{Refusal}
@@ -13,15 +13,15 @@ use Rattle.rules.specs.Bodies.{is_change_body}
 use Rattle.rules.specs.Conflicts.{has_object}
 use Rattle.rules.specs.Operations.{object_of, creation_of}
 use Rattle.rules.specs.Records.{operations, objects, creation_conditions, change_conditions, version_conditions}
-use Rattle.shape.specs.Objects.{IsNextChange, Stored, change_refusal, shown_ids, with_change}
+use Rattle.shape.specs.steps.Objects.{IsNextChange, Stored, change_refusal, shown_ids, with_change}
 use Rattle.shape.specs.declared.fault.ChangeFault.{ChangeFault}
 use Rattle.shape.specs.declared.fault.ChangeFault.TheVariants as change_fault
-use Rattle.shape.specs.Faults.{IsRefusal as IsChangeRefusal}
+use Rattle.shape.specs.steps.Faults.{IsRefusal as IsChangeRefusal}
 use Rattle.shape.proofs.Refusals.{passed}
-use Rattle.drawing.specs.Additions.{IsNext, body_refusal}
+use Rattle.drawing.specs.steps.Additions.{IsNext, body_refusal}
 use Rattle.drawing.specs.Shown.{ids_with}
-use Rattle.drawing.specs.Drawing.{IsReplay}
-use Rattle.drawing.specs.Faults.{IsRefusal, of_change}
+use Rattle.drawing.specs.steps.Drawing.{IsReplay}
+use Rattle.drawing.specs.steps.Faults.{IsRefusal, of_change}
 use Rattle.drawing.specs.Room.{Room}
 use Rattle.drawing.proofs.AtObject.{ids_with_change, may_be_planned, refused_by_object}
 use Rattle.drawing.proofs.Lookup.{has_object_by_name, has_shape}

@@ -4,7 +4,7 @@ use Rattle.std.specs.List.{IsDistinct}
 use Rattle.std.specs.Map.{keys_of, lookup, set_value}
 use Rattle.std.proofs.lemmas.Bool.{leb-false}
 use Rattle.std.proofs.lemmas.List.{length_push, map-append}
-use Rattle.op_names.specs.Names.{Name, same_name}
+use Rattle.base_types.specs.Names.{Name, same_name}
 use Rattle.rules.specs.declared.history.Op.{Op}
 use Rattle.rules.specs.declared.history.Entry.{Entry}
 use Rattle.rules.specs.declared.history.Entry.TheVariants.{Join, Operation}
@@ -18,10 +18,10 @@ use Rattle.rules.proofs.Conditions.{not_first}
 use Rattle.rules.proofs.Founded.{HasGround, founded_push, ground_if}
 use Rattle.rules.proofs.Histories.{IsNumbered, follows_if}
 use Rattle.rules.proofs.Records.{operations-join, operations-push, objects-join}
-use Rattle.shape.specs.Objects.{Stored, with_change}
+use Rattle.shape.specs.steps.Objects.{Stored, with_change}
 use Rattle.shape.proofs.Next.{next_history, next_ordered, numbered_if}
-use Rattle.drawing.specs.Additions.{IsNext, body_refusal}
-use Rattle.drawing.specs.Drawing.{IsReplay, IsSound}
+use Rattle.drawing.specs.steps.Additions.{IsNext, body_refusal}
+use Rattle.drawing.specs.steps.Drawing.{IsReplay, IsSound}
 use Rattle.drawing.specs.Room.{Room}
 use Rattle.drawing.proofs.Lookup.{none_there}
 use Rattle.drawing.proofs.NewNames.{no_change_yet, not_created}

@@ -1,7 +1,7 @@
 -- What is shown of an object, from its shape.
 use Rattle.std.proofs.Common.{◌≡◌, List, length, sym, ap, ◌∙◌, None, Some}
 use Rattle.std.specs.Map.{lookup}
-use Rattle.op_names.specs.Names.{Name, same_name}
+use Rattle.base_types.specs.Names.{Name, same_name}
 use Rattle.rules.specs.declared.history.Entry.{Entry}
 use Rattle.rules.specs.declared.limits.LimitValues.{LimitValues}
 use Rattle.rules.specs.declared.refusal.Refusal.TheVariants.{NoSuchObject}
@@ -10,9 +10,9 @@ use Rattle.rules.specs.Operations.{IsHistory}
 use Rattle.rules.specs.Records.{operations}
 use Rattle.rules.specs.Versions.{versions}
 use Rattle.wire.specs.declared.reply.Reply.TheVariants.{No, Versions}
-use Rattle.shape.specs.Objects.{Stored, shown_versions}
+use Rattle.shape.specs.steps.Objects.{Stored, shown_versions}
 use Rattle.shape.proofs.Objects.{versions_beside}
-use Rattle.drawing.specs.Objects.{objects_with_changes, without_spare}
+use Rattle.drawing.specs.steps.Objects.{objects_with_changes, without_spare}
 use Rattle.drawing.specs.Shown.{shown, shown_by}
 use Rattle.drawing.proofs.Lookup.{is_there, none_created}
 

@@ -5,7 +5,7 @@ use Rattle.std.specs.List.{AllByRecursion, IsDistinct}
 use Rattle.std.specs.Map.{lookup, set_value, keys_of}
 use Rattle.std.proofs.lemmas.Bool.{cases_Bool, and_from}
 use Rattle.std.proofs.lemmas.List.{append-nil, map-append}
-use Rattle.op_names.specs.Names.{Name, same_name}
+use Rattle.base_types.specs.Names.{Name, same_name}
 use Rattle.rules.specs.declared.history.Op.{Op}
 use Rattle.rules.specs.declared.limits.LimitValues.{LimitValues}
 use Rattle.rules.specs.Bodies.{is_change_body}
@@ -13,8 +13,8 @@ use Rattle.rules.specs.Operations.{is_on, is_change_on, object_of}
 use Rattle.rules.proofs.Counted.{same_name-true}
 use Rattle.rules.proofs.Lists.{In}
 use Rattle.rules.proofs.Records.{filter-push}
-use Rattle.shape.specs.Objects.{Object, Stored, with_change}
-use Rattle.drawing.specs.Objects.{object_with_changes, without_spare}
+use Rattle.shape.specs.steps.Objects.{Object, Stored, with_change}
+use Rattle.drawing.specs.steps.Objects.{object_with_changes, without_spare}
 
 -- the objects of these creations
 abbrev pub objects_with_changes_at : LimitValues → List Op → List Op → List (Name × Object)

@@ -1,7 +1,7 @@
 -- A room, as contracts see it.
 use Rattle.std.specs.Prelude.{List, [], ◌∷◌, ◌++◌, Option, Some, None, map}
-use Rattle.op_names.specs.Names.{Name}
-use Rattle.op_names.specs.Texts.{Bytes}
+use Rattle.base_types.specs.Names.{Name}
+use Rattle.base_types.specs.Texts.{Bytes}
 use Rattle.rules.specs.Bodies.{kind_in}
 use Rattle.rules.specs.Records.{objects}
 use Rattle.rules.specs.declared.limits.LimitValues.{LimitValues}
@@ -22,7 +22,7 @@ abbrev pub with_entry : Room → Option Entry → Room
 with_entry room None = room
 with_entry room (Some entry) = record { limits = room.limits; entries = room.entries ++ entry ∷ [] }
 
--- a room with nothing in its record
+-- a room with an empty record
 abbrev pub empty_room : LimitValues → Room
 empty_room limits = record { limits = limits; entries = [] }
 

@@ -1,12 +1,12 @@
-//! An entry that a drawing can add, with all that it takes memory for.
+//! An entry that is ready to be added to a drawing.
 
 ghost use Rattle.std.specs.Prelude.{◌≡◌, option_map};
 ghost use Rattle.std.specs.Arc.{arc_value};
 ghost use Rattle.rules.specs.Records.{is_join};
-ghost use Rattle.drawing.specs.State.{State};
-ghost use Rattle.drawing.specs.Additions.{IsReady, ids_of};
+ghost use Rattle.drawing.specs.steps.State.{DrawingState};
+ghost use Rattle.drawing.specs.steps.Additions.{IsReady, ids_of};
 
-use op_names::VersionId;
+use base_types::VersionId;
 use rules::{Entry, SharedOp};
 use shape::{PlannedChange, Shape};
 use std::alloc::Global;
@@ -24,7 +24,8 @@ pub(crate) enum Part {
     Change(usize, SharedOp, PlannedChange),
 }
 
-/// An entry that a drawing can add without an allocation. Only the plans of `Drawing` make one.
+/// An entry that can be added to a drawing without an allocation. Only the plans of `Drawing` make
+/// one.
 #[derive(Drop)]
 pub struct Addition {
     pub(crate) entry: Arc<Entry>,
@@ -33,7 +34,7 @@ pub struct Addition {
 
 impl Model for Addition {
     ghost use Rattle.std.specs.Arc.{arc_value};
-    ghost use Rattle.drawing.specs.Additions.{Added};
+    ghost use Rattle.drawing.specs.steps.Additions.{Added};
 
     ghost Value = { Added };
 
@@ -58,12 +59,12 @@ impl Addition {
         }
     }
 
-    /// Takes out the identifiers of the versions of a change's object, with the change. Of a creation and a
-    /// join there are none. What is planned stays.
+    /// Takes out the identifiers of the object's versions after the change. A creation and a join
+    /// have none. What is planned stays as it is.
     pub fn take_ids(&mut self, alloc: Global) -> Option<Vec<VersionId>>
         ensures ids { option_map (λ ids. ids.items) result ≡ ids_of self.old.part }
         ensures entry { self.new.entry ≡ self.old.entry }
-        ensures ready { (s : State) → IsReady s self.old → IsReady s self.new }
+        ensures ready { (s : DrawingState) → IsReady s self.old → IsReady s self.new }
     {
         match &mut self.part {
             Part::Join | Part::Creation(..) => None,

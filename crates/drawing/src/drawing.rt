@@ -1,16 +1,16 @@
-//! A drawing.
+//! The entries of a room with what they draw.
 
 ghost use Rattle.std.specs.Prelude.{◌≡◌, ◌<◌, ◌≤◌, ◌-◌, ◌++◌, ◌∷◌, [], None, Some, IfOk, drop, length, map, nat_le, slice_index, take};
 ghost use Rattle.std.specs.Arc.{arc_value};
 ghost use Rattle.std.specs.Map.{lookup};
 ghost use Rattle.indexmap.specs.IndexMap.{spare};
-ghost use Rattle.op_names.specs.Names.{same_name};
+ghost use Rattle.base_types.specs.Names.{same_name};
 ghost use Rattle.rules.specs.declared.history.Entry.TheVariants.{Join};
 ghost use Rattle.rules.specs.declared.limits.TheConstants.Limits.{MAX_ENTRIES};
 ghost use Rattle.rules.specs.Admission.{causal_refusal};
 ghost use Rattle.rules.specs.Operations.{name_of, object_of};
 ghost use Rattle.rules.specs.Records.{objects, operations};
-ghost use Rattle.drawing.specs.Additions.{CanAdd, CanCreate, CanJoin, CanChange, IsReady};
+ghost use Rattle.drawing.specs.steps.Additions.{CanAdd, CanCreate, CanJoin, CanChange, IsReady};
 ghost use Rattle.drawing.specs.Room.{all_objects, empty_room, with_entry};
 ghost use Rattle.drawing.specs.Shown.{shown};
 
@@ -18,9 +18,9 @@ mod plans;
 
 use crate::addition::{Addition, Part};
 use crate::pages::objects_page;
+use base_types::{NoMemory, OpName};
 use causal::Past;
 use indexmap::IndexMap;
-use op_names::{NoMemory, OpName};
 use rules::{Body, Entry, Limits, Op, Refusal, SharedOp};
 use shape::{PlannedChange, Shape};
 use std::alloc::Global;
@@ -28,8 +28,8 @@ use std::marker::Model;
 use std::sync::Arc;
 use wire::{ObjectList, Reply, VersionList};
 
-/// The entries of a room so far, and what follows from them: the operations, which name is next, and
-/// the objects in order of creation. Whoever owns one decides which entry comes next.
+/// The entries of a room so far, and what they draw: the operations, and the objects in order of
+/// creation. The owner decides which entry comes next.
 #[derive(Drop)]
 pub struct Drawing {
     limits: Limits,
@@ -43,10 +43,10 @@ impl Model for Drawing {
     ghost use Rattle.std.specs.Arc.{arc_value};
     ghost use Rattle.indexmap.specs.IndexMap.{spare};
     ghost use Rattle.drawing.specs.Room.{room_of};
-    ghost use Rattle.drawing.specs.State.{State};
-    ghost use Rattle.drawing.specs.Drawing.{IsReplay};
+    ghost use Rattle.drawing.specs.steps.State.{DrawingState};
+    ghost use Rattle.drawing.specs.steps.Drawing.{IsReplay};
 
-    ghost Value = { State };
+    ghost Value = { DrawingState };
 
     ghost view = { λ d. record {
       room = record { limits = d.limits; entries = map arc_value d.entries.items };
@@ -59,7 +59,8 @@ impl Model for Drawing {
     } };
 
     ghost invariant = { λ d.
-        IsReplay (room_of d.limits (map arc_value d.entries.items)) d.objects.entries d.past.history };
+        IsReplay (room_of d.limits (map arc_value d.entries.items)) d.objects.entries
+        d.past.history };
 }
 
 /// The object that an operation creates or changes.
@@ -73,7 +74,11 @@ fn object_of(op: &Op) -> OpName
 }
 
 impl Drawing {
-    /// A drawing of a room of these limits with no entry yet. Otherwise `NoMemory`.
+    /// An empty drawing under these limits.
+    ///
+    /// # Errors
+    ///
+    /// `NoMemory` if an allocation failed.
     pub fn new(alloc: Global, limits: Limits) -> Result<Drawing, NoMemory>
         ensures { IfOk result (λ drawing. drawing.room ≡ empty_room limits) }
     {
@@ -116,7 +121,7 @@ impl Drawing {
         self.entries.len() as u32
     }
 
-    /// Are there as many entries as there may be?
+    /// Does the record have its maximum number of entries?
     pub fn is_full(&self) -> bool
         ensures full { result ≡ nat_le self.now.room.limits.entries (length self.now.room.entries) }
         ensures range { self.now.room.limits.entries ≤ MAX_ENTRIES }
@@ -139,8 +144,11 @@ impl Drawing {
         self.objects.len() as u32
     }
 
-    /// The names of the objects, in the order in which their creations were added. Linear in their
-    /// number.
+    /// The names of the objects, in order of creation. Linear in their number.
+    ///
+    /// # Errors
+    ///
+    /// `NoMemory` if an allocation failed.
     pub fn names(&self, alloc: Global) -> Result<Vec<OpName>, NoMemory>
         ensures { IfOk result (λ names. names.items ≡ map name_of (objects self.now.room.entries)) }
     {
@@ -156,7 +164,11 @@ impl Drawing {
         Ok(names)
     }
 
-    /// A page of the objects with their kinds from a place on. Linear in the page.
+    /// A page of the objects with their kinds, from a place on. Linear in the page.
+    ///
+    /// # Errors
+    ///
+    /// `NoMemory` if an allocation failed.
     pub fn page(&self, alloc: Global, from: u32) -> Result<ObjectList, NoMemory>
         requires { from ≤ length (objects self.now.room.entries) }
         ensures { IfOk result (λ list. list
@@ -166,7 +178,11 @@ impl Drawing {
         objects_page(alloc, &self.objects, from as usize, page)
     }
 
-    /// The versions of an object. A refusal, `NoSuchObject`, where no object of the name was created.
+    /// The versions of an object, or the refusal `NoSuchObject` if no object has this name.
+    ///
+    /// # Errors
+    ///
+    /// `NoMemory` if an allocation failed.
     pub fn show(&self, alloc: Global, object: OpName) -> Result<Reply, NoMemory>
         ensures { IfOk result (λ reply. reply ≡ shown self.now.room.entries object) }
     {
@@ -186,7 +202,7 @@ impl Drawing {
 }
 
 impl Drawing {
-    /// Adds what was planned for the drawing as it is. Takes no memory.
+    /// Adds what was planned for the drawing as it is now, without an allocation.
     pub fn commit(&mut self, addition: Addition)
         requires { IsReady self.old addition }
         ensures { self.new.room ≡ with_entry self.old.room (Some addition.entry) }

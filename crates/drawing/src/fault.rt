@@ -2,9 +2,9 @@
 
 ghost use Rattle.std.specs.Prelude.{◌≡◌};
 ghost use Rattle.drawing.specs.declared.fault.AddFault.TheVariants as add_fault;
-ghost use Rattle.drawing.specs.Faults.{of_change};
+ghost use Rattle.drawing.specs.steps.Faults.{of_change};
 
-use op_names::NoMemory;
+use base_types::NoMemory;
 use rules::Refusal;
 use shape::ChangeFault;
 use thiserror::Error;

@@ -1,4 +1,4 @@
-//! What the entries of a room draw: its operations so far and its objects, by the entries that were
+//! What the entries of a room draw: the operations so far and the objects, by entries that were
 //! added in a causal order.
 #![tactic(auto)]
 

@@ -1,10 +1,10 @@
 //! Pages of a drawing's objects.
 
 ghost use Rattle.std.specs.Prelude.{◌≡◌, ◌≤◌, IfOk, drop, length, take};
-ghost use Rattle.drawing.specs.State.{kinds_of};
+ghost use Rattle.drawing.specs.steps.State.{kinds_of};
 
+use base_types::{NoMemory, OpName};
 use indexmap::IndexMap;
-use op_names::{NoMemory, OpName};
 use shape::Shape;
 use std::alloc::Global;
 use wire::ObjectList;

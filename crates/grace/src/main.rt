@@ -3,13 +3,13 @@
 
 use byte_streams::Uninterrupted;
 use log::{LevelFilter, Logged};
-use server::Stamped;
+use server::StampedLog;
 use std::env;
 use std::io::{self, ErrorKind};
 use std::process::ExitCode;
 use std::rt::Env;
 
-/// The words of the command line, or the status where they can't be had.
+/// The arguments of the command line.
 fn words(rt: &(impl Env + AllocGlobal)) -> io::Result<Vec<String>> {
     let words = env::args(rt)?.collect(rt.alloc())?;
     Ok(words)
@@ -18,7 +18,7 @@ fn words(rt: &(impl Env + AllocGlobal)) -> io::Result<Vec<String>> {
 fn main(rt: HostRuntime) -> ExitCode {
     match words(&rt) {
         Ok(words) => {
-            let told = Logged::new(rt, LevelFilter::Info, Stamped(rt));
+            let told = Logged::new(rt, LevelFilter::Info, StampedLog(rt));
             let mut input = Uninterrupted { stream: rt.stdin() };
             let mut output = Uninterrupted {
                 stream: rt.stdout(),

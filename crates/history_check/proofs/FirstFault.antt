@@ -5,7 +5,7 @@ use Rattle.std.proofs.lemmas.List.Elements.{All-nil, All-cons}
 use Rattle.rules.specs.declared.history.Entry.{Entry}
 use Rattle.transcript.specs.declared.line.TranscriptLine.{TranscriptLine}
 use Rattle.history_check.specs.declared.findings.Fault.{Fault}
-use Rattle.history_check.specs.Findings.{IsFinding, IsFirstFault, AreFindings, first_from, first_in}
+use Rattle.history_check.specs.steps.Findings.{IsFinding, IsFirstFault, AreFindings, first_from, first_in}
 use Rattle.history_check.specs.Transcripts.{IsAnswered}
 
 -- a fault so many lines on

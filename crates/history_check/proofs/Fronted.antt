@@ -8,12 +8,13 @@ use Rattle.std.proofs.lemmas.List.Elements.{All-take}
 use Rattle.std.proofs.lemmas.Option.{same_Some, slice_get_within, get_or_from_slice_get}
 use Rattle.rules.specs.declared.history.Entry.{Entry}
 use Rattle.transcript.specs.declared.line.TranscriptLine.{TranscriptLine}
-use Rattle.transcript.specs.Lines.{at_of, line_read}
+use Rattle.transcript.specs.Lines.{at_of}
+use Rattle.transcript.specs.steps.Reads.{line_read}
 use Rattle.transcript.specs.Order.{IsInOrder, IsNext}
-use Rattle.transcript.specs.Fronts.{FrontLines, EndsBefore, IsFront}
+use Rattle.transcript.specs.steps.Fronts.{FrontLines, EndsBefore, IsFront}
 use Rattle.history_check.specs.declared.findings.Fault.{Fault}
 use Rattle.history_check.specs.declared.findings.Fault.TheVariants.{NotJoined, WrongReply}
-use Rattle.history_check.specs.Findings.{IsFinding, IsFirstFault}
+use Rattle.history_check.specs.steps.Findings.{IsFinding, IsFirstFault}
 use Rattle.history_check.specs.Transcripts.{room_at, may_ask, IsAnswered, IsTrueTranscript}
 use Rattle.history_check.specs.Verdicts.{AreTranscript, FailsAt, IsBadLine, IsWrongLine}
 use Rattle.restore.proofs.Lengths.{same_length}

@@ -13,8 +13,8 @@ use Rattle.room_core.proofs.Seen.{some_same}
 use Rattle.transcript.specs.declared.line.TranscriptLine.{TranscriptLine}
 use Rattle.transcript.specs.Lines.{at_of}
 use Rattle.history_check.specs.declared.findings.Fault.{Fault}
-use Rattle.history_check.specs.Findings.{IsFinding, AreFindings}
-use Rattle.history_check.specs.Replays.{AreByTime, IsFrontRoom, timed_from}
+use Rattle.history_check.specs.steps.Findings.{IsFinding, AreFindings}
+use Rattle.history_check.specs.steps.Replays.{AreByTime, IsFrontRoom, timed_from}
 use Rattle.history_check.specs.Transcripts.{room_at}
 use Rattle.history_check.proofs.Timed.{in_time}
 

@@ -10,9 +10,10 @@ use Rattle.rules.specs.Limits.{full_limits}
 use Rattle.rules.specs.Records.{admits, IsLegalAfter}
 use Rattle.rules.proofs.Records.{admitted_at}
 use Rattle.wire.specs.Lines.{lines_of}
-use Rattle.wire.specs.Texts.{entry_read}
+use Rattle.wire.specs.steps.Reads.{entry_read}
 use Rattle.transcript.specs.declared.line.TranscriptLine.{TranscriptLine}
-use Rattle.transcript.specs.Lines.{is_join, line_read}
+use Rattle.transcript.specs.Lines.{is_join}
+use Rattle.transcript.specs.steps.Reads.{line_read}
 use Rattle.transcript.specs.Order.{IsInOrder}
 use Rattle.history_check.specs.declared.verdict.Verdict.{Verdict}
 use Rattle.history_check.specs.declared.verdict.Verdict.TheVariants.{Holds, BadRecord, BadTranscript, WrongReply}

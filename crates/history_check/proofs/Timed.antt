@@ -14,7 +14,7 @@ use Rattle.std.proofs.lemmas.List.Elements.{All-nil, All-cons, All-get_or}
 use Rattle.transcript.specs.declared.line.TranscriptLine.{TranscriptLine}
 use Rattle.transcript.specs.Lines.{at_of}
 use Rattle.room_core.proofs.Seen.{at_seam, some_same}
-use Rattle.history_check.specs.Replays.{AreByTime, timed_from}
+use Rattle.history_check.specs.steps.Replays.{AreByTime, timed_from}
 
 timed_push : (place : ℕ) (lines : List TranscriptLine) (line : TranscriptLine)
     → timed_from place (lines ++ line ∷ []) ≡ timed_from place lines ++ (at_of line.reply, place + length lines) ∷ []

@@ -5,9 +5,9 @@ use Rattle.std.proofs.lemmas.Bool.{leb-true, le-leb}
 use Rattle.std.proofs.lemmas.List.{length-map}
 use Rattle.std.proofs.lemmas.Option.{slice_get_cases, slice_get_past}
 use Rattle.rules.specs.declared.history.Entry.{Entry}
-use Rattle.rules.specs.Equality.{same_entry, same_entry-Decides}
+use Rattle.rules.specs.steps.Equality.{same_entry, same_entry-Decides}
 use Rattle.wire.specs.declared.reply.Reply.{Reply}
-use Rattle.wire.specs.Equality.{same_reply, same_reply-Decides}
+use Rattle.wire.specs.steps.Equality.{same_reply, same_reply-Decides}
 use Rattle.room_core.specs.Answers.{Outcome}
 use Rattle.room_core.proofs.Seen.{some_same}
 use Rattle.transcript.specs.declared.line.TranscriptLine.{TranscriptLine}
@@ -54,7 +54,7 @@ given_with r outcome line b same added stands = (
 pub not_there : {X : Type 0} (there wanted : Option X) (y : X) (r : Bool) → there ≡ None → wanted ≡ Some y → r ≡ false → IsTrue r ↔ (there ≡ wanted)
 not_there there wanted y r none some fails = (
   (λ yes. absurd (true≢false (sym yes ∙ fails))),
-  (λ same. absurd (let clash : None ≡ Some y = sym none ∙ same ∙ some in cc)),
+  (λ same. absurd (let is_conflict : None ≡ Some y = sym none ∙ same ∙ some in cc)),
 )
 
 -- none is wanted
@@ -63,7 +63,7 @@ none_there f xs k wanted none =
     let size = length-map xs f in (
       (λ past. let h = leb-true (length xs) k past in slice_get_past (map f xs) k (omega (arith, size, h)) ∙ sym none),
       (λ same. le-leb (length xs) k (elim (slice_get_cases (map f xs) k).1 [
-        | inl found ↦ absurd (let clash : Some found.0 ≡ None = sym found.2 ∙ same ∙ none in cc)
+        | inl found ↦ absurd (let is_conflict : Some found.0 ≡ None = sym found.2 ∙ same ∙ none in cc)
         | inr past ↦ (let h = past.0 in omega (arith, size, h))
       ])),
     )

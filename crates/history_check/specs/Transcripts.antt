@@ -1,5 +1,6 @@
 -- True transcripts of a record.
-use Rattle.std.specs.Prelude.{◌≡◌, ◌≤◌, ◌+◌, ℕ, Bool, true, false, ◌==◌, List, All, take, length, slice_get, if◌then◌else◌}
+use Rattle.std.specs.Prelude.{◌≡◌, ◌≤◌, ◌+◌, ℕ, Bool, true, false, ◌==◌, List, All, take, length}
+use Rattle.std.specs.Prelude.{slice_get, if◌then◌else◌}
 use Rattle.std.specs.List.{AllPairs}
 use Rattle.rules.specs.declared.history.Entry.{Entry}
 use Rattle.rules.specs.Records.{sites}
@@ -15,36 +16,38 @@ use Rattle.transcript.specs.Order.{IsInOrder, IsNext}
 abbrev pub room_at : List Entry → TranscriptLine → Room
 room_at r line = full_room (take (at_of line.reply) r)
 
--- What the rules answer to a site's request, and the entry that is added if there is one. Nobody is in as a site that
--- comes back.
+-- The answer of the rules to a site's request, and the entry that it adds, if any. No session is in
+-- as a site that comes back.
 abbrev pub due_to : Room → ℕ → Request → Outcome
 due_to room site (Join name) = join_answer room
 due_to room site (Back name asked) = reply_alone (back_reply room false site)
 due_to room site asks = answer room site asks
 
--- what the rules answer to a line's request
+-- the answer of the rules to a line's request
 abbrev pub due : Room → TranscriptLine → Outcome
 due room line = due_to room line.site line.request
 
--- who asks: of a join the next site, of another request one that has joined
+-- a join is made by the next site, any other request by a site that has joined
 abbrev pub has_asker : Room → TranscriptLine → Bool
-has_asker room line = if is_join line.request then line.site == sites room.entries + 1 else has_site room line.site
+has_asker room line =
+    if is_join line.request then line.site == sites room.entries + 1 else has_site room line.site
 
--- whoever asks for something else than to join has joined
+-- the line is a join, or its site has joined
 abbrev pub may_ask : Room → TranscriptLine → Bool
 may_ask room line = if is_join line.request then true else has_site room line.site
 
--- a line's reply is the one of this outcome, and the entry that it says was added stands in the record at its AT
+-- The line's reply is that of this outcome. If it reports an entry, the record has the entry at the
+-- line's AT.
 pub record IsGiven (r : List Entry) (outcome : Outcome) (line : TranscriptLine) : Type 0 where
   pub reply : outcome.0 ≡ line.reply
   pub entry : adds line.reply ≡ true → slice_get r (at_of line.reply) ≡ outcome.1
 
--- the right site asks, and was answered as the rules say
+-- the right site asks, and is answered as the rules say
 pub record IsAnswered (r : List Entry) (line : TranscriptLine) : Type 0 where
   pub asker : has_asker (room_at r line) line ≡ true
   pub given : IsGiven r (due (room_at r line) line) line
 
--- a line's AT is within the record, and it was answered so
+-- the line's AT is within the record, and the line is answered so
 pub record IsTrueLine (r : List Entry) (line : TranscriptLine) : Type 0 where
   pub within : at_of line.reply ≤ length r
   pub answered : IsAnswered r line
@@ -54,7 +57,8 @@ pub record IsTrueTranscript (r : List Entry) (lines : List TranscriptLine) : Typ
   pub each : All (IsTrueLine r) lines
   pub order : AllPairs IsInOrder lines
 
--- a line may follow these, whatever its reply says besides its AT
-pub record MayFollow (r : List Entry) (before : List TranscriptLine) (line : TranscriptLine) : Type 0 where
+-- the line may follow these, whatever its reply says besides its AT
+pub record MayFollow
+    (r : List Entry) (before : List TranscriptLine) (line : TranscriptLine) : Type 0 where
   pub next : IsNext (length r) before line
   pub joined : may_ask (room_at r line) line ≡ true

@@ -1,32 +1,32 @@
-//! What is wrong with a transcript's lines, each by itself.
+//! Faults of a transcript's lines, each judged by itself.
 
 ghost use Rattle.std.specs.Prelude.{◌≡◌, ◌≤◌, All, IfOk, length, map};
 ghost use Rattle.std.specs.Arc.{arc_value};
 ghost use Rattle.rules.specs.Limits.{full_limits};
 ghost use Rattle.rules.specs.Records.{IsLegal};
 ghost use Rattle.transcript.specs.Lines.{at_of};
-ghost use Rattle.history_check.specs.Findings.{AreFindings, IsFirstFault, first_in};
+ghost use Rattle.history_check.specs.steps.Findings.{AreFindings, IsFirstFault, first_in};
 
 use crate::line_fault::fault_of;
 use crate::replay::{advance, by_time};
-use op_names::NoMemory;
+use base_types::NoMemory;
 use room_core::{Limits, RoomState};
 use rules::Entry;
 use std::alloc::Global;
 use std::sync::Arc;
 use transcript::TranscriptLine;
 
-/// What is wrong with a line, whatever the others are.
+/// A fault of a line, whatever the other lines are.
 #[derive(Clone, Copy, Debug, PartialEq, Eq)]
 pub(crate) enum Fault {
-    /// It asks for a site that hasn't joined by then.
+    /// The line's site has not joined by then.
     NotJoined,
     /// The rules give another reply, or add another entry than the record has there.
     WrongReply,
 }
 
-/// What is wrong with each line, in their order. The record is played once: the lines are taken by
-/// rising AT.
+/// The fault of each line, in order. The lines are judged by rising AT, so the record is played
+/// once.
 fn find_all(
     alloc: Global,
     entries: &[Arc<Entry>],
@@ -48,7 +48,7 @@ fn find_all(
     Ok(findings)
 }
 
-/// The first fault of these, by its place.
+/// The first fault in the list, with its place.
 fn first_of(findings: &[Option<Fault>]) -> Option<(usize, Fault)>
     ensures { result ≡ first_in findings.now }
 {
@@ -60,7 +60,7 @@ fn first_of(findings: &[Option<Fault>]) -> Option<(usize, Fault)>
     None
 }
 
-/// The first line with which something is wrong, by its place from 0, and what it is.
+/// The first line with a fault, by its place from 0, and the fault.
 pub(crate) fn first_fault(
     alloc: Global,
     entries: &[Arc<Entry>],

@@ -1,4 +1,4 @@
-//! A room's record and a transcript of it, checked apart from the server.
+//! Checks a room's record and a transcript of it, independently of the server.
 #![tactic(auto)]
 
 mod findings;

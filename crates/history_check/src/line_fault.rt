@@ -1,14 +1,14 @@
-//! What is wrong with one line, in the room as it was at that line.
+//! The fault of one line, in the room as it was at that line.
 
 ghost use Rattle.std.specs.Prelude.{◌≡◌, ◌↔◌, true, IfOk, IsTrue, map, option_map, slice_get};
 ghost use Rattle.std.specs.Arc.{arc_value};
-ghost use Rattle.room_core.specs.Plans.{Plans, outcome};
+ghost use Rattle.room_core.specs.steps.Plans.{Plans, outcome};
 ghost use Rattle.transcript.specs.Lines.{adds, at_of};
-ghost use Rattle.history_check.specs.Findings.{IsFinding};
+ghost use Rattle.history_check.specs.steps.Findings.{IsFinding};
 ghost use Rattle.history_check.specs.Transcripts.{IsGiven, due, has_asker, may_ask, room_at};
 
 use crate::findings::Fault;
-use op_names::NoMemory;
+use base_types::NoMemory;
 use room_core::{Planned, RoomState};
 use rules::Entry;
 use std::alloc::Global;
@@ -16,14 +16,14 @@ use std::sync::Arc;
 use transcript::{TranscriptLine, adds, at_of, is_join};
 use wire::Request;
 
-/// Has whoever asks for something else than to join joined?
+/// Returns whether the line is a join, or its site has joined.
 fn may_ask(room: &RoomState, line: &TranscriptLine) -> bool
     ensures { result ≡ may_ask room.now.room line.now }
 {
     is_join(&line.request) || (line.site >= 1 && line.site <= room.sites())
 }
 
-/// Does a join ask for the next site, and anything else a site that has joined?
+/// Returns whether a join names the next site, and any other request a site that has joined.
 fn has_asker(room: &RoomState, line: &TranscriptLine) -> bool
     ensures { result ≡ has_asker room.now.room line.now }
 {
@@ -34,7 +34,7 @@ fn has_asker(room: &RoomState, line: &TranscriptLine) -> bool
     }
 }
 
-/// Plans what the rules answer to the line's request. The room stays as it is.
+/// Plans the answer of the rules to the line's request. The room is unchanged.
 fn plan_line(
     alloc: Global,
     room: &mut RoomState,
@@ -52,7 +52,7 @@ fn plan_line(
     }
 }
 
-/// Does the record have this entry in this place, or none where there is none?
+/// Returns whether the record has this entry at this place, or, for `None`, no entry there.
 fn has_at(entries: &[Arc<Entry>], place: usize, wanted: Option<&Arc<Entry>>) -> bool
     ensures { IsTrue result ↔ (slice_get (map arc_value entries.now) place
         ≡ option_map (λ e. arc_value e.now) wanted.entry) }
@@ -63,7 +63,8 @@ fn has_at(entries: &[Arc<Entry>], place: usize, wanted: Option<&Arc<Entry>>) -> 
     }
 }
 
-/// Is what is planned the line's reply, with the entry that the record has in its place?
+/// Returns whether the plan gives the line's reply, and the record has the planned entry at its
+/// place.
 fn is_given(planned: &Planned, entries: &[Arc<Entry>], line: &TranscriptLine) -> bool
     ensures { IsTrue result ↔ IsGiven (map arc_value entries.now) (outcome planned.now) line.now }
 {
@@ -74,8 +75,7 @@ fn is_given(planned: &Planned, entries: &[Arc<Entry>], line: &TranscriptLine) ->
     !adds(&line.reply) || has_at(entries, place, planned.entry())
 }
 
-/// What is wrong with a line, if something is, in the room as it was at that line. The room stays as
-/// it is.
+/// The fault of a line, if it has one, in the room as it was at that line. The room is unchanged.
 pub(crate) fn fault_of(
     alloc: Global,
     room: &mut RoomState,

@@ -1,26 +1,29 @@
-//! A record in the forms that are written today.
+//! Rewriting a record in the current forms.
 
 ghost use Rattle.std.specs.Prelude.{IfOk};
 ghost use Rattle.wire.specs.Lines.{lines_of};
 ghost use Rattle.history_check.specs.Migration.{IsMigrated};
 
-use op_names::NoMemory;
+use base_types::NoMemory;
 use record_file::text_of;
 use restore::{Reading, read_record};
 use std::alloc::Global;
 
-/// A record that is written anew.
+/// The result of rewriting a record.
 #[derive(Debug, Drop)]
 pub enum Migrated {
-    /// The record's entries in today's forms, each with a line feed.
+    /// The record's entries in the current forms, each ended by LF.
     Text(String),
-    /// The first line of the record, from 1, that is no entry, or none that a room with the entries
-    /// before it would add next.
+    /// This line of the record, counted from 1, is the first that is no entry, or no entry that may
+    /// come next.
     BadRecord(usize),
 }
 
-/// Writes the entries of a record anew, or tells the first line that makes it no record, or
-/// `NoMemory`. Takes as long as adding the entries one after the other.
+/// Rewrites the entries of a record in the current forms, or gives the number of the first bad
+/// line. Its cost is that of adding the entries one by one.
+///
+/// # Errors
+/// `NoMemory` if an allocation failed.
 pub fn migrate(alloc: Global, entries: &[u8]) -> Result<Migrated, NoMemory>
     ensures { IfOk result (IsMigrated (lines_of entries.now)) }
 {

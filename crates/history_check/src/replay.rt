@@ -1,20 +1,21 @@
-//! A record played again, beside the lines of a transcript.
+//! Playing a record again beside the lines of a transcript.
 
 ghost use Rattle.std.specs.Prelude.{◌≡◌, ◌≤◌, IfOk, OnOk, length, map, take};
 ghost use Rattle.std.specs.Arc.{arc_value};
 ghost use Rattle.rules.specs.Limits.{full_limits};
 ghost use Rattle.rules.specs.Records.{IsLegal};
 ghost use Rattle.room_core.specs.Room.{full_room};
-ghost use Rattle.history_check.specs.Replays.{AreByTime, IsFrontRoom};
+ghost use Rattle.history_check.specs.steps.Replays.{AreByTime, IsFrontRoom};
 
-use op_names::NoMemory;
+use base_types::NoMemory;
 use room_core::RoomState;
 use rules::Entry;
 use std::alloc::Global;
 use std::sync::Arc;
 use transcript::{TranscriptLine, at_of};
 
-/// Plays a legal record on, up to so many entries. Linear in the entries that are added.
+/// Adds the entries of a legal record to the room, up to the first `at`. Linear in the entries that
+/// are added.
 pub(crate) fn advance(
     alloc: Global,
     room: &mut RoomState,
@@ -33,7 +34,7 @@ pub(crate) fn advance(
     Ok(())
 }
 
-/// Each line's AT with the line's place from 0, by rising AT. Takes n log n steps for n lines.
+/// For each line its AT and its place from 0, by rising AT. Takes n log n steps for n lines.
 pub(crate) fn by_time(
     alloc: Global,
     lines: &[TranscriptLine],

@@ -1,4 +1,4 @@
-//! Whether a record is legal, and a transcript true of it.
+//! The verdict on a record and a transcript of it.
 
 ghost use Rattle.std.specs.Prelude.{◌≡◌, ◌↔◌, IfOk, map};
 ghost use Rattle.std.specs.Arc.{arc_value};
@@ -9,31 +9,34 @@ ghost use Rattle.history_check.specs.declared.verdict.Verdict.TheVariants.{Holds
 ghost use Rattle.history_check.specs.Verdicts.{AreTrue, IsVerdict, IsVerdictOn};
 
 use crate::findings::{Fault, first_fault};
-use op_names::NoMemory;
+use base_types::NoMemory;
 use restore::{Reading, read_record};
 use rules::Entry;
 use std::alloc::Global;
 use std::sync::Arc;
 use transcript::Front;
 
-/// What is said of a record and a transcript. Lines count from 1.
+/// The verdict on a record and a transcript. Lines count from 1.
 #[derive(Clone, Copy, Debug, PartialEq, Eq)]
 pub enum Verdict {
     /// The record is legal, and the transcript is true of it.
     Holds,
-    /// The first line of the record that is no entry, or none that a room with the entries before
-    /// it would add next.
+    /// The first line of the record that is no entry, or no entry that may come next.
     BadRecord(usize),
-    /// The first line of the transcript that isn't in form or may not follow those before it.
+    /// The first line of the transcript that is not in form, or may not follow the lines before it.
     BadTranscript(usize),
-    /// The first line of the transcript whose reply isn't what the rules give, or whose entry the
-    /// record doesn't have there.
+    /// The first line of the transcript whose reply is not that of the rules, or whose entry is not
+    /// in the record at its place.
     WrongReply(usize),
 }
 
-/// Is the record legal, and is the transcript true of it? Otherwise the first fault, or `NoMemory`.
-/// A fault of the record comes before any of the transcript. Takes as long as adding the entries twice
-/// and answering the transcript's requests once, and n log n steps for n lines.
+/// Checks that the record is legal and the transcript true of it, and returns the verdict. A fault
+/// of the record comes before any fault of the transcript.
+/// The cost is that of adding the entries twice and answering the transcript's requests once.
+/// Ordering n lines takes n log n steps.
+///
+/// # Errors
+/// `NoMemory` if an allocation failed.
 pub fn check(alloc: Global, entries: &[u8], transcript: &[u8]) -> Result<Verdict, NoMemory>
     ensures verdict { IfOk result (IsVerdict entries.now transcript.now) }
     ensures holds { IfOk result
@@ -45,7 +48,7 @@ pub fn check(alloc: Global, entries: &[u8], transcript: &[u8]) -> Result<Verdict
     }
 }
 
-/// Is the transcript true of this legal record? Otherwise its first fault.
+/// The verdict on a transcript of this legal record.
 fn check_transcript(
     alloc: Global,
     entries: &[Arc<Entry>],

@@ -1,4 +1,1 @@
-pub mod Faults
-pub mod Failures
-pub mod Memories
-pub mod Counts
+pub mod steps

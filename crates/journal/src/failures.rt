@@ -1,20 +1,20 @@
-//! Which calls of a journal in memory fail.
+//! A schedule of failures for the journal in memory.
 
 ghost use Rattle.std.specs.Prelude.{◌≡◌};
-ghost use Rattle.journal.specs.Failures.{fault_now, after_call};
+ghost use Rattle.journal.specs.steps.Failures.{fault_now, after_call};
 
 use crate::fault::JournalFault;
 
-/// Which calls of a journal in memory fail, and how.
+/// Which calls of a `Memory` fail, and how.
 #[derive(Clone, Copy, Debug, PartialEq, Eq)]
 pub struct Failures {
-    /// How many calls go well first.
+    /// The number of calls that succeed first.
     pub after: u32,
-    /// How many fail then. Those behind them go well again.
+    /// The number of calls that fail after these. Later calls succeed again.
     pub count: u32,
-    /// Whether they say that the disk is full. Otherwise they say that the file took no more.
+    /// Whether a failed call reports `Full`. Otherwise it reports `Failed`.
     pub is_full: bool,
-    /// How many bytes a write that fails leaves behind what is held, at most.
+    /// The most bytes that a failed append leaves at the end of the file.
     pub leaves: usize,
 }
 
@@ -27,7 +27,7 @@ impl Failures {
         leaves: 0,
     };
 
-    /// What the next call says, if it fails.
+    /// The fault of the next call, or `None` if it succeeds.
     pub(crate) fn fault_now(&self) -> Option<JournalFault>
         ensures { result ≡ fault_now self.now }
     {
@@ -41,7 +41,7 @@ impl Failures {
         }
     }
 
-    /// The failures of the calls behind the next one.
+    /// The schedule after one more call.
     pub(crate) fn after_call(self) -> Failures
         ensures { result ≡ after_call self }
     {

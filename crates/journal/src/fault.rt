@@ -1,31 +1,31 @@
-//! Why a journal fails.
+//! Why a call of a journal fails.
 
 ghost use Rattle.std.specs.Prelude.{◌≡◌};
 ghost use Rattle.std.specs.IoError.{error_kind};
-ghost use Rattle.journal.specs.Faults.{fault_of_kind};
+ghost use Rattle.journal.specs.steps.Faults.{fault_of_kind};
 ghost use Rattle.journal.specs.declared.fault.JournalFault.TheVariants as journal_fault;
 
-use op_names::NoMemory;
+use base_types::NoMemory;
 use std::io;
 use std::io::ErrorKind;
 use thiserror::Error;
 
-/// Why a call of a journal failed. What stands behind the bytes that are kept is not known then, but
-/// where memory was refused. So the journal takes no more until it is cut.
+/// Why a call of a journal failed. After `Full` or `Failed` the file may hold unknown bytes behind
+/// those that are kept. A caller cuts the journal before it appends again.
 #[derive(Clone, Copy, Debug, PartialEq, Eq, Error)]
 pub enum JournalFault {
-    /// Memory was refused. The journal is as it was.
+    /// An allocation failed. The journal is unchanged.
     #[error("out of memory")]
     NoMemory,
-    /// The disk is full: the system answered ENOSPC.
+    /// The disk is full: the system returned ENOSPC.
     #[error("the disk is full")]
     Full,
-    /// A write, a sync or a cut failed for any other cause.
+    /// A write, a sync or a cut failed for another reason.
     #[error("the file took no more")]
     Failed,
 }
 
-/// What a journal says of a fault of this kind.
+/// The fault for an I/O error of this kind.
 fn fault_of_kind(kind: ErrorKind) -> JournalFault
     ensures { result ≡ fault_of_kind kind }
 {

@@ -1,4 +1,4 @@
-//! A file of the system as a journal.
+//! A journal over a file of the operating system.
 
 ghost use Rattle.std.specs.Prelude.{◌≡◌, ◌≢◌, ◌+◌, Err, OnErr, OnOk, false, length, true};
 
@@ -8,9 +8,10 @@ use std::fs::OpenFile;
 use std::io::Write;
 use std::marker::Model;
 
-/// A file that was opened to append. No clause says what it holds: that the system's calls do to it what
-/// a journal's do is a matter of the system. Contracts see how many bytes are held and how many of them
-/// are kept, if the file does as it is told, and whether a call failed since the last cut.
+/// A journal over a file that was opened for appending.
+/// No clause says what the file holds: the effect of a system call is outside the contracts.
+/// Contracts see three fields. `held` counts the bytes that were written. `kept` counts those that
+/// were synced. `failed` is true after a failed call until the next successful cut.
 #[derive(Drop)]
 pub struct Synced<F> {
     file: F,
@@ -20,7 +21,7 @@ pub struct Synced<F> {
 }
 
 impl<F> Model for Synced<F> {
-    ghost use Rattle.journal.specs.Counts.{Counts};
+    ghost use Rattle.journal.specs.steps.Counts.{Counts};
 
     ghost Value = { Counts };
 
@@ -28,7 +29,8 @@ impl<F> Model for Synced<F> {
 }
 
 impl<F> Synced<F> {
-    /// A journal over a file that was opened to append. It has so many bytes, all of them on the disk.
+    /// A journal over a file that was opened for appending. `len` is the file's length in bytes,
+    /// all of which are on the disk.
     pub fn new(file: F, len: u64) -> Synced<F>
         ensures { result ≡ record { held = len; kept = len; failed = false } }
     {
@@ -40,7 +42,7 @@ impl<F> Synced<F> {
         }
     }
 
-    /// How many bytes are kept.
+    /// The number of bytes that are kept.
     pub fn kept_len(&self) -> u64
         ensures { result ≡ self.now.kept }
     {
@@ -55,9 +57,9 @@ impl<F: Write + OpenFile> Journal for Synced<F> {
 
     ghost kept = { λ _. None };
 
-    /// After a fault it says `Failed`, until it is cut.
+    /// Returns `Failed` after an earlier fault, until `cut` succeeds.
     fn append(&mut self, bytes: &[u8]) -> Result<(), JournalFault>
-        ensures refused { self.old.failed ≡ true → result ≡ Err JournalFault.Failed }
+        ensures failed_before { self.old.failed ≡ true → result ≡ Err JournalFault.Failed }
         ensures ok { OnOk result (self.new ≡ record self.old {
           held =
               self.old.held + length bytes.now;
@@ -77,10 +79,10 @@ impl<F: Write + OpenFile> Journal for Synced<F> {
         Ok(())
     }
 
-    /// After a fault it says `Failed`, until it is cut: what a sync that failed didn't put on the disk a
-    /// later one may leave out.
+    /// Returns `Failed` after an earlier fault, until `cut` succeeds. A later sync may omit what a
+    /// failed sync did not write.
     fn sync(&mut self) -> Result<(), JournalFault>
-        ensures refused { self.old.failed ≡ true → result ≡ Err JournalFault.Failed }
+        ensures failed_before { self.old.failed ≡ true → result ≡ Err JournalFault.Failed }
         ensures ok { OnOk result (self.new ≡ record self.old { kept = self.old.held }) }
         ensures err { OnErr result (self.new ≡ record self.old { failed = true }) }
         ensures memory { result ≢ Err JournalFault.NoMemory }

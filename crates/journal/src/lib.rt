@@ -1,4 +1,4 @@
-//! A file that grows at its end, and how much of it a loss of power leaves.
+//! A file that grows at its end, and a model of which bytes survive a loss of power.
 #![tactic(auto)]
 
 mod failures;

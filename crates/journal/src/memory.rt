@@ -1,11 +1,11 @@
-//! A journal in memory, which can fail and lose power.
+//! A journal in memory, which can fail and lose power. Tests use it.
 
 ghost use Rattle.std.specs.Prelude.{◌≡◌, ◌≢◌, ◌≤◌, ◌++◌, Err, IfErr, IfOk, OnErr, OnOk};
 ghost use Rattle.std.specs.Prelude.{length, option_map, take};
 ghost use Rattle.std.specs.Result.{result_err};
-ghost use Rattle.op_names.specs.Faults.{FailsBy};
-ghost use Rattle.journal.specs.Failures.{fault_now, after_call};
-ghost use Rattle.journal.specs.Memories.{AppendsAtMost};
+ghost use Rattle.base_types.specs.steps.Faults.{FailsBy};
+ghost use Rattle.journal.specs.steps.Failures.{fault_now, after_call};
+ghost use Rattle.journal.specs.steps.Memories.{AppendsAtMost};
 
 use crate::failures::Failures;
 use crate::fault::JournalFault;
@@ -13,7 +13,8 @@ use crate::journal::Journal;
 use std::alloc::{AllocError, Global};
 use std::marker::Model;
 
-/// A journal in memory. Contracts see what it holds, what of it is kept, and which calls fail.
+/// A journal in memory. Contracts see what it holds, what of that is kept, and its schedule of
+/// failures.
 #[derive(Drop)]
 pub struct Memory {
     bytes: Vec<u8>,
@@ -23,7 +24,7 @@ pub struct Memory {
 
 impl Model for Memory {
     ghost use Rattle.std.specs.Prelude.{◌≤◌, take, vec_len};
-    ghost use Rattle.journal.specs.Memories.{Contents};
+    ghost use Rattle.journal.specs.steps.Memories.{Contents};
 
     ghost Value = { Contents };
 
@@ -37,7 +38,7 @@ impl Model for Memory {
 }
 
 impl Memory {
-    /// A file with these bytes, all of them kept, whose calls fail so.
+    /// A journal that holds and keeps these bytes, with this schedule of failures.
     pub fn new(bytes: Vec<u8>, failures: Failures) -> Memory
         ensures held { result.held ≡ bytes.items }
         ensures kept { result.kept ≡ bytes.items }
@@ -51,14 +52,17 @@ impl Memory {
         }
     }
 
-    /// What is held.
+    /// The bytes that are held.
     pub fn bytes(&self) -> &[u8]
         ensures { result.now ≡ self.now.held }
     {
         &self.bytes
     }
 
-    /// What a loss of power leaves: what is kept, and behind it any bytes, as `tail`.
+    /// The bytes that a loss of power leaves: those that are kept, followed by `tail`.
+    ///
+    /// # Errors
+    /// `AllocError` if an allocation failed.
     pub fn lose_power(&self, alloc: Global, tail: &[u8]) -> Result<Vec<u8>, AllocError>
         ensures { IfOk result (λ left. left.items ≡ self.now.kept ++ tail.now) }
     {
@@ -67,7 +71,7 @@ impl Memory {
         Ok(left)
     }
 
-    /// Counts a call, and says how it fails, if it does.
+    /// Counts one call, and returns its fault if it is to fail.
     fn count_call(&mut self) -> Option<JournalFault>
         ensures fault { result ≡ fault_now self.old.failures }
         ensures held { self.new.held ≡ self.old.held }
@@ -98,7 +102,7 @@ impl Journal for Memory {
     {
         let leaves = self.failures.leaves;
         if let Some(fault) = self.count_call() {
-            // Where memory is refused too, nothing is left of the bytes.
+            // Where this allocation fails too, none of the bytes is left.
             let _ = self
                 .bytes
                 .extend_from_slice(&bytes[..leaves.min(bytes.len())]);

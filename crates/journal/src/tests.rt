@@ -5,7 +5,7 @@ use std::io;
 use std::io::{ErrorKind, Write};
 use std::test::Fail;
 
-/// A file that counts its bytes. From some call of a write or a sync on each fails, until it is cut.
+/// A file that counts its bytes. From one write or sync on, each call fails until the file is cut.
 #[derive(Drop)]
 struct Counted {
     len: Cell<u64>,
@@ -26,7 +26,7 @@ impl Counted {
 }
 
 impl Write for &Counted {
-    /// A write that fails leaves a byte.
+    /// A failed write leaves one byte.
     fn write(&mut self, buf: &[u8]) -> io::Result<usize> {
         let len = self.len.get();
         self.len.set(len.saturating_add(1));
@@ -60,7 +60,7 @@ impl OpenFile for &Counted {
     }
 }
 
-// After a fault a file takes no more, until it is cut back to what is kept.
+// After a fault a file accepts no append until it is cut back to what is kept.
 #[test]
 fn a_file_is_cut_after_a_fault(rt: HostRuntime) {
     for calls in 2..4 {
@@ -91,7 +91,7 @@ fn a_file_is_cut_after_a_fault(rt: HostRuntime) {
     }
 }
 
-// The system's own full disk.
+// A full disk of the system is reported as `Full`.
 #[test]
 fn a_full_disk_is_told(rt: HostRuntime) -> Result<(), Fail> {
     let file = OpenOptions::new().append(true).open(&rt, "/dev/full")?;
@@ -110,7 +110,7 @@ fn a_full_disk_is_told(rt: HostRuntime) -> Result<(), Fail> {
     Ok(())
 }
 
-// A loss of power leaves what was synced, with anything behind it; calls fail as they are told to.
+// A loss of power leaves what was synced, and any bytes behind it. Calls fail by their schedule.
 #[test]
 fn power_is_lost(rt: HostRuntime) -> Result<(), Fail> {
     let alloc = rt.alloc();

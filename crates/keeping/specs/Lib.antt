@@ -1,4 +1,4 @@
 pub use Rattle.record_file.specs.RecordText
 pub mod Kept
 pub mod Tails
-pub mod Turns
+pub mod steps

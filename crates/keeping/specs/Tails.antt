@@ -1,9 +1,9 @@
--- What may stand behind what is kept.
+-- What may follow the kept bytes.
 use Rattle.std.specs.Prelude.{Bool, true, false}
 use Rattle.keeping.specs.declared.file.Tail.{Tail}
 use Rattle.keeping.specs.declared.file.Tail.TheVariants.{Nothing, Scraps, Broken}
 
--- nothing does
+-- nothing follows them
 abbrev pub is_clean : Tail → Bool
 is_clean Nothing = true
 is_clean Scraps = false

@@ -1,15 +1,16 @@
 //! A room's file.
 
-ghost use Rattle.std.specs.Prelude.{◌≡◌, ◌++◌, OnErr, OnOk, IfOk, IfSome, false, true, map, option_map, take, length};
+ghost use Rattle.std.specs.Prelude.{◌≡◌, ◌++◌, OnErr, OnOk, IfOk, IfSome, false, true, map};
+ghost use Rattle.std.specs.Prelude.{option_map, take, length};
 ghost use Rattle.std.specs.Arc.{arc_value};
 ghost use Rattle.record_file.specs.RecordText.{AreLines, record_text};
 ghost use Rattle.keeping.specs.Tails.{is_clean};
 
 mod kept;
 
+use base_types::NoMemory;
 use journal::{Journal, JournalFault, Synced};
 pub use kept::Kept;
-use op_names::NoMemory;
 use record_file::append;
 use room_lock::{News, Prefix, RoomLedger};
 use rules::Entry;
@@ -20,19 +21,20 @@ use std::io::Write;
 use std::marker::Model;
 use std::sync::Arc;
 
-/// What may stand behind what is kept.
+/// What may follow the kept bytes in the file.
 #[derive(Clone, Copy, Debug, PartialEq, Eq)]
 enum Tail {
     /// Nothing.
     Nothing,
-    /// Anything, since the disk was full or memory was refused: it is cut off before the next write.
+    /// Arbitrary bytes, since the disk was full or an allocation failed. They are cut off before
+    /// the next write.
     Scraps,
-    /// Anything, since a write, a sync or a cut failed. The file takes no more.
+    /// Arbitrary bytes, since a write, a sync or a cut failed. The file accepts no more.
     Broken,
 }
 
-/// A room's file, open at its end. Contracts see the beginning of the room's record that is in it for
-/// good.
+/// A room's file, open for appending. Contracts see the prefix of the room's record that the file
+/// keeps.
 #[derive(Drop)]
 pub struct RoomFile<P: RoomLedger, J: Journal> {
     journal: J,
@@ -49,12 +51,13 @@ impl<P: RoomLedger, J: Journal> Model for RoomFile<P, J> {
 
     ghost view = { λ f. f.kept };
 
-    ghost invariant = { λ f. IsInFile (J.held f.journal) (J.kept f.journal) f.kept.entries (is_clean f.tail) };
+    ghost invariant = { λ f.
+        IsInFile (J.held f.journal) (J.kept f.journal) f.kept.entries (is_clean f.tail) };
 }
 
 impl<P: RoomLedger, J: Journal> RoomFile<P, J> {
-    /// The file of a room that begins with the record that was read from it. Its whole lines are these
-    /// entries, and all of it is on the disk.
+    /// The file of a room that begins with the record that was read from it. Its whole lines are
+    /// these entries, and all of it is on the disk.
     pub fn open(journal: J, begun: &Prefix<P>) -> RoomFile<P, J>
         requires synced { J.held journal ≡ J.kept journal }
         requires lines { IfSome (J.kept journal) (λ bytes. AreLines bytes begun.now.entries) }
@@ -67,22 +70,26 @@ impl<P: RoomLedger, J: Journal> RoomFile<P, J> {
         }
     }
 
-    /// What is in the file for good, as a receipt of it.
+    /// The receipt for what the file keeps.
     pub fn receipt(&self) -> &Kept<P>
         ensures { result.now ≡ self.now }
     {
         &self.kept
     }
 
-    /// Does nothing but what is kept stand in the file?
+    /// Returns whether the file holds only what it keeps.
     pub fn is_clean(&self) -> bool {
         self.tail == Tail::Nothing
     }
 
-    /// Puts what the room's record has beyond what is kept into the file for good, by one write and one
-    /// sync. Where the disk is full it is `NotKept`, and the next call tries again; where a write or a
-    /// sync failed otherwise it is `NotKept`, now and for each later call. `NoMemory` where memory was
-    /// refused. Linear in what is beyond.
+    /// Appends what the room's record has beyond the kept prefix, by one write and one sync. Linear
+    /// in these entries.
+    ///
+    /// # Errors
+    /// What the file keeps is unchanged.
+    /// `NotKept` if the disk is full; the next call tries again.
+    /// `NotKept` if a write or a sync failed for another reason, now and for each later call.
+    /// `NoMemory` if an allocation failed.
     pub fn keep(&mut self, alloc: Global, news: &News<P>) -> Result<(), KeepFault>
         requires news { self.old.entries ++ map arc_value news.now.entries.items
             ≡ news.now.whole.entries }
@@ -104,8 +111,7 @@ impl<P: RoomLedger, J: Journal> RoomFile<P, J> {
         }
     }
 
-    /// Gives the file up. Whatever comes leaves a file that begins with whole lines of the entries that
-    /// were kept.
+    /// Consumes the file. A loss of power leaves whole lines of the kept entries at its start.
     pub fn into_journal(self) -> J
         ensures { IfSome (J.kept result) (λ bytes. AreLines bytes self.entries) }
     {
@@ -114,9 +120,12 @@ impl<P: RoomLedger, J: Journal> RoomFile<P, J> {
 }
 
 impl<P: RoomLedger, F: Write + OpenFile + Drop> RoomFile<P, Synced<F>> {
-    /// The files of rooms that begin with the records that were read from them, in the order of the
-    /// rooms: as many as there are both files and rooms. All of each file is on the disk, and it is
-    /// opened to append.
+    /// Opens the files of rooms that begin with the records that were read from them, in the order
+    /// of the rooms. Stops at the end of the shorter list. All of each file is on the disk, and it
+    /// is open for appending.
+    ///
+    /// # Errors
+    /// `NoMemory` if an allocation failed.
     pub fn open_all(
         alloc: Global,
         journals: Vec<Synced<F>>,
@@ -135,8 +144,8 @@ impl<P: RoomLedger, F: Write + OpenFile + Drop> RoomFile<P, Synced<F>> {
     }
 }
 
-/// Puts entries behind what is kept, for good. What may stand there is cut off before. `Failed` where
-/// the file takes no more.
+/// Appends entries behind the kept bytes and syncs them. Cuts off what may follow those first.
+/// `Failed` if the file accepts no more.
 fn put_behind<J: Journal>(
     alloc: Global,
     journal: &mut J,
@@ -146,7 +155,8 @@ fn put_behind<J: Journal>(
     requires { is_clean tail ≡ true → J.held journal.old ≡ J.kept journal.old }
     ensures held { OnOk result (J.held journal.new ≡ J.kept journal.new) }
     ensures kept { OnOk result (J.kept journal.new
-        ≡ option_map (λ bytes. bytes ++ record_text (map arc_value entries.now)) (J.kept journal.old)) }
+        ≡ option_map (λ bytes. bytes ++ record_text (map arc_value entries.now))
+        (J.kept journal.old)) }
     ensures lines { OnOk result
         (AreLines (record_text (map arc_value entries.now)) (map arc_value entries.now)) }
     ensures err { OnErr result (J.kept journal.new ≡ J.kept journal.old) }
@@ -159,7 +169,7 @@ fn put_behind<J: Journal>(
     append(alloc, journal, entries)
 }
 
-/// What may stand behind what is kept after a fault.
+/// What may follow the kept bytes after a fault.
 fn tail_after(fault: JournalFault) -> Tail
     ensures { is_clean result ≡ false }
 {
@@ -169,7 +179,7 @@ fn tail_after(fault: JournalFault) -> Tail
     }
 }
 
-/// What a fault of the file is to who waits for it.
+/// The fault of keeping for a fault of the file.
 fn keep_fault(fault: JournalFault) -> KeepFault {
     match fault {
         JournalFault::NoMemory => KeepFault::NoMemory,

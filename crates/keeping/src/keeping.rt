@@ -4,22 +4,25 @@ ghost use Rattle.std.specs.Prelude.{◌≡◌};
 
 use crate::file::{Kept, RoomFile};
 use crate::room::KeptRoom;
+use base_types::NoMemory;
 use journal::Journal;
-use op_names::NoMemory;
 use room_lock::{Prefix, RoomLedger, Rooms};
 use sessions::{KeepFault, Keeper};
 use std::alloc::Global;
 use std::sync::Wait;
 
-/// The files of all rooms, by the places of the rooms. Threads that wait for one room's file share a
-/// write and a sync; those of different rooms don't wait for each other.
+/// The files of all rooms, by the places of the rooms. Threads that wait for one room's file share
+/// a write and a sync. Threads of different rooms do not wait for each other.
 #[derive(Drop)]
 pub struct Keeping<P: RoomLedger, J: Journal> {
     rooms: Vec<KeptRoom<P, J>>,
 }
 
 impl<P: RoomLedger, J: Journal + Drop> Keeping<P, J> {
-    /// Keeps the rooms in these files, in the order of the rooms; or `NoMemory`.
+    /// Keeps the rooms in these files, which are in the order of the rooms.
+    ///
+    /// # Errors
+    /// `NoMemory` if an allocation failed.
     pub fn new(alloc: Global, files: Vec<RoomFile<P, J>>) -> Result<Keeping<P, J>, NoMemory> {
         let mut rooms = Vec::with_capacity(alloc, files.len())?;
         for file in files {
@@ -28,8 +31,8 @@ impl<P: RoomLedger, J: Journal + Drop> Keeping<P, J> {
         Ok(Keeping { rooms })
     }
 
-    /// Is each record kept as far as it was to be? Not where some file took no more, and no later write
-    /// mended it.
+    /// Returns whether each file holds only what it keeps. False if the last write to some file
+    /// failed.
     pub fn all_kept(&self, rt: &impl Wait) -> bool {
         for room in &self.rooms {
             if !room.is_clean(rt) {
@@ -47,9 +50,12 @@ impl<P: RoomLedger, J: Journal + Drop> Keeper<P> for Keeping<P, J> {
 
     ghost shows = { λ kept told. IsKeptIn kept told };
 
-    /// Waits until this beginning of the room's record is in the room's file for good. One thread writes
-    /// all that the room has, by one write and one sync, for all that wait. `NotKept` where the file
-    /// took no more, or there is no such room.
+    /// Waits until the room's file keeps this prefix of the room's record. One thread writes all
+    /// that the room has, by one write and one sync, for all that wait.
+    ///
+    /// # Errors
+    /// `NotKept` if the file accepted no more, or there is no such room.
+    /// `NoMemory` if an allocation failed.
     fn keep(
         &self,
         rt: &impl Wait,

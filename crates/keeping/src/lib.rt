@@ -1,4 +1,4 @@
-//! Rooms whose records are kept in files: what is in a room's file for good, and how threads wait for more.
+//! Rooms whose records are kept in files: what each file keeps, and how threads wait for more.
 #![tactic(auto)]
 
 mod file;

@@ -2,7 +2,7 @@
 
 ghost use Rattle.std.specs.Prelude.{◌≡◌, IfOk, OnErr};
 ghost use Rattle.keeping.specs.Kept.{IsKeptIn};
-ghost use Rattle.keeping.specs.Turns.{IfTold};
+ghost use Rattle.keeping.specs.steps.Turns.{IfTold};
 
 use crate::file::{Kept, RoomFile};
 use journal::Journal;
@@ -11,7 +11,8 @@ use sessions::KeepFault;
 use std::alloc::Global;
 use std::sync::{Condvar, Mutex, Wait};
 
-/// A room's file and what is kept in it. One thread at a time has the file, and writes for all that wait.
+/// A room's file, and what it keeps. One thread at a time has the file, and writes for all that
+/// wait.
 #[derive(Drop)]
 struct Desk<P: RoomLedger, J: Journal> {
     kept: Kept<P>,
@@ -26,17 +27,17 @@ pub(crate) struct KeptRoom<P: RoomLedger, J: Journal> {
     put_back: Condvar,
 }
 
-/// What a thread that waited is to do.
+/// What a thread that waited does next.
 #[derive(Drop)]
 pub(crate) enum Turn<P: RoomLedger, J: Journal> {
     /// All that was told is kept.
     Told(Kept<P>),
-    /// It is to write all that the room has, and to put the file back.
+    /// It writes all that the room has, and then puts the file back.
     Writes(RoomFile<P, J>),
 }
 
 impl<P: RoomLedger, J: Journal + Drop> KeptRoom<P, J> {
-    /// A room whose file nobody has.
+    /// A room whose file no thread has.
     pub(crate) fn new(file: RoomFile<P, J>) -> KeptRoom<P, J> {
         KeptRoom {
             desk: Mutex::new(Desk {
@@ -47,9 +48,9 @@ impl<P: RoomLedger, J: Journal + Drop> KeptRoom<P, J> {
         }
     }
 
-    /// Waits until this beginning of the room's record is kept, and writes it where nobody else does,
-    /// with all that the room has by then. `NotKept` where the file took no more, or is not the room's;
-    /// `NoMemory` where memory was refused.
+    /// Waits until this prefix of the room's record is kept. Writes it if no other thread does,
+    /// with all that the room has by then. `NotKept` if the file accepted no more or belongs to
+    /// another room, `NoMemory` if an allocation failed.
     pub(crate) fn keep(
         &self,
         rt: &impl Wait,
@@ -74,7 +75,7 @@ impl<P: RoomLedger, J: Journal + Drop> KeptRoom<P, J> {
         }
     }
 
-    /// Waits until this beginning of the room's record is kept, or nobody has the file.
+    /// Waits until this prefix of the room's record is kept, or no thread has the file.
     fn turn(&self, rt: &impl Wait, told: &Prefix<P>) -> Turn<P, J>
         ensures { IfTold (λ kept. IsKeptIn kept told.now) result }
     {
@@ -91,7 +92,7 @@ impl<P: RoomLedger, J: Journal + Drop> KeptRoom<P, J> {
         unreachable!()
     }
 
-    /// Puts the file back, and wakes all that wait.
+    /// Puts the file back, and wakes all threads that wait.
     fn put_back(&self, rt: &impl Wait, file: RoomFile<P, J>) {
         let mut desk = self.desk.lock(rt);
         desk.kept = file.receipt().copy();
@@ -100,7 +101,7 @@ impl<P: RoomLedger, J: Journal + Drop> KeptRoom<P, J> {
         self.put_back.notify_all();
     }
 
-    /// Has the file taken all that it was given, or been mended since?
+    /// Returns whether the file holds only what it keeps, or is in use.
     pub(crate) fn is_clean(&self, rt: &impl Wait) -> bool {
         let desk = self.desk.lock(rt);
         match &desk.file {
@@ -110,7 +111,7 @@ impl<P: RoomLedger, J: Journal + Drop> KeptRoom<P, J> {
     }
 }
 
-/// Writes what the room's record has beyond what is kept.
+/// Appends what the room's record has beyond the kept prefix.
 fn write_news<P: RoomLedger, J: Journal>(
     rt: &impl Wait,
     alloc: Global,

@@ -8,7 +8,7 @@ use Rattle.std.proofs.lemmas.List.{length-map}
 use Rattle.std.proofs.lemmas.List.Elements.{Contains-push}
 use Rattle.std.proofs.lemmas.List.Sums.{length-filter}
 use Rattle.std.proofs.lemmas.List.Sorted.{IsPermutation-sym, length_permutation}
-use Rattle.op_names.specs.Names.{Name, same_name}
+use Rattle.base_types.specs.Names.{Name, same_name}
 use Rattle.state_vector.specs.Vectors.{count_of, counts, covers}
 use Rattle.rules.specs.declared.history.Op.{Op}
 use Rattle.rules.specs.declared.history.Entry.{Entry}
@@ -38,9 +38,9 @@ use Rattle.rules.proofs.Versions.{versions_same}
 use Rattle.shape.proofs.Next.{numbered_if}
 use Rattle.shape.proofs.Objects.{creation_there}
 use Rattle.shape.proofs.Refusals.{passed}
-use Rattle.shape.specs.Objects.{IsOf}
+use Rattle.shape.specs.steps.Objects.{IsOf}
 use Rattle.wire.specs.declared.reply.Reply.TheVariants.{No, Versions}
-use Rattle.drawing.specs.Objects.{object_with_changes}
+use Rattle.drawing.specs.steps.Objects.{object_with_changes}
 use Rattle.drawing.specs.Shown.{shown, shown_by}
 use Rattle.late_join.specs.Taking.{is_join_of, has_joined, lacks_another, may_take, has_past, IsTakeable, IsTakeableAfter, IsInOrderAfter, IsCausalOrderOf}
 use Rattle.late_join.proofs.Taken.{taken_from, sound}

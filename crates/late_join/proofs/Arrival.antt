@@ -2,8 +2,8 @@
 use Rattle.std.proofs.Common.{◌≡◌, ◌≢◌, Bool, true, false, not, List, [], ◌∷◌, ◌++◌, length, refl, sym, ap, ◌∙◌, subst, arith, Option, Some, None, cond, ◌&&◌, ◌||◌, leb, ltb, eqb, inl, inr}
 use Rattle.std.specs.Prelude.{is_some, option_map}
 use Rattle.std.specs.List.{list_any}
-use Rattle.std.proofs.lemmas.Bool.{true≢false, and_from, and_parts, cases_Bool, not-true, not_from_false, leb-true, le-leb, ltb-true, lt-ltb, leb-false}
-use Rattle.op_names.specs.Names.{Name}
+use Rattle.std.proofs.lemmas.Bool.{true≢false, and_from, and_parts, cases_Bool, not-true, not_from_false, leb-true, le-leb, ltb-true, lt-ltb, leb-false, or_parts}
+use Rattle.base_types.specs.Names.{Name}
 use Rattle.state_vector.specs.Vectors.{count_of, counts, is_vector}
 use Rattle.rules.specs.declared.history.Op.{Op}
 use Rattle.rules.specs.declared.history.Entry.{Entry}
@@ -20,15 +20,15 @@ use Rattle.rules.proofs.Counted.{In-names_counted, In-names_counted_back, count_
 use Rattle.rules.proofs.Lists.{any_back, any_from}
 use Rattle.rules.proofs.Relation.{same_answer}
 use Rattle.shape.proofs.Refusals.{first_of_front, front_passed}
-use Rattle.drawing.specs.Additions.{IsNext, body_refusal}
-use Rattle.drawing.specs.Faults.{IsRefusal}
+use Rattle.drawing.specs.steps.Additions.{IsNext, body_refusal}
+use Rattle.drawing.specs.steps.Faults.{IsRefusal}
 use Rattle.drawing.specs.declared.fault.AddFault.{AddFault}
 use Rattle.drawing.specs.declared.fault.AddFault.TheVariants as add_fault
 use Rattle.late_join.specs.declared.fault.TakeFault.{TakeFault}
 use Rattle.late_join.specs.declared.fault.TakeFault.TheVariants.{Repeat, Early, Refused, NoMemory}
-use Rattle.late_join.specs.Steps.{arrival_fault, of_adding}
+use Rattle.late_join.specs.steps.Steps.{arrival_fault, of_adding}
 use Rattle.late_join.specs.Taking.{arriving_conditions, has_joined, is_early, is_repeat, lacks_another, take_fault}
-use Rattle.late_join.proofs.Taken.{IsSound, not_ahead, operation_there, or_parts}
+use Rattle.late_join.proofs.Taken.{IsSound, not_ahead, operation_there}
 
 -- ---- which operations are missing
 

@@ -1,7 +1,7 @@
 -- What is asked of an operation first, by what the past says of it.
 use Rattle.std.proofs.Common.{◌≡◌, Bool, true, false, not, List, [], ◌∷◌, length, refl, sym, ap, ◌∙◌, Option, Some, cond, ◌||◌, leb}
 use Rattle.std.specs.Prelude.{option_map}
-use Rattle.std.proofs.lemmas.Bool.{true≢false}
+use Rattle.std.proofs.lemmas.Bool.{true≢false, or_parts}
 use Rattle.state_vector.specs.Vectors.{is_vector}
 use Rattle.rules.specs.declared.history.Op.{Op}
 use Rattle.rules.specs.declared.history.Entry.{Entry}
@@ -12,7 +12,7 @@ use Rattle.rules.specs.declared.limits.LimitValues.{LimitValues}
 use Rattle.rules.specs.Records.{operations}
 use Rattle.late_join.specs.declared.fault.TakeFault.{TakeFault}
 use Rattle.late_join.specs.declared.fault.TakeFault.TheVariants.{Repeat, Early, Refused}
-use Rattle.late_join.specs.Steps.{arrival_fault}
+use Rattle.late_join.specs.steps.Steps.{arrival_fault}
 use Rattle.late_join.specs.Taking.{arriving_conditions, has_joined, is_early, is_repeat, lacks_another}
 use Rattle.late_join.proofs.Taken.{IsSound, not_ahead}
 
@@ -37,10 +37,6 @@ module _ (b : LimitValues) (t : List Entry) (o : Op) where
           go true y rest p q = absurd (true≢false p)
           go false true rest p q = absurd (true≢false q)
           go false false rest p q = refl
-
-      or_parts : (a b : Bool) → (a || b) ≡ false → (a ≡ false) × (b ≡ false)
-      or_parts true b e = absurd cc
-      or_parts false b e = (refl, e)
 
       two : (has_wrong_seq (operations t) o.name ≡ false) × (lacks_another (operations t) o ≡ false)
       two =

@@ -1,10 +1,10 @@
 -- What it says of an entry that it is taken, and that the operations of a takeable list are a history in causal order.
 use Rattle.std.proofs.Common.{◌≡◌, ◌+◌, ◌<◌, ◌≤◌, Bool, true, false, cond, not, List, [], ◌∷◌, ◌++◌, length, refl, sym, ap, ◌∙◌, subst, arith, inl, inr, Option, Some, None, eqb, leb, ◌&&◌, ◌||◌, append_assoc}
 use Rattle.std.specs.Prelude.{Contains, is_none, is_some, option_map}
-use Rattle.std.proofs.lemmas.Bool.{true≢false, cases_Bool, and_parts, and_from, not-false, not-true, not_from_false, false_from_ne_true, leb-true, leb-false, eqb-true, cases_eq}
+use Rattle.std.proofs.lemmas.Bool.{true≢false, cases_Bool, and_parts, and_from, not-false, not-true, not_from_false, false_from_ne_true, leb-true, leb-false, eqb-true, cases_eq, or_parts}
 use Rattle.std.proofs.lemmas.List.{append-nil}
 use Rattle.std.proofs.lemmas.List.Elements.{Contains-append_left, Contains-push}
-use Rattle.op_names.specs.Names.{Name, same_name}
+use Rattle.base_types.specs.Names.{Name, same_name}
 use Rattle.state_vector.specs.Vectors.{count_of, is_vector}
 use Rattle.rules.specs.declared.history.Op.{Op}
 use Rattle.rules.specs.declared.history.Entry.{Entry}
@@ -46,10 +46,6 @@ parts_of_taken b t e a =
 pub taken_from : (b : LimitValues) (t : List Entry) (e : Entry) → is_entry e ≡ true → is_repeat t e ≡ false → is_early t e ≡ false → first_that_applies (taking_conditions b t e) ≡ None → may_take b t e ≡ true
 unfolding take_fault
 taken_from b t e v r f n = and_from (is_entry e) (is_none (take_fault b t e)) v (rw (r, f, n) refl)
-
-pub or_parts : (a b : Bool) → (a || b) ≡ false → (a ≡ false) × (b ≡ false)
-or_parts true b e = absurd cc
-or_parts false b e = (refl, e)
 
 -- what it says of an operation that it is taken
 pub record Taken (b : LimitValues) (t : List Entry) (o : Op) : Type 0 where

@@ -1,4 +1,4 @@
--- What a replica's type keeps.
+-- The invariant of a replica.
 use Rattle.std.specs.Prelude.{◌≡◌, ℕ, List, Option, Some, None, filter_map}
 use Rattle.rules.specs.declared.history.Entry.{Entry}
 use Rattle.rules.specs.declared.history.Entry.TheVariants.{Join, Operation}
@@ -13,7 +13,7 @@ site_in (Operation op) = None
 abbrev pub sites_in : List Entry → List ℕ
 sites_in t = filter_map site_in t
 
--- the list t is takeable, and these are the sites that joined
+-- the list is takeable, and these are the sites that joined
 pub record IsReplica (limits : LimitValues) (t : List Entry) (joined : List ℕ) : Type 0 where
   pub takeable : IsTakeable limits t
   pub joins : joined ≡ sites_in t

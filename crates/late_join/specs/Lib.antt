@@ -4,5 +4,4 @@ pub use Rattle.drawing.specs.Shown
 pub mod Taking
 pub mod Replica
 pub mod Kept
-pub mod Steps
-pub mod Feeding
+pub mod steps

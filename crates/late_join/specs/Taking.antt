@@ -1,16 +1,20 @@
--- Which entry may be taken after those that were taken, in whatever causal order they come.
-use Rattle.std.specs.Prelude.{◌≡◌, ℕ, Bool, true, false, not, ◌&&◌, ◌||◌, List, [], ◌∷◌, ◌++◌, Option, Some, ◌==◌, nat_le, nat_lt, length, is_some, is_none, option_map, if◌then◌else◌}
+-- Which entry may be taken after others, in any causal order.
+use Rattle.std.specs.Prelude.{◌≡◌, ℕ, Bool, true, false, not, ◌&&◌, ◌||◌, List, [], ◌∷◌, ◌++◌}
+use Rattle.std.specs.Prelude.{Option, Some, ◌==◌, nat_le, nat_lt, length, is_some, is_none}
+use Rattle.std.specs.Prelude.{option_map, if◌then◌else◌}
 use Rattle.std.specs.List.{list_any}
 use Rattle.std.specs.List.Sorted.{IsPermutation}
 use Rattle.state_vector.specs.Vectors.{is_vector}
 use Rattle.rules.specs.declared.history.Op.{Op}
 use Rattle.rules.specs.declared.history.Entry.{Entry}
 use Rattle.rules.specs.declared.history.Entry.TheVariants.{Join, Operation}
-use Rattle.rules.specs.declared.refusal.Refusal.TheVariants.{RoomFull, RecordFull, OwnCount, NotClosed}
+use Rattle.rules.specs.declared.refusal.Refusal.TheVariants.{RoomFull, RecordFull, OwnCount}
+use Rattle.rules.specs.declared.refusal.Refusal.TheVariants.{NotClosed}
 use Rattle.rules.specs.declared.limits.LimitValues.{LimitValues}
 use Rattle.rules.specs.Bodies.{is_change_body}
 use Rattle.rules.specs.Operations.{operation}
-use Rattle.rules.specs.Admission.{Condition, first_that_applies, names_counted, count_at_site, has_wrong_seq, has_wrong_own_count, is_ahead, is_not_closed}
+use Rattle.rules.specs.Admission.{Condition, first_that_applies, names_counted, count_at_site}
+use Rattle.rules.specs.Admission.{has_wrong_seq, has_wrong_own_count, is_ahead, is_not_closed}
 use Rattle.rules.specs.Records.{operations, creation_conditions, change_conditions}
 use Rattle.late_join.specs.declared.fault.TakeFault.{TakeFault}
 use Rattle.late_join.specs.declared.fault.TakeFault.TheVariants.{Repeat, Early, Refused}
@@ -26,37 +30,48 @@ is_join_of site (Operation op) = false
 abbrev pub has_joined : List Entry → ℕ → Bool
 has_joined t site = list_any (is_join_of site) t
 
--- the entry was taken: the join, or an operation of the site that is numbered so
+-- the entry was taken: the join, or an operation of the site with this number
 abbrev pub is_repeat : List Entry → Entry → Bool
 is_repeat t (Join site) = has_joined t site
 is_repeat t (Operation op) = nat_le op.name.1 (count_at_site (operations t) op.name.0)
 
--- the vector counts an operation of another site that isn't there
+-- the vector counts an operation of another site that was not taken
 abbrev pub lacks_another : List Op → Op → Bool
-lacks_another h op = list_any (λ name. not (name.0 == op.name.0) && not (is_some (operation h name))) (names_counted op.seen)
+lacks_another h op =
+    list_any (λ name. not (name.0 == op.name.0) && not (is_some (operation h name)))
+    (names_counted op.seen)
 
--- What it comes after wasn't taken: its site's join, the site's operation before it, or an operation of another site that it
--- counts. An operation that was taken itself isn't told from one that is early here.
+-- Something that the entry depends on was not taken: its site's join, the site's previous
+-- operation, or an operation of another site that it counts. This does not distinguish an operation
+-- that was taken itself.
 abbrev pub is_early : List Entry → Entry → Bool
 is_early t (Join site) = false
-is_early t (Operation op) = not (has_joined t op.name.0) || has_wrong_seq (operations t) op.name || lacks_another (operations t) op
+is_early t (Operation op) =
+    not (has_joined t op.name.0) || has_wrong_seq (operations t) op.name
+    || lacks_another (operations t) op
 
 -- ---- what is refused
 
--- what is asked of a join: sites needn't come in order
+-- the conditions for a join, in any order of the sites
 abbrev pub joining_conditions : LimitValues → List Entry → ℕ → List Condition
-joining_conditions b t site = (site == 0 || nat_lt b.joins site, RoomFull) ∷ (nat_le b.entries (length t), RecordFull) ∷ []
+joining_conditions b t site =
+    (site == 0 || nat_lt b.joins site, RoomFull) ∷ (nat_le b.entries (length t), RecordFull) ∷ []
 
--- what is asked of each operation
+-- the conditions for every operation
 abbrev pub arriving_conditions : LimitValues → List Entry → Op → List Condition
-arriving_conditions b t op = (nat_le b.entries (length t), RecordFull) ∷ (has_wrong_own_count op.name op.seen, OwnCount) ∷ (is_not_closed (operations t) op.seen, NotClosed) ∷ []
+arriving_conditions b t op =
+    (nat_le b.entries (length t), RecordFull) ∷ (has_wrong_own_count op.name op.seen, OwnCount)
+    ∷ (is_not_closed (operations t) op.seen, NotClosed) ∷ []
 
--- what is asked of an entry that is neither a repeat nor early, in this order
+-- the conditions for an entry that is neither a repeat nor early, in this order
 abbrev pub taking_conditions : LimitValues → List Entry → Entry → List Condition
 taking_conditions b t (Join site) = joining_conditions b t site
-taking_conditions b t (Operation op) = arriving_conditions b t op ++ (if is_change_body op.body then change_conditions b (operations t) op else creation_conditions b t)
+taking_conditions b t (Operation op) =
+    arriving_conditions b t op
+    ++ (if is_change_body op.body then change_conditions b (operations t) op
+    else creation_conditions b t)
 
--- why this entry, whose vector is one, isn't taken after these, if it isn't
+-- why this entry, whose vector is in range, is not taken after these; `None` if it may be
 unfoldable pub take_fault : LimitValues → List Entry → Entry → Option TakeFault
 take_fault b t entry =
     if is_repeat t entry then Some Repeat
@@ -65,7 +80,7 @@ take_fault b t entry =
 
 -- ---- takeable lists
 
--- the vector of an operation is one
+-- the vector of an operation is in range
 abbrev pub is_entry : Entry → Bool
 is_entry (Join site) = true
 is_entry (Operation op) = is_vector op.seen
@@ -74,10 +89,11 @@ is_entry (Operation op) = is_vector op.seen
 abbrev pub may_take : LimitValues → List Entry → Entry → Bool
 may_take b t entry = is_entry entry && is_none (take_fault b t entry)
 
--- each of the later entries may be taken after all that come before it
+-- each of the later entries may be taken after all before it
 abbrev pub IsTakeableAfter : LimitValues → List Entry → List Entry → Type 0
 IsTakeableAfter b t [] = Unit {0}
-IsTakeableAfter b t (entry ∷ later) = (may_take b t entry ≡ true) × IsTakeableAfter b (t ++ entry ∷ []) later
+IsTakeableAfter b t (entry ∷ later) =
+    (may_take b t entry ≡ true) × IsTakeableAfter b (t ++ entry ∷ []) later
 
 -- a takeable list: each entry may be taken after those before it
 abbrev pub IsTakeable : LimitValues → List Entry → Type 0
@@ -85,16 +101,18 @@ IsTakeable b t = IsTakeableAfter b [] t
 
 -- ---- causal orders of a record
 
--- what an operation comes after is there: its site's join, and each operation that it counts
+-- what an operation depends on was taken: its site's join, and each operation that it counts
 abbrev pub has_past : List Entry → Entry → Bool
 has_past t (Join site) = true
 has_past t (Operation op) = has_joined t op.name.0 && not (is_ahead (operations t) op.seen)
 
 abbrev pub IsInOrderAfter : List Entry → List Entry → Type 0
 IsInOrderAfter t [] = Unit {0}
-IsInOrderAfter t (entry ∷ later) = (has_past t entry ≡ true) × IsInOrderAfter (t ++ entry ∷ []) later
+IsInOrderAfter t (entry ∷ later) =
+    (has_past t entry ≡ true) × IsInOrderAfter (t ++ entry ∷ []) later
 
--- the entries of r in a causal order: each operation stands after its site's join and after all that it counts
+-- The entries of r in a causal order. Each operation comes after its site's join and after all that
+-- it counts.
 pub record IsCausalOrderOf (r t : List Entry) : Type 0 where
   pub same : IsPermutation r t
   pub ordered : IsInOrderAfter [] t

@@ -4,25 +4,26 @@ ghost use Rattle.std.specs.Prelude.{◌≡◌};
 ghost use Rattle.late_join.specs.declared.fault.FeedFault.TheVariants as feed_fault;
 ghost use Rattle.late_join.specs.declared.fault.TakeFault.TheVariants as take_fault;
 
+use base_types::NoMemory;
 use drawing::AddFault;
-use op_names::NoMemory;
 use rules::Refusal;
 use thiserror::Error;
 use wire::ReadFault;
 
-/// Why an entry is not taken: the first that applies, in this order. Want of memory can stand in
-/// place of any answer. The replica is then as before.
+/// Why an entry is not taken: the first variant that applies, in this order. `NoMemory` may replace
+/// any of them. The replica is unchanged.
 #[derive(Clone, Copy, Debug, PartialEq, Eq, Error)]
 pub enum TakeFault {
-    /// The entry was taken already.
+    /// The entry was taken before.
     #[error("the entry was taken already")]
     Repeat,
-    /// What the entry comes after was not taken yet.
+    /// Something that the entry depends on was not taken yet.
     #[error("what the entry comes after is not there yet")]
     Early,
-    /// A room's rule, or one of the limits, does not allow it.
+    /// A rule of rooms, or a limit, refuses the entry.
     #[error("the entry is refused")]
     Refused(Refusal),
+    /// An allocation failed.
     #[error("out of memory")]
     NoMemory,
 }
@@ -37,7 +38,7 @@ impl From<NoMemory> for TakeFault {
 
 impl From<AddFault> for TakeFault {
     ghost use Rattle.std.specs.Prelude.{◌≡◌};
-    ghost use Rattle.late_join.specs.Steps.{of_adding};
+    ghost use Rattle.late_join.specs.steps.Steps.{of_adding};
 
     ghost from_gives = { λ add_fault fault. fault ≡ of_adding add_fault };
 
@@ -52,20 +53,20 @@ impl From<AddFault> for TakeFault {
 /// Why a page is not taken as a whole.
 #[derive(Clone, Copy, Debug, PartialEq, Eq, Error)]
 pub enum FeedFault {
-    /// The bytes are no text of a reply with entries. Nothing is taken.
+    /// The bytes are no text of an `entries` reply. The replica is unchanged.
     #[error("the bytes are no page of a record")]
     NotAPage,
-    /// The entry at this place of the page, counted from 0, is not taken. Those before it are.
+    /// The entry at `place` of the page, counted from 0, was not taken. Those before it were.
     #[error("the entry at place {place} of the page is not taken: {fault}")]
     Take { place: u32, fault: TakeFault },
-    /// There was no memory to read the page. Nothing is taken.
+    /// An allocation failed while the page was read. The replica is unchanged.
     #[error("out of memory")]
     NoMemory,
 }
 
 impl From<ReadFault> for FeedFault {
     ghost use Rattle.std.specs.Prelude.{◌≡◌};
-    ghost use Rattle.late_join.specs.Feeding.{of_reading};
+    ghost use Rattle.late_join.specs.steps.Feeding.{of_reading};
 
     ghost from_gives = { λ read_fault fault. fault ≡ of_reading read_fault };
 

@@ -1,7 +1,7 @@
-//! Laws over takeable lists. These functions run nothing.
+//! Laws of takeable lists. These functions have no effect at run time.
 
 ghost use Rattle.std.specs.Prelude.{◌≡◌, List, true, false};
-ghost use Rattle.op_names.specs.Names.{Name};
+ghost use Rattle.base_types.specs.Names.{Name};
 ghost use Rattle.state_vector.specs.Vectors.{is_vector};
 ghost use Rattle.rules.specs.declared.history.Op.{Op};
 ghost use Rattle.rules.specs.declared.history.Entry.{Entry};
@@ -16,14 +16,14 @@ ghost use Rattle.drawing.specs.Shown.{shown};
 ghost use Rattle.late_join.specs.Taking.{is_repeat, is_early, taking_conditions, IsTakeable};
 ghost use Rattle.late_join.specs.Taking.{IsCausalOrderOf};
 
-/// Each causal order of a legal record is a takeable list, under the same limits.
+/// Each causal order of a legal record is a takeable list under the same limits.
 pub fn a_legal_record_is_taken_in_any_causal_order()
     ensures { (b : LimitValues) (r t : List Entry) → IsLegal b r → IsCausalOrderOf r t
         → IsTakeable b t }
 {}
 
-/// After all entries of a legal record, in whatever causal order, each object has the versions that
-/// it has in the record, and a replica shows of it what a room with this record shows.
+/// After all entries of a legal record in any causal order, each object has the versions that it
+/// has in the record. A replica shows of it what a room with this record shows.
 pub fn a_replica_shows_what_the_room_shows()
     ensures versions { (b : LimitValues) (r t : List Entry) (object : Name)
         → IsLegal b r → IsCausalOrderOf r t
@@ -32,7 +32,7 @@ pub fn a_replica_shows_what_the_room_shows()
         → IsLegal b r → IsCausalOrderOf r t → shown t object ≡ shown r object }
 {}
 
-/// The operations of a takeable list are a history in causal order, and each change in it has its
+/// The operations of a takeable list are a history in causal order. Each change in it has its
 /// object and its base.
 pub fn takeable_lists_are_histories()
     ensures history { (b : LimitValues) (t : List Entry) → IsTakeable b t
@@ -43,8 +43,8 @@ pub fn takeable_lists_are_histories()
         → IsFounded (operations t) }
 {}
 
-/// After a takeable list an operation that is neither a repeat nor early is refused where a room
-/// with these entries refuses it, for the same cause.
+/// Consider an operation after a takeable list that is neither a repeat nor early. It is refused
+/// where a room with these entries refuses it, by the same refusal.
 pub fn an_operation_is_refused_as_a_room_refuses_it()
     ensures { (b : LimitValues) (t : List Entry) (op : Op) → IsTakeable b t
         → is_vector op.seen ≡ true

@@ -1,4 +1,4 @@
-//! A copy of a room that takes the entries of its record in any causal order.
+//! A replica of a room, which takes the entries of the room's record in any causal order.
 #![tactic(auto)]
 
 mod fault;

@@ -1,4 +1,4 @@
-//! Rooms that threads ask.
+//! Rooms that threads call.
 
 mod apart;
 mod back;
@@ -6,9 +6,10 @@ mod begun;
 mod closed;
 mod many;
 mod refused;
+mod sizes;
 mod told;
 
-use op_names::{NoMemory, RoomName};
+use base_types::{NoMemory, RoomName};
 use room_lock::{Entrance, NewRooms, Pass, RoomLedger, Rooms};
 use rules::Limits;
 use std::process::Abort;
@@ -26,8 +27,8 @@ fn request_of(rt: &(impl Abort + AllocGlobal), text: &str) -> Request {
     read_request(rt.alloc(), text.as_bytes()).expect(rt, "a request")
 }
 
-/// Rooms of these names that are to be made.
-fn planned(rt: &(impl Abort + AllocGlobal), names: &[&str], limits: Limits) -> NewRooms {
+/// A plan of rooms of these names.
+fn plan_rooms(rt: &(impl Abort + AllocGlobal), names: &[&str], limits: Limits) -> NewRooms {
     let mut parsed = Vec::new(rt.alloc());
     for name in names {
         parsed.push(room_name(rt, name)).expect(rt, "memory");
@@ -36,7 +37,7 @@ fn planned(rt: &(impl Abort + AllocGlobal), names: &[&str], limits: Limits) -> N
 }
 
 /// The pass of the next site of the room.
-fn entered<P: RoomLedger>(
+fn join_room<P: RoomLedger>(
     rt: &(impl Wait + Abort + AllocGlobal),
     rooms: &Rooms<P>,
     name: &str,
@@ -48,8 +49,8 @@ fn entered<P: RoomLedger>(
     }
 }
 
-/// The pass of somebody who comes back as this site of the room.
-fn returned<P: RoomLedger>(
+/// The pass of a coming back as this site of the room.
+fn come_back<P: RoomLedger>(
     rt: &(impl Wait + Abort + AllocGlobal),
     rooms: &Rooms<P>,
     name: &str,
@@ -62,8 +63,8 @@ fn returned<P: RoomLedger>(
     }
 }
 
-/// Hands the pass back, and gives the text of the reply.
-fn left<P: RoomLedger>(
+/// Hands the pass back. Returns the text of the reply.
+fn leave_room<P: RoomLedger>(
     rt: &(impl Wait + Abort + AllocGlobal),
     rooms: &Rooms<P>,
     pass: Pass<P>,
@@ -78,7 +79,7 @@ fn left<P: RoomLedger>(
 }
 
 /// The text of the reply to a request of the pass's site.
-fn asked<P: RoomLedger>(
+fn ask<P: RoomLedger>(
     rt: &(impl Wait + Abort + AllocGlobal),
     rooms: &Rooms<P>,
     pass: &mut Pass<P>,
@@ -91,7 +92,7 @@ fn asked<P: RoomLedger>(
     write_reply(rt.alloc(), &reply).expect(rt, "memory")
 }
 
-/// How many entries the room has.
+/// The number of entries in the room.
 fn size_of<P: RoomLedger>(
     rt: &(impl Wait + Abort + AllocGlobal),
     rooms: &Rooms<P>,

@@ -9,9 +9,9 @@ use Rattle.rules.proofs.Lists.{In, In-filter, In-filter_back, In-map_back, any_f
 use Rattle.rules.proofs.Once.{Once, Once-map, length_within}
 use Rattle.rules.proofs.Relation.{same_answer}
 use Rattle.rules.proofs.Counted.{same_name-true, same_name-refl}
-use Rattle.places.specs.Members.{has, places}
+use Rattle.places.specs.steps.PlaceSet.{has, places}
 use Rattle.places.proofs.Places.{In-places, below, has-filter}
-use Rattle.places.specs.Changes.{at, places_of}
+use Rattle.places.specs.steps.Changes.{at, places_of}
 
 pub at_in : (k : List Op) (p : ℕ) → p < length k → In (at k p) k
 at_in [] p l = absurd (omega arith)

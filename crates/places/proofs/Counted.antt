@@ -8,8 +8,8 @@ use Rattle.std.proofs.lemmas.List.{append-nil, append_assoc, map_push, length-ap
 use Rattle.std.proofs.lemmas.Nat.{ones_cat, and_le_l, shl_whole}
 use Rattle.std.proofs.lemmas.Nat.Bits.{bit_at_lowest, bit_at-suc, bit_at-zero, bit_at-trailing_zeros, bit_at_clear_same, bit_at_clear_other, bit_at_ones, bit_at_ones_above}
 use Rattle.rules.proofs.Lists.{In-filter_back, filter_agree}
-use Rattle.places.specs.Members.{has, places}
-use Rattle.places.specs.Words.{has_bit, places_in}
+use Rattle.places.specs.steps.PlaceSet.{has, places}
+use Rattle.places.specs.steps.Words.{has_bit, places_in}
 use Rattle.places.proofs.Places.{In-places, below, has_if_in, in_if_has, has-filter, has-filter_past, kept_next, left_next, all_in}
 use Rattle.places.proofs.WordPlaces.{Up, same_set, up_range, up_filter, less, has-places_in, up_places_in}
 

@@ -8,7 +8,7 @@ use Rattle.std.proofs.lemmas.List.Elements.{filter-append, All-nil, All-cons}
 use Rattle.rules.proofs.Lists.{In, Contains-from_In, In-filter, In-filter_back, In-range, In-range_back, any_from, any_back, all_from, all_back}
 use Rattle.rules.proofs.Once.{Once}
 use Rattle.rules.proofs.Relation.{same_answer}
-use Rattle.places.specs.Members.{has, is_within, with_place, places}
+use Rattle.places.specs.steps.PlaceSet.{has, is_within, with_place, places}
 
 -- ---- the first n places
 

@@ -13,7 +13,7 @@ use Rattle.std.proofs.lemmas.List.FromFn.{length-range_with_len, get_or-range_wi
 use Rattle.std.proofs.lemmas.Map.Keys.{sorted_from_strictly_increasing}
 use Rattle.rules.proofs.Lists.{In, all_at, Contains-from_In, In-filter, In-filter_back}
 use Rattle.rules.proofs.Sorting.{Rises, rises_same}
-use Rattle.places.specs.Members.{has, places}
+use Rattle.places.specs.steps.PlaceSet.{has, places}
 use Rattle.places.proofs.Places.{In-places, has_if_in, in_if_has}
 
 pub rises : {X : Type 0} (cmp : X → X → Ordering) (o : IsTotalOrder cmp) (xs : List X) → IsStrictlySortedBy cmp xs → Rises cmp o xs

@@ -17,8 +17,8 @@ use Rattle.std.proofs.lemmas.Nat.Bits.{bit_at_and, bit_at_or, bit_at_xor, bit_at
 use Rattle.rules.proofs.Lists.{In-filter, In-filter_back, In-range_back, any_from, any_back, all_from, all_back}
 use Rattle.rules.proofs.Relation.{same_answer}
 use Rattle.rules.proofs.Sorting.{Rises, rises_same}
-use Rattle.places.specs.Members.{has, with_place, is_within, places, with_all}
-use Rattle.places.specs.Words.{has_bit, places_in}
+use Rattle.places.specs.steps.PlaceSet.{has, with_place, is_within, places, with_places}
+use Rattle.places.specs.steps.Words.{has_bit, places_in}
 use Rattle.places.proofs.Places.{has_if_in, in_if_has, has-filter, has-filter_past}
 
 -- ---- rising lists
@@ -106,11 +106,11 @@ up_with_place p (y ∷ ys) u = elim (cases_lt y p) [
   ]
 ]
 
-pub has-with_all : (xs ys : List ℕ) (x : ℕ) → has (with_all xs ys) x ≡ (has xs x || has ys x)
+pub has-with_all : (xs ys : List ℕ) (x : ℕ) → has (with_places xs ys) x ≡ (has xs x || has ys x)
 has-with_all xs [] x = or_turned false (has xs x)
 has-with_all xs (y ∷ ys) x = has-with_all (with_place y xs) ys x ∙ rw (has-with_place y xs x) (sym (or_grouped (has xs x) (eqb y x) (has ys x)))
 
-pub up_with_all : (xs ys : List ℕ) → Up xs → Up (with_all xs ys)
+pub up_with_all : (xs ys : List ℕ) → Up xs → Up (with_places xs ys)
 up_with_all xs [] u = u
 up_with_all xs (y ∷ ys) u = up_with_all (with_place y xs) ys (up_with_place y xs u)
 
@@ -353,9 +353,9 @@ module _ (a b w : List ℕ) where
       ∙ bits_of_minus w a b (λ k. ap (λ v. get_or v k 0) e ∙ mapped (λ k. bit_xor (get_or a k 0) (bit_and (get_or a k 0) (get_or b k 0))) (length a) k (λ g. let z = get_or_past a k 0 g in rw z refl)) x
       ∙ sym (has-kept (λ x. not (has (places_in b) x)) (places_in a) x ∙ (λ i. has-places_in a x i && not (has-places_in b x i))))
 
-  pub places_in_joined : ((k : ℕ) → k < length b → get_or w k 0 ≡ bit_or (get_or a k 0) (get_or b k 0)) → ((k : ℕ) → length b ≤ k → get_or w k 0 ≡ get_or a k 0) → places_in w ≡ with_all (places_in a) (places_in b)
+  pub places_in_joined : ((k : ℕ) → k < length b → get_or w k 0 ≡ bit_or (get_or a k 0) (get_or b k 0)) → ((k : ℕ) → length b ≤ k → get_or w k 0 ≡ get_or a k 0) → places_in w ≡ with_places (places_in a) (places_in b)
   places_in_joined f g =
-      same_set (places_in w) (with_all (places_in a) (places_in b)) (up_places_in w) (up_with_all (places_in a) (places_in b) (up_places_in a))
+      same_set (places_in w) (with_places (places_in a) (places_in b)) (up_places_in w) (up_with_all (places_in a) (places_in b) (up_places_in a))
       (λ x.
       has-places_in w x
       ∙ bits_of_either w a b (λ k. elim (cases_lt k (length b)) [

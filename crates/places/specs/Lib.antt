@@ -1,4 +1,1 @@
-pub mod Members
-pub mod Words
-pub mod Relations
-pub mod Changes
+pub mod steps

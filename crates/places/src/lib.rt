@@ -1,9 +1,10 @@
-//! Changes of places, and relations of conflict between places.
+//! Sets of places, relations of conflict between places, and the changes at the places of an
+//! object.
 #![tactic(auto)]
 
-mod members;
+mod place_set;
 mod relation;
 mod words;
 
-pub use members::Members;
+pub use place_set::PlaceSet;
 pub use relation::Relation;

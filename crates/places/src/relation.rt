@@ -1,16 +1,16 @@
-//! Relations between places.
+//! Relations of conflict between places.
 
 ghost use Rattle.std.specs.Prelude.{◌≡◌, ℕ, ◌<◌, Bool, filter, All, IfOk};
-ghost use Rattle.op_names.specs.Names.{Name};
+ghost use Rattle.base_types.specs.Names.{Name};
 ghost use Rattle.rules.specs.Groups.{in_conflict_with};
-ghost use Rattle.places.specs.Members.{places};
-ghost use Rattle.places.specs.Relations.{IsRelation};
+ghost use Rattle.places.specs.steps.PlaceSet.{places};
+ghost use Rattle.places.specs.steps.Relations.{IsRelation};
 
-use crate::Members;
-use op_names::{NoMemory, OpName};
+use crate::PlaceSet;
+use base_types::{NoMemory, OpName};
 use std::alloc::Global;
 
-/// Operations by their places, which count from 0, and which two of them are in conflict.
+/// Operations by their places, which count from 0, and which two of them conflict.
 pub trait Relation {
     /// The number of operations.
     ghost size: { Self → ℕ };
@@ -19,13 +19,13 @@ pub trait Relation {
     ghost name_at: { Self → ℕ → Name };
 
     /// Are the operations at two places in conflict?
-    ghost clashes: { Self → ℕ → ℕ → Bool };
+    ghost conflicts: { Self → ℕ → ℕ → Bool };
 
-    /// The number of operations. On their places conflict goes both ways, nothing is in conflict
-    /// with itself, and no two have one name.
+    /// The number of operations. On their places conflict is symmetric, no place conflicts with
+    /// itself, and names are distinct.
     fn len(&self) -> u32
         ensures size { result ≡ size self.now }
-        ensures relation { IsRelation (size self.now) (name_at self.now) (clashes self.now) };
+        ensures relation { IsRelation (size self.now) (name_at self.now) (conflicts self.now) };
 
     /// The name of the operation at a place.
     fn name(&self, i: u32) -> OpName
@@ -33,14 +33,18 @@ pub trait Relation {
         ensures { result ≡ name_at self.now i };
 
     /// Are the operations at two places in conflict?
-    fn clash(&self, i: u32, j: u32) -> bool
+    fn is_conflict(&self, i: u32, j: u32) -> bool
         requires first { i < size self.now }
         requires second { j < size self.now }
-        ensures { result ≡ clashes self.now i j };
+        ensures { result ≡ conflicts self.now i j };
 
-    /// The places of the operations that are in conflict with one of those at some places.
-    fn in_conflict_with(&self, alloc: Global, scope: &Members) -> Result<Members, NoMemory>
+    /// The places of the operations that conflict with an operation at one of the given places.
+    ///
+    /// # Errors
+    ///
+    /// `NoMemory` if an allocation failed.
+    fn in_conflict_with(&self, alloc: Global, scope: &PlaceSet) -> Result<PlaceSet, NoMemory>
         requires { All (λ place. place < size self.now) scope.now }
         ensures { IfOk result (λ conflicting. conflicting
-            ≡ filter (in_conflict_with (clashes self.now) scope.now) (places (size self.now))) };
+            ≡ filter (in_conflict_with (conflicts self.now) scope.now) (places (size self.now))) };
 }

@@ -1,11 +1,11 @@
-//! Sets of places as words: place p is in the set where bit p % 64 of word p / 64 is 1.
+//! Sets of places as words of bits: place p is in the set if bit p % 64 of word p / 64 is 1.
 
 ghost use Rattle.std.specs.Prelude.{◌≡◌, ◌≤◌, ◌^◌, slice_index, length, filter, not, IfOk, OnOk, OnErr};
 ghost use Rattle.std.specs.List.{list_any};
-ghost use Rattle.places.specs.Members.{has, is_within, places, with_all, with_place, IsLowest};
-ghost use Rattle.places.specs.Words.{has_bit, places_in};
+ghost use Rattle.places.specs.steps.PlaceSet.{has, is_within, places, with_places, with_place, IsLowest};
+ghost use Rattle.places.specs.steps.Words.{has_bit, places_in};
 
-use op_names::NoMemory;
+use base_types::NoMemory;
 use std::alloc::Global;
 
 /// A word, or 0 past the last one.
@@ -22,7 +22,7 @@ pub(crate) fn has_bit(words: &[u64], place: u32) -> bool
     (word(words, (place / 64) as usize) >> (place % 64)) & 1 == 1
 }
 
-/// Puts a place in.
+/// Adds a place.
 pub(crate) fn set_bit(words: &mut Vec<u64>, place: u32) -> Result<(), NoMemory>
     requires { length words.old.items ≤ 2 ^ 26 }
     ensures ok { OnOk result
@@ -62,7 +62,7 @@ pub(crate) fn intersects(first: &[u64], second: &[u64]) -> bool
     false
 }
 
-/// Leaves the last words out that are 0.
+/// Removes the last words that are 0, which saves time later.
 fn trim(words: &mut Vec<u64>)
     ensures same { places_in words.new.items ≡ places_in words.old.items }
     ensures few { length words.new.items ≤ length words.old.items }
@@ -104,12 +104,12 @@ pub(crate) fn difference(alloc: Global, first: &[u64], second: &[u64]) -> Result
     Ok(others)
 }
 
-/// Puts the places of others in.
+/// Adds the places of others.
 pub(crate) fn join(words: &mut Vec<u64>, others: &[u64]) -> Result<(), NoMemory>
     requires own { length words.old.items ≤ 2 ^ 26 }
     requires other { length others.now ≤ 2 ^ 26 }
     ensures ok { OnOk result (places_in words.new.items
-        ≡ with_all (places_in words.old.items) (places_in others.now)) }
+        ≡ with_places (places_in words.old.items) (places_in others.now)) }
     ensures few { length words.new.items ≤ 2 ^ 26 }
     ensures err { OnErr result (words.new.items ≡ words.old.items) }
 {
@@ -160,7 +160,7 @@ pub(crate) fn count_bits(words: &[u64]) -> usize
     count
 }
 
-/// The places of the words, in rising order.
+/// The places of the words, in increasing order.
 pub(crate) fn list(alloc: Global, words: &[u64]) -> Result<Vec<u32>, NoMemory>
     requires { length words.now ≤ 2 ^ 26 }
     ensures { IfOk result (λ list. list.items ≡ places_in words.now) }

@@ -4,7 +4,7 @@ use Rattle.serde_json.specs.Written.{compact_text}
 use Rattle.rules.specs.declared.history.Entry.{Entry}
 use Rattle.wire.specs.Form.{entry_form}
 use Rattle.wire.specs.Lines.{ends_line, lines_of}
-use Rattle.wire.specs.Texts.{entry_read}
+use Rattle.wire.specs.steps.Reads.{entry_read}
 
 -- the compact text of an entry, and an LF
 abbrev pub entry_line : Entry → List ℕ
@@ -14,7 +14,7 @@ entry_line entry = compact_text (entry_form entry) ++ 10 ∷ []
 abbrev pub record_text : List Entry → List ℕ
 record_text entries = flat_map entry_line entries
 
--- a byte of a line joins the bytes behind it, where these have an LF
+-- a byte joins the first line behind it, if there is a whole line
 abbrev pub onto_whole : ℕ → List ℕ → List ℕ
 onto_whole byte [] = []
 onto_whole byte (x ∷ xs) = byte ∷ x ∷ xs
@@ -24,10 +24,11 @@ abbrev pub IsOneLine : List ℕ → Type 0
 IsOneLine [] = Unit {0}
 IsOneLine (byte ∷ bytes) = (byte ≢ 10) × IsOneLine bytes
 
--- the bytes up to the last LF, with it
+-- the bytes up to and including the last LF
 abbrev pub whole_part : List ℕ → List ℕ
 whole_part [] = []
-whole_part (byte ∷ bytes) = if ends_line byte then byte ∷ whole_part bytes else onto_whole byte (whole_part bytes)
+whole_part (byte ∷ bytes) =
+    if ends_line byte then byte ∷ whole_part bytes else onto_whole byte (whole_part bytes)
 
 -- the bytes are whole lines, each a text of the entry at its place
 pub record AreLines (bytes : List ℕ) (r : List Entry) : Type 0 where

@@ -1,18 +1,19 @@
-//! Laws over the definitions. These functions run nothing.
+//! Laws of the definitions. These functions have no effect at run time.
 
 ghost use Rattle.std.specs.Prelude.{ℕ, List, ◌≡◌, ◌++◌};
 ghost use Rattle.rules.specs.declared.history.Entry.{Entry};
 ghost use Rattle.wire.specs.Lines.{lines_of};
 ghost use Rattle.record_file.specs.RecordText.{AreLines, whole_part};
 
-/// Whole lines of entries, with whole lines of more entries behind them, are whole lines of all.
+/// The whole lines of some entries, followed by the whole lines of others, are the whole lines of
+/// both.
 #[tactic(auto, using(crate::proofs::Lines::goes_on))]
 pub fn lines_go_on()
-    ensures { (bytes behind : List ℕ) (r more : List Entry) → AreLines bytes r → AreLines behind more
-        → AreLines (bytes ++ behind) (r ++ more) }
+    ensures { (bytes behind : List ℕ) (r more : List Entry)
+        → AreLines bytes r → AreLines behind more → AreLines (bytes ++ behind) (r ++ more) }
 {}
 
-/// In a file that begins with whole lines, whatever stands behind them, the whole lines begin with these.
+/// If a file begins with whole lines, then these are its first whole lines, whatever follows.
 #[tactic(auto, using(crate::proofs::Lines::stays))]
 pub fn lines_stay()
     ensures { (bytes behind : List ℕ) → whole_part bytes ≡ bytes

@@ -1,4 +1,4 @@
-//! A room's record as the text of a file: how entries are put behind it, and where its whole lines end.
+//! A room's record as a file of text: appending entries, and finding where the whole lines end.
 #![tactic(auto)]
 
 pub mod laws;

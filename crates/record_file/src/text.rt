@@ -1,4 +1,4 @@
-//! Entries as lines, and behind a record.
+//! The text of entries, and appending it to a journal.
 
 ghost use Rattle.std.specs.Prelude.{◌≡◌, ◌++◌, All, Err, IfOk, OnErr, OnOk};
 ghost use Rattle.std.specs.Prelude.{map, option_map, string_bytes};
@@ -7,15 +7,18 @@ ghost use Rattle.wire.specs.Form.{IsEntry};
 ghost use Rattle.record_file.specs.RecordText.{AreLines, record_text};
 
 use crate::range::are_in_range;
+use base_types::NoMemory;
 use journal::{Journal, JournalFault};
-use op_names::NoMemory;
 use rules::Entry;
 use std::alloc::Global;
 use std::sync::Arc;
 use wire::write_entry;
 
-/// The text of entries: a line for each, in order, and an LF at the end of each line. Otherwise
-/// `NoMemory`. Of entries in range, each line is read as its entry.
+/// The text of the entries: one line each, in order, each ended by LF. If all entries are in range,
+/// each line is read back as its entry.
+///
+/// # Errors
+/// `NoMemory` if an allocation failed.
 pub fn text_of(alloc: Global, entries: &[Arc<Entry>]) -> Result<String, NoMemory>
     ensures text { IfOk result (λ text.
         string_bytes text ≡ record_text (map arc_value entries.now)) }
@@ -31,10 +34,14 @@ pub fn text_of(alloc: Global, entries: &[Arc<Entry>]) -> Result<String, NoMemory
     Ok(text)
 }
 
-/// Puts entries behind a record in one write, and on the disk. At `Ok` they are there for good: whatever
-/// comes leaves a file that begins with what was held before, and then their lines. At `Err` what was
-/// kept is still kept, and nothing more is known. `NoMemory` leaves the journal as it was. `Failed` is
-/// also said where an entry is out of range; then the journal is not touched.
+/// Appends entries to a record by one write and one sync. On `Ok` the file keeps what it held
+/// before and then the lines of the entries. On `Err` what was kept is still kept.
+///
+/// # Errors
+/// `NoMemory` if an allocation failed; the journal holds what it held.
+/// `Full` if the disk is full.
+/// `Failed` if a write or a sync failed for another reason, or if an entry is out of range. In the
+/// last case the journal is unchanged.
 pub fn append<J: Journal>(
     alloc: Global,
     journal: &mut J,

@@ -7,10 +7,10 @@ use Rattle.rules.specs.Limits.{full_limits}
 use Rattle.rules.specs.Records.{admits}
 use Rattle.rules.proofs.Records.{legal_push}
 use Rattle.wire.specs.Lines.{lines_of}
-use Rattle.wire.specs.Texts.{entry_read}
+use Rattle.wire.specs.steps.Reads.{entry_read}
 use Rattle.room_core.specs.Room.{Room, empty_room}
 use Rattle.restore.specs.Records.{AreRecord, IsBadRecord}
-use Rattle.restore.specs.Readings.{Takes}
+use Rattle.restore.specs.steps.Readings.{Takes}
 use Rattle.restore.proofs.Lengths.{same_length}
 
 -- some of the lines were read, and are the record of the room

@@ -1,4 +1,4 @@
--- What a room's file is restored to.
+-- The result of restoring a room from its file.
 use Rattle.std.specs.Prelude.{◌≡◌, ◌<◌, ◌≤◌, ℕ, List, length, take}
 use mathlib.Core.List.{IsPrefix}
 use Rattle.rules.specs.declared.history.Entry.{Entry}
@@ -9,14 +9,15 @@ use Rattle.restore.specs.declared.restored.Restored.{Restored}
 use Rattle.restore.specs.declared.restored.Restored.TheVariants as restored
 use Rattle.restore.specs.Records.{AreRecord, IsBadRecord}
 
--- the whole lines are the room's record; or the line of this number is no entry that may come next
+-- The whole lines are the room's record. Or the line of this number is no entry that may come next.
 abbrev pub IsRestored : List ℕ → Restored → Type 0
 IsRestored bytes (restored.Room room whole) =
-    AreRecord (lines_of (whole_part bytes)) room.room.entries × (room.room.limits ≡ full_limits) × (take whole bytes ≡ whole_part bytes)
+    AreRecord (lines_of (whole_part bytes)) room.room.entries × (room.room.limits ≡ full_limits)
+    × (take whole bytes ≡ whole_part bytes)
     × (whole ≤ length bytes)
 IsRestored bytes (restored.Bad number) = IsBadRecord (lines_of (whole_part bytes)) number
 
--- the room's record begins with all that was told; or the bad line stands behind the lines of it
+-- the room's record begins with all that was told, or the bad line comes after its lines
 abbrev pub HasAllOf : List Entry → Restored → Type 0
 HasAllOf told (restored.Room room whole) = IsPrefix told room.room.entries
 HasAllOf told (restored.Bad number) = length told < number

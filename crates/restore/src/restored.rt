@@ -1,32 +1,35 @@
-//! A room's file, read at the start.
+//! Reading a room's file at the start.
 
 ghost use Rattle.std.specs.Prelude.{◌≡◌, IfOk};
 ghost use Rattle.restore.specs.Restoring.{IsRestored};
 
 use crate::record::{Reading, read_record};
-use op_names::NoMemory;
+use base_types::NoMemory;
 use record_file::whole_len;
 use room_core::RoomState;
 use std::alloc::Global;
 
-/// What a room's file is.
+/// The result of reading a room's file.
 #[derive(Drop)]
 pub enum Restored {
     /// The file's whole lines are a legal record.
     Room {
-        /// The room that has this record.
+        /// The room with this record.
         room: RoomState,
-        /// How many bytes the whole lines have. What stands behind them is a line that was not written
-        /// to its end.
+        /// The number of bytes in the whole lines. Bytes behind them are the start of an incomplete
+        /// line.
         whole: usize,
     },
-    /// No record: the first whole line, counted from 1, that is no entry that may come next.
+    /// The whole lines are no legal record. This line, counted from 1, is the first that is no
+    /// entry that may come next.
     Bad(usize),
 }
 
-/// The room whose record the whole lines of a file are, with how many bytes they have; or the first
-/// whole line that isn't its next entry, or `NoMemory`. Takes as long as adding the entries one after
-/// the other.
+/// The room whose record the whole lines of a file are, or the number of the first bad line. Its
+/// cost is that of adding the entries one by one.
+///
+/// # Errors
+/// `NoMemory` if an allocation failed.
 pub fn restore(alloc: Global, bytes: &[u8]) -> Result<Restored, NoMemory>
     ensures { IfOk result (IsRestored bytes.now) }
 {

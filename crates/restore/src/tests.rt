@@ -16,14 +16,14 @@ fn whole_lines(bytes: &[u8]) -> usize {
     bytes.iter().filter(|byte| **byte == b'\n').count()
 }
 
-/// The entry of a line, alone in a list.
+/// The entry of a line, in a list of one.
 fn batch(alloc: Global, line: &str) -> Result<[Arc<Entry>; 1], Fail> {
     let entry = read_entry(alloc, line.as_bytes())?;
     Ok([Arc::new(alloc, entry)?])
 }
 
-/// Puts the record's entries into a journal, one after the other, until a call fails; how many are kept
-/// then.
+/// Appends the record's entries to a journal one by one, until an append fails. Returns how many
+/// were appended.
 fn tell_all(alloc: Global, journal: &mut Memory) -> Result<usize, Fail> {
     for (told, line) in RECORD.lines().enumerate() {
         if append(alloc, journal, &batch(alloc, line)?).is_err() {
@@ -33,8 +33,7 @@ fn tell_all(alloc: Global, journal: &mut Memory) -> Result<usize, Fail> {
     Ok(whole_lines(RECORD.as_bytes()))
 }
 
-// A record cut off at each length is restored to its whole lines, whatever stands behind it that is no
-// whole line.
+// A record that is cut off at any length is restored to its whole lines, whatever follows them.
 #[test]
 fn torn_at_each_length(rt: HostRuntime) -> Result<(), Fail> {
     let alloc = rt.alloc();
@@ -56,7 +55,7 @@ fn torn_at_each_length(rt: HostRuntime) -> Result<(), Fail> {
     Ok(())
 }
 
-// A whole line that is no next entry is told with its number.
+// A whole line that is no next entry is reported by its number.
 #[test]
 fn bad_lines(rt: HostRuntime) -> Result<(), Fail> {
     let alloc = rt.alloc();
@@ -77,7 +76,7 @@ fn bad_lines(rt: HostRuntime) -> Result<(), Fail> {
     Ok(())
 }
 
-// A put in its old form is an entry as any other.
+// A put in its old form is read as an entry.
 #[test]
 fn old_forms(rt: HostRuntime) -> Result<(), Fail> {
     let alloc = rt.alloc();
@@ -93,8 +92,7 @@ fn old_forms(rt: HostRuntime) -> Result<(), Fail> {
     Ok(())
 }
 
-// Whichever call of the journal fails, and whatever a loss of power leaves behind what is kept, each
-// entry whose append said Ok is restored.
+// Whichever call of the journal fails, and whatever a loss of power leaves, no kept entry is lost.
 #[test]
 fn power_is_lost_at_each_call(rt: HostRuntime) -> Result<(), Fail> {
     let alloc = rt.alloc();
@@ -118,7 +116,7 @@ fn power_is_lost_at_each_call(rt: HostRuntime) -> Result<(), Fail> {
     Ok(())
 }
 
-// Where the disk was full, a record that is cut back to what is kept goes on.
+// After a full disk, a record that is cut back to what is kept accepts further entries.
 #[test]
 fn goes_on_after_a_full_disk(rt: HostRuntime) -> Result<(), Fail> {
     let alloc = rt.alloc();

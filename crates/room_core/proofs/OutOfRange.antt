@@ -1,7 +1,7 @@
 -- The answer to an operation whose number is out of range.
 use Rattle.std.proofs.Common.{◌≡◌, ℕ, ◌≤◌, true, false, cond, length, Some, ap, ◌∙◌, arith, leb}
 use Rattle.std.proofs.lemmas.Bool.{and_parts, and_from, le-leb, leb-true}
-use Rattle.op_names.specs.Names.{Name, is_site, is_op_name}
+use Rattle.base_types.specs.Names.{Name, is_site, is_op_name}
 use Rattle.rules.specs.declared.history.Op.{Op}
 use Rattle.rules.specs.declared.history.Entry.TheVariants.{Operation}
 use Rattle.rules.specs.declared.refusal.Refusal.TheVariants.{RecordFull, WrongSeq}

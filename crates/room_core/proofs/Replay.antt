@@ -13,16 +13,16 @@ use Rattle.rules.proofs.Conditions.{not_first, room_for_join}
 use Rattle.rules.proofs.Records.{legal_push, sites-join, sites-operation}
 use Rattle.state_vector.specs.Vectors.{is_vector}
 use Rattle.shape.proofs.Refusals.{first_of_front, front_passed}
-use Rattle.op_names.specs.Names.{Name}
+use Rattle.base_types.specs.Names.{Name}
 use Rattle.rules.specs.Bodies.{is_change_body}
 use Rattle.wire.specs.declared.reply.Reply.TheVariants.{Made, Taken}
-use Rattle.drawing.specs.Additions.{IsNext, body_conditions, body_refusal, planned_ids}
+use Rattle.drawing.specs.steps.Additions.{IsNext, body_conditions, body_refusal, planned_ids}
 use Rattle.drawing.specs.Shown.{ids_with}
 use Rattle.drawing.specs.Room.{Room}
 use Rattle.drawing.proofs.Replay.{more}
 use Rattle.room_core.specs.Answers.{entry_or_refusal, operation_answer, operation_reply, refusal_answer}
-use Rattle.room_core.specs.Kept.{IsRoom}
-use Rattle.room_core.specs.Plans.{IsAdmitted, order_refusal, refusal_in, reply_by}
+use Rattle.room_core.specs.steps.Kept.{IsRoom}
+use Rattle.room_core.specs.steps.Plans.{IsAdmitted, order_refusal, refusal_in, reply_by}
 
 -- ---- one more entry
 

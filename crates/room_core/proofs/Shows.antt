@@ -1,7 +1,7 @@
 -- Which answers of a room show an object, and that they show its groups.
 use Rattle.std.proofs.Common.{◌≡◌, ◌+◌, ℕ, Bool, true, false, cond, List, length, Option, Some, None, refl, sym, subst}
-use Rattle.op_names.specs.Names.{Name}
-use Rattle.op_names.specs.Texts.{Bytes}
+use Rattle.base_types.specs.Names.{Name}
+use Rattle.base_types.specs.Texts.{Bytes}
 use Rattle.rules.specs.declared.history.Op.{Op}
 use Rattle.rules.specs.declared.history.Entry.{Entry}
 use Rattle.rules.specs.declared.history.Entry.TheVariants.{Join, Operation}

@@ -1,9 +1,8 @@
 pub use Rattle.rules.specs.Limits
 pub use Rattle.rules.specs.Records
 pub use Rattle.drawing.specs.Room
-pub use Rattle.drawing.specs.State
-pub mod Kept
+pub use Rattle.drawing.specs.steps.State
 pub mod Answers
-pub mod Plans
-pub mod Logs
+pub mod Sites
 pub mod Shown
+pub mod steps

@@ -1,9 +1,9 @@
 -- What a room shows of an object: the maximal compatible groups of its operations.
 use Rattle.std.specs.Prelude.{◌≡◌, ◌↔◌, ℕ, List, length, map, Contains, Some}
 use Rattle.std.specs.List.Sorted.{IsPermutation, IsStrictlySortedBy}
-use Rattle.op_names.specs.Names.{Name}
-use Rattle.op_names.specs.Texts.{Bytes}
-use Rattle.op_names.specs.VersionIds.{id_cmp}
+use Rattle.base_types.specs.Names.{Name}
+use Rattle.base_types.specs.Texts.{Bytes}
+use Rattle.base_types.specs.VersionIds.{id_cmp}
 use Rattle.rules.specs.declared.history.Op.{Op}
 use Rattle.rules.specs.declared.version.Version.{Version}
 use Rattle.rules.specs.Bodies.{kind_in}
@@ -15,8 +15,9 @@ use Rattle.rules.specs.Versions.{version_of}
 use Rattle.rules.specs.Records.{operations}
 use Rattle.room_core.specs.Room.{Room}
 
--- The versions of an object after these operations: one for each maximal compatible group of the changes on it, each group
--- once, with the group's identifier and the attributes that its own operations decide, in order of identifier.
+-- The versions of an object after these operations: one for each maximal compatible group of the
+-- changes on it, each group once, with the group's identifier and the attributes that its own
+-- operations decide, in order of identifier.
 pub record AreVersionsOf (h : List Op) (object : Name) (versions : List Version) : Type 0 where
   pub groups : List (List Op)
   pub maximal : (g : List Op) → Contains groups g ↔ IsGroup (conflict h) (changes_on h object) g
@@ -24,8 +25,9 @@ pub record AreVersionsOf (h : List Op) (object : Name) (versions : List Version)
   pub shown : IsPermutation (map (version_of h object) groups) versions
   pub rising : IsStrictlySortedBy id_cmp (map (λ version. version.id) versions)
 
--- the room has so many entries, and by them this object, of this kind and with these versions
-pub record HasObject (room : Room) (at : ℕ) (object : Name) (kind : Bytes) (versions : List Version) : Type 0 where
+-- the room has so many entries, and in them this object, of this kind and with these versions
+pub record HasObject (room : Room) (at : ℕ) (object : Name) (kind : Bytes)
+    (versions : List Version) : Type 0 where
   pub at_end : at ≡ length room.entries
   pub creation : Op
   pub created : creation_of (operations room.entries) object ≡ Some creation

@@ -1,7 +1,5 @@
-//! Worked examples of answers, computed by the check from the definitions. These functions run
-//! nothing.
-//!
-//! The records are those of `rules::examples`, in which one rectangle is drawn.
+//! Worked examples of answers, which the check computes from the definitions. Each function has an
+//! empty body. The records are those of `rules::examples`, in which a room draws one rectangle.
 
 #![tactic(auto, unfolding(state_vector::specs::Vectors::vector_fault, rules::specs::Operations::known, rules::specs::Operations::changes_on, rules::specs::Groups::groups_of, rules::specs::Groups::group_named, rules::specs::Groups::identifier, rules::specs::Conflicts::base, rules::specs::Conflicts::conflict, rules::specs::Versions::attributes, rules::specs::Versions::groups, rules::specs::Versions::shown_of, rules::specs::Versions::version_of, rules::specs::Versions::versions, rules::specs::Records::refusal, crate::specs::Answers::answer))]
 
@@ -10,7 +8,7 @@ ghost use Rattle.rules.specs.declared.history.Body.TheVariants.{Put, DropVersion
 ghost use Rattle.rules.specs.declared.history.Entry.TheVariants.{Join as Joins};
 ghost use Rattle.rules.specs.declared.refusal.Refusal.TheVariants.{NotJoined, AlreadyJoined, NoSuchObject, NoSuchVersion, Gone, TooFar, NoSuchSite, SiteInUse};
 ghost use Rattle.rules.specs.Limits.{full_limits};
-ghost use Rattle.rules.specs.Examples.{x, red, puts, drops, version, gone, creation_alone, one_put, two_puts, three_sites, one_drop};
+ghost use Rattle.rules.specs.steps.Examples.{x, red, puts, drops, version, gone, creation_alone, one_put, two_puts, three_sites, one_drop};
 ghost use Rattle.wire.specs.declared.request.Request.TheVariants.{Join, Back, Change, Show, Pull, Leave, List as ListObjects};
 ghost use Rattle.wire.specs.declared.reply.Reply.TheVariants.{Returned, Taken, Versions, Objects, Entries, Left, No};
 ghost use Rattle.room_core.specs.Room.{full_room};
@@ -55,9 +53,17 @@ pub fn a_version_that_was_not_seen()
 /// An object is shown with all its versions.
 pub fn two_versions_are_shown()
     ensures by_one { answer (full_room two_puts) 1 (Show (1, 1))
-        ≡ (Versions 5 (1, 1) (codes "rect") (version ((1, 2) ∷ []) (x 5 ∷ []) ∷ version ((2, 1) ∷ []) (x 9 ∷ []) ∷ []), None) }
+        ≡ (
+          Versions 5 (1, 1) (codes "rect") (version ((1, 2) ∷ []) (x 5 ∷ [])
+              ∷ version ((2, 1) ∷ []) (x 9 ∷ []) ∷ []),
+          None,
+        ) }
     ensures by_the_other { answer (full_room two_puts) 2 (Show (1, 1))
-        ≡ (Versions 5 (1, 1) (codes "rect") (version ((1, 2) ∷ []) (x 5 ∷ []) ∷ version ((2, 1) ∷ []) (x 9 ∷ []) ∷ []), None) }
+        ≡ (
+          Versions 5 (1, 1) (codes "rect") (version ((1, 2) ∷ []) (x 5 ∷ [])
+              ∷ version ((2, 1) ∷ []) (x 9 ∷ []) ∷ []),
+          None,
+        ) }
 {}
 
 /// Pages of the objects and of the record begin where they are asked to, and at most at the end.

@@ -1,17 +1,17 @@
-//! Why rooms can't be made, and why logs are refused.
+//! Faults of rooms.
 
 ghost use Rattle.std.specs.Prelude.{◌≡◌};
 ghost use Rattle.room_core.specs.declared.fault.CallFault.TheVariants as call_fault;
 ghost use Rattle.room_core.specs.declared.fault.RoomsFault.TheVariants as rooms_fault;
 
-use op_names::NoMemory;
+use base_types::NoMemory;
 use thiserror::Error;
 
 /// Why rooms can't be made.
 #[derive(Clone, Copy, Debug, PartialEq, Eq, Error)]
 pub enum RoomsFault {
-    /// The first place, from 0, whose name stands at an earlier place too.
-    #[error("the name at place {0} stands earlier too")]
+    /// The first place, from 0, whose name is also at an earlier place.
+    #[error("the name at place {0} is repeated")]
     SameName(usize),
     #[error("out of memory")]
     NoMemory,
@@ -25,10 +25,10 @@ impl From<NoMemory> for RoomsFault {
     }
 }
 
-/// Why a request of a log's site could not be answered.
+/// Why a request of a site was not answered.
 #[derive(Clone, Copy, Debug, PartialEq, Eq, Error)]
 pub enum CallFault {
-    /// The first place, from 0, at which what the log has seen is not the record's.
+    /// The first place, from 0, at which the record differs from what the site has seen.
     #[error("what was seen is not the record's at place {place}")]
     Torn { place: usize },
     #[error("out of memory")]
@@ -41,14 +41,4 @@ impl From<NoMemory> for CallFault {
     fn from(_fault: NoMemory) -> CallFault {
         CallFault::NoMemory
     }
-}
-
-/// Why logs are not those of all sites of a room.
-#[derive(Clone, Copy, Debug, PartialEq, Eq, Error)]
-pub enum LogFault {
-    /// The place, from 0, of the first log that doesn't agree with the record.
-    #[error("the log at place {0} doesn't agree with the record")]
-    Torn(usize),
-    #[error("a site's log is missing")]
-    Missing,
 }

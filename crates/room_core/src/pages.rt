@@ -1,10 +1,9 @@
 //! Pages of a room's record.
 
-ghost use Rattle.std.specs.Prelude.{◌≡◌, ◌≤◌, ◌++◌, IfOk, length, map, option_map, take, drop};
+ghost use Rattle.std.specs.Prelude.{◌≡◌, ◌≤◌, IfOk, length, map, take, drop};
 ghost use Rattle.std.specs.Arc.{arc_value};
-ghost use Rattle.room_core.specs.Logs.{none_or_one};
 
-use op_names::NoMemory;
+use base_types::NoMemory;
 use rules::Entry;
 use std::alloc::Global;
 use std::sync::Arc;
@@ -44,37 +43,6 @@ fn share(alloc: Global, entries: &[Arc<Entry>]) -> Result<Vec<Arc<Entry>>, NoMem
 {
     let mut owners = Vec::with_capacity(alloc, entries.len())?;
     for entry in entries {
-        owners.push(entry.clone()?)?;
-    }
-    Ok(owners)
-}
-
-/// Other owners of these entries, and of one more if there is one.
-pub(crate) fn share_with(
-    alloc: Global,
-    entries: &[Arc<Entry>],
-    last: Option<&Arc<Entry>>,
-) -> Result<Vec<Arc<Entry>>, NoMemory>
-    ensures { IfOk result (λ owners. map arc_value owners.items
-        ≡ map arc_value entries.now ++ none_or_one (option_map (λ e. arc_value e.now) last.entry)) }
-{
-    let mut owners = share(alloc, entries)?;
-    if let Some(entry) = last {
-        owners.push(entry.clone()?)?;
-    }
-    Ok(owners)
-}
-
-/// Another owner of an entry if there is one.
-pub(crate) fn share_one(
-    alloc: Global,
-    entry: Option<&Arc<Entry>>,
-) -> Result<Vec<Arc<Entry>>, NoMemory>
-    ensures { IfOk result (λ owners. map arc_value owners.items
-        ≡ none_or_one (option_map (λ e. arc_value e.now) entry.entry)) }
-{
-    let mut owners = Vec::new(alloc);
-    if let Some(entry) = entry {
         owners.push(entry.clone()?)?;
     }
     Ok(owners)

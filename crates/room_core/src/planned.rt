@@ -1,8 +1,8 @@
-//! An answer that is built, and not yet made.
+//! An answer that is ready and not yet carried out.
 
 ghost use Rattle.std.specs.Prelude.{◌≡◌, None, option_map};
 ghost use Rattle.std.specs.Arc.{arc_value};
-ghost use Rattle.room_core.specs.Plans.{entry_added};
+ghost use Rattle.room_core.specs.steps.Plans.{entry_added};
 
 use drawing::Addition;
 use rules::Entry;
@@ -10,7 +10,7 @@ use std::marker::Model;
 use std::sync::Arc;
 use wire::Reply;
 
-/// A reply that is built, and the entry that is added with it if there is one.
+/// A reply that is ready, and the entry that is added with it, if there is one.
 #[derive(Drop)]
 pub struct Planned {
     pub(crate) reply: Reply,
@@ -18,7 +18,7 @@ pub struct Planned {
 }
 
 impl Model for Planned {
-    ghost use Rattle.room_core.specs.Plans.{Plan};
+    ghost use Rattle.room_core.specs.steps.Plans.{Plan};
 
     ghost Value = { Plan };
 

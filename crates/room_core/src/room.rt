@@ -5,25 +5,24 @@ ghost use Rattle.std.specs.Arc.{arc_value};
 ghost use Rattle.rules.specs.declared.limits.TheConstants.Limits.{MAX_JOINS};
 ghost use Rattle.rules.specs.Records.{is_join, sites, IsLegal};
 ghost use Rattle.wire.specs.declared.reply.Reply.TheVariants.{No};
-ghost use Rattle.drawing.specs.Additions.{IsReady as CanBeAdded};
+ghost use Rattle.drawing.specs.steps.Additions.{IsReady as CanBeAdded};
 ghost use Rattle.room_core.specs.Room.{with_entry, empty_room};
 ghost use Rattle.room_core.specs.Answers.{join_answer, back_reply, answer, site_answer, has_site, room_after};
-ghost use Rattle.room_core.specs.Plans.{entry_added, IsAdmitted, IsReady, Plans};
+ghost use Rattle.room_core.specs.steps.Plans.{entry_added, IsAdmitted, IsReady, Plans};
 
 mod accepted;
-mod calls;
 mod plans;
 
 use crate::planned::Planned;
+use base_types::NoMemory;
 use drawing::{Addition, Drawing};
-use op_names::NoMemory;
 use rules::{Entry, Limits, Refusal};
 use std::alloc::Global;
 use std::marker::Model;
 use std::sync::Arc;
 use wire::{Reply, Request};
 
-/// A room: its record of joins and operations, and what follows from it.
+/// A room: its record of joins and operations, and what these draw.
 #[derive(Drop)]
 pub struct RoomState {
     drawing: Drawing,
@@ -31,10 +30,10 @@ pub struct RoomState {
 }
 
 impl Model for RoomState {
-    ghost use Rattle.drawing.specs.State.{State};
-    ghost use Rattle.room_core.specs.Kept.{IsRoom};
+    ghost use Rattle.drawing.specs.steps.State.{DrawingState};
+    ghost use Rattle.room_core.specs.steps.Kept.{IsRoom};
 
-    ghost Value = { State };
+    ghost Value = { DrawingState };
 
     ghost view = { λ s. s.drawing };
 
@@ -42,7 +41,11 @@ impl Model for RoomState {
 }
 
 impl RoomState {
-    /// A room of these limits with nothing in its record, or `NoMemory`.
+    /// An empty room under these limits.
+    ///
+    /// # Errors
+    ///
+    /// `NoMemory` if an allocation failed.
     pub fn new(alloc: Global, limits: Limits) -> Result<RoomState, NoMemory>
         ensures { IfOk result (λ state. state.room ≡ empty_room limits) }
     {
@@ -50,7 +53,11 @@ impl RoomState {
         Ok(RoomState { drawing, sites: 0 })
     }
 
-    /// Lets the next site in, where the limits allow it.
+    /// Answers a join, and adds it if the limits allow it.
+    ///
+    /// # Errors
+    ///
+    /// `NoMemory` if an allocation failed. The room stays as it is.
     pub fn join(&mut self, alloc: Global) -> Result<Reply, NoMemory>
         ensures reply { IfOk result (λ reply. reply ≡ (join_answer self.old.room).0) }
         ensures room { OnOk result
@@ -61,7 +68,11 @@ impl RoomState {
         Ok(self.commit(planned))
     }
 
-    /// Answers a request of whoever claims to be this site.
+    /// Answers a request of a site, and adds the operation if it is one that is taken.
+    ///
+    /// # Errors
+    ///
+    /// `NoMemory` if an allocation failed. The room stays as it is.
     pub fn answer(&mut self, alloc: Global, site: u32, request: Request) -> Result<Reply, NoMemory>
         ensures reply { IfOk result (λ reply. reply ≡ (answer self.old.room site request).0) }
         ensures room { OnOk result
@@ -72,8 +83,9 @@ impl RoomState {
         Ok(self.commit(planned))
     }
 
-    /// The answer to whoever comes back as this site. `in_use` says whether somebody is in as it.
-    /// `NoSuchSite` where so many sites haven't joined, then `SiteInUse`. The room stays as it is.
+    /// The answer to a session that comes back as this site. `in_use` tells whether another session
+    /// is in as it. A refusal is `NoSuchSite` if fewer sites have joined, or else `SiteInUse`. The
+    /// room stays as it is.
     pub fn back(&self, site: u32, in_use: bool) -> Reply
         ensures { result ≡ back_reply self.now.room in_use site }
     {
@@ -97,7 +109,11 @@ impl RoomState {
         }
     }
 
-    /// Plans the answer to a request of whoever claims to be this site. The room stays as it is.
+    /// Prepares the answer to a request of a site. The room stays as it is.
+    ///
+    /// # Errors
+    ///
+    /// `NoMemory` if an allocation failed.
     #[tactic(auto, unfolding(crate::specs::Answers::answer))]
     pub fn plan(&mut self, alloc: Global, site: u32, request: Request) -> Result<Planned, NoMemory>
         ensures { Plans self.old self.new (answer self.old.room site request) result }
@@ -134,7 +150,7 @@ impl RoomState {
         }
     }
 
-    /// Makes what was planned for the room as it is, and gives the reply. Takes no memory.
+    /// Carries out what was planned for the room as it is now, and gives the reply. No allocation.
     pub fn commit(&mut self, planned: Planned) -> Reply
         requires { IsReady self.old planned.addition }
         ensures reply { result ≡ planned.reply }
@@ -179,6 +195,14 @@ impl RoomState {
         ensures legal { IsLegal self.now.room.limits self.now.room.entries }
     {
         self.drawing.entries()
+    }
+
+    /// The record. Consumes the room.
+    pub fn into_entries(self) -> Vec<Arc<Entry>>
+        ensures entries { map arc_value result.items ≡ self.room.entries }
+        ensures legal { IsLegal self.room.limits self.room.entries }
+    {
+        self.drawing.into_entries()
     }
 }
 

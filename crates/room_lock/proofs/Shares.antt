@@ -9,7 +9,7 @@ use Rattle.rules.specs.declared.history.Entry.TheVariants.{Join, Operation}
 use Rattle.rules.specs.declared.limits.LimitValues.{LimitValues}
 use Rattle.rules.specs.Records.{admits, sites, IsLegal}
 use Rattle.rules.proofs.Records.{kept_by_admitted, sites-join, sites-operation}
-use Rattle.room_core.specs.Logs.{is_of_site}
+use Rattle.room_core.specs.Sites.{is_of_site}
 use Rattle.room_lock.specs.Kept.{count_of_site}
 
 -- the site of an entry

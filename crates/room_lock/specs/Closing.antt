@@ -1,4 +1,4 @@
--- What holds of a closed room.
+-- A closed room.
 use Rattle.std.specs.Prelude.{◌≡◌, ◌≤◌, ℕ, All, List, Some, length, map, sum_by}
 use Rattle.std.specs.List.{range_with_len}
 use mathlib.Core.List.{IsPrefix}
@@ -15,20 +15,22 @@ site_of part = part.site
 abbrev pub share_of : PartView → ℕ
 share_of part = part.share
 
--- it has seen as many entries of its site as its share
+-- the part has seen at least as many entries of its site as its share
 abbrev pub HasItsEntries : PartView → Type 0
 HasItsEntries part = part.share ≤ count_of_site part.site part.seen
 
--- the record begins with what the part has seen, and its share is how many entries its site has there
+-- the part has seen a prefix of the record, and its share is the number of its site's entries there
 pub record IsOfRecord (r : List Entry) (part : PartView) : Type 0 where
   pub seen : IsPrefix part.seen r
   pub added : part.share ≡ count_of_site part.site r
 
--- all parts of these sites are there, and their shares add up to the length of the record
+-- the parts of all sites are on the shelf, and their shares add up to the length of the record
 abbrev pub IsComplete : List Entry → Shelf → Type 0
-IsComplete r shelf = (parts : List PartView) × (map Some parts ≡ shelf) × (sum_by share_of parts ≡ length r)
+IsComplete r shelf =
+    (parts : List PartView) × (map Some parts ≡ shelf) × (sum_by share_of parts ≡ length r)
 
--- A room's record is legal, and these are the parts of all its sites, in order, whose shares add up to its length: so each entry is one of theirs.
+-- A closed room: its record is legal, and these are the parts of all its sites, in order. Their
+-- shares add up to the length of the record, so each entry belongs to one of them.
 pub record IsClosed (limits : LimitValues) (r : List Entry) (parts : List PartView) : Type 0 where
   pub legal : IsLegal limits r
   pub sites_are : map site_of parts ≡ range_with_len 1 (sites r)

@@ -1,17 +1,18 @@
--- The parts of a room's sites that nobody is in as.
-use Rattle.std.specs.Prelude.{◌≡◌, ℕ, zero, suc, Bool, List, Option, Some, None, is_some, length, map, slice_index_or, slice_set, nat_le, ◌&&◌, not, count_by}
+-- The parts of a room's sites that no session is in as.
+use Rattle.std.specs.Prelude.{◌≡◌, ℕ, zero, suc, Bool, List, Option, Some, None, is_some, length}
+use Rattle.std.specs.Prelude.{map, slice_index_or, slice_set, nat_le, ◌&&◌, not, count_by}
 use Rattle.std.specs.List.{range_with_len}
 use mathlib.Core.List.{IsPrefix}
 use Rattle.rules.specs.declared.history.Entry.{Entry}
 use Rattle.rules.specs.Records.{sites}
-use Rattle.room_core.specs.Logs.{is_of_site}
+use Rattle.room_core.specs.Sites.{is_of_site}
 use Rattle.room_lock.specs.Passes.{PartView}
 
--- a place for each site, from site 1 on, with its part where nobody is in as it
+-- a place for each site, from site 1 on; it holds the site's part if no session is in as the site
 abbrev pub Shelf : Type 0
 Shelf = List (Option PartView)
 
--- the part of a site, if it is there
+-- the part of a site, if it is on the shelf
 abbrev pub part_of : Shelf → ℕ → Option PartView
 part_of shelf zero = None
 part_of shelf (suc place) = slice_index_or shelf place None
@@ -21,25 +22,28 @@ abbrev pub with_at : Shelf → ℕ → Option PartView → Shelf
 with_at shelf zero part = shelf
 with_at shelf (suc place) part = slice_set shelf place part
 
--- somebody is in as this site
+-- a session is in as this site
 abbrev pub is_away : Shelf → ℕ → Bool
-is_away shelf site = nat_le 1 site && nat_le site (length shelf) && not (is_some (part_of shelf site))
+is_away shelf site =
+    nat_le 1 site && nat_le site (length shelf) && not (is_some (part_of shelf site))
 
--- the part is the one of this site of the room at this place, and has seen a beginning of its record
+-- the part belongs to this site of the room at this place, and has seen a prefix of its record
 pub record IsPartFor (place : ℕ) (r : List Entry) (site : ℕ) (part : PartView) : Type 0 where
   pub place_is : part.place ≡ place
   pub site_is : part.site ≡ site
   pub seen : IsPrefix part.seen r
 
--- there is a place for each site that has joined, and each part is at its site's
+-- there is a place for each site that has joined, and each part is at its site's place
 pub record IsShelfOf (place : ℕ) (r : List Entry) (shelf : Shelf) : Type 0 where
   pub counted : length shelf ≡ sites r
-  pub parts : (site : ℕ) (part : PartView) → part_of shelf site ≡ Some part → IsPartFor place r site part
+  pub parts : (site : ℕ) (part : PartView) → part_of shelf site ≡ Some part
+      → IsPartFor place r site part
 
 -- the part of a site that has seen the whole record, and has a share for each of its entries there
 abbrev pub whole_part : ℕ → List Entry → ℕ → PartView
-whole_part place r site = record { place = place; site = site; seen = r; share = count_by (is_of_site site) r }
+whole_part place r site =
+    record { place = place; site = site; seen = r; share = count_by (is_of_site site) r }
 
--- the shelf where nobody is in as any site, and each has seen the whole record
+-- the shelf when no session is in the room, and each site has seen the whole record
 abbrev pub full_shelf : ℕ → List Entry → Shelf
 full_shelf place r = map (λ site. Some (whole_part place r site)) (range_with_len 1 (sites r))

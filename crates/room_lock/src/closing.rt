@@ -9,13 +9,14 @@ use crate::fault::{CloseFault, RoomRecord};
 use crate::ledger::RoomLedger;
 use crate::part::Part;
 use crate::room::Room;
+use base_types::{NoMemory, RoomName};
 use crossbeam_utils::CachePadded;
 use indexmap::IndexMap;
-use op_names::{NoMemory, RoomName};
 use std::alloc::Global;
 use std::sync::Mutex;
 
-/// How many entries these sites added together: each has as many at least in what it has seen.
+/// The number of entries that these sites added together. Each site has seen at least as many of
+/// its own.
 pub(crate) fn added_together<P: RoomLedger>(parts: &[Part<P>]) -> u128
     ensures sum { result ≡ sum_by share_of parts.now }
     ensures own { All HasItsEntries parts.now }
@@ -44,7 +45,7 @@ pub(crate) fn close_all<P: RoomLedger>(
     Ok(records)
 }
 
-/// Puts a record last.
+/// Appends a record.
 fn push_record<P: RoomLedger>(
     records: &mut Vec<RoomRecord<P>>,
     last: RoomRecord<P>,

@@ -1,16 +1,16 @@
-//! How a join, or a coming back, went.
+//! The result of a join or a coming back.
 
 use crate::ledger::RoomLedger;
 use crate::pass::Pass;
 use crate::prefix::Prefix;
 use wire::Reply;
 
-/// How a join, or a coming back, went.
+/// The result of a join or a coming back.
 pub enum Entrance<P: RoomLedger> {
-    /// Somebody was let in: the pass, and the reply that tells it.
+    /// A site was let in: its pass, and the reply.
     Entered(Pass<P>, Reply),
-    /// The room refused: the record that it had then, and the reply that tells it.
+    /// The room refused: the record at that time, and the reply.
     Refused(Prefix<P>, Reply),
-    /// No room has the name.
+    /// There is no room of this name.
     NoRoom,
 }

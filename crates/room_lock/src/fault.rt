@@ -1,29 +1,33 @@
-//! A closed room's record, and why rooms can't be closed.
+//! The record of a closed room, and why rooms cannot be closed.
 
 ghost use Rattle.std.specs.Prelude.{◌≡◌};
 ghost use Rattle.room_lock.specs.declared.fault.CloseFault.TheVariants as close_fault;
 
 use crate::ledger::RoomLedger;
 use crate::part::Part;
-use op_names::{NoMemory, RoomName};
+use base_types::{NoMemory, RoomName};
 use rules::Entry;
 use std::sync::Arc;
 use thiserror::Error;
 
-/// A closed room's record, and the parts of all its sites, in order.
+/// The record of a closed room, and the parts of all its sites in order.
 #[derive(Drop)]
 pub struct RoomRecord<P: RoomLedger> {
+    /// The name of the room.
     pub room: RoomName,
+    /// The entries of the record, in order.
     pub entries: Vec<Arc<Entry>>,
+    /// The parts of the sites, from site 1 on.
     pub parts: Vec<Part<P>>,
 }
 
-/// Why rooms can't be closed.
+/// Why rooms cannot be closed.
 #[derive(Debug, Drop, PartialEq, Eq, Error)]
 pub enum CloseFault {
+    /// An allocation failed.
     #[error("out of memory")]
     NoMemory,
-    /// A pass of the first such room wasn't handed back.
+    /// A pass of this room was not handed back. It is the first such room.
     #[error("a pass is missing")]
     Missing { room: RoomName },
 }

@@ -1,10 +1,10 @@
-//! What all rooms and passes of one server have in common, in the proofs alone.
+//! The ledger that all rooms and passes of one server share. It exists in the proofs alone.
 
 use std::marker::Brand;
 use std::sync::ledger::Ledger;
 
-/// One of std's ledgers, with the limits of the rooms and the histories of their places. A caller
-/// picks them for one `Rooms`.
+/// A ledger of std with the limits of the rooms and the histories of their places. The caller
+/// chooses one type for each `Rooms`.
 pub trait RoomLedger: Ledger {
     ghost use Rattle.std.specs.Prelude.{List};
     ghost use Rattle.logbook.specs.Pages.{Book};

@@ -1,5 +1,5 @@
-//! Rooms behind locks. Threads call them through passes, and each room keeps one record, which all of
-//! its passes have seen beginnings of. A room keeps the parts of the sites that nobody is in as.
+//! Rooms behind locks. Threads call them through passes. Each room has one record, and each of its
+//! passes has seen a prefix of it. A room keeps the parts of the sites that no session is in as.
 #![tactic(auto)]
 
 mod account;

@@ -1,19 +1,20 @@
-//! Making rooms.
+//! Creating rooms.
 
-ghost use Rattle.std.specs.Prelude.{◌≡◌, ◌+◌, ◌*◌, ◌≤◌, ◌^◌, ◌++◌, ◌∷◌, [], ◌↔◌, ℕ, All, IfErr, IfOk, IsErrOf, OnOk, None, Some, bytes_eq, length, map};
+ghost use Rattle.std.specs.Prelude.{◌≡◌, ◌+◌, ◌*◌, ◌≤◌, ◌^◌, ◌++◌, ◌∷◌, [], ◌↔◌, ℕ, All, IfErr};
+ghost use Rattle.std.specs.Prelude.{IfOk, IsErrOf, OnOk, None, Some, bytes_eq, length, map};
 ghost use Rattle.indexmap.specs.IndexMap.{get, keys};
-ghost use Rattle.op_names.specs.Repeats.{first_repeat};
+ghost use Rattle.base_types.specs.Repeats.{first_repeat};
 ghost use Rattle.room_core.specs.declared.fault.RoomsFault.TheVariants as rooms_fault;
-ghost use Rattle.room_lock.specs.Planned.{IsLedgerOf, book_of, prefixes_from, record_of};
+ghost use Rattle.room_lock.specs.steps.Planned.{IsLedgerOf, book_of, prefixes_from, record_of};
 
 use crate::ledger::RoomLedger;
 use crate::new_room::{NewRoom, empty_states, new_rooms};
 use crate::prefix::Prefix;
 use crate::room::{Room, SPARE_PARTS};
 use crate::rooms::Rooms;
+use base_types::{NoMemory, RoomName, repeated_name};
 use crossbeam_utils::CachePadded;
 use indexmap::IndexMap;
-use op_names::{NoMemory, RoomName, repeated_name};
 use room_core::{RoomState, RoomsFault};
 use rules::Limits;
 use std::alloc::Global;
@@ -21,10 +22,10 @@ use std::marker::Model;
 use std::sync::ledger::Blank;
 use std::sync::{Mutex, Wait};
 
-/// The most rooms: the amount of a ledger is enough for as many full records.
+/// The most rooms. The amount of one ledger suffices for as many full records.
 const MAX_ROOMS: usize = 1 << 49;
 
-/// Rooms that are to be made, by `Rooms::new` at a ledger that is picked for them.
+/// A plan of rooms, which `Rooms::new` creates on a ledger that is chosen for them.
 #[derive(Drop)]
 pub struct NewRooms {
     blank: Blank,
@@ -35,20 +36,37 @@ pub struct NewRooms {
 
 impl Model for NewRooms {
     ghost use Rattle.std.specs.Prelude.{◌≡◌, All, map};
-    ghost use Rattle.room_lock.specs.Planned.{CanBeMade, Planned, book_of, record_of};
+    ghost use Rattle.room_lock.specs.steps.Planned.{CanBeMade, Planned, book_of, record_of};
 
     ghost Value = { Planned };
 
-    ghost view = { λ new. record { name = new.blank.name; parts = new.blank.parts; limits = new.limits; books = map book_of new.rooms.items; records = map record_of new.rooms.items; names = new.names.items } };
+    ghost view = { λ new. record {
+      name = new.blank.name;
+      parts = new.blank.parts;
+      limits = new.limits;
+      books = map book_of new.rooms.items;
+      records = map record_of new.rooms.items;
+      names = new.names.items;
+    } };
 
-    ghost invariant = { λ new. CanBeMade (record { name = new.blank.name; parts = new.blank.parts; limits = new.limits; books = map book_of new.rooms.items; records = map record_of new.rooms.items; names = new.names.items })
+    ghost invariant = { λ new. CanBeMade (record {
+      name = new.blank.name;
+      parts = new.blank.parts;
+      limits = new.limits;
+      books = map book_of new.rooms.items;
+      records = map record_of new.rooms.items;
+      names = new.names.items;
+    })
         × All (λ room. room.limits ≡ new.limits) new.rooms.items };
 }
 
 impl NewRooms {
-    /// Empty rooms of these names, in this order. `SameName` where a name stands twice, with the first
-    /// place, from 0, whose name stands at an earlier place too; otherwise `NoMemory`, as for more than
-    /// 2^49 names.
+    /// Plans empty rooms of these names, in order.
+    ///
+    /// # Errors
+    /// `SameName` if a name occurs twice. It gives the first place, from 0, whose name occurs at an
+    /// earlier place.
+    /// `NoMemory` if an allocation failed, or for more than 2^49 names.
     pub fn plan(alloc: Global, names: Vec<RoomName>, limits: Limits) -> Result<NewRooms, RoomsFault>
         ensures names { IfOk result (λ planned. planned.names ≡ names.items) }
         ensures limits { IfOk result (λ planned. planned.limits ≡ limits) }
@@ -62,19 +80,22 @@ impl NewRooms {
         NewRooms::apart(alloc, names, limits, states)
     }
 
-    /// Rooms of these names, in this order, each of which begins with the record at its place.
-    /// `SameName` where a name stands twice, with the first place, from 0, whose name stands at an
-    /// earlier place too; otherwise `NoMemory`, as for more than 2^49 names.
+    /// Plans rooms of these names, in order. Each begins with the record at its place in `states`.
+    ///
+    /// # Errors
+    /// `SameName` if a name occurs twice. It gives the first place, from 0, whose name occurs at an
+    /// earlier place.
+    /// `NoMemory` if an allocation failed, or for more than 2^49 names.
     pub fn with_records(
         alloc: Global,
         names: Vec<RoomName>,
         limits: Limits,
         states: Vec<RoomState>,
     ) -> Result<NewRooms, RoomsFault>
-        // There is a record for each name, of a room of these limits:
+        // There is a record for each name, of a room with these limits:
         requires counted { length states.items ≡ length names.items }
         requires limits { All (λ state. state.room.limits ≡ limits) states.items }
-        // The rooms are planned so, where no name stands twice:
+        // The plan, where no name occurs twice:
         ensures names { IfOk result (λ planned. planned.names ≡ names.items) }
         ensures limits { IfOk result (λ planned. planned.limits ≡ limits) }
         ensures records { IfOk result (λ planned. planned.records
@@ -87,18 +108,18 @@ impl NewRooms {
         NewRooms::apart(alloc, names, limits, states)
     }
 
-    /// Rooms of these names, none of which stands twice.
+    /// Plans rooms of these names, none of which occurs twice.
     fn apart(
         alloc: Global,
         names: Vec<RoomName>,
         limits: Limits,
         states: Vec<RoomState>,
     ) -> Result<NewRooms, RoomsFault>
-        // There is a record for each name, of a room of these limits, and no name stands twice:
+        // There is a record for each name, of a room with these limits, and no name occurs twice:
         requires counted { length states.items ≡ length names.items }
         requires limits { All (λ state. state.room.limits ≡ limits) states.items }
         requires apart { first_repeat bytes_eq names.items ≡ None }
-        // The rooms are planned so:
+        // The plan:
         ensures names { IfOk result (λ planned. planned.names ≡ names.items) }
         ensures limits { IfOk result (λ planned. planned.limits ≡ limits) }
         ensures records { IfOk result (λ planned. planned.records
@@ -119,7 +140,7 @@ impl NewRooms {
     }
 }
 
-/// `SameName` where a name stands twice, with the first place whose name stands at an earlier one too.
+/// `SameName` if a name occurs twice, with the first place whose name occurs at an earlier place.
 fn check_names(names: &[RoomName]) -> Result<(), RoomsFault>
     ensures apart { OnOk result (first_repeat bytes_eq names.now ≡ None) }
     ensures same_name { IfErr result (λ why. (place : ℕ) × (why ≡ rooms_fault.SameName place)
@@ -132,8 +153,11 @@ fn check_names(names: &[RoomName]) -> Result<(), RoomsFault>
 }
 
 impl<P: RoomLedger> Rooms<P> {
-    /// The rooms, and for each in order the record that it begins with; or `NoMemory`. Linear in each
-    /// record for each of its sites.
+    /// Creates the planned rooms. Returns them with the record that each begins with, in order.
+    /// Linear in each record for each of its sites.
+    ///
+    /// # Errors
+    /// `NoMemory` if an allocation failed.
     pub fn new(
         rt: &impl Wait,
         alloc: Global,
@@ -153,7 +177,7 @@ impl<P: RoomLedger> Rooms<P> {
     }
 }
 
-/// Makes the rooms under these names.
+/// Creates the rooms under these names.
 fn make<P: RoomLedger>(
     rt: &impl Wait,
     alloc: Global,
@@ -168,7 +192,7 @@ fn make<P: RoomLedger>(
     requires limits { All (λ room. room.limits ≡ P.limits) news.items }
     requires histories { (map book_of news.items ≡ P.books)
         × (length news.items ≡ length names.now) }
-    // The amount is enough for full records, and no name stands twice.
+    // The amount suffices for full records, and no name occurs twice.
     requires few { length names.now ≤ 2 ^ 49 }
     requires apart { first_repeat bytes_eq names.now ≡ None }
     ensures rooms { IfOk result (λ made. made.0 ≡ names.now) }
@@ -177,7 +201,7 @@ fn make<P: RoomLedger>(
 {
     let (mut book, mut rest) = blank.open::<P>();
     book.add(&mut rest, 1 << 63);
-    // Without the book a share grows by what another one gives, and by nothing else.
+    // Without the book a share grows only by what another share gives.
     drop(book);
     let mut rooms = IndexMap::new(alloc);
     let mut begun = Vec::with_capacity(alloc, names.len())?;
@@ -191,7 +215,7 @@ fn make<P: RoomLedger>(
     Ok((Rooms { rooms }, begun))
 }
 
-/// Puts a room last under a new name.
+/// Appends a room under a new name.
 fn insert_new<V: Drop>(
     rooms: &mut IndexMap<RoomName, V>,
     name: RoomName,

@@ -1,16 +1,16 @@
-//! A room that is to be made.
+//! A room that is to be created.
 
 ghost use Rattle.std.specs.Prelude.{◌≡◌, [], All, IfOk, length, map};
 
-use op_names::NoMemory;
+use base_types::NoMemory;
 use room_core::RoomState;
 use rules::Limits;
 use shared_history::{Front, History, open};
 use std::alloc::Global;
 use std::marker::Model;
 
-/// A room that is to be made: the record that it begins with, and a history with nothing in it.
-/// Contracts see which history it is.
+/// A room that is to be created: the record that it begins with, and an empty history. Contracts
+/// see which history it is.
 #[derive(Drop)]
 pub(crate) struct NewRoom {
     pub(crate) history: History,
@@ -20,11 +20,15 @@ pub(crate) struct NewRoom {
 
 impl Model for NewRoom {
     ghost use Rattle.std.specs.Prelude.{◌≡◌, []};
-    ghost use Rattle.room_lock.specs.Planned.{NewRoomView};
+    ghost use Rattle.room_lock.specs.steps.Planned.{NewRoomView};
 
     ghost Value = { NewRoomView };
 
-    ghost view = { λ new. record { book = new.history; limits = new.state.room.limits; entries = new.state.room.entries } };
+    ghost view = { λ new. record {
+      book = new.history;
+      limits = new.state.room.limits;
+      entries = new.state.room.entries;
+    } };
 
     ghost invariant = { λ new. new.front ≡ record { history = new.history; entries = [] } };
 }
@@ -58,7 +62,7 @@ pub(crate) fn new_rooms(alloc: Global, states: Vec<RoomState>) -> Result<Vec<New
     Ok(rooms)
 }
 
-/// So many rooms of these limits with nothing in their records.
+/// `count` rooms of these limits with empty records.
 pub(crate) fn empty_states(
     alloc: Global,
     limits: Limits,

@@ -11,8 +11,9 @@ use shared_history::Front;
 use std::marker::{Model, PhantomData};
 use std::sync::ledger::Share;
 
-/// A site's part in a room: what it has seen of the record, as a count, and how many entries it
-/// added, with 1 of the room's amount for each. What was seen stands in the proofs alone.
+/// A site's part in a room: how much of the record it has seen, and how many entries it added. It
+/// holds 1 of the room's amount for each of these. The entries that it has seen exist in the proofs
+/// alone.
 #[derive(Drop)]
 pub struct Part<P: RoomLedger> {
     pub(crate) place: usize,
@@ -28,28 +29,33 @@ impl<P: RoomLedger> Model for Part<P> {
 
     ghost Value = { PartView };
 
-    ghost view = { λ p. record { place = p.place; site = p.site; seen = p.front.entries; share = p.share.amount } };
+    ghost view = { λ p. record {
+      place = p.place;
+      site = p.site;
+      seen = p.front.entries;
+      share = p.share.amount;
+    } };
 
     ghost invariant = { λ p. IsPartKept P.books p.place p.site p.added
         (record { front = p.front; parts = p.share.parts; amount = p.share.amount }) };
 }
 
 impl<P: RoomLedger> Part<P> {
-    /// Its site's number in the room.
+    /// The site's number in the room, from 1.
     pub fn site(&self) -> u32
         ensures { result ≡ self.now.site }
     {
         self.site
     }
 
-    /// How many entries of the room's record it has seen.
+    /// The number of entries of the room's record that the site has seen.
     pub fn count_seen(&self) -> u64
         ensures { result ≡ length self.now.seen }
     {
         self.front.len()
     }
 
-    /// What it has seen of the room's record.
+    /// The prefix of the room's record that the site has seen.
     pub fn prefix(&self) -> Prefix<P>
         ensures { result ≡ prefix_of self.now }
     {
@@ -60,7 +66,7 @@ impl<P: RoomLedger> Part<P> {
         }
     }
 
-    /// How many entries it added.
+    /// The number of entries that the site added.
     pub fn count_added(&self) -> u32
         ensures added { result ≡ self.now.share }
         ensures own { self.now.share ≤ count_of_site self.now.site self.now.seen }
@@ -68,7 +74,8 @@ impl<P: RoomLedger> Part<P> {
         self.added
     }
 
-    /// Are they of one room? Then what one of them has seen begins what the other has seen.
+    /// Returns whether both parts belong to one room. What one of them has seen is then a prefix of
+    /// what the other has seen.
     pub fn is_beside(&self, other: &Part<P>) -> bool
         ensures one_room { (result ≡ true) ↔ (self.now.place ≡ other.now.place) }
         ensures shorter { self.now.place ≡ other.now.place →

@@ -1,4 +1,4 @@
-//! Beginnings of a room's record.
+//! Prefixes of a room's record.
 
 ghost use Rattle.std.specs.Prelude.{◌≡◌, ◌⊎◌, ◌≤◌, ◌<◌, ◌++◌, true, false, length, map};
 ghost use Rattle.std.specs.Arc.{arc_value};
@@ -10,8 +10,8 @@ use shared_history::Front;
 use std::marker::{Model, PhantomData};
 use std::sync::Arc;
 
-/// A beginning of a room's record. Contracts see the place of the room and the entries; a count alone
-/// is kept of these.
+/// A prefix of a room's record. At run time it is the number of entries. Contracts see the room's
+/// place and the entries.
 #[derive(Drop)]
 pub struct Prefix<P: RoomLedger> {
     pub(crate) place: usize,
@@ -31,21 +31,21 @@ impl<P: RoomLedger> Model for Prefix<P> {
 }
 
 impl<P: RoomLedger> Prefix<P> {
-    /// The place of its room among the rooms, from 0.
+    /// The place of the room among the rooms, from 0.
     pub fn place(&self) -> usize
         ensures { result ≡ self.now.place }
     {
         self.place
     }
 
-    /// How many entries it has.
+    /// The number of entries.
     pub fn len(&self) -> u64
         ensures { result ≡ length self.now.entries }
     {
         self.front.len()
     }
 
-    /// Another one that is equal.
+    /// Another prefix that is equal.
     pub fn copy(&self) -> Prefix<P>
         ensures { result ≡ self.now }
     {
@@ -56,7 +56,8 @@ impl<P: RoomLedger> Prefix<P> {
         }
     }
 
-    /// Are they of one room, and is this one no longer? Then it begins the other.
+    /// Returns whether both belong to one room and this one is not longer. This one is then a
+    /// prefix of the other.
     pub fn begins(&self, other: &Prefix<P>) -> bool
         ensures yes { result ≡ true → (self.now.place ≡ other.now.place)
             × IsPrefix self.now.entries other.now.entries }

@@ -1,23 +1,24 @@
 //! The parts of a room that begins with a record.
 
-ghost use Rattle.std.specs.Prelude.{◌≡◌, ◌+◌, ◌≤◌, ◌<◌, ◌^◌, ◌++◌, IfOk, OnOk, length, map, count_by, drop, slice_get, Some};
+ghost use Rattle.std.specs.Prelude.{◌≡◌, ◌+◌, ◌≤◌, ◌<◌, ◌^◌, ◌++◌, IfOk, OnOk, length, map};
+ghost use Rattle.std.specs.Prelude.{count_by, drop, slice_get, Some};
 ghost use Rattle.std.specs.Arc.{arc_value};
 ghost use Rattle.rules.specs.Records.{IsLegal, sites};
 ghost use Rattle.rules.specs.declared.limits.TheConstants.Limits.{MAX_ENTRIES};
-ghost use Rattle.room_core.specs.Logs.{is_of_site};
+ghost use Rattle.room_core.specs.Sites.{is_of_site};
 ghost use Rattle.room_lock.specs.Shelves.{full_shelf, whole_part};
 
 use crate::account::Account;
 use crate::ledger::RoomLedger;
 use crate::part::Part;
-use op_names::NoMemory;
+use base_types::NoMemory;
 use room_core::RoomState;
 use rules::Entry;
 use std::alloc::Global;
 use std::sync::Arc;
 use std::sync::ledger::Share;
 
-/// Other owners of these entries.
+/// Shared owners of these entries.
 fn share(alloc: Global, entries: &[Arc<Entry>]) -> Result<Vec<Arc<Entry>>, NoMemory>
     ensures { IfOk result (λ owners. map arc_value owners.items ≡ map arc_value entries.now) }
 {
@@ -28,7 +29,7 @@ fn share(alloc: Global, entries: &[Arc<Entry>]) -> Result<Vec<Arc<Entry>>, NoMem
     Ok(owners)
 }
 
-/// Other owners of the entries from a place on. Linear in these.
+/// Shared owners of the entries from a place on. Linear in these.
 pub(crate) fn share_from(
     alloc: Global,
     entries: &[Arc<Entry>],
@@ -41,7 +42,7 @@ pub(crate) fn share_from(
     share(alloc, &entries[from..])
 }
 
-/// Whether an entry is of a site: its join, or an operation of it.
+/// Returns whether an entry is the site's join or an operation of the site.
 fn is_of_site(site: u32, entry: &Entry) -> bool
     ensures { result ≡ is_of_site site entry.now }
 {
@@ -51,7 +52,7 @@ fn is_of_site(site: u32, entry: &Entry) -> bool
     }
 }
 
-/// How many of the entries are of a site. Linear in the entries.
+/// The number of entries of a site. Linear in the entries.
 fn count_of_site(site: u32, entries: &[Arc<Entry>]) -> u32
     requires { length entries.now < 2 ^ 32 }
     ensures { result ≡ count_by (is_of_site site) (map arc_value entries.now) }
@@ -65,8 +66,8 @@ fn count_of_site(site: u32, entries: &[Arc<Entry>]) -> u32
     count
 }
 
-/// The part of a site that has seen all that the account has, with a part of the spare ones, and 1 of
-/// the account's amount for each entry of the site.
+/// The part of a site that has seen all that the account has. It takes one of the spare parts, and
+/// 1 of the account's amount for each entry of the site.
 fn whole_part<P: RoomLedger>(
     place: usize,
     site: u32,
@@ -74,7 +75,7 @@ fn whole_part<P: RoomLedger>(
     account: &mut Account<P>,
     spare: &mut Share<P>,
 ) -> Part<P>
-    // The account is the room's, and has seen these entries:
+    // The account belongs to the room, and has seen these entries:
     requires history { slice_get P.books place ≡ Some account.old.front.history }
     requires seen { account.old.front.entries ≡ map arc_value entries.now }
     requires short { length entries.now < 2 ^ 32 }
@@ -104,7 +105,7 @@ fn whole_part<P: RoomLedger>(
     }
 }
 
-/// The parts of all sites of a room that begins with a record, each of which has seen the whole of it.
+/// The parts of all sites of a room that begins with a record. Each has seen the whole record.
 /// Linear in the record for each site.
 pub(crate) fn fill_shelf<P: RoomLedger>(
     alloc: Global,
@@ -124,7 +125,7 @@ pub(crate) fn fill_shelf<P: RoomLedger>(
     ensures shelf { IfOk result (λ shelf. shelf.items ≡ full_shelf place state.now.room.entries) }
     ensures front { account.new.front ≡ account.old.front }
     ensures parts { account.new.parts ≡ account.old.parts }
-    // 1 of the amount goes to its site for each entry:
+    // 1 of the amount goes to the entry's site for each entry:
     ensures amount { OnOk result
         (account.new.amount + length state.now.room.entries ≡ account.old.amount) }
     ensures spare_parts { OnOk result

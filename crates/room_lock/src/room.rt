@@ -1,16 +1,20 @@
 //! A room under its lock.
 
-ghost use Rattle.std.specs.Prelude.{◌≡◌, ◌≢◌, ◌⊎◌, ◌++◌, ◌∷◌, [], ◌+◌, ◌<◌, ◌≤◌, ◌↔◌, Err, None, Ok, Some, IfErr, IfOk, OnOk, OnErr, false, true, slice_get, length, map, option_map};
+ghost use Rattle.std.specs.Prelude.{◌≡◌, ◌≢◌, ◌⊎◌, ◌++◌, ◌∷◌, [], ◌+◌, ◌<◌, ◌≤◌, ◌↔◌, Err, None};
+ghost use Rattle.std.specs.Prelude.{Ok, Some, IfErr, IfOk, OnOk, OnErr, false, true, slice_get};
+ghost use Rattle.std.specs.Prelude.{length, map, option_map};
 ghost use Rattle.std.specs.Arc.{arc_value};
 ghost use Rattle.rules.specs.Records.{IsLegal, sites};
 ghost use Rattle.rules.specs.declared.limits.TheConstants.Limits.{MAX_ENTRIES, MAX_JOINS};
 ghost use Rattle.room_core.specs.declared.fault.CallFault.TheVariants as call_fault;
 ghost use Rattle.room_core.specs.Answers.{join_answer, answer, room_after};
-ghost use Rattle.room_core.specs.Logs.{first_difference, none_or_one};
+ghost use Rattle.room_core.specs.steps.Differences.{first_difference};
+ghost use Rattle.room_core.specs.Sites.{none_or_one};
 ghost use Rattle.room_lock.specs.Closing.{IsClosed, IsComplete};
 ghost use Rattle.room_lock.specs.declared.fault.CloseFault.TheVariants as close_fault;
 ghost use Rattle.room_lock.specs.Shelves.{full_shelf, is_away, part_of, with_at};
-ghost use Rattle.room_lock.specs.Told.{IsBackOver, IsBackRefusalOver, IsCallOver, IsJoinOver, IsLeaveOver, IsRefusalOver, room_of};
+ghost use Rattle.room_lock.specs.Told.{IsBackOver, IsBackRefusalOver, IsCallOver, IsJoinOver};
+ghost use Rattle.room_lock.specs.Told.{IsLeaveOver, IsRefusalOver, room_of};
 
 use crate::account::Account;
 use crate::closing::added_together;
@@ -23,7 +27,7 @@ use crate::pass::Pass;
 use crate::prefix::{News, Prefix};
 use crate::restoring::{fill_shelf, share_from};
 use crate::shelf::{all_parts, put_part, take_part};
-use op_names::{NoMemory, RoomName};
+use base_types::{NoMemory, RoomName};
 use room_core::{CallFault, RoomState};
 use rules::{Entry, Limits};
 use shared_history::Front;
@@ -33,11 +37,12 @@ use std::sync::ledger::Share;
 use std::sync::{Arc, Wait};
 use wire::{Reply, Request};
 
-/// The most parts of the ledger that sites of a room get: one for each that may join.
+/// The most parts of the ledger that sites of a room get: one for each site that may join.
 pub(crate) const SPARE_PARTS: u64 = 257;
 
-/// What lies under a room's lock: the room, its history with the room's share, a spare part of the
-/// ledger for each site that may still join, and the parts of the sites that nobody is in as.
+/// What a room's lock guards: the room, and its history with the room's share. There is a spare
+/// part of the ledger for each site that may still join. The shelf holds the parts of the sites
+/// that no session is in as.
 #[derive(Drop)]
 pub(crate) struct Room<P: RoomLedger> {
     state: RoomState,
@@ -52,20 +57,24 @@ impl<P: RoomLedger> Model for Room<P> {
 
     ghost Value = { Placed };
 
-    ghost view = { λ r. record { place = r.place; entries = r.state.room.entries; shelf = r.shelf.items } };
+    ghost view = { λ r. record {
+      place = r.place;
+      entries = r.state.room.entries;
+      shelf = r.shelf.items;
+    } };
 
     ghost invariant = { λ r. IsRoomKept P.books P.limits r.place r.state.room
         r.account r.spare.parts r.spare.amount r.shelf.items };
 }
 
 impl<P: RoomLedger> Room<P> {
-    ghost use Rattle.room_lock.specs.Entrances.{IfEntered, IfRefused};
+    ghost use Rattle.room_lock.specs.steps.Entrances.{IfEntered, IfRefused};
     ghost use Rattle.room_lock.specs.declared.entrance.Entrance.TheVariants.{NoRoom};
     ghost use Rattle.wire.specs.declared.request.Request.TheVariants.{Leave};
 
-    /// A room at a place that begins with this record, with its share and its spare parts out of the
-    /// rest. Nobody is in as any of its sites: their parts are on the shelf, and have seen the whole
-    /// record. Linear in the record for each site.
+    /// A room at a place that begins with this record. It takes its share and its spare parts from
+    /// the rest. No session is in as any of its sites: their parts are on the shelf, and have seen
+    /// the whole record. Linear in the record for each site.
     pub(crate) fn new(
         rt: &impl Wait,
         alloc: Global,
@@ -76,7 +85,7 @@ impl<P: RoomLedger> Room<P> {
         // The limits and the history are those that the ledger's type names.
         requires limits { new.limits ≡ P.limits }
         requires history { slice_get P.books place ≡ Some new.book }
-        // The room takes its share and its parts out of the rest.
+        // The room takes its share and its parts from the rest.
         requires parts { SPARE_PARTS + 1 < rest.old.parts }
         requires amount { MAX_ENTRIES ≤ rest.old.amount }
         ensures place { IfOk result (λ room. room.place ≡ place) }
@@ -135,7 +144,7 @@ impl<P: RoomLedger> Room<P> {
         }
     }
 
-    /// What its record has beyond a prefix of it. `Torn` where the prefix has more entries.
+    /// The entries of its record behind a prefix of it. `Torn` if the prefix has more entries.
     pub(crate) fn news(&self, alloc: Global, since: &Prefix<P>) -> Result<News<P>, CallFault>
         requires { since.now.place ≡ self.now.place }
         ensures whole { IfOk result (λ news. news.whole
@@ -155,7 +164,7 @@ impl<P: RoomLedger> Room<P> {
         })
     }
 
-    /// Lets the next site in, where the limits allow it, and gives its pass.
+    /// Lets the next site in if the limits allow it, and gives its pass.
     pub(crate) fn enter(
         &mut self,
         rt: &impl Wait,
@@ -164,13 +173,15 @@ impl<P: RoomLedger> Room<P> {
     ) -> Result<Entrance<P>, NoMemory>
         ensures entered { IfOk result (IfEntered (λ pass reply.
             IsJoinOver P.limits self.old.entries pass reply × (pass.room ≡ name.now))) }
-        ensures refused { IfOk result (IfRefused (λ prefix reply.
+        ensures entrance_refused { IfOk result (IfRefused (λ prefix reply.
             IsRefusalOver P.limits self.old.entries reply
             × (prefix ≡ record { place = self.old.place; entries = self.old.entries }))) }
         ensures written { let room = room_of P.limits self.old.entries
             in OnOk result (self.new.entries ≡ (room_after room (join_answer room)).entries) }
         ensures known { result ≢ Ok NoRoom }
-        // The shelf gets a place for who was let in, and nothing else changes there:
+        ensures pass_place { IfOk result (IfEntered (λ pass reply.
+            pass.part.place ≡ self.old.place)) }
+        // The shelf gets a place for the new site, and is otherwise unchanged:
         ensures shelf { IfOk result (IfEntered (λ pass reply.
             self.new.shelf ≡ self.old.shelf ++ None ∷ [])) }
         ensures same_shelf { IfOk result (IfRefused (λ prefix reply.
@@ -199,7 +210,7 @@ impl<P: RoomLedger> Room<P> {
         Ok(Entrance::Entered(Pass { room, part }, reply))
     }
 
-    /// Lets somebody in again as this site, where its part is here.
+    /// Lets this site in again if its part is on the shelf.
     pub(crate) fn back(
         &mut self,
         alloc: Global,
@@ -210,10 +221,12 @@ impl<P: RoomLedger> Room<P> {
             × (part_of self.old.shelf site ≡ Some was)
             × IsBackOver P.limits self.old.entries site pass reply
             × (pass.part.share ≡ was.share) × (pass.room ≡ name.now))) }
-        ensures refused { IfOk result (IfRefused (λ prefix reply.
+        ensures entrance_refused { IfOk result (IfRefused (λ prefix reply.
             IsBackRefusalOver P.limits self.old.entries site reply
             × (prefix ≡ record { place = self.old.place; entries = self.old.entries }))) }
         ensures known { result ≢ Ok NoRoom }
+        ensures pass_place { IfOk result (IfEntered (λ pass reply.
+            pass.part.place ≡ self.old.place)) }
         ensures in_use { IfOk result (IfRefused (λ prefix reply.
             part_of self.old.shelf site ≡ None)) }
         // Nothing else changes:
@@ -234,8 +247,8 @@ impl<P: RoomLedger> Room<P> {
         }
     }
 
-    /// Answers a request of the pass's site. `Torn` where what the pass has seen is not the beginning
-    /// of the record, with the first place that is missing.
+    /// Answers a request of the pass's site. `Torn` if what the pass has seen is no prefix of the
+    /// record, with the first place that differs.
     pub(crate) fn call(
         &mut self,
         rt: &impl Wait,
@@ -249,7 +262,7 @@ impl<P: RoomLedger> Room<P> {
         ensures written { let room = room_of P.limits self.old.entries
             in let outcome = answer room pass.old.part.site request
             in OnOk result (self.new.entries ≡ (room_after room outcome).entries) }
-        // Where the room lies and who is away stay:
+        // The room's place and its shelf are unchanged:
         ensures shelf { self.new.shelf ≡ self.old.shelf }
         ensures place { self.new.place ≡ self.old.place }
         ensures torn { (place : _) → (result ≡ Err (call_fault.Torn place))
@@ -270,20 +283,20 @@ impl<P: RoomLedger> Room<P> {
         Ok(reply)
     }
 
-    /// Takes a pass back, whose site leaves. Gives it back where what it has seen is not the beginning
-    /// of the record, or nobody was in as its site.
+    /// Takes a pass back; its site leaves. Returns the pass if what it has seen is no prefix of the
+    /// record, or if the site's part is on the shelf.
     pub(crate) fn hand_back(&mut self, pass: Pass<P>) -> Result<(Prefix<P>, Reply), Pass<P>>
         requires { pass.part.place ≡ self.old.place }
         ensures answer { IfOk result (λ left.
             IsLeaveOver P.limits self.old.entries pass.part left.1) }
         ensures prefix { IfOk result (λ left.
             left.0 ≡ record { place = self.old.place; entries = self.old.entries }) }
-        // The part is at its site's place, and nothing else changes:
+        // The part is at its site's place on the shelf, and nothing else changes:
         ensures shelf { OnOk result
             (self.new.shelf ≡ with_at self.old.shelf pass.part.site (Some pass.part)) }
         ensures entries { self.new.entries ≡ self.old.entries }
         ensures place { self.new.place ≡ self.old.place }
-        ensures refused { IfErr result (λ back. (back ≡ pass)
+        ensures pass_given_back { IfErr result (λ back. (back ≡ pass)
             × (first_difference self.old.entries pass.part.seen ≡ None
             → is_away self.old.shelf pass.part.site ≡ false)) }
         ensures err { OnErr result (self.new ≡ self.old) }
@@ -301,8 +314,8 @@ impl<P: RoomLedger> Room<P> {
         }
     }
 
-    /// Gives the room up for its record and the parts of its sites. `Missing` where a site's pass wasn't
-    /// handed back; otherwise `NoMemory`.
+    /// Consumes the room for its record and the parts of its sites. `Missing` if a site's pass was
+    /// not handed back, `NoMemory` if an allocation failed.
     pub(crate) fn close(self, alloc: Global, name: RoomName) -> Result<RoomRecord<P>, CloseFault>
         ensures name { IfOk result (λ one. one.room ≡ name) }
         ensures entries { IfOk result (λ one. map arc_value one.entries.items ≡ self.entries) }
@@ -332,7 +345,7 @@ impl<P: RoomLedger> Room<P> {
         })
     }
 
-    /// The first place at which what the part has seen is not the record's.
+    /// The first place at which what the part has seen differs from the record.
     fn torn_place(&self, part: &Part<P>) -> Option<usize>
         requires { part.now.place ≡ self.now.place }
         ensures { result ≡ first_difference self.now.entries part.now.seen }
@@ -340,8 +353,8 @@ impl<P: RoomLedger> Room<P> {
         self.first_torn(&part.front)
     }
 
-    /// The first place at which what was seen is not the record's. Takes no time that grows with
-    /// either: both are beginnings of one history.
+    /// The first place at which what was seen differs from the record. Constant time, since both
+    /// are prefixes of one history.
     fn first_torn(&self, seen: &Front) -> Option<usize>
         requires { slice_get P.books self.now.place ≡ Some seen.now.history }
         ensures { result ≡ first_difference self.now.entries seen.now.entries }
@@ -357,7 +370,7 @@ impl<P: RoomLedger> Room<P> {
     }
 }
 
-/// 1 where there is an entry.
+/// 1 if there is an entry, otherwise 0.
 fn count_of(own: Option<&Arc<Entry>>) -> u32
     ensures { result ≡ length (none_or_one (option_map (λ e. arc_value e.now) own.entry)) }
 {
@@ -367,7 +380,7 @@ fn count_of(own: Option<&Arc<Entry>>) -> u32
     }
 }
 
-/// Shows that a room is legal, and how large it can be.
+/// Reads the invariants of a room into the proof: its record is legal, and its sizes are bounded.
 fn show_size(state: &RoomState)
     ensures legal { IsLegal state.now.room.limits state.now.room.entries }
     ensures sites { sites state.now.room.entries ≤ MAX_JOINS }

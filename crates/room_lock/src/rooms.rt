@@ -1,9 +1,12 @@
 //! The rooms.
 
-ghost use Rattle.std.specs.Prelude.{◌≡◌, ◌↔◌, ◌++◌, All, Contains, IfErr, IfOk, IsNone, OnErr, Ok, map};
+ghost use Rattle.std.specs.Prelude.{◌≡◌, ◌↔◌, ◌++◌, All, Contains, Err, IfErr, IfOk, IsErr};
+ghost use Rattle.std.specs.Prelude.{IsNone, IsSome, OnErr, Ok, Some, bytes_eq, map, option_map, position};
 ghost use Rattle.std.specs.Arc.{arc_value};
+ghost use Rattle.room_core.specs.declared.fault.CallFault.TheVariants as call_fault;
 ghost use Rattle.room_lock.specs.Closing.{IsClosed};
-ghost use Rattle.room_lock.specs.Told.{IsBack, IsBackRefusalOver, IsCall, IsJoin, IsLeaveOver, IsRefusalOver};
+ghost use Rattle.room_lock.specs.Told.{IsBack, IsBackRefusalOver, IsCall, IsJoin, IsLeaveOver};
+ghost use Rattle.room_lock.specs.Told.{IsRefusalOver};
 
 use crate::closing::close_all;
 use crate::entrance::Entrance;
@@ -12,9 +15,9 @@ use crate::ledger::RoomLedger;
 use crate::pass::Pass;
 use crate::prefix::{News, Prefix};
 use crate::room::Room;
+use base_types::{NoMemory, RoomName};
 use crossbeam_utils::CachePadded;
 use indexmap::IndexMap;
-use op_names::{NoMemory, RoomName};
 use room_core::{CallFault, RoomState};
 use std::alloc::Global;
 use std::marker::Model;
@@ -22,9 +25,8 @@ use std::sync::{Mutex, MutexGuard, Wait};
 use std::thread::yield_now;
 use wire::{Reply, Request};
 
-/// Rooms under their names, each behind a lock of its own. No two share a line of the processor's
-/// cache, so that threads in different rooms don't wait for each other's writes. Contracts see their
-/// names, in order.
+/// Rooms by name, each behind a lock of its own. Each lock has its own cache line, so threads in
+/// different rooms do not contend for one. Contracts see the names, in order.
 #[derive(Drop)]
 pub struct Rooms<P: RoomLedger> {
     pub(crate) rooms: IndexMap<RoomName, CachePadded<Mutex<Room<P>>>>,
@@ -32,7 +34,7 @@ pub struct Rooms<P: RoomLedger> {
 
 impl<P: RoomLedger> Model for Rooms<P> {
     ghost use Rattle.std.specs.Prelude.{List};
-    ghost use Rattle.op_names.specs.Texts.{Bytes};
+    ghost use Rattle.base_types.specs.Texts.{Bytes};
     ghost use Rattle.indexmap.specs.IndexMap.{keys};
 
     ghost Value = { List Bytes };
@@ -40,12 +42,12 @@ impl<P: RoomLedger> Model for Rooms<P> {
     ghost view = { λ r. keys r.rooms };
 }
 
-/// How often a lock is tried before the thread sleeps for it.
+/// The number of attempts to take a lock before the thread sleeps.
 const TRIES: u32 = 100;
 
-/// Takes a room's lock. A hold is short, and a thread that sleeps is woken late, as are those behind
-/// it; so a thread lets others run for a while, and sleeps only then.
-fn held<'a, T>(rt: &impl Wait, room: &'a Mutex<T>) -> MutexGuard<'a, T> {
+/// Takes a room's lock. Holds are short, and a thread that sleeps is woken late, as are those
+/// behind it. So the thread yields first, and sleeps only after `TRIES` attempts.
+fn lock_of<'a, T>(rt: &impl Wait, room: &'a Mutex<T>) -> MutexGuard<'a, T> {
     for _try in 0..TRIES {
         if let Some(guard) = room.try_lock() {
             return guard;
@@ -56,22 +58,38 @@ fn held<'a, T>(rt: &impl Wait, room: &'a Mutex<T>) -> MutexGuard<'a, T> {
 }
 
 impl<P: RoomLedger> Rooms<P> {
-    ghost use Rattle.room_lock.specs.Entrances.{IfEntered, IfRefused};
+    ghost use Rattle.room_lock.specs.steps.Entrances.{IfEntered, IfRefused};
     ghost use Rattle.room_lock.specs.declared.entrance.Entrance.TheVariants.{NoRoom};
 
-    /// The room of this name, behind its lock.
-    fn room(&self, name: &RoomName) -> Option<&Mutex<Room<P>>>
-        ensures { IsNone result ↔ ¬ (Contains self.now name.now) }
+    /// The place of the room of this name, and the room behind its lock.
+    fn find(&self, name: &RoomName) -> Option<(usize, &Mutex<Room<P>>)>
+        ensures known { IsNone result ↔ ¬ (Contains self.now name.now) }
+        ensures place { option_map (λ found. found.0) result
+            ≡ position (bytes_eq name.now) self.now }
     {
-        match self.rooms.get(name) {
-            Some(room) => Some(room),
+        match self.rooms.get_full(name) {
+            Some((place, _name, room)) => Some((place, room)),
             None => None,
         }
     }
 
-    /// Lets the next site of the room of this name in, where the room's limits allow it: its pass with
-    /// the reply, or the reply that refuses with the record that the room had then. The rules say both,
-    /// on that record. Waits for the room's lock. Takes the same time whatever the size of the record.
+    /// The room of a pass behind its lock, if the name of the pass stands at the place of the pass.
+    fn room_by_pass(&self, pass: &Pass<P>) -> Option<&Mutex<Room<P>>>
+        ensures { IsSome result
+            ↔ (position (bytes_eq pass.now.room) self.now ≡ Some pass.now.part.place) }
+    {
+        match self.find(&pass.room) {
+            Some((place, room)) if place == pass.part.place => Some(room),
+            _ => None,
+        }
+    }
+
+    /// Lets the next site into the room of this name if the room's limits allow it. Gives its pass
+    /// and the reply. Where the room refuses, gives the record at that time and the reply. Waits
+    /// for the room's lock. The time does not depend on the size of the record.
+    ///
+    /// # Errors
+    /// `NoMemory` if an allocation failed; no room has changed.
     pub fn join(
         &self,
         rt: &impl Wait,
@@ -80,20 +98,33 @@ impl<P: RoomLedger> Rooms<P> {
     ) -> Result<Entrance<P>, NoMemory>
         ensures entered { IfOk result (IfEntered (λ pass reply.
             IsJoin P.limits pass reply × (pass.room ≡ name.now))) }
-        ensures refused { IfOk result (IfRefused (λ prefix reply.
+        ensures entrance_refused { IfOk result (IfRefused (λ prefix reply.
             IsRefusalOver P.limits prefix.entries reply)) }
         ensures no_room { (result ≡ Ok NoRoom) ↔ ¬ (Contains self.now name.now) }
+        // The pass, or the record, is that of the place at which the name stands:
+        ensures pass_place { IfOk result (IfEntered (λ pass reply.
+            position (bytes_eq name.now) self.now ≡ Some pass.part.place)) }
+        ensures refusal_place { IfOk result (IfRefused (λ prefix reply.
+            position (bytes_eq name.now) self.now ≡ Some prefix.place)) }
     {
-        let Some(room) = self.room(name) else {
+        let Some((place, room)) = self.find(name) else {
             return Ok(Entrance::NoRoom);
         };
-        held(rt, room).enter(rt, alloc, name)
+        let mut room = lock_of(rt, room);
+        // This never holds, but no clause of a lock says so.
+        if room.place() != place {
+            return Err(NoMemory);
+        }
+        room.enter(rt, alloc, name)
     }
 
-    /// Lets somebody in again as this site of the room of this name, where the site has joined and
-    /// nobody is in as it: the site's pass with the reply, which has then seen the room's whole record;
-    /// or the reply that refuses with the record that the room had then. The rules say both, on that
-    /// record. Waits for the room's lock. Takes the same time whatever the size of the record.
+    /// Lets a site into the room of this name again, if the site has joined and no session is in as
+    /// it. Gives its pass and the reply. The pass has then seen the whole record. Where the room
+    /// refuses, gives the record at that time and the reply. Waits for the room's lock. The time
+    /// does not depend on the size of the record.
+    ///
+    /// # Errors
+    /// `NoMemory` if an allocation failed; no room has changed.
     pub fn back(
         &self,
         rt: &impl Wait,
@@ -103,20 +134,35 @@ impl<P: RoomLedger> Rooms<P> {
     ) -> Result<Entrance<P>, NoMemory>
         ensures entered { IfOk result (IfEntered (λ pass reply.
             IsBack P.limits site pass reply × (pass.room ≡ name.now))) }
-        ensures refused { IfOk result (IfRefused (λ prefix reply.
+        ensures entrance_refused { IfOk result (IfRefused (λ prefix reply.
             IsBackRefusalOver P.limits prefix.entries site reply)) }
         ensures no_room { (result ≡ Ok NoRoom) ↔ ¬ (Contains self.now name.now) }
+        // The pass, or the record, is that of the place at which the name stands:
+        ensures pass_place { IfOk result (IfEntered (λ pass reply.
+            position (bytes_eq name.now) self.now ≡ Some pass.part.place)) }
+        ensures refusal_place { IfOk result (IfRefused (λ prefix reply.
+            position (bytes_eq name.now) self.now ≡ Some prefix.place)) }
     {
-        let Some(room) = self.room(name) else {
+        let Some((place, room)) = self.find(name) else {
             return Ok(Entrance::NoRoom);
         };
-        held(rt, room).back(alloc, name, site)
+        let mut room = lock_of(rt, room);
+        // This never holds, but no clause of a lock says so.
+        if room.place() != place {
+            return Err(NoMemory);
+        }
+        room.back(alloc, name, site)
     }
 
-    /// Answers a request of the pass's site. Then the pass has seen the room's whole record. Otherwise
-    /// the pass stays, and it is `NoMemory`, or `Torn` for a pass of other rooms than these. Waits for
-    /// the room's lock. Beside the answer it takes the same time whatever the size of the record. A
-    /// leave is answered, and the pass stays: `hand_back` takes it.
+    /// Answers a request of the pass's site. The pass has then seen the room's whole record.
+    /// `leave` is answered too, and the pass stays valid: `hand_back` takes it. Waits for the
+    /// room's lock. Apart from the answer itself, the time does not depend on the size of the
+    /// record.
+    ///
+    /// # Errors
+    /// The pass is unchanged.
+    /// `NoMemory` if an allocation failed.
+    /// `Torn` if the pass belongs to other rooms.
     pub fn call(
         &self,
         rt: &impl Wait,
@@ -126,38 +172,47 @@ impl<P: RoomLedger> Rooms<P> {
     ) -> Result<Reply, CallFault>
         ensures answer { IfOk result (IsCall P.limits pass.old pass.new request) }
         ensures err { OnErr result (pass.new ≡ pass.old) }
+        ensures other_rooms { ¬ (position (bytes_eq pass.old.room) self.now ≡ Some pass.old.part.place)
+            → result ≡ Err (call_fault.Torn 0) }
     {
-        let Some(room) = self.room(&pass.room) else {
+        let Some(room) = self.room_by_pass(pass) else {
             return Err(CallFault::Torn { place: 0 });
         };
-        let mut room = held(rt, room);
+        let mut room = lock_of(rt, room);
         if room.place() != pass.part.place {
             return Err(CallFault::Torn { place: 0 });
         }
         room.call(rt, alloc, pass, request)
     }
 
-    /// Takes a pass back, and answers as a leave of its site is answered, with the record that the room
-    /// had then. Somebody can then come back as the site. A pass of other rooms than these is given
-    /// back. Takes no memory. Waits for the room's lock.
+    /// Takes a pass back, and replies as to a `leave` of its site, with the record at that time.
+    /// The site is then free for a coming back. Allocates nothing. Waits for the room's lock.
+    ///
+    /// # Errors
+    /// The pass, if it belongs to other rooms.
     pub fn hand_back(&self, rt: &impl Wait, pass: Pass<P>) -> Result<(Prefix<P>, Reply), Pass<P>>
         ensures answer { IfOk result (λ left.
             IsLeaveOver P.limits left.0.entries pass.part left.1) }
         ensures place { IfOk result (λ left. left.0.place ≡ pass.part.place) }
         ensures back { IfErr result (λ back. back ≡ pass) }
+        ensures other_rooms { ¬ (position (bytes_eq pass.room) self.now ≡ Some pass.part.place) → IsErr result }
     {
-        let Some(room) = self.room(&pass.room) else {
+        let Some(room) = self.room_by_pass(&pass) else {
             return Err(pass);
         };
-        let mut room = held(rt, room);
+        let mut room = lock_of(rt, room);
         if room.place() != pass.part.place {
             return Err(pass);
         }
         room.hand_back(pass)
     }
 
-    /// What the record of the prefix's room has beyond the prefix. Otherwise `NoMemory`, or `Torn` for
-    /// a prefix of other rooms than these. Waits for the room's lock. Linear in what is beyond.
+    /// The entries of the prefix's room behind the prefix. Waits for the room's lock. Linear in
+    /// these entries.
+    ///
+    /// # Errors
+    /// `NoMemory` if an allocation failed.
+    /// `Torn` if the prefix belongs to other rooms.
     pub fn news(
         &self,
         rt: &impl Wait,
@@ -171,15 +226,15 @@ impl<P: RoomLedger> Rooms<P> {
         let Some((_name, room)) = self.rooms.get_index(since.place) else {
             return Err(CallFault::Torn { place: 0 });
         };
-        let room = held(rt, room);
+        let room = lock_of(rt, room);
         if room.place() != since.place {
             return Err(CallFault::Torn { place: 0 });
         }
         room.news(alloc, since)
     }
 
-    /// Lends the room of this name to `f`, and gives its answer, or `None` where there is no such room.
-    /// Waits for the room's lock.
+    /// Calls `f` with the room of this name, and returns its result. `None` if there is no such
+    /// room. Holds the room's lock meanwhile, so `f` must not call these rooms.
     pub fn with<T, F: FnOnce(&RoomState) -> T>(
         &self,
         rt: &impl Wait,
@@ -189,15 +244,19 @@ impl<P: RoomLedger> Rooms<P> {
         requires { F.IsAlwaysCallable f }
         ensures { IsNone result ↔ ¬ (Contains self.now name.now) }
     {
-        let room = held(rt, self.room(name)?);
+        let (_place, room) = self.find(name)?;
+        let room = lock_of(rt, room);
         Some(f(room.state()))
     }
 }
 
 impl<P: RoomLedger> Rooms<P> {
-    /// Gives up the rooms for their records, in order, each with the parts of its sites. Each record is
-    /// legal, and one with all parts of its room. `Missing` for the first room of which a pass wasn't
-    /// handed back; otherwise `NoMemory`. Linear in the number of sites.
+    /// Consumes the rooms for their records, in order, each with the parts of its sites. Each
+    /// record is legal. Linear in the number of sites.
+    ///
+    /// # Errors
+    /// `Missing` for the first room of which a pass was not handed back.
+    /// `NoMemory` if an allocation failed.
     pub fn close(self, alloc: Global) -> Result<Vec<RoomRecord<P>>, CloseFault>
         ensures names { IfOk result (λ records. map (λ one. one.room) records.items ≡ self) }
         ensures closed { IfOk result (λ records. All (λ one. IsClosed P.limits

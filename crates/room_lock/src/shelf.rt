@@ -1,14 +1,16 @@
-//! The parts of a room's sites that nobody is in as: a list with a place for each site, from site 1 on.
+//! The shelf of a room: the parts of the sites that no session is in as. It has a place for each
+//! site, from site 1 on.
 
-ghost use Rattle.std.specs.Prelude.{◌≡◌, None, Some, true, false, IfErr, IfOk, OnErr, OnOk, MatchOption, Contains, map, vec_capacity};
+ghost use Rattle.std.specs.Prelude.{◌≡◌, None, Some, true, false, IfErr, IfOk, OnErr, OnOk};
+ghost use Rattle.std.specs.Prelude.{MatchOption, Contains, map, vec_capacity};
 ghost use Rattle.room_lock.specs.Shelves.{is_away, part_of, with_at};
 
 use crate::ledger::RoomLedger;
 use crate::part::Part;
-use op_names::NoMemory;
+use base_types::NoMemory;
 use std::alloc::Global;
 
-/// Takes a site's part off, if it is there.
+/// Takes a site's part off the shelf, if it is there.
 pub(crate) fn take_part<P: RoomLedger>(
     shelf: &mut Vec<Option<Part<P>>>,
     site: u32,
@@ -24,7 +26,7 @@ pub(crate) fn take_part<P: RoomLedger>(
     shelf[place].take()
 }
 
-/// Puts a part at its site's place, where somebody was in as the site. Otherwise gives it back.
+/// Puts a part at its site's place, if that place is empty. Otherwise returns the part.
 pub(crate) fn put_part<P: RoomLedger>(
     shelf: &mut Vec<Option<Part<P>>>,
     part: Part<P>,
@@ -48,7 +50,7 @@ pub(crate) fn put_part<P: RoomLedger>(
     }
 }
 
-/// The parts of all sites, in order, or `None` where somebody is in as one.
+/// The parts of all sites in order, or `None` if a part is absent.
 pub(crate) fn all_parts<P: RoomLedger>(
     alloc: Global,
     shelf: Vec<Option<Part<P>>>,

@@ -1,5 +1,5 @@
-//! Rooms by themselves, replicas of them, and the texts of requests, replies and entries: tests of the
-//! public calls of `room_core`, `late_join` and `wire`, and by these of all that they stand on.
+//! Tests of the public calls of `room_core`, `late_join` and `wire`: rooms by themselves, replicas
+//! of them, and the texts of requests, replies and entries.
 #![tactic(auto)]
 
 #[cfg(test)]

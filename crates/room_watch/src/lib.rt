@@ -1,4 +1,4 @@
-//! The command `watch`: the objects of a live room, shown by a replica.
+//! The command `watch`: shows the objects of a live room by a replica.
 #![tactic(auto)]
 
 mod watch;

@@ -1,9 +1,9 @@
-//! `grace watch ADDRESS ROOM`: shows the objects of a live room, by a replica.
+//! `grace watch ADDRESS ROOM`: shows the objects of a live room by a replica.
 
+use base_types::{MAX_SITE, NoMemory, OpName, RoomName};
 use byte_streams::Uninterrupted;
 use commands::Fault;
 use late_join::{FeedFault, Replica, TakeFault};
-use op_names::{MAX_SITE, NoMemory, OpName, RoomName};
 use rules::{Limits, Refusal};
 use std::alloc::{AllocError, Global};
 use std::io::{Read, Write};
@@ -16,17 +16,19 @@ use tungstenite::{
 };
 use wire::{ReadFault, Reply, Request, read_reply, write_reply, write_request};
 
-/// How many messages that are no text are passed over while a reply is awaited.
+/// The most messages without text that are skipped while a reply is awaited.
 const MAX_PASSED_OVER: u32 = 1_000_000;
 
-/// Why a room can't be shown.
+/// Why a room cannot be shown.
 #[derive(Clone, Copy, Debug, PartialEq, Eq, Error)]
 pub enum WatchFault {
-    /// The stream failed, or the server answered what it should not.
+    /// The stream failed, or the server sent an unexpected message.
     #[error("the session failed")]
     Session,
+    /// The output failed.
     #[error("the output can't be written")]
     Write,
+    /// An allocation failed.
     #[error("out of memory")]
     NoMemory,
 }
@@ -76,7 +78,7 @@ impl From<FeedFault> for WatchFault {
 
 impl From<WatchFault> for Fault {
     ghost use Rattle.std.specs.Prelude.{◌≡◌};
-    ghost use Rattle.room_watch.specs.Faults.{of_watching};
+    ghost use Rattle.room_watch.specs.steps.Faults.{of_watching};
 
     ghost from_gives = { λ fault gives. gives ≡ of_watching fault };
 
@@ -89,7 +91,7 @@ impl From<WatchFault> for Fault {
     }
 }
 
-/// The next text message. Others are passed over.
+/// The next text message. Skips others.
 fn next_text<S: Read + Write + Drop, K: MaskKeys + Drop>(
     socket: &mut WebSocket<S, K>,
 ) -> Result<Utf8Bytes, WatchFault> {
@@ -101,7 +103,7 @@ fn next_text<S: Read + Write + Drop, K: MaskKeys + Drop>(
     Err(WatchFault::Session)
 }
 
-/// Sends a request, and gives the text of the reply.
+/// Sends a request, and returns the text of the reply.
 fn ask<S: Read + Write + Drop, K: MaskKeys + Drop>(
     alloc: Global,
     socket: &mut WebSocket<S, K>,
@@ -113,8 +115,8 @@ fn ask<S: Read + Write + Drop, K: MaskKeys + Drop>(
     next_text(socket)
 }
 
-/// Sends a request, and gives the reply.
-fn replied<S: Read + Write + Drop, K: MaskKeys + Drop>(
+/// Sends a request, and returns the reply.
+fn reply_to<S: Read + Write + Drop, K: MaskKeys + Drop>(
     alloc: Global,
     socket: &mut WebSocket<S, K>,
     request: &Request,
@@ -123,7 +125,7 @@ fn replied<S: Read + Write + Drop, K: MaskKeys + Drop>(
     Ok(read_reply(alloc, text.as_bytes())?)
 }
 
-/// Comes back as the first site of the room that nobody is in as. Tells whether there is one.
+/// Comes back as the first site of the room that no session is in as. Returns whether there is one.
 fn come_back<S: Read + Write + Drop, K: MaskKeys + Drop>(
     alloc: Global,
     socket: &mut WebSocket<S, K>,
@@ -131,7 +133,7 @@ fn come_back<S: Read + Write + Drop, K: MaskKeys + Drop>(
 ) -> Result<bool, WatchFault> {
     for site in 1..=MAX_SITE {
         let room = room.copy(alloc)?;
-        match replied(alloc, socket, &Request::Back { room, site })? {
+        match reply_to(alloc, socket, &Request::Back { room, site })? {
             Reply::Returned { .. } => return Ok(true),
             Reply::No {
                 refusal: Refusal::SiteInUse,
@@ -154,13 +156,13 @@ fn join<S: Read + Write + Drop, K: MaskKeys + Drop>(
     room: &RoomName,
 ) -> Result<(), WatchFault> {
     let room = room.copy(alloc)?;
-    match replied(alloc, socket, &Request::Join { room })? {
+    match reply_to(alloc, socket, &Request::Join { room })? {
         Reply::Joined { .. } => Ok(()),
         _ => Err(WatchFault::Session),
     }
 }
 
-/// Is let into the room of this name: as a site that nobody is in as, otherwise as its next site.
+/// Enters the room of this name: as a site that no session is in as, or else as the next site.
 fn enter<S: Read + Write + Drop, K: MaskKeys + Drop>(
     alloc: Global,
     socket: &mut WebSocket<S, K>,
@@ -172,21 +174,21 @@ fn enter<S: Read + Write + Drop, K: MaskKeys + Drop>(
     join(alloc, socket, room)
 }
 
-/// A replica of the whole record, page by page.
-fn pulled<S: Read + Write + Drop, K: MaskKeys + Drop>(
+/// A replica of the whole record, read page by page.
+fn pull_record<S: Read + Write + Drop, K: MaskKeys + Drop>(
     alloc: Global,
     socket: &mut WebSocket<S, K>,
 ) -> Result<Replica, WatchFault> {
     let mut replica = Replica::new(alloc, Limits::full())?;
-    // Each page but the last one has an entry, so there are no more pages than this.
+    // Each page but the last has an entry, so there are at most this many pages.
     for _page in 0..=Limits::MAX_ENTRIES {
-        let from = replica.taken();
+        let from = replica.count_taken();
         let text = ask(alloc, socket, &Request::Pull { from })?;
         let fed = replica.feed_page(alloc, text.as_bytes())?;
-        if fed.from != from || replica.taken() > fed.at {
+        if fed.from != from || replica.count_taken() > fed.at {
             return Err(WatchFault::Session);
         }
-        if replica.taken() == fed.at {
+        if replica.count_taken() == fed.at {
             return Ok(replica);
         }
         if fed.count == 0 {
@@ -214,12 +216,13 @@ fn lines_of(alloc: Global, replica: &Replica) -> Result<String, WatchFault> {
     Ok(lines)
 }
 
-/// Leaves the room, closes the session with 1000, and reads on until the closing is done.
+/// Leaves the room, closes the session with 1000 (RFC 6455, section 7.4.1), and reads until the
+/// closing handshake is completed.
 fn leave<S: Read + Write + Drop, K: MaskKeys + Drop>(
     alloc: Global,
     socket: &mut WebSocket<S, K>,
 ) -> Result<(), WatchFault> {
-    let Reply::Left { .. } = replied(alloc, socket, &Request::Leave)? else {
+    let Reply::Left { .. } = reply_to(alloc, socket, &Request::Leave)? else {
         return Err(WatchFault::Session);
     };
     socket.close(Some(CloseFrame {
@@ -236,11 +239,15 @@ fn leave<S: Read + Write + Drop, K: MaskKeys + Drop>(
     Err(WatchFault::Session)
 }
 
-/// Enters the room of this name over a stream, takes its record into a replica, writes what the
-/// replica shows of each object, a line each in the order of the record, leaves, and closes the
-/// session. It comes back as the first site that nobody is in as, and joins where there is none.
-/// The lines are written at once, when all of them are there. `Session` where the stream fails or
-/// the server answers what it should not, a refusal to let it in among it; `Write`; `NoMemory`.
+/// Enters the room of this name over a stream, and reads its record into a replica. Writes what the
+/// replica shows of each object, one line each in the order of the record. Then leaves the room and
+/// closes the session. Comes back as the first site that no session is in as, or joins if there is
+/// none. Writes all lines by one call.
+///
+/// # Errors
+/// `Session` if the stream failed or the server sent an unexpected message, such as a refused join.
+/// `Write` if the output failed.
+/// `NoMemory` if an allocation failed.
 pub fn watch_over<R, S, W>(
     rt: &R,
     alloc: Global,
@@ -260,7 +267,7 @@ where
         Err(HandshakeError::Interrupted(_handshake)) => return Err(WatchFault::Session),
     };
     enter(alloc, &mut socket, room)?;
-    let replica = pulled(alloc, &mut socket)?;
+    let replica = pull_record(alloc, &mut socket)?;
     let lines = lines_of(alloc, &replica)?;
     if output.write_all(lines.as_bytes()).is_err() || output.flush().is_err() {
         return Err(WatchFault::Write);
@@ -268,7 +275,7 @@ where
     leave(alloc, &mut socket)
 }
 
-/// Connects, and watches.
+/// Connects, and shows the room.
 fn watch<R, W>(
     rt: &R,
     alloc: Global,
@@ -290,10 +297,15 @@ where
     Ok(())
 }
 
-/// Shows the objects of the room of this name of the server at this address, and gives the status: 0
-/// where all were shown and the session closed; 2 for a bad room name; 3 where there is nobody to
-/// connect to, the session or the output failed; 4 for want of memory. All but 0 come with a line on
-/// `errors`.
+/// Shows the objects of the room of this name on the server at this address, and returns the exit
+/// status:
+///
+/// - 0 if all were shown and the session was closed;
+/// - 2 for a bad room name;
+/// - 3 if connecting, the session or the output failed;
+/// - 4 if an allocation failed.
+///
+/// Before all but 0 it writes a line to `errors`.
 pub fn watch_at<R, W, E>(
     rt: &R,
     alloc: Global,

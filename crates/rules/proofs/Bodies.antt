@@ -3,9 +3,9 @@ use Rattle.std.proofs.Common.{◌≡◌, Bool, true, false, List, map, refl, sym
 use Rattle.std.specs.Prelude.{find, option_map, bytes_eq, is_some}
 use Rattle.std.proofs.lemmas.Bool.{true≢false, false_from_ne_true, not_from_true, not_from_false, not-false, or_from}
 use Rattle.std.proofs.lemmas.Slice.Eq.{bytes_eq-Decides}
-use Rattle.op_names.specs.Texts.{Bytes}
-use Rattle.op_names.specs.Values.{same_value, same_value-Decides}
-use Rattle.op_names.specs.declared.value.Value.{Value}
+use Rattle.base_types.specs.Texts.{Bytes}
+use Rattle.base_types.specs.Values.{same_value, same_value-Decides}
+use Rattle.base_types.specs.declared.value.Value.{Value}
 use Rattle.rules.specs.AttrLists.{Attr, value_at, are_different}
 use Rattle.rules.specs.declared.history.Body.{Body}
 use Rattle.rules.specs.declared.history.Body.TheVariants.{New, Put, DropVersion}

@@ -3,11 +3,11 @@ use Rattle.std.proofs.Common.{◌≡◌, ℕ, ◌<◌, ◌≤◌, true, false, e
 use Rattle.std.specs.Prelude.{Contains, is_some}
 use Rattle.std.specs.List.{range_with_len}
 use Rattle.std.proofs.lemmas.Bool.{cases_Bool, true≢false, eqb-true, eq-eqb, ne_eqb, leb-true, le-leb, cases_eq}
-use Rattle.op_names.specs.Names.{Name, same_name}
+use Rattle.base_types.specs.Names.{Name, same_name}
 use Rattle.state_vector.specs.Vectors.{Vector, counts, count_of, covers, is_vector}
 use Rattle.state_vector.proofs.Vectors.{RisesAbove, rises}
 use Rattle.rules.specs.declared.history.Op.{Op}
-use Rattle.rules.specs.Equality.{same_name-Decides}
+use Rattle.rules.specs.steps.Equality.{same_name-Decides}
 use Rattle.rules.specs.Operations.{operation}
 use Rattle.rules.specs.Admission.{names_counted}
 use Rattle.rules.proofs.Lists.{In, Contains-from_In, In-map, In-map_back, In-flat_map, In-flat_map_back, In-range, In-range_back, all_from, all_back, find_is}

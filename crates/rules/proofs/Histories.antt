@@ -4,7 +4,7 @@ use Rattle.std.specs.Prelude.{Contains, is_some}
 use Rattle.std.proofs.lemmas.Bool.{true≢false, and_cases, not-false, leb-true, eqb-true, eq-eqb}
 use Rattle.std.proofs.lemmas.List.Elements.{Contains-append_left, Contains-push_cases}
 use Rattle.std.proofs.lemmas.List.Sums.{sum_by_push}
-use Rattle.op_names.specs.Names.{Name}
+use Rattle.base_types.specs.Names.{Name}
 use Rattle.state_vector.specs.Vectors.{counts, count_of, covers, is_vector}
 use Rattle.rules.specs.declared.history.Op.{Op}
 use Rattle.rules.specs.declared.refusal.Refusal.TheVariants.{WrongSeq, OwnCount, Ahead, NotClosed}

@@ -2,9 +2,9 @@
 use Rattle.std.proofs.Common.{◌≡◌, Bool, true, List, [], map, refl, sym, ap, ◌∙◌, subst, inl, inr, Some, ◌↔◌}
 use Rattle.std.specs.Prelude.{Contains, filter, find}
 use Rattle.std.proofs.lemmas.Bool.{cases_Bool, true≢false}
-use Rattle.op_names.specs.Names.{Name, name_cmp}
-use Rattle.op_names.specs.VersionIds.{same_names}
-use Rattle.rules.specs.Equality.{same_names-Decides}
+use Rattle.base_types.specs.Names.{Name, name_cmp}
+use Rattle.base_types.specs.VersionIds.{same_names}
+use Rattle.rules.specs.steps.Equality.{same_names-Decides}
 use Rattle.rules.specs.Lists.{HasNoRepeats, sort_by}
 use Rattle.rules.specs.Groups.{in_conflict_with, groups_of, identifier, group_named, IsGroup}
 use Rattle.rules.proofs.Lists.{In, In-from_Contains, Contains-from_In, In-map, In-map_back, In-filter, In-filter_back, any_from, filter_agree, find_agree, find_is, find_some}

@@ -5,10 +5,10 @@ use Rattle.std.specs.List.{list_any, count_by}
 use Rattle.std.proofs.lemmas.Bool.{cases_Bool, true≢false, eqb-false, ltb-false, and_from, and_parts, not-true, not_from_false, false_from_ne_true}
 use Rattle.std.proofs.lemmas.List.{length-append}
 use Rattle.std.proofs.lemmas.List.Sums.{sum_by-cons}
-use Rattle.op_names.specs.Texts.{Bytes}
-use Rattle.op_names.specs.Values.{same_value}
-use Rattle.op_names.specs.declared.value.Value.{Value}
-use Rattle.op_names.specs.Repeats.{repeat_from, first_repeat}
+use Rattle.base_types.specs.Texts.{Bytes}
+use Rattle.base_types.specs.Values.{same_value}
+use Rattle.base_types.specs.declared.value.Value.{Value}
+use Rattle.base_types.specs.Repeats.{repeat_from, first_repeat}
 use Rattle.rules.specs.declared.history.Op.{Op}
 use Rattle.rules.specs.declared.pairs.PairsFault.TheVariants as pairs_faults
 use Rattle.rules.specs.AttrLists.{Attr, value_at, are_different, do_pairs_differ, gives_another, same_key, pairs_fault, are_pairs}

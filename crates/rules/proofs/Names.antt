@@ -2,8 +2,8 @@
 use Rattle.std.proofs.Common.{◌≡◌, true, List, [], ◌∷◌, refl, ap, inl}
 use Rattle.std.specs.Ordering.{is_lt}
 use Rattle.std.proofs.lemmas.Bool.{and_from}
-use Rattle.op_names.specs.Names.{Name, name_cmp}
-use Rattle.op_names.specs.VersionIds.{names_rise}
+use Rattle.base_types.specs.Names.{Name, name_cmp}
+use Rattle.base_types.specs.VersionIds.{names_rise}
 use Rattle.rules.proofs.Orders.{name_cmp_total}
 use Rattle.rules.proofs.Sorting.{Rises}
 

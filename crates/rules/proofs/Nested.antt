@@ -3,7 +3,7 @@ use Rattle.std.proofs.Common.{◌≡◌, ℕ, zero, suc, ◌<◌, true, List, re
 use Rattle.std.specs.Prelude.{Contains, Bool}
 use Rattle.std.specs.List.{list_any}
 use Rattle.std.proofs.lemmas.Bool.{true≢false, and_parts}
-use Rattle.op_names.specs.Names.{Name, same_name}
+use Rattle.base_types.specs.Names.{Name, same_name}
 use Rattle.rules.specs.declared.history.Op.{Op}
 use Rattle.rules.specs.Bodies.{is_change_body}
 use Rattle.rules.specs.Groups.{IsGroup}

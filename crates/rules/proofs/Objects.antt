@@ -3,7 +3,7 @@ use Rattle.std.proofs.Common.{◌≡◌, Bool, true, not, List, [], ◌∷◌, �
 use Rattle.std.specs.Prelude.{IsTrue, filter, find, is_none, nat_le, nat_lt}
 use Rattle.std.proofs.lemmas.List.Elements.{filter-append}
 use Rattle.std.proofs.lemmas.Bool.{cases_Bool, true≢false, and_parts}
-use Rattle.op_names.specs.Names.{Name, same_name}
+use Rattle.base_types.specs.Names.{Name, same_name}
 use Rattle.rules.specs.declared.history.Op.{Op}
 use Rattle.rules.specs.declared.history.Body.{Body}
 use Rattle.rules.specs.declared.history.Body.TheVariants.{New, Put, DropVersion}

@@ -9,8 +9,8 @@ use Rattle.std.specs.Cmp.Lexicographic.{lists_ties}
 use Rattle.std.proofs.lemmas.Bool.{cases_Bool, true≢false, not-true, not_from_false}
 use Rattle.std.proofs.lemmas.Cmp.{on_total, nat_cmp_total, lists_total}
 use Rattle.std.proofs.lemmas.Slice.Eq.{bytes_eq-Decides}
-use Rattle.op_names.specs.Texts.{Bytes}
-use Rattle.op_names.specs.declared.value.Value.{Value}
+use Rattle.base_types.specs.Texts.{Bytes}
+use Rattle.base_types.specs.declared.value.Value.{Value}
 use Rattle.rules.specs.declared.history.Op.{Op}
 use Rattle.rules.specs.AttrLists.{Attr}
 use Rattle.rules.specs.Bodies.{keys_in, value_in}

@@ -2,8 +2,8 @@
 use Rattle.std.proofs.Common.{◌≡◌, Bool, true, false, cond, List, refl, sym, ap, ◌∙◌, subst, inl, inr, Option, Some, None, not}
 use Rattle.std.specs.Prelude.{Contains, filter}
 use Rattle.std.proofs.lemmas.Bool.{cases_Bool, true≢false, not-true, not_from_false, false_from_ne_true}
-use Rattle.op_names.specs.Names.{Name, same_name}
-use Rattle.op_names.specs.VersionIds.{same_names}
+use Rattle.base_types.specs.Names.{Name, same_name}
+use Rattle.base_types.specs.VersionIds.{same_names}
 use Rattle.rules.specs.Lists.{HasNoRepeats}
 use Rattle.rules.specs.Groups.{in_conflict_with, identifier, group_named, is_named, compatible_with_named, IsGroup}
 use Rattle.rules.proofs.Lists.{In, In-from_Contains, Contains-from_In, In-filter, In-filter_back, any_from, any_back}

@@ -7,7 +7,7 @@ use Rattle.std.specs.Cmp.{IsTotalOrder}
 use Rattle.std.specs.List.{position, position_or_len}
 use Rattle.std.proofs.lemmas.Bool.{cases_Bool, ltb-false, true≢false}
 use Rattle.std.proofs.lemmas.List.{take_all, drop_all}
-use Rattle.op_names.proofs.Choices.{not_first}
+use Rattle.base_types.proofs.Choices.{not_first}
 use Rattle.rules.specs.Lists.{insert_by, sort_by}
 use Rattle.rules.proofs.Lists.{In}
 

@@ -8,8 +8,8 @@ use Rattle.std.specs.List.Sorted.{IsPermutation, IsStrictlySortedBy}
 use Rattle.std.proofs.lemmas.Bool.{cases_Bool, true≢false, and_parts}
 use Rattle.std.proofs.lemmas.List.{length-map}
 use Rattle.std.proofs.lemmas.List.Sorted.{IsPermutation-refl, IsPermutation-cons, IsPermutation-trans, IsPermutation-middle}
-use Rattle.op_names.specs.Names.{Name, same_name}
-use Rattle.op_names.specs.VersionIds.{id_cmp}
+use Rattle.base_types.specs.Names.{Name, same_name}
+use Rattle.base_types.specs.VersionIds.{id_cmp}
 use Rattle.rules.specs.declared.history.Op.{Op}
 use Rattle.rules.specs.declared.version.Version.{Version}
 use Rattle.rules.specs.Bodies.{is_change_body}

@@ -1,12 +1,13 @@
 -- Lists of attributes: keys with values.
-use Rattle.std.specs.Prelude.{Bool, false, not, ◌&&◌, nat_lt, ◌==◌, List, length, Option, Some, find, option_map, is_none, bytes_eq, if◌then◌else◌}
+use Rattle.std.specs.Prelude.{Bool, false, not, ◌&&◌, nat_lt, ◌==◌, List, length, Option, Some}
+use Rattle.std.specs.Prelude.{find, option_map, is_none, bytes_eq, if◌then◌else◌}
 use Rattle.std.specs.List.{list_any}
 use Rattle.std.specs.Ordering.{on, eq_of_both}
 use Rattle.std.specs.Cmp.Lexicographic.{pointwise}
-use Rattle.op_names.specs.Texts.{Bytes}
-use Rattle.op_names.specs.Values.{same_value}
-use Rattle.op_names.specs.Repeats.{first_repeat}
-use Rattle.op_names.specs.declared.value.Value.{Value}
+use Rattle.base_types.specs.Texts.{Bytes}
+use Rattle.base_types.specs.Values.{same_value}
+use Rattle.base_types.specs.Repeats.{first_repeat}
+use Rattle.base_types.specs.declared.value.Value.{Value}
 use Rattle.rules.specs.declared.attrs.AttrsFault.{AttrsFault}
 use Rattle.rules.specs.declared.attrs.AttrsFault.TheVariants.{TooMany, Repeated}
 use Rattle.rules.specs.declared.pairs.PairsFault.{PairsFault}
@@ -20,18 +21,20 @@ Attr = Bytes × Value
 abbrev pub value_at : Bytes → List Attr → Option Value
 value_at key attrs = option_map (λ attr. attr.1) (find (λ attr. bytes_eq attr.0 key) attrs)
 
--- both values are there, and they are different
+-- there are both values, and they differ
 abbrev pub are_different : Option Value → Option Value → Bool
 are_different (Some first) (Some second) = not (same_value first second)
 are_different _ _ = false
 
 -- two lists of attributes give some key different values
 abbrev pub do_pairs_differ : List Attr → List Attr → Bool
-do_pairs_differ first second = list_any (λ attr. are_different (value_at attr.0 first) (value_at attr.0 second)) first
+do_pairs_differ first second =
+    list_any (λ attr. are_different (value_at attr.0 first) (value_at attr.0 second)) first
 
 -- some attribute gives the key a value other than this one
 abbrev pub gives_another : Bytes → Value → List Attr → Bool
-gives_another key value attrs = list_any (λ attr. bytes_eq attr.0 key && not (same_value value attr.1)) attrs
+gives_another key value attrs =
+    list_any (λ attr. bytes_eq attr.0 key && not (same_value value attr.1)) attrs
 
 abbrev pub same_key : Attr → Attr → Bool
 same_key p q = bytes_eq p.0 q.0
@@ -39,15 +42,17 @@ same_key p q = bytes_eq p.0 q.0
 abbrev pub same_attrs : List Attr → List Attr → Bool
 same_attrs = pointwise (eq_of_both (on (λ attr. attr.0) bytes_eq) (on (λ attr. attr.1) same_value))
 
--- what is wrong with initial attributes: the first that applies
+-- the first fault of initial attributes
 unfoldable pub attrs_fault : List Attr → Option AttrsFault
-attrs_fault attrs = if nat_lt 16 (length attrs) then Some TooMany else option_map Repeated (first_repeat same_key attrs)
+attrs_fault attrs =
+    if nat_lt 16 (length attrs) then Some TooMany
+    else option_map Repeated (first_repeat same_key attrs)
 
 -- at most 16 attributes, and no key twice
 abbrev pub are_attrs : List Attr → Bool
 are_attrs attrs = is_none (attrs_fault attrs)
 
--- what is wrong with the attributes of a put: the first that applies
+-- the first fault of a put's attributes
 unfoldable pub pairs_fault : List Attr → Option PairsFault
 pairs_fault pairs =
     if length pairs == 0 then Some pairs_faults.Empty

@@ -1,8 +1,8 @@
--- What the body of an operation says: the one place that a new kind of operation changes.
+-- What the body of an operation says. A new kind of operation changes only this module.
 use Rattle.std.specs.Prelude.{Bool, true, false, ◌||◌, List, [], Option, map}
-use Rattle.op_names.specs.Names.{Name}
-use Rattle.op_names.specs.Texts.{Bytes}
-use Rattle.op_names.specs.declared.value.Value.{Value}
+use Rattle.base_types.specs.Names.{Name}
+use Rattle.base_types.specs.Texts.{Bytes}
+use Rattle.base_types.specs.declared.value.Value.{Value}
 use Rattle.rules.specs.declared.history.Body.{Body}
 use Rattle.rules.specs.declared.history.Body.TheVariants.{New, Put, DropVersion}
 use Rattle.rules.specs.AttrLists.{Attr, value_at, do_pairs_differ}
@@ -25,7 +25,8 @@ is_drop_body (New kind attrs) = false
 is_drop_body (Put object version pairs) = false
 is_drop_body (DropVersion object version) = true
 
--- the object that an operation of this name and body creates or changes: it has the name of its creation
+-- the object that an operation of this name and body creates or changes: it has the name of its
+-- creation
 abbrev pub object_in : Name → Body → Name
 object_in name (New kind attrs) = name
 object_in name (Put object version pairs) = object
@@ -61,7 +62,8 @@ is_one_a_drop (Put object version pairs) (DropVersion other_object other_version
 is_one_a_drop (DropVersion object version) (Put other_object other_version pairs) = true
 is_one_a_drop _ _ = false
 
--- two changes don't go together: they are puts that give some key different values, or exactly one is a drop
+-- two changes are at odds: they are puts that give some key different values, or exactly one is a
+-- drop
 abbrev pub are_at_odds : Body → Body → Bool
 are_at_odds first second = differ_on_a_key first second || is_one_a_drop first second
 

@@ -1,14 +1,17 @@
--- The base of a change, and when two changes conflict. The basic conflict is that of Sun and Chen (ACM TOCHI 9(1), 2002):
--- concurrent, on one object and one attribute, with different values. Bases, drops and inherited conflict are our own.
-use Rattle.std.specs.Prelude.{◌≡◌, ℕ, zero, suc, ◌+◌, Bool, true, false, not, ◌&&◌, ◌||◌, List, [], ◌∷◌, Option, Some, None, Contains, is_some}
+-- The base of a change, and when two changes conflict. The basic conflict is that of Sun and Chen
+-- (ACM TOCHI 9(1), 2002): concurrent, on one object and one attribute, with different values.
+-- Bases, drops and inherited conflict are our own.
+use Rattle.std.specs.Prelude.{◌≡◌, ℕ, zero, suc, ◌+◌, Bool, true, false, not, ◌&&◌, ◌||◌, List, []}
+use Rattle.std.specs.Prelude.{◌∷◌, Option, Some, None, Contains, is_some}
 use Rattle.std.specs.List.{list_any}
 use Rattle.state_vector.specs.Vectors.{Vector}
 use Rattle.rules.specs.declared.history.Op.{Op}
 use Rattle.rules.specs.Bodies.{is_change_body, version_in, are_at_odds}
-use Rattle.rules.specs.Operations.{before, concurrent, holds_drop, known, name_of, object_of, same_op, is_creation_of}
+use Rattle.rules.specs.Operations.{before, concurrent, holds_drop, known, name_of, object_of}
+use Rattle.rules.specs.Operations.{same_op, is_creation_of}
 use Rattle.rules.specs.Groups.{group_named}
 
--- what a change is based on; a change without a base is never admitted, and counts as based on nothing
+-- the members of a base; a change without a base is never admitted, and counts as based on nothing
 abbrev pub members : Option (List Op) → List Op
 members None = []
 members (Some g) = g
@@ -21,26 +24,30 @@ with_base base b = b ∷ members (base b)
 abbrev pub is_left_out : (Op → Option (List Op)) → Op → Op → Bool
 is_left_out base a b = before a b && not (list_any (same_op a) (members (base b)))
 
--- Two changes of one object conflict directly: they are concurrent and at odds, or one is before the other and isn't in
--- the other's base.
+-- Two changes of one object conflict directly: they are concurrent and at odds, or one is before
+-- the other and isn't in the other's base.
 abbrev pub direct_conflict : (Op → Option (List Op)) → Op → Op → Bool
-direct_conflict base a b = (concurrent a b && are_at_odds a.body b.body) || is_left_out base a b || is_left_out base b a
+direct_conflict base a b = (concurrent a b && are_at_odds a.body b.body) || is_left_out base a b
+    || is_left_out base b a
 
 -- some member of a's base, or a, conflicts directly with some member of b's base, or b
 abbrev pub conflict_by : (Op → Option (List Op)) → Op → Op → Bool
-conflict_by base a b = list_any (λ x. list_any (direct_conflict base x) (with_base base b)) (with_base base a)
+conflict_by base a b =
+    list_any (λ x. list_any (direct_conflict base x) (with_base base b)) (with_base base a)
 
 -- how many operations a vector counts
 abbrev pub total : Vector → ℕ
 total [] = 0
 total (pair ∷ pairs) = pair.1 + total pairs
 
--- b's base, where b's vector counts fewer than n operations
+-- b's base, if b's vector counts fewer than n operations
 abbrev pub base_within : ℕ → List Op → Op → Option (List Op)
 base_within zero h b = None
-base_within (suc n) h b = group_named (conflict_by (base_within n h)) name_of (known h b) (version_in b.body)
+base_within (suc n) h b =
+    group_named (conflict_by (base_within n h)) name_of (known h b) (version_in b.body)
 
--- The base of b: the group of what b knows whose identifier b names. Each operation before b counts fewer than b does.
+-- The base of b: the group of what b knows whose identifier b names. Each operation before b counts
+-- fewer than b does.
 unfoldable pub base : List Op → Op → Option (List Op)
 base h b = base_within (suc (total b.seen)) h b
 
@@ -52,8 +59,10 @@ conflict h = conflict_by (base h)
 abbrev pub has_object : List Op → Op → Bool
 has_object h b = list_any (λ a. is_creation_of (object_of b) a && before a b) h
 
--- each change's object is a creation that it counts, and each change has a base, in which there is no drop
+-- each change's object is a creation that it counts, and each change has a base, in which there is
+-- no drop
 pub record IsFounded (h : List Op) : Type 0 where
   pub object : (b : Op) → Contains h b → is_change_body b.body ≡ true → has_object h b ≡ true
   pub based : (b : Op) → Contains h b → is_change_body b.body ≡ true → is_some (base h b) ≡ true
-  pub alive : (b : Op) → Contains h b → is_change_body b.body ≡ true → holds_drop (members (base h b)) ≡ false
+  pub alive : (b : Op) → Contains h b → is_change_body b.body ≡ true
+      → holds_drop (members (base h b)) ≡ false

@@ -1,14 +1,16 @@
 -- Maximal compatible groups, for any relation of conflict, and their identifiers.
-use Rattle.std.specs.Prelude.{◌≡◌, Bool, false, not, ◌&&◌, List, [], ◌∷◌, ◌++◌, map, filter, find, Option, ◌⊎◌, Contains, IsTrue}
+use Rattle.std.specs.Prelude.{◌≡◌, Bool, false, not, ◌&&◌, List, [], ◌∷◌, ◌++◌, map, filter, find}
+use Rattle.std.specs.Prelude.{Option, ◌⊎◌, Contains, IsTrue}
 use Rattle.std.specs.List.{list_any, list_all}
-use Rattle.op_names.specs.Names.{Name, name_cmp, same_name}
-use Rattle.op_names.specs.VersionIds.{same_names}
+use Rattle.base_types.specs.Names.{Name, name_cmp, same_name}
+use Rattle.base_types.specs.VersionIds.{same_names}
 use Rattle.rules.specs.Lists.{sort_by}
 
 -- each way to part a list in two: some of its members, and the rest
 abbrev pub partings : {X : Type 0} → List X → List (List X × List X)
 partings [] = ([], []) ∷ []
-partings (x ∷ xs) = map (λ p. (x ∷ p.0, p.1)) (partings xs) ++ map (λ p. (p.0, x ∷ p.1)) (partings xs)
+partings (x ∷ xs) =
+    map (λ p. (x ∷ p.0, p.1)) (partings xs) ++ map (λ p. (p.0, x ∷ p.1)) (partings xs)
 
 -- x conflicts with some member of g
 abbrev pub in_conflict_with : {X : Type 0} → (X → X → Bool) → List X → X → Bool
@@ -22,26 +24,32 @@ is_compatible conflict g = list_all (λ x. not (in_conflict_with conflict g x)) 
 abbrev pub is_maximal : {X : Type 0} → (X → X → Bool) → List X → List X → Bool
 is_maximal conflict g rest = list_all (in_conflict_with conflict g) rest
 
--- The groups of s: all its parts without a conflict inside, such that each other member of s conflicts with one in the
--- part. The empty list has one group, the empty one.
+-- The groups of s: its parts without a conflict, such that each other member of s conflicts with a
+-- member of the part. The empty list has one group, the empty one.
 unfoldable pub groups_of : {X : Type 0} → (X → X → Bool) → List X → List (List X)
-groups_of conflict s = map (λ p. p.0) (filter (λ p. is_compatible conflict p.0 && is_maximal conflict p.0 p.1) (partings s))
+groups_of conflict s =
+    map (λ p. p.0)
+    (filter (λ p. is_compatible conflict p.0 && is_maximal conflict p.0 p.1) (partings s))
 
--- a group's identifier: the rising list of the names of those members that conflict with some member of s
+-- a group's identifier: the names of its members that conflict with some member of s, in order
 unfoldable pub identifier : {X : Type 0} → (X → X → Bool) → (X → Name) → List X → List X → List Name
 identifier conflict name s g = sort_by name_cmp (map name (filter (in_conflict_with conflict s) g))
 
 -- the group of s with this identifier
-unfoldable pub group_named : {X : Type 0} → (X → X → Bool) → (X → Name) → List X → List Name → Option (List X)
-group_named conflict name s id = find (λ g. same_names (identifier conflict name s g) id) (groups_of conflict s)
+unfoldable pub group_named : {X : Type 0} → (X → X → Bool) → (X → Name) → List X → List Name
+    → Option (List X)
+group_named conflict name s id =
+    find (λ g. same_names (identifier conflict name s g) id) (groups_of conflict s)
 
 -- the identifier has x's name
 abbrev pub is_named : {X : Type 0} → (X → Name) → List Name → X → Bool
 is_named name id x = list_any (same_name (name x)) id
 
--- the members of s that conflict with no member whose name the identifier has
-abbrev pub compatible_with_named : {X : Type 0} → (X → X → Bool) → (X → Name) → List X → List Name → List X
-compatible_with_named conflict name s id = filter (λ x. not (in_conflict_with conflict (filter (is_named name id) s) x)) s
+-- the members of s that conflict with no member that the identifier names
+abbrev pub compatible_with_named : {X : Type 0} → (X → X → Bool) → (X → Name) → List X → List Name
+    → List X
+compatible_with_named conflict name s id =
+    filter (λ x. not (in_conflict_with conflict (filter (is_named name id) s) x)) s
 
 -- ---- the same, as a predicate
 
@@ -54,4 +62,5 @@ IsSublist {X} g (x ∷ s) = ((h : List X) × (g ≡ x ∷ h) × IsSublist h s) �
 pub record IsGroup {X : Type 0} (conflict : X → X → Bool) (s g : List X) : Type 0 where
   pub inside : IsSublist g s
   pub compatible : (x y : X) → Contains g x → Contains g y → conflict x y ≡ false
-  pub maximal : (x : X) → Contains s x → Contains g x ⊎ ((y : X) × Contains g y × IsTrue (conflict x y))
+  pub maximal : (x : X) → Contains s x
+      → Contains g x ⊎ ((y : X) × Contains g y × IsTrue (conflict x y))

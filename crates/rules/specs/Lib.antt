@@ -1,7 +1,7 @@
-pub use Rattle.op_names.specs.Names
-pub use Rattle.op_names.specs.Texts
-pub use Rattle.op_names.specs.Values
-pub use Rattle.op_names.specs.VersionIds
+pub use Rattle.base_types.specs.Names
+pub use Rattle.base_types.specs.Texts
+pub use Rattle.base_types.specs.Values
+pub use Rattle.base_types.specs.VersionIds
 pub use Rattle.state_vector.specs.Vectors
 pub mod AttrLists
 pub mod Limits
@@ -11,10 +11,7 @@ pub mod Bodies
 pub mod Operations
 pub mod Admission
 pub mod Groups
-pub mod HeldPairs
 pub mod Conflicts
 pub mod Versions
 pub mod Records
-pub mod Shared
-pub mod Equality
-pub mod Examples
+pub mod steps

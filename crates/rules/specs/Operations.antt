@@ -1,9 +1,10 @@
 -- Histories of operations, and causal order by state vectors (Sun and Chen, ACM TOCHI 9(1), 2002).
-use Rattle.std.specs.Prelude.{◌≡◌, ◌+◌, ◌≤◌, Bool, true, not, ◌&&◌, ◌||◌, List, Option, IsTrue, filter, find, Contains, [], ◌∷◌}
+use Rattle.std.specs.Prelude.{◌≡◌, ◌+◌, ◌≤◌, Bool, true, not, ◌&&◌, ◌||◌, List, Option, IsTrue}
+use Rattle.std.specs.Prelude.{filter, find, Contains, [], ◌∷◌}
 use Rattle.std.specs.List.{list_any}
 use Rattle.std.specs.declared.cmp.Ordering.{Ordering}
 use Rattle.std.specs.Ordering.{on}
-use Rattle.op_names.specs.Names.{Name, name_cmp, same_name}
+use Rattle.base_types.specs.Names.{Name, name_cmp, same_name}
 use Rattle.state_vector.specs.Vectors.{count_of, counts, is_vector}
 use Rattle.rules.specs.declared.history.Op.{Op}
 use Rattle.rules.specs.Bodies.{is_change_body, is_drop_body, object_in}
@@ -13,7 +14,7 @@ use Rattle.rules.specs.Lists.{HasNoRepeats, sort_by}
 abbrev pub name_of : Op → Name
 name_of op = op.name
 
--- operations are told apart by their names
+-- two operations are the same if their names are
 abbrev pub same_op : Op → Op → Bool
 same_op = λ a b. same_name a.name b.name
 
@@ -51,15 +52,17 @@ creation_of h object = find (is_creation_of object) h
 abbrev pub HasDistinctNames : List Op → Type 0
 HasDistinctNames h = (a b : Op) → Contains h a → Contains h b → a.name ≡ b.name → a ≡ b
 
--- A history, in whatever order it is listed: its vectors count operations of it alone, of the operation's own site
--- exactly the earlier ones, and with each operation all that that one counts.
+-- A history, listed in any order. Its vectors count only operations of the history, of the own site
+-- exactly the earlier ones, and with each operation everything that this operation counts.
 pub record IsHistory (h : List Op) : Type 0 where
   pub once : HasNoRepeats h
   pub distinct : HasDistinctNames h
   pub vector : (o : Op) → Contains h o → is_vector o.seen ≡ true
   pub own : (o : Op) → Contains h o → count_of o.seen o.name.0 + 1 ≡ o.name.1
-  pub present : (o : Op) (n : Name) → Contains h o → 1 ≤ n.1 → IsTrue (counts o.seen n) → (a : Op) × Contains h a × (a.name ≡ n)
-  pub closed : (a b : Op) (n : Name) → Contains h a → Contains h b → IsTrue (counts b.seen a.name) → IsTrue (counts a.seen n) → IsTrue (counts b.seen n)
+  pub present : (o : Op) (n : Name) → Contains h o → 1 ≤ n.1 → IsTrue (counts o.seen n)
+      → (a : Op) × Contains h a × (a.name ≡ n)
+  pub closed : (a b : Op) (n : Name) → Contains h a → Contains h b → IsTrue (counts b.seen a.name)
+      → IsTrue (counts a.seen n) → IsTrue (counts b.seen n)
 
 -- k is a part of the history h, and a history
 pub record IsPartOf (k h : List Op) : Type 0 where
@@ -91,10 +94,11 @@ concurrent a b = not (before a b) && not (before b a)
 abbrev pub is_past : Op → Op → Bool
 is_past b a = same_op a b || before a b
 
--- nothing stands before what it is after
+-- no operation is listed before one that precedes it
 abbrev pub IsCausallyOrdered : List Op → Type 0
 IsCausallyOrdered [] = Unit {0}
-IsCausallyOrdered (x ∷ xs) = ((y : Op) → Contains xs y → IsTrue (not (before y x))) × IsCausallyOrdered xs
+IsCausallyOrdered (x ∷ xs) = ((y : Op) → Contains xs y → IsTrue (not (before y x)))
+    × IsCausallyOrdered xs
 
 -- ---- one object
 

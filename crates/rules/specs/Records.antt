@@ -1,11 +1,16 @@
--- The record of a room: its joins and operations in order, and which entry it admits next.
-use Rattle.std.specs.Prelude.{◌≡◌, ◌↔◌, Contains, ℕ, ◌+◌, Bool, true, false, not, ◌&&◌, List, [], ◌∷◌, ◌++◌, Option, Some, None, ◌==◌, nat_le, nat_lt, filter, filter_map, count_by, length, is_none, if◌then◌else◌}
+-- The record of a room: its joins and operations in order, and which entry may come next.
+use Rattle.std.specs.Prelude.{◌≡◌, ◌↔◌, Contains, ℕ, ◌+◌, Bool, true, false, not, ◌&&◌, List, []}
+use Rattle.std.specs.Prelude.{◌∷◌, ◌++◌, Option, Some, None, ◌==◌, nat_le, nat_lt, filter}
+use Rattle.std.specs.Prelude.{filter_map, count_by, length, is_none, if◌then◌else◌}
 use Rattle.state_vector.specs.Vectors.{is_vector}
 use Rattle.rules.specs.declared.history.Op.{Op}
 use Rattle.rules.specs.declared.history.Entry.{Entry}
 use Rattle.rules.specs.declared.history.Entry.TheVariants.{Join, Operation}
 use Rattle.rules.specs.declared.refusal.Refusal.{Refusal}
-use Rattle.rules.specs.declared.refusal.Refusal.TheVariants.{RoomFull, RecordFull, NoSuchObject, NoSuchVersion, Gone, ObjectFull, TooManyKeys, TooManyVersions, TooManyObjects}
+use Rattle.rules.specs.declared.refusal.Refusal.TheVariants.{RoomFull, RecordFull, NoSuchObject}
+use Rattle.rules.specs.declared.refusal.Refusal.TheVariants.{NoSuchVersion, Gone, ObjectFull}
+use Rattle.rules.specs.declared.refusal.Refusal.TheVariants.{TooManyKeys, TooManyVersions}
+use Rattle.rules.specs.declared.refusal.Refusal.TheVariants.{TooManyObjects}
 use Rattle.rules.specs.declared.limits.LimitValues.{LimitValues}
 use Rattle.rules.specs.Bodies.{is_change_body, is_put_body}
 use Rattle.rules.specs.Operations.{holds_drop, object_of, changes_on}
@@ -13,7 +18,7 @@ use Rattle.rules.specs.Admission.{Condition, first_that_applies, causal_conditio
 use Rattle.rules.specs.Conflicts.{base, has_object, members}
 use Rattle.rules.specs.Versions.{groups, keys_of}
 
--- ---- what a record says
+-- ---- the parts of a record
 
 -- is the entry a join
 abbrev pub is_join : Entry → Bool
@@ -39,46 +44,54 @@ objects r = filter (λ op. not (is_change_body op.body)) (operations r)
 
 -- ---- what it admits next
 
--- what is asked of a join
+-- the conditions on a join
 abbrev pub join_conditions : LimitValues → List Entry → List Condition
-join_conditions b r = (nat_le b.joins (sites r), RoomFull) ∷ (nat_le b.entries (length r), RecordFull) ∷ []
+join_conditions b r = (nat_le b.joins (sites r), RoomFull)
+    ∷ (nat_le b.entries (length r), RecordFull) ∷ []
 
--- what is asked of each operation
+-- the conditions on each operation
 abbrev pub order_conditions : LimitValues → List Entry → Op → List Condition
-order_conditions b r op = (nat_le b.entries (length r), RecordFull) ∷ causal_conditions (operations r) op.name op.seen
+order_conditions b r op = (nat_le b.entries (length r), RecordFull)
+    ∷ causal_conditions (operations r) op.name op.seen
 
--- and then of a creation
+-- and on a creation
 abbrev pub creation_conditions : LimitValues → List Entry → List Condition
 creation_conditions b r = (nat_le b.objects (length (objects r)), TooManyObjects) ∷ []
 
--- it is a put, and with it the puts among these changes have more keys than there may be
+-- it is a put, and with it these changes have more keys than the limit
 abbrev pub has_too_many_keys : LimitValues → List Op → Op → Bool
-has_too_many_keys b changes op = is_put_body op.body && nat_lt b.keys (length (keys_of (changes ++ op ∷ [])))
+has_too_many_keys b changes op =
+    is_put_body op.body && nat_lt b.keys (length (keys_of (changes ++ op ∷ [])))
 
--- with the change its object has more versions than there may be
+-- with the change its object has more versions than the limit
 abbrev pub has_too_many_versions : LimitValues → List Op → Op → Bool
 has_too_many_versions b h op = nat_lt b.versions (length (groups (h ++ op ∷ []) (object_of op)))
 
--- or of a change of an object that is there, after these operations
+-- and on a change of an object that exists
 abbrev pub version_conditions : LimitValues → List Op → Op → List Condition
 version_conditions b h op = let changes = changes_on h (object_of op) in
-    (is_none (base h op), NoSuchVersion) ∷ (holds_drop (members (base h op)), Gone) ∷ (nat_le b.changes (length changes), ObjectFull)
-    ∷ (has_too_many_keys b changes op, TooManyKeys) ∷ (has_too_many_versions b h op, TooManyVersions) ∷ []
+    (is_none (base h op), NoSuchVersion) ∷ (holds_drop (members (base h op)), Gone)
+    ∷ (nat_le b.changes (length changes), ObjectFull)
+    ∷ (has_too_many_keys b changes op, TooManyKeys)
+    ∷ (has_too_many_versions b h op, TooManyVersions) ∷ []
 
--- or of any change
+-- and on any change
 abbrev pub change_conditions : LimitValues → List Op → Op → List Condition
 change_conditions b h op = (not (has_object h op), NoSuchObject) ∷ version_conditions b h op
 
--- what is asked of an entry, in this order
+-- the conditions on an entry, in order
 abbrev pub conditions : LimitValues → List Entry → Entry → List Condition
 conditions b r (Join site) = join_conditions b r
-conditions b r (Operation op) = order_conditions b r op ++ (if is_change_body op.body then change_conditions b (operations r) op else creation_conditions b r)
+conditions b r (Operation op) =
+    order_conditions b r op
+    ++ (if is_change_body op.body then change_conditions b (operations r) op
+    else creation_conditions b r)
 
--- why this entry, whose site has joined and whose vector is one, isn't admitted after these, if it isn't
+-- why this entry may not come next, if it may not; its site has joined and its vector is in range
 unfoldable pub refusal : LimitValues → List Entry → Entry → Option Refusal
 refusal b r entry = first_that_applies (conditions b r entry)
 
--- the entry's site is the next one, or has joined; its vector is one
+-- a join is of the next site; an operation's site has joined, and its vector is in range
 abbrev pub is_placed : List Entry → Entry → Bool
 is_placed r (Join site) = site == sites r + 1
 is_placed r (Operation op) = nat_le 1 op.name.0 && nat_le op.name.0 (sites r) && is_vector op.seen
@@ -90,13 +103,14 @@ admits b r entry = is_placed r entry && is_none (refusal b r entry)
 -- each of the later entries is admitted by all that come before it
 abbrev pub IsLegalAfter : LimitValues → List Entry → List Entry → Type 0
 IsLegalAfter b r [] = Unit {0}
-IsLegalAfter b r (entry ∷ later) = (admits b r entry ≡ true) × IsLegalAfter b (r ++ entry ∷ []) later
+IsLegalAfter b r (entry ∷ later) = (admits b r entry ≡ true)
+    × IsLegalAfter b (r ++ entry ∷ []) later
 
 -- a legal record: each entry is admitted by those before it
 abbrev pub IsLegal : LimitValues → List Entry → Type 0
 IsLegal b r = IsLegalAfter b [] r
 
--- two records, each of which is legal by some limits, hold the same operations, in whatever order
+-- two records, each legal under some limits, have the same operations, in any order
 pub record HoldTheSame (q r : List Entry) : Type 0 where
   pub one : (limits : LimitValues) × IsLegal limits q
   pub other : (limits : LimitValues) × IsLegal limits r

@@ -1,13 +1,16 @@
--- The versions of an object (the idea is that of Sun and Chen, ACM TOCHI 9(1), 2002): one for each group of its changes.
-use Rattle.std.specs.Prelude.{Bool, not, ◌&&◌, ◌++◌, List, [], Option, Some, None, map, filter, filter_map, flat_map, find, is_some, option_map, bytes_eq, if◌then◌else◌}
+-- The versions of an object (the idea is that of Sun and Chen, ACM TOCHI 9(1), 2002): one for each
+-- group of its changes.
+use Rattle.std.specs.Prelude.{Bool, not, ◌&&◌, ◌++◌, List, [], Option, Some, None, map, filter}
+use Rattle.std.specs.Prelude.{filter_map, flat_map, find, is_some, option_map, bytes_eq}
+use Rattle.std.specs.Prelude.{if◌then◌else◌}
 use Rattle.std.specs.List.{list_any}
 use Rattle.std.specs.declared.cmp.Ordering.{Ordering}
 use Rattle.std.specs.Ordering.{nat_cmp, on}
 use Rattle.std.specs.Cmp.Lexicographic.{slice_cmp}
-use Rattle.op_names.specs.Names.{Name}
-use Rattle.op_names.specs.Texts.{Bytes}
-use Rattle.op_names.specs.VersionIds.{id_cmp}
-use Rattle.op_names.specs.declared.value.Value.{Value}
+use Rattle.base_types.specs.Names.{Name}
+use Rattle.base_types.specs.Texts.{Bytes}
+use Rattle.base_types.specs.VersionIds.{id_cmp}
+use Rattle.base_types.specs.declared.value.Value.{Value}
 use Rattle.rules.specs.declared.history.Op.{Op}
 use Rattle.rules.specs.declared.version.Shown.{Shown}
 use Rattle.rules.specs.declared.version.Shown.TheVariants.{Attrs, Gone}
@@ -25,12 +28,12 @@ use Rattle.rules.specs.Conflicts.{conflict}
 abbrev pub gives : Bytes → Op → Bool
 gives key op = is_some (value_in key op.body)
 
--- An operation of g decides a key: it gives it a value, and no operation of g that gives it one comes after. One count
--- tells what comes after, as on a history it is causal order.
+-- An operation of g decides a key: it gives the key a value, and no later operation of g does. On a
+-- history one count tells causal order.
 abbrev pub decides : Bytes → List Op → Op → Bool
 decides key g op = gives key op && not (list_any (λ later. gives key later && before op later) g)
 
--- the value that an operation gives a key; without one, the creation's
+-- the value that an operation gives a key, or else the creation's
 abbrev pub value_by : Bytes → List Attr → Option Op → Option Value
 value_by key initial None = value_at key initial
 value_by key initial (Some op) = value_in key op.body
@@ -47,7 +50,9 @@ keys_of g = each_once bytes_eq (flat_map (λ op. keys_in op.body) g)
 
 -- the keys of a change that none of these changes gives a value, each once
 abbrev pub new_keys : List Op → Op → List Bytes
-new_keys changes op = filter (λ key. not (list_any (bytes_eq key) (keys_of changes))) (each_once bytes_eq (keys_in op.body))
+new_keys changes op =
+    filter (λ key. not (list_any (bytes_eq key) (keys_of changes)))
+    (each_once bytes_eq (keys_in op.body))
 
 -- attributes are ordered by their keys
 abbrev pub key_cmp : Attr → Attr → Ordering
@@ -55,9 +60,12 @@ key_cmp = on (λ attr. attr.0) (slice_cmp nat_cmp)
 
 -- each key of the creation or of the group, with its value, in order of key
 unfoldable pub attributes : List Attr → List Op → List Attr
-attributes initial g = sort_by key_cmp (filter_map (λ key. option_map (λ value. (key, value)) (value_of_key initial g key)) (each_once bytes_eq (map (λ attr. attr.0) initial ++ keys_of g)))
+attributes initial g =
+    sort_by key_cmp
+    (filter_map (λ key. option_map (λ value. (key, value)) (value_of_key initial g key))
+    (each_once bytes_eq (map (λ attr. attr.0) initial ++ keys_of g)))
 
--- the attributes that a creation gives; without one, which is never shown, none
+-- the attributes that a creation gives; none if there is no creation, which is never shown
 abbrev pub initial_of : Option Op → List Attr
 initial_of None = []
 initial_of (Some op) = initial_in op.body
@@ -68,13 +76,18 @@ initial_of (Some op) = initial_in op.body
 unfoldable pub groups : List Op → Name → List (List Op)
 groups h object = groups_of (conflict h) (changes_on h object)
 
--- what is shown of a group on an object that was created with these attributes: a group that holds a drop is gone
+-- what is shown of a group on an object that was created with these attributes: a group that holds
+-- a drop is gone
 unfoldable pub shown_of : List Attr → List Op → Shown
 shown_of initial g = if holds_drop g then Gone else Attrs (attributes initial g)
 
 -- a group as it is shown: its identifier, and its attributes or that it is gone
 unfoldable pub version_of : List Op → Name → List Op → Version
-version_of h object g = record { id = identifier (conflict h) name_of (changes_on h object) g; shown = shown_of (initial_of (creation_of h object)) g }
+version_of h object g =
+    record {
+      id = identifier (conflict h) name_of (changes_on h object) g;
+      shown = shown_of (initial_of (creation_of h object)) g;
+    }
 
 -- versions are ordered by their identifiers
 abbrev pub by_id : Version → Version → Ordering

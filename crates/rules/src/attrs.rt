@@ -1,30 +1,30 @@
-//! The attributes that an object is created with.
+//! The initial attributes of an object.
 
 ghost use Rattle.std.specs.Prelude.{◌≡◌, List, true, false, IfOk, OnErr, OnOk, bytes_eq};
 ghost use Rattle.std.specs.List.{list_any};
 ghost use Rattle.std.specs.Result.{result_err};
-ghost use Rattle.op_names.specs.Repeats.{first_repeat};
+ghost use Rattle.base_types.specs.Repeats.{first_repeat};
 ghost use Rattle.std.specs.Cmp.Rules.{comparing};
 ghost use Rattle.std.proofs.Common.{rules};
-ghost use Rattle.op_names.specs.Values.{same_value-equivalence};
+ghost use Rattle.base_types.specs.Values.{same_value-equivalence};
 ghost use Rattle.rules.specs.AttrLists.{Attr, same_attrs, same_key, attrs_fault, are_attrs};
 
-use op_names::{Key, NoMemory, Value};
+use base_types::{Key, NoMemory, Value};
 use std::alloc::Global;
 use std::marker::Model;
 use thiserror::Error;
 
-/// Why a list is no list of initial attributes, the first cause that applies in this order.
+/// Why a list is not a list of initial attributes: the first variant that applies, in this order.
 #[derive(Clone, Copy, Debug, PartialEq, Eq, Error)]
 pub enum AttrsFault {
     #[error("there are more than 16 attributes")]
     TooMany,
-    /// The first place, from 0, whose key stands at an earlier place too.
-    #[error("the key at place {0} stands earlier too")]
+    /// The first place, from 0, whose key is also at an earlier place.
+    #[error("the key at place {0} is repeated")]
     Repeated(usize),
 }
 
-/// The attributes of a creation: at most 16, no key twice, in the order that they were given.
+/// The attributes of a creation: at most 16, with different keys, in the order given.
 #[derive(Debug, Drop)]
 pub struct Attrs {
     pairs: Vec<(Key, Value)>,
@@ -45,7 +45,7 @@ fn has_key(pairs: &[(Key, Value)], key: &Key) -> bool
     pairs.iter().any(|pair| pair.0 == *key)
 }
 
-/// The first place whose key stands at an earlier place too.
+/// The first place whose key is also at an earlier place.
 pub(crate) fn repeated_key(pairs: &[(Key, Value)]) -> Option<usize>
     ensures { result ≡ first_repeat same_key pairs.now }
 {
@@ -72,14 +72,19 @@ pub(crate) fn copy_pairs(
 }
 
 impl Attrs {
-    /// These pairs as initial attributes, in their order. Otherwise `TooMany` above 16, or the
-    /// first `Repeated` key. Takes no memory.
+    /// Makes initial attributes of these pairs, in their order, without an allocation. Compares
+    /// each key with all before it.
+    ///
+    /// # Errors
+    ///
+    /// - `TooMany` if there are more than 16 pairs.
+    /// - `Repeated` with the first place whose key is also at an earlier place.
     #[tactic(auto, unfolding(crate::specs::AttrLists::attrs_fault))]
     pub fn from_pairs(pairs: Vec<(Key, Value)>) -> Result<Attrs, AttrsFault>
         ensures ok { IfOk result (λ attrs. attrs ≡ pairs.items) }
         ensures fault { result_err result ≡ attrs_fault pairs.items }
         ensures range { OnOk result (are_attrs pairs.items ≡ true) }
-        ensures refused { OnErr result (are_attrs pairs.items ≡ false) }
+        ensures invalid { OnErr result (are_attrs pairs.items ≡ false) }
     {
         if pairs.len() > 16 {
             return Err(AttrsFault::TooMany);
@@ -90,7 +95,7 @@ impl Attrs {
         }
     }
 
-    /// The pairs of a key and a value, in the order that they were given.
+    /// The pairs of a key and a value, in the order given.
     pub fn pairs(&self) -> &[(Key, Value)]
         ensures pairs { result.now ≡ self.now }
         ensures range { are_attrs self.now ≡ true }
@@ -98,7 +103,11 @@ impl Attrs {
         &self.pairs
     }
 
-    /// Other ones that are equal.
+    /// Returns an equal copy.
+    ///
+    /// # Errors
+    ///
+    /// `NoMemory` if an allocation failed.
     pub fn copy(&self, alloc: Global) -> Result<Attrs, NoMemory>
         ensures { IfOk result (λ attrs. attrs ≡ self.now) }
     {

@@ -1,6 +1,5 @@
-//! Worked examples, computed by the check from the definitions. These functions run nothing.
-//!
-//! In each a room draws one rectangle, which the first site creates; `specs/Examples.antt` has the
+//! Worked examples, which the check computes from the definitions. Each function has an empty body.
+//! In each example a room draws one rectangle, which site 1 creates. `specs/Examples.antt` has the
 //! records.
 
 #![tactic(auto, unfolding(state_vector::specs::Vectors::vector_fault, crate::specs::Operations::known, crate::specs::Operations::changes_on, crate::specs::Groups::groups_of, crate::specs::Groups::group_named, crate::specs::Groups::identifier, crate::specs::Conflicts::base, crate::specs::Conflicts::conflict, crate::specs::Versions::attributes, crate::specs::Versions::groups, crate::specs::Versions::shown_of, crate::specs::Versions::version_of, crate::specs::Versions::versions, crate::specs::Records::refusal))]
@@ -10,7 +9,7 @@ ghost use Rattle.rules.specs.declared.refusal.Refusal.TheVariants.{WrongSeq, Own
 ghost use Rattle.rules.specs.Limits.{full_limits};
 ghost use Rattle.rules.specs.Records.{operations, refusal, IsLegal};
 ghost use Rattle.rules.specs.Versions.{versions};
-ghost use Rattle.rules.specs.Examples.{x, y, line, red, puts, drops, version, gone, creation_alone, one_put, two_puts, three_sites, another_key, two_ways, five_puts, same_value_twice, value_replaced, seen_by_one, based_before, based_after, same_value_and_more, other_value_and_more, one_drop, put_beside_a_drop, two_drops, one_of_two_dropped, both_dropped};
+ghost use Rattle.rules.specs.steps.Examples.{x, y, line, red, puts, drops, version, gone, creation_alone, one_put, two_puts, three_sites, another_key, two_ways, five_puts, same_value_twice, value_replaced, seen_by_one, based_before, based_after, same_value_and_more, other_value_and_more, one_drop, put_beside_a_drop, two_drops, one_of_two_dropped, both_dropped};
 
 /// A put that conflicts with nothing makes no version: the one version has no name.
 pub fn one_put_alone()

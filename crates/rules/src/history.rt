@@ -5,25 +5,25 @@ ghost use Rattle.rules.specs.Bodies.{are_at_odds};
 
 use crate::attrs::Attrs;
 use crate::pairs::Pairs;
-use op_names::{Kind, NoMemory, OpName, VersionId};
+use base_types::{Kind, NoMemory, OpName, VersionId};
 use state_vector::StateVector;
 use std::alloc::Global;
 
 /// What an operation does.
 #[derive(Debug, Drop)]
 pub enum Body {
-    /// Creates an object, which has the operation's name.
+    /// Creates an object, which gets the operation's name.
     New {
         kind: Kind,
         attrs: Attrs,
     },
-    /// Gives keys of an object values, starting from one of the versions that its author saw.
+    /// Gives values to keys of an object, starting from a version that its author saw.
     Put {
         object: OpName,
         version: VersionId,
         pairs: Pairs,
     },
-    /// Deletes one of the versions that its author saw.
+    /// Deletes a version that its author saw.
     DropVersion {
         object: OpName,
         version: VersionId,
@@ -31,7 +31,11 @@ pub enum Body {
 }
 
 impl Body {
-    /// Another one that is equal.
+    /// Returns an equal copy.
+    ///
+    /// # Errors
+    ///
+    /// `NoMemory` if an allocation failed.
     pub fn copy(&self, alloc: Global) -> Result<Body, NoMemory>
         ensures { IfOk result (λ body. body ≡ self.now) }
     {
@@ -56,8 +60,8 @@ impl Body {
         }
     }
 
-    /// Are the two changes that don't go together: puts that give some key different values, or
-    /// exactly one a drop?
+    /// Are the two changes incompatible when they are concurrent? They are if both are puts that
+    /// give some key different values, or if exactly one is a drop.
     pub fn is_at_odds(&self, other: &Body) -> bool
         ensures { result ≡ are_at_odds self.now other.now }
     {
@@ -80,7 +84,7 @@ impl Body {
 
 impl PartialEq for Body {
     ghost use Rattle.std.specs.Cmp.{partial_equiv_from_equiv};
-    ghost use Rattle.rules.specs.Equality.{same_body, same_body-equivalence};
+    ghost use Rattle.rules.specs.steps.Equality.{same_body, same_body-equivalence};
 
     ghost eq = { same_body };
 
@@ -120,7 +124,7 @@ impl PartialEq for Body {
 }
 
 impl Eq for Body {
-    ghost use Rattle.rules.specs.Equality.{same_body-equivalence};
+    ghost use Rattle.rules.specs.steps.Equality.{same_body-equivalence};
 
     ghost laws = { same_body-equivalence };
 }
@@ -134,7 +138,11 @@ pub struct Op {
 }
 
 impl Op {
-    /// Another one that is equal.
+    /// Returns an equal copy.
+    ///
+    /// # Errors
+    ///
+    /// `NoMemory` if an allocation failed.
     pub fn copy(&self, alloc: Global) -> Result<Op, NoMemory>
         ensures { IfOk result (λ op. op ≡ self.now) }
     {
@@ -150,7 +158,7 @@ impl Op {
 
 impl PartialEq for Op {
     ghost use Rattle.std.specs.Cmp.{partial_equiv_from_equiv};
-    ghost use Rattle.rules.specs.Equality.{same_operation, same_operation-equivalence};
+    ghost use Rattle.rules.specs.steps.Equality.{same_operation, same_operation-equivalence};
 
     ghost eq = { same_operation };
 
@@ -162,7 +170,7 @@ impl PartialEq for Op {
 }
 
 impl Eq for Op {
-    ghost use Rattle.rules.specs.Equality.{same_operation-equivalence};
+    ghost use Rattle.rules.specs.steps.Equality.{same_operation-equivalence};
 
     ghost laws = { same_operation-equivalence };
 }
@@ -175,7 +183,11 @@ pub enum Entry {
 }
 
 impl Entry {
-    /// Another one that is equal.
+    /// Returns an equal copy.
+    ///
+    /// # Errors
+    ///
+    /// `NoMemory` if an allocation failed.
     pub fn copy(&self, alloc: Global) -> Result<Entry, NoMemory>
         ensures { IfOk result (λ entry. entry ≡ self.now) }
     {
@@ -188,7 +200,7 @@ impl Entry {
 
 impl PartialEq for Entry {
     ghost use Rattle.std.specs.Cmp.{partial_equiv_from_equiv};
-    ghost use Rattle.rules.specs.Equality.{same_entry, same_entry-equivalence};
+    ghost use Rattle.rules.specs.steps.Equality.{same_entry, same_entry-equivalence};
 
     ghost eq = { same_entry };
 
@@ -204,7 +216,7 @@ impl PartialEq for Entry {
 }
 
 impl Eq for Entry {
-    ghost use Rattle.rules.specs.Equality.{same_entry-equivalence};
+    ghost use Rattle.rules.specs.steps.Equality.{same_entry-equivalence};
 
     ghost laws = { same_entry-equivalence };
 }

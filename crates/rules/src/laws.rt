@@ -1,17 +1,17 @@
-//! Laws over the definitions. These functions run nothing.
+//! Laws over the definitions. Each function has an empty body: its contract is the law.
 
 ghost use Rattle.std.specs.Prelude.{◌≡◌, ◌↔◌, ◌≤◌, ◌+◌, ◌||◌, ◌∷◌, ◌++◌, not, bytes_eq, Bool, true, false, List, [], length, map, reverse, find, Some, None, IsTrue, Contains, if◌then◌else◌};
 ghost use Rattle.std.specs.List.{list_any, count_by};
 ghost use Rattle.std.specs.List.Sorted.{IsPermutation, IsStrictlySortedBy};
-ghost use Rattle.op_names.specs.Names.{Name};
-ghost use Rattle.op_names.specs.Texts.{Bytes};
-ghost use Rattle.op_names.specs.VersionIds.{id_cmp, same_names};
+ghost use Rattle.base_types.specs.Names.{Name};
+ghost use Rattle.base_types.specs.Texts.{Bytes};
+ghost use Rattle.base_types.specs.VersionIds.{id_cmp, same_names};
 ghost use Rattle.rules.specs.declared.history.Op.{Op};
 ghost use Rattle.rules.specs.declared.history.Entry.{Entry};
 ghost use Rattle.rules.specs.declared.limits.LimitValues.{LimitValues};
 ghost use Rattle.rules.specs.declared.history.Body.{Body};
 ghost use Rattle.rules.specs.declared.version.Shown.TheVariants.{Attrs, Gone};
-ghost use Rattle.op_names.specs.declared.value.Value.{Value};
+ghost use Rattle.base_types.specs.declared.value.Value.{Value};
 ghost use Rattle.rules.specs.Bodies.{is_put_body, is_drop_body, pairs_in, differ_on_a_key, value_in, version_in};
 ghost use Rattle.rules.specs.Lists.{HasNoRepeats};
 ghost use Rattle.rules.specs.Operations.{IsHistory, IsPartOf, AreSame, Before, before, is_past, is_on, is_change_on, name_of, object_of, known, changes_on, operations_on, creation_of, concurrent, holds_drop, IsCausallyOrdered};
@@ -30,7 +30,8 @@ pub fn before_is_one_count()
         → (IsTrue (before a b) ↔ Before h a b) }
 {}
 
-/// The operations of a history can be listed so that none stands before what it is after.
+/// A history can be listed in causal order, in which no operation precedes one that is listed
+/// before it.
 #[tactic(auto, using(crate::proofs::Ordered::causal_listing))]
 pub fn histories_have_a_causal_order()
     ensures { (h : List Op) → IsHistory h
@@ -74,8 +75,8 @@ pub fn identifiers_differ<X>()
         → identifier conflict name s g ≡ identifier conflict name s h → g ≡ h }
 {}
 
-/// The group with an identifier is found by one filter and one comparison: where there is one, it
-/// is all members that conflict with no member whose name the identifier has.
+/// The group with an identifier, if there is one, consists of the members that conflict with no
+/// member which the identifier names. So one filter and one comparison find it.
 #[tactic(auto, using(crate::proofs::Resolve::found_by_one_filter))]
 pub fn a_named_group_is_found_by_one_filter<X>()
     ensures { (conflict : X → X → Bool) (name : X → Name) (s : List X) (id : List Name)
@@ -242,8 +243,8 @@ pub fn a_group_is_shown_the_same_everywhere()
 
 // ---- drops
 
-/// A group that holds a drop is shown as gone, in whatever order it is listed and in whatever
-/// history; and of each other group its attributes are shown.
+/// A group with a drop is shown as gone, in any listing and any history. Any other group shows its
+/// attributes.
 pub fn a_group_with_a_drop_is_gone()
     ensures gone { (h : List Op) (object : Name) (g : List Op) (a : Op) → Contains g a
         → IsTrue (is_drop_body a.body) → (version_of h object g).shown ≡ Gone }
@@ -255,7 +256,7 @@ pub fn a_group_with_a_drop_is_gone()
         ≡ Attrs (attributes (initial_of (creation_of h object)) g) }
 {}
 
-/// A put is in conflict with each concurrent drop. Two concurrent drops don't conflict directly.
+/// A put conflicts with each concurrent drop. Two concurrent drops don't conflict directly.
 pub fn a_put_conflicts_with_a_concurrent_drop()
     ensures put_and_drop { (h : List Op) (a b : Op) → IsTrue (is_put_body a.body)
         → IsTrue (is_drop_body b.body) → IsTrue (concurrent a b) → conflict h a b ≡ true }
@@ -264,15 +265,15 @@ pub fn a_put_conflicts_with_a_concurrent_drop()
         → direct_conflict (base h) a b ≡ false }
 {}
 
-/// A drop is the end of its version: each put of a group that holds a drop is in the drop's base.
+/// A drop is the end of its version: each put of a group with a drop is in the drop's base.
 pub fn a_drop_ends_its_version()
     ensures { (h : List Op) (object : Name) (g : List Op) (a d : Op) → IsHistory h → IsFounded h
         → Contains (groups h object) g → Contains g a → IsTrue (is_put_body a.body)
         → Contains g d → IsTrue (is_drop_body d.body) → Contains (members (base h d)) a }
 {}
 
-/// Nothing is lost. Each change stands in a group, so in a version; and a version with a put that
-/// is in no drop's base is shown by its attributes.
+/// Nothing is lost: each change is in a group, so in a version. A version with a put that is in no
+/// drop's base shows its attributes.
 pub fn nothing_is_lost()
     ensures stands { (h : List Op) (object : Name) (a : Op) → IsHistory h → IsFounded h
         → Contains (changes_on h object) a
@@ -286,7 +287,7 @@ pub fn nothing_is_lost()
         ≡ Attrs (attributes (initial_of (creation_of h object)) g) }
 {}
 
-/// The identifiers of an object's versions rise strictly.
+/// The identifiers of an object's versions increase strictly.
 #[tactic(auto, using(crate::proofs::Versions::identifiers_rise))]
 pub fn identifiers_rise()
     ensures { (h : List Op) (object : Name) → IsHistory h
@@ -308,9 +309,8 @@ pub fn versions_never_get_fewer()
         → length (versions k object) ≤ length (versions h object) }
 {}
 
-/// What an operation knows, its base and its conflicts, the versions of its object, and whether a
-/// change fails for its base or for a limit on its object depend on the operations on that object
-/// alone.
+/// The operations on an object alone decide everything about it: what an operation knows, bases,
+/// conflicts, versions, and whether its base or a limit on the object refuses a change.
 #[tactic(auto, using(crate::proofs::Objects::known_alone, crate::proofs::Objects::base_alone, crate::proofs::Objects::conflict_alone, crate::proofs::Objects::groups_alone, crate::proofs::Objects::versions_alone, crate::proofs::Objects::conditions_alone))]
 pub fn an_object_stands_alone()
     ensures known { (h : List Op) (object : Name) (b : Op) → IsTrue (is_on object b)
@@ -338,7 +338,7 @@ pub fn legal_records_are_histories()
         → IsCausallyOrdered (operations r) }
 {}
 
-/// Two legal records with the same operations, in whatever order, have the same bases, conflicts,
+/// Two legal records with the same operations, in any order, have the same bases, conflicts,
 /// groups, identifiers and versions.
 pub fn legal_records_with_the_same_operations_agree()
     ensures bases { (q r : List Entry) (b : Op) → HoldTheSame q r → Contains (operations q) b

@@ -1,4 +1,4 @@
-//! The data of a room's history, and the written rules as definitions over it (see `specs/`).
+//! The data of a room's history. The written rules are definitions over it, in `specs/`.
 #![tactic(auto)]
 
 mod attrs;
@@ -15,6 +15,6 @@ pub use attrs::{Attrs, AttrsFault};
 pub use history::{Body, Entry, Op};
 pub use limits::{LimitValues, Limits};
 pub use pairs::{Pairs, PairsFault};
-pub use refusal::Refusal;
+pub use refusal::{MAX_REFUSAL_CODE, Refusal};
 pub use shared::SharedOp;
 pub use version::{AttrList, Shown, Version};

@@ -5,7 +5,7 @@ ghost use Rattle.rules.specs.Limits.{full_limits, is_limit, are_limits};
 
 use std::marker::Model;
 
-/// What a room may hold, per room or per object.
+/// The limits of a room as plain numbers.
 #[derive(Clone, Copy, Debug, PartialEq, Eq)]
 pub struct LimitValues {
     /// The sites that may ever join.
@@ -85,8 +85,8 @@ impl Limits {
     /// The most objects or entries of a page.
     pub const MAX_PAGE: u32 = 64;
 
-    /// The full limits: 256 joins, 16,384 entries, 512 objects, and for each object 1,024
-    /// changes with 64 keys and 32 versions; pages of 64.
+    /// The full limits: 256 joins, 16,384 entries and 512 objects. An object has 1,024 changes, 64
+    /// keys and 32 versions. A page has 64 items.
     pub fn full() -> Limits
         ensures { result ≡ full_limits }
     {
@@ -95,7 +95,7 @@ impl Limits {
         }
     }
 
-    /// The limits of these values, or `None` where one of them is 0 or above its full value.
+    /// Makes limits of these values. Returns `None` if one is 0 or above its full value.
     pub fn new(values: LimitValues) -> Option<Limits>
         ensures value { IfSome result (λ limits. limits ≡ values) }
         ensures in_range { IsSome result ↔ (are_limits values ≡ true) }

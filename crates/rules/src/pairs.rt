@@ -5,25 +5,25 @@ ghost use Rattle.std.specs.List.{list_any};
 ghost use Rattle.std.specs.Result.{result_err};
 ghost use Rattle.std.specs.Cmp.Rules.{comparing};
 ghost use Rattle.std.proofs.Common.{rules};
-ghost use Rattle.op_names.specs.Values.{same_value-equivalence};
+ghost use Rattle.base_types.specs.Values.{same_value-equivalence};
 ghost use Rattle.rules.specs.AttrLists.{Attr, gives_another, do_pairs_differ, same_attrs, pairs_fault, are_pairs};
 
 use crate::attrs::{copy_pairs, repeated_key};
-use op_names::{Key, NoMemory, Value};
+use base_types::{Key, NoMemory, Value};
 use std::alloc::Global;
 use std::marker::Model;
 use std::slice;
 use thiserror::Error;
 
-/// Why a list is none of the attributes of a put, the first cause that applies in this order.
+/// Why a list is not a list of a put's attributes: the first variant that applies, in this order.
 #[derive(Clone, Copy, Debug, PartialEq, Eq, Error)]
 pub enum PairsFault {
     #[error("there is no attribute")]
     Empty,
     #[error("there are more than 16 attributes")]
     TooMany,
-    /// The first place, from 0, whose key stands at an earlier place too.
-    #[error("the key at place {0} stands earlier too")]
+    /// The first place, from 0, whose key is also at an earlier place.
+    #[error("the key at place {0} is repeated")]
     Repeated(usize),
 }
 
@@ -34,7 +34,7 @@ enum Held {
     Several(Vec<(Key, Value)>),
 }
 
-/// The attributes of a put: 1 to 16, no key twice, in the order that they were given.
+/// The attributes of a put: 1 to 16, with different keys, in the order given.
 #[derive(Debug, Drop)]
 pub struct Pairs {
     held: Held,
@@ -43,7 +43,7 @@ pub struct Pairs {
 impl Model for Pairs {
     ghost use Rattle.std.specs.Prelude.{◌≡◌, List, true};
     ghost use Rattle.rules.specs.AttrLists.{Attr, are_pairs};
-    ghost use Rattle.rules.specs.HeldPairs.{pairs_held};
+    ghost use Rattle.rules.specs.steps.HeldPairs.{pairs_held};
 
     ghost Value = { List Attr };
 
@@ -69,14 +69,20 @@ fn do_differ(first: &[(Key, Value)], second: &[(Key, Value)]) -> bool
 }
 
 impl Pairs {
-    /// These pairs, in their order. Otherwise `Empty` of none, `TooMany` above 16, or the first
-    /// `Repeated` key. Takes no memory.
+    /// Makes a put's attributes of these pairs, in their order, without an allocation. Compares
+    /// each key with all before it.
+    ///
+    /// # Errors
+    ///
+    /// - `Empty` if there are none.
+    /// - `TooMany` if there are more than 16.
+    /// - `Repeated` with the first place whose key is also at an earlier place.
     #[tactic(auto, unfolding(crate::specs::AttrLists::pairs_fault))]
     pub fn from_pairs(pairs: Vec<(Key, Value)>) -> Result<Pairs, PairsFault>
         ensures ok { IfOk result (λ given. given ≡ pairs.items) }
         ensures fault { result_err result ≡ pairs_fault pairs.items }
         ensures range { OnOk result (are_pairs pairs.items ≡ true) }
-        ensures refused { OnErr result (are_pairs pairs.items ≡ false) }
+        ensures invalid { OnErr result (are_pairs pairs.items ≡ false) }
     {
         if pairs.is_empty() {
             return Err(PairsFault::Empty);
@@ -102,7 +108,7 @@ impl Pairs {
         }
     }
 
-    /// The pairs of a key and a value, in the order that they were given.
+    /// The pairs of a key and a value, in the order given.
     pub fn pairs(&self) -> &[(Key, Value)]
         ensures pairs { result.now ≡ self.now }
         ensures range { are_pairs self.now ≡ true }
@@ -121,7 +127,11 @@ impl Pairs {
         do_differ(self.pairs(), others)
     }
 
-    /// Other ones that are equal.
+    /// Returns an equal copy.
+    ///
+    /// # Errors
+    ///
+    /// `NoMemory` if an allocation failed.
     pub fn copy(&self, alloc: Global) -> Result<Pairs, NoMemory>
         ensures { IfOk result (λ pairs. pairs ≡ self.now) }
     {

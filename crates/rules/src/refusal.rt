@@ -1,36 +1,64 @@
-//! Why a request is refused.
+//! The refusals: for each its cause, its number and its word.
 
 ghost use Rattle.std.specs.Prelude.{◌≡◌};
 
-/// Why a room or a session refuses a request.
+/// The greatest number of a refusal. Refusals are numbered from 1.
+pub const MAX_REFUSAL_CODE: u32 = 20;
+
+/// Why a room or a session refuses a request. Each variant has its number, its word and its cause.
 #[derive(Clone, Copy, Debug, PartialEq, Eq)]
 pub enum Refusal {
+    /// 1, `bad-message`: the bytes are not the text of a request.
     BadMessage,
+    /// 2, `not-joined`: the session is in no room, and the request is neither a join nor a back.
     NotJoined,
+    /// 3, `already-joined`: the session is in a room, and the request is a join or a back.
     AlreadyJoined,
+    /// 4, `no-such-room`: no room has this name.
     NoSuchRoom,
+    /// 5, `room-full`: the room has its maximum number of sites.
     RoomFull,
+    /// 6, `record-full`: the record has its maximum number of entries.
     RecordFull,
+    /// 7, `wrong-seq`: the operation's number is not one more than the number of its site's
+    /// operations.
     WrongSeq,
+    /// 8, `own-count`: the vector does not count exactly the earlier operations of its own site.
     OwnCount,
+    /// 9, `ahead`: the vector counts an operation that is not in the record.
     Ahead,
+    /// 10, `not-closed`: the vector counts an operation, but not everything that the operation's
+    /// vector counts.
     NotClosed,
+    /// 11, `no-such-object`: no creation has this name; for a change, none that its vector counts.
     NoSuchObject,
+    /// 12, `no-such-version`: among what the vector counts, the object has no version with this
+    /// identifier.
     NoSuchVersion,
+    /// 13, `object-full`: the object has its maximum number of changes.
     ObjectFull,
+    /// 14, `too-many-keys`: with this put, the changes of the object would have more keys than the
+    /// limit.
     TooManyKeys,
+    /// 15, `too-many-versions`: with this change, the object would have more versions than the
+    /// limit.
     TooManyVersions,
+    /// 16, `too-many-objects`: the room has its maximum number of objects.
     TooManyObjects,
+    /// 17, `too-far`: the page would start after the last object or entry.
     TooFar,
+    /// 18, `gone`: a drop that the vector counts deleted the version.
     Gone,
+    /// 19, `no-such-site`: fewer sites than this number have joined the room.
     NoSuchSite,
+    /// 20, `site-in-use`: another session is in the room as this site.
     SiteInUse,
 }
 
 impl Refusal {
     ghost use Rattle.rules.specs.Refusals.{code_of, word_of, refusal_at};
 
-    /// Its number.
+    /// The refusal's number, from 1 to `MAX_REFUSAL_CODE`.
     pub fn code(self) -> u32
         ensures { result ≡ code_of self }
     {
@@ -58,7 +86,7 @@ impl Refusal {
         }
     }
 
-    /// Its word.
+    /// The refusal's word.
     pub fn word(self) -> &'static str
         ensures { result.now ≡ word_of self }
     {
@@ -86,7 +114,7 @@ impl Refusal {
         }
     }
 
-    /// The refusal with this number.
+    /// The refusal with this number, or `None` if there is none.
     pub fn from_code(code: u32) -> Option<Refusal>
         ensures { result ≡ refusal_at code }
     {

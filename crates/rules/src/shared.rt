@@ -1,18 +1,18 @@
-//! Operations that have several owners.
+//! Operations with several owners.
 
 ghost use Rattle.std.specs.Prelude.{◌≡◌, IfOk};
 ghost use Rattle.std.specs.Arc.{arc_value};
 ghost use Rattle.rules.specs.declared.history.Entry.TheVariants.{Operation};
 
 use crate::history::{Entry, Op};
-use op_names::NoMemory;
+use base_types::NoMemory;
 use std::alloc::Global;
 use std::marker::Model;
 use std::ops::Deref;
 use std::sync::Arc;
 
-/// An operation that is held once, as an entry of a record, however many keep it. Contracts see the
-/// operation.
+/// An operation that is stored once, as an entry of a record, for any number of owners. Contracts
+/// see the operation.
 #[derive(Debug, Drop)]
 pub struct SharedOp {
     entry: Arc<Entry>,
@@ -23,7 +23,7 @@ impl Model for SharedOp {
     ghost use Rattle.std.specs.Arc.{arc_value};
     ghost use Rattle.rules.specs.declared.history.Op.{Op};
     ghost use Rattle.rules.specs.declared.history.Entry.TheVariants.{Operation};
-    ghost use Rattle.rules.specs.Shared.{held};
+    ghost use Rattle.rules.specs.steps.Shared.{held};
 
     ghost Value = { Op };
 
@@ -34,7 +34,11 @@ impl Model for SharedOp {
 }
 
 impl SharedOp {
-    /// The operation, with one owner.
+    /// Stores an operation, with one owner.
+    ///
+    /// # Errors
+    ///
+    /// `NoMemory` if an allocation failed.
     pub fn new(alloc: Global, op: Op) -> Result<SharedOp, NoMemory>
         ensures { IfOk result (λ shared. shared ≡ op) }
     {
@@ -42,14 +46,22 @@ impl SharedOp {
         Ok(SharedOp { entry })
     }
 
-    /// The entry that it is, with one owner more.
+    /// The operation as an entry, with one more owner.
+    ///
+    /// # Errors
+    ///
+    /// `NoMemory` if the count of owners is at its maximum.
     pub fn entry(&self) -> Result<Arc<Entry>, NoMemory>
         ensures { IfOk result (λ entry. arc_value entry ≡ Operation self.now) }
     {
         Ok(self.entry.clone()?)
     }
 
-    /// The same operation, with one owner more.
+    /// The same operation, with one more owner.
+    ///
+    /// # Errors
+    ///
+    /// `NoMemory` if the count of owners is at its maximum.
     pub fn share(&self) -> Result<SharedOp, NoMemory>
         ensures { IfOk result (λ shared. shared ≡ self.now) }
     {

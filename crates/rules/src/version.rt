@@ -3,15 +3,15 @@
 ghost use Rattle.std.specs.Prelude.{◌≡◌, List, IfOk};
 ghost use Rattle.std.specs.Cmp.Rules.{comparing};
 ghost use Rattle.std.proofs.Common.{rules};
-ghost use Rattle.op_names.specs.Values.{same_value-equivalence};
+ghost use Rattle.base_types.specs.Values.{same_value-equivalence};
 ghost use Rattle.rules.specs.AttrLists.{Attr, same_attrs};
 
 use crate::attrs::copy_pairs;
-use op_names::{Key, NoMemory, Value, VersionId};
+use base_types::{Key, NoMemory, Value, VersionId};
 use std::alloc::Global;
 use std::marker::Model;
 
-/// The attributes of a version, in the order of their keys.
+/// The attributes of a version, by increasing key.
 #[derive(Debug, Drop)]
 pub struct AttrList {
     pairs: Vec<(Key, Value)>,
@@ -38,7 +38,11 @@ impl AttrList {
         &self.pairs
     }
 
-    /// Another one that is equal.
+    /// Returns an equal copy.
+    ///
+    /// # Errors
+    ///
+    /// `NoMemory` if an allocation failed.
     pub fn copy(&self, alloc: Global) -> Result<AttrList, NoMemory>
         ensures { IfOk result (λ list. list ≡ self.now) }
     {
@@ -47,7 +51,7 @@ impl AttrList {
     }
 }
 
-/// What is shown of a version: its attributes, or that it is gone, since a drop deleted it.
+/// What is shown of a version: its attributes, or that a drop deleted it.
 #[derive(Debug, Drop)]
 pub enum Shown {
     Attrs(AttrList),
@@ -55,7 +59,11 @@ pub enum Shown {
 }
 
 impl Shown {
-    /// Another one that is equal.
+    /// Returns an equal copy.
+    ///
+    /// # Errors
+    ///
+    /// `NoMemory` if an allocation failed.
     pub fn copy(&self, alloc: Global) -> Result<Shown, NoMemory>
         ensures { IfOk result (λ shown. shown ≡ self.now) }
     {
@@ -68,7 +76,7 @@ impl Shown {
 
 impl PartialEq for Shown {
     ghost use Rattle.std.specs.Cmp.{partial_equiv_from_equiv};
-    ghost use Rattle.rules.specs.Equality.{same_shown, same_shown-equivalence};
+    ghost use Rattle.rules.specs.steps.Equality.{same_shown, same_shown-equivalence};
 
     ghost eq = { same_shown };
 
@@ -84,7 +92,7 @@ impl PartialEq for Shown {
 }
 
 impl Eq for Shown {
-    ghost use Rattle.rules.specs.Equality.{same_shown-equivalence};
+    ghost use Rattle.rules.specs.steps.Equality.{same_shown-equivalence};
 
     ghost laws = { same_shown-equivalence };
 }
@@ -97,7 +105,11 @@ pub struct Version {
 }
 
 impl Version {
-    /// Another one that is equal.
+    /// Returns an equal copy.
+    ///
+    /// # Errors
+    ///
+    /// `NoMemory` if an allocation failed.
     pub fn copy(&self, alloc: Global) -> Result<Version, NoMemory>
         ensures { IfOk result (λ version. version ≡ self.now) }
     {

@@ -2,7 +2,7 @@
 
 ghost use Rattle.std.specs.Iterator.{at_most};
 
-use crate::watch::Watch;
+use crate::server_observer::ServerObserver;
 use byte_streams::Uninterrupted;
 use log::Log;
 use sessions::{Arrival, PROBE_ANSWER, is_probe};
@@ -12,22 +12,22 @@ use std::sync::Wait;
 use std::sync::atomic::{AtomicBool, Ordering};
 use std::time::Duration;
 
-/// How long the first bytes of a connection are waited for that no worker is free for, in milliseconds.
+/// While no worker is free: the longest wait for the first bytes of a connection, in milliseconds.
 const LOOK_MILLIS: u64 = 250;
 
-/// The longest head of a probe that is answered while no worker is free.
+/// The longest head of a probe that is answered while no worker is free, in bytes.
 const HEAD_LEN: usize = 4096;
 
-/// The next connections of a listener: so many sessions, or those before accepting fails.
+/// The next connections of a listener. Ends once there may be no more sessions, or accepting fails.
 #[derive(Drop)]
 pub(crate) struct Accepted<'a, R, L> {
     pub(crate) listener: &'a L,
-    pub(crate) watch: &'a Watch<'a, R>,
-    /// The most connections. Probes are no sessions, so nothing else bounds these.
+    pub(crate) observer: &'a ServerObserver<'a, R>,
+    /// The most connections. Probes are no sessions, so nothing else bounds their number.
     pub(crate) left: u64,
-    /// How long a connection may keep a worker waiting, or `None` for as long as it likes.
+    /// How long a read or a write on a connection may take; `None` for no limit.
     pub(crate) idle: Option<Duration>,
-    /// Set where accepting has failed.
+    /// Set once accepting has failed.
     pub(crate) failed: &'a AtomicBool,
 }
 
@@ -40,7 +40,7 @@ where
     ghost remaining = { λ s. at_most s.left };
 
     fn next(&mut self) -> Option<Arrival<Uninterrupted<L::Stream>>> {
-        if self.left == 0 || !self.watch.let_in() {
+        if self.left == 0 || !self.observer.let_in() {
             return None;
         }
         self.left -= 1;
@@ -56,19 +56,19 @@ impl<'a, R: Wait + Log, L: OpenListener> Accepted<'a, R, L>
 where
     L::Stream: OpenStream + Read + Write,
 {
-    /// The next connection that is no probe, or `None` where accepting fails. Probes are told here from
-    /// others only while no worker is free.
+    /// The next connection that is no probe, or `None` if accepting fails. Recognizes probes only
+    /// while no worker is free.
     fn accept(&self) -> Option<Arrival<Uninterrupted<L::Stream>>> {
         for _ in 0..u64::MAX {
             let Ok((stream, address)) = self.listener.accept() else {
                 return None;
             };
             let mut stream = Uninterrupted { stream };
-            if self.watch.has_no_free_worker() {
+            if self.observer.has_no_free_worker() {
                 if answer_probe(&mut stream) {
                     continue;
                 }
-                self.watch.warn_of_workers();
+                self.observer.warn_of_workers();
             }
             set_up(&stream.stream, self.idle);
             return Some(Arrival {
@@ -80,7 +80,7 @@ where
     }
 }
 
-/// Answers what has come whole as a probe, and tells whether it is one.
+/// Answers the connection if a whole probe has arrived. Returns whether it did.
 fn answer_probe<S: OpenStream + Read + Write>(connection: &mut Uninterrupted<S>) -> bool {
     let mut head = [0; HEAD_LEN];
     let look = Duration::from_millis(LOOK_MILLIS);
@@ -92,15 +92,15 @@ fn answer_probe<S: OpenStream + Read + Write>(connection: &mut Uninterrupted<S>)
     if !is_probe(&head[..count]) {
         return false;
     }
-    // A connection that ends with bytes unread may lose what it was sent.
+    // Closing a connection with unread bytes may discard what was sent on it.
     let _ = connection.read(&mut head[..count]);
     let _ = connection.write_all(PROBE_ANSWER.as_bytes());
     true
 }
 
-/// Sends each reply at once (a client with several requests in flight would wait for each reply
-/// otherwise), and bounds how long a read or a write may take. A stream that refuses one of these
-/// settings is served without it.
+/// Disables Nagle's algorithm, since a client with several requests in flight would otherwise wait
+/// for each reply. Limits the time of a read or a write. Serves the stream without a setting that
+/// fails.
 fn set_up(stream: &impl OpenStream, idle: Option<Duration>) {
     let _ = stream.set_nodelay(true);
     let _ = stream.set_read_timeout(idle);

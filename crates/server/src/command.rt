@@ -18,10 +18,10 @@ use std::sync::Wait;
 use std::thread::Threads;
 use std::time::{Clock, Duration};
 
-/// What `--version` shows: what the number means stands in docs/DECISIONS.md.
+/// The version that `--version` prints. docs/DECISIONS.md says what the number means.
 const VERSION: &str = "0.2.0";
 
-/// A word that must be there.
+/// A required argument.
 fn word<'a>(alloc: Global, name: &'a str, help: &'a str) -> Arg<'a> {
     Arg::new(alloc, name)
         .required(true)
@@ -29,7 +29,7 @@ fn word<'a>(alloc: Global, name: &'a str, help: &'a str) -> Arg<'a> {
         .help(help)
 }
 
-/// How long a client is waited for.
+/// The option for the timeout of a client.
 fn idle<'a>(alloc: Global) -> Arg<'a> {
     Arg::new(alloc, "idle")
         .long("idle")
@@ -37,10 +37,10 @@ fn idle<'a>(alloc: Global) -> Arg<'a> {
         .action(ArgAction::Set)
         .value_parser(value_parser!(u32))
         .default_value("300")
-        .help("How long it waits for a client that is silent or stuck; 0 is for good")
+        .help("How long to wait for a silent or blocked client; 0 waits forever")
 }
 
-/// How often it tells what it has.
+/// The option for the period of reports.
 fn report<'a>(alloc: Global) -> Arg<'a> {
     Arg::new(alloc, "report")
         .long("report")
@@ -48,17 +48,17 @@ fn report<'a>(alloc: Global) -> Arg<'a> {
         .action(ArgAction::Set)
         .value_parser(value_parser!(u32))
         .default_value("0")
-        .help("How often it tells of its sessions and rooms on standard error; 0 is never")
+        .help("How often to report sessions and rooms on standard error; 0 disables reports")
 }
 
-/// Where rooms are kept.
+/// The option for the folder of the rooms' files.
 fn keep<'a>(alloc: Global) -> Arg<'a> {
     Arg::new(alloc, "keep")
         .long("keep")
         .value_name("DIR")
         .action(ArgAction::Set)
         .help(
-            "A folder that keeps the rooms, each in DIR/ROOM.record; without it they are in memory only",
+            "A folder that keeps each room in DIR/ROOM.record; without it rooms are in memory only",
         )
 }
 
@@ -88,18 +88,18 @@ fn serve_command<'a>(alloc: Global) -> Result<Command<'a>, AllocError> {
         .arg(word(
             alloc,
             "ADDRESS",
-            "Where it listens: a host and a port, as 127.0.0.1:8080",
+            "The address to listen on: a host and a port, such as 127.0.0.1:8080",
         ))?
         .arg(word(
             alloc,
             "SESSIONS",
-            "How many connections it accepts in all, 1 to 100000",
+            "How many sessions to serve in all, 1 to 100000",
         )
         .value_parser(value_parser!(u32).range(1..=100_000)))?
         .arg(word(
             alloc,
             "WORKERS",
-            "How many of them it serves at a time, 1 to 64",
+            "How many sessions to serve at a time, 1 to 64",
         )
         .value_parser(value_parser!(u32).range(1..=64)))?
         .arg(rooms(alloc))
@@ -112,7 +112,7 @@ fn watch_command<'a>(alloc: Global) -> Result<Command<'a>, AllocError> {
         .arg(word(
             alloc,
             "ADDRESS",
-            "Where the server listens: a host and a port, as 127.0.0.1:8080",
+            "The address of the server: a host and a port, such as 127.0.0.1:8080",
         ))?
         .arg(word(
             alloc,
@@ -148,7 +148,7 @@ fn migrate_command<'a>(alloc: Global) -> Result<Command<'a>, AllocError> {
         ))
 }
 
-/// The commands of the program.
+/// All commands of the program.
 fn grace<'a>(alloc: Global) -> Result<Command<'a>, AllocError> {
     Command::new(alloc, "grace")
         .about("A group drawing server with object versions")
@@ -161,8 +161,9 @@ fn grace<'a>(alloc: Global) -> Result<Command<'a>, AllocError> {
         .subcommand(migrate_command(alloc)?)
 }
 
-/// Shows the text of a command line that was not read: help on `output` with status 0, a mistake on
-/// `errors` with status 2, want of memory with status 4.
+/// Writes the message of a command line that was not parsed, and returns the exit status. Help goes
+/// to `output` with status 0, and a mistake to `errors` with status 2. The status is 4 if an
+/// allocation failed.
 fn show<W: Write, E: Write>(alloc: Global, error: &Error, output: &mut W, errors: &mut E) -> u8 {
     if error.kind() == ErrorKind::OutOfMemory {
         Fault::NoMemory.write_line(errors);
@@ -188,7 +189,7 @@ fn show<W: Write, E: Write>(alloc: Global, error: &Error, output: &mut W, errors
     }
 }
 
-/// So many seconds, or `None` for 0.
+/// This many seconds, or `None` for 0.
 fn seconds(count: u64) -> Option<Duration>
     ensures { IsNone result ↔ (count ≡ 0) }
 {
@@ -199,7 +200,7 @@ fn seconds(count: u64) -> Option<Duration>
     }
 }
 
-/// What `grace serve` is asked to do, where all words that must be there are there.
+/// The options of `grace serve`, or `None` if a required argument is absent.
 fn service_of<'a, 'w, R, W>(
     rt: &'a R,
     alloc: Global,
@@ -224,7 +225,7 @@ fn service_of<'a, 'w, R, W>(
     })
 }
 
-/// Runs the command that was read.
+/// Runs the command that was parsed.
 fn run_read<H, R, W, E>(
     rt: &H,
     alloc: Global,
@@ -267,14 +268,18 @@ where
             Some(record) => migrate_at(rt, alloc, record, output, errors),
             None => 2,
         },
-        // The command line has no other command, and each word is required or has a default.
+        // There is no other command, and each argument is required or has a default.
         _ => 2,
     }
 }
 
-/// Runs the program: `words` are the program's name and its arguments. Gives the status: 0 done,
-/// 1 a record or a transcript that doesn't hold, 2 a mistake in the command line, 3 input, output, a
-/// connection, the rooms or what keeps them failed, 4 want of memory.
+/// Runs the program. `words` are the program's name and its arguments. Returns the exit status:
+///
+/// - 0 on success;
+/// - 1 if a record or a transcript does not hold;
+/// - 2 for a mistake in the command line;
+/// - 3 if input, output, a connection, the rooms or the rooms' files failed;
+/// - 4 if an allocation failed.
 pub fn run<H, R, W, E>(
     rt: &H,
     alloc: Global,

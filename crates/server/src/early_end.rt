@@ -1,18 +1,18 @@
-//! What ends `grace serve` early: its line on standard error, and its status.
+//! Why `grace serve` ends early, with its line on standard error and its exit status.
 
+use base_types::NoMemory;
 use commands::Fault;
-use op_names::NoMemory;
 use room_core::RoomsFault;
 use std::alloc::{AllocError, AllocFailed};
 use std::io::Write;
 use thiserror::Error;
 
-/// Why `grace serve` ends early, with the words that its line needs.
+/// Why `grace serve` ends early, with the words of its line.
 #[derive(Clone, Copy, Debug, Error)]
 pub(crate) enum EarlyEnd<'a> {
     #[error("{0}")]
     Fault(Fault),
-    /// The folder is none, or it or a file in it may not be opened, read or written.
+    /// The folder is no folder, or it or a file in it cannot be opened, read or written.
     #[error("cannot keep: {0}")]
     CannotKeep(&'a str),
     #[error("kept by another: {0}")]
@@ -24,13 +24,13 @@ pub(crate) enum EarlyEnd<'a> {
         room: &'a str,
         line: usize,
     },
-    /// A room's file took no more.
+    /// A room's file accepted no more.
     #[error("room not kept")]
     NotKept,
 }
 
 impl EarlyEnd<'_> {
-    /// The status of a fault of any command, or 3.
+    /// The exit status: that of the fault, or else 3.
     pub(crate) fn status(self) -> u8 {
         match self {
             EarlyEnd::Fault(fault) => fault.status(),
@@ -41,7 +41,7 @@ impl EarlyEnd<'_> {
         }
     }
 
-    /// Writes its line. A write that fails changes nothing.
+    /// Writes the line of the fault. Ignores a failed write.
     pub(crate) fn write_line<E: Write>(self, errors: &mut E) {
         let _ = writeln!(errors, "grace: {self}");
         let _ = errors.flush();

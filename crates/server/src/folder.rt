@@ -1,4 +1,5 @@
-//! The folder of `--keep`. It is locked, the file of each room is read, and then each is cut to its whole lines.
+//! The folder of `--keep`. The server locks it, reads the file of each room, and then cuts each
+//! file to its whole lines.
 
 ghost use Rattle.std.specs.Prelude.{◌≡◌, All, IfOk, length};
 ghost use Rattle.rules.specs.Limits.{full_limits};
@@ -17,16 +18,16 @@ use std::io::ErrorKind;
 use std::rt::Files;
 use std::{fs, io};
 
-/// A folder that rooms are kept in: the file ROOM.record has the entries of a room, one a line. While this
-/// stands no other process has it.
+/// A folder that keeps rooms. The file ROOM.record has the entries of a room, one per line. No
+/// other process holds the folder while this value exists.
 #[derive(Drop)]
 pub(crate) struct Folder<'a> {
     dir: &'a str,
     opened: File,
 }
 
-/// A room's file as it was found: open, where there is one, with how many bytes its whole lines
-/// have, and how many stand behind them.
+/// A room's file as it was found: the open file, if there is one, and two numbers of bytes. `whole`
+/// counts the bytes of its whole lines, and `behind` the bytes behind them.
 #[derive(Drop)]
 pub(crate) struct Found {
     path: String,
@@ -35,10 +36,10 @@ pub(crate) struct Found {
     whole: usize,
 }
 
-/// What is wrong with a file that isn't read.
+/// Why a long file is not read.
 const TOO_LONG: &str = "it has more than 1073741824 bytes";
 
-/// Opens what must be a folder.
+/// Opens the folder. Fails for anything but a folder.
 fn open_folder<R: Files<File = File>>(rt: &R, dir: &str) -> io::Result<File> {
     if !fs::metadata(rt, dir)?.is_dir() {
         return Err(io::Error::from(ErrorKind::NotADirectory));
@@ -46,13 +47,13 @@ fn open_folder<R: Files<File = File>>(rt: &R, dir: &str) -> io::Result<File> {
     File::open(rt, dir)
 }
 
-/// Opens a file to read it whole and to append to it, where there is one.
+/// Opens a file for reading and appending, if there is one.
 fn open_file<R: Files<File = File>>(rt: &R, path: &str) -> io::Result<Option<File>> {
     match OpenOptions::new().read(true).append(true).open(rt, path) {
         Ok(file) => {
             let about = file.metadata()?;
             if !about.is_file() {
-                return Err(io::Error::new(ErrorKind::InvalidInput, "it is no regular file"));
+                return Err(io::Error::new(ErrorKind::InvalidInput, "not a regular file"));
             }
             if about.len() > MAX_FILE_LEN as u64 {
                 return Err(io::Error::new(ErrorKind::FileTooLarge, TOO_LONG));
@@ -64,8 +65,8 @@ fn open_file<R: Files<File = File>>(rt: &R, path: &str) -> io::Result<Option<Fil
     }
 }
 
-/// The file that was found, or one that is made: cut to its whole lines, of which all are on the disk.
-fn settled<R: Files<File = File> + Log>(
+/// Cuts the file to its whole lines, or creates it, and syncs it.
+fn cut_or_create<R: Files<File = File> + Log>(
     rt: &R,
     path: &str,
     file: Option<File>,
@@ -84,7 +85,7 @@ fn settled<R: Files<File = File> + Log>(
     Ok(Synced::new(file, whole as u64))
 }
 
-/// What makes it impossible to keep rooms in this folder, after a line that tells what is wrong with which file.
+/// Logs which file fails and why. Returns the fault that the folder cannot keep rooms.
 fn cannot_keep<'a, R: Log, W: Display>(rt: &R, dir: &'a str, path: &str, why: &W) -> EarlyEnd<'a> {
     error!(rt; "{path}: {why}");
     EarlyEnd::CannotKeep(dir)
@@ -96,8 +97,11 @@ fn path_of(alloc: Global, dir: &str, name: &str) -> Result<String, AllocError> {
 }
 
 impl<'a> Folder<'a> {
-    /// Opens the folder, and locks it. `CannotKeep` where it is none or may not be opened; `KeptByAnother`
-    /// where another process has it.
+    /// Opens the folder and locks it.
+    ///
+    /// # Errors
+    /// `CannotKeep` if it is no folder or cannot be opened.
+    /// `KeptByAnother` if another process holds it.
     pub(crate) fn open<R: Files<File = File> + Log>(
         rt: &R,
         dir: &'a str,
@@ -113,10 +117,14 @@ impl<'a> Folder<'a> {
         }
     }
 
-    /// The rooms of these names with the records that their files have, under full limits, and the files, in the same
-    /// order; a room without a file is empty. Changes nothing. `CannotKeep` where a file may not be opened, or has
-    /// more than 1,073,741,824 bytes; `BadRecord` where its whole lines are no legal record; or for want of
-    /// memory.
+    /// Reads the files of these rooms. Returns the rooms with the records that their files have,
+    /// under full limits, and the files, both in the order of the names. A room without a file is
+    /// empty. Changes nothing.
+    ///
+    /// # Errors
+    /// `CannotKeep` if a file cannot be opened or read, or has more than 1,073,741,824 bytes.
+    /// `BadRecord` if the whole lines of a file are no legal record.
+    /// `Fault` if an allocation failed.
     pub(crate) fn read<R: Files<File = File> + Log>(
         &self,
         rt: &R,
@@ -171,7 +179,7 @@ impl<'a> Folder<'a> {
         }
     }
 
-    /// The file at this path and all its bytes, or no file and none.
+    /// The file at this path and all its bytes, or no file and no bytes.
     fn bytes_at<R: Files<File = File> + Log>(
         &self,
         rt: &R,
@@ -197,9 +205,12 @@ impl<'a> Folder<'a> {
         }
     }
 
-    /// Makes the files that are not there, cuts each to its whole lines, with a warning, and puts them and
-    /// the folder on the disk: the files that the rooms are kept in, in the same order. `CannotKeep` where
-    /// one may not be made, cut or synced; or for want of memory.
+    /// Creates absent files, cuts each file to its whole lines, and syncs the files and the folder.
+    /// Logs a warning for each file that it cuts. Returns the files in the same order.
+    ///
+    /// # Errors
+    /// `CannotKeep` if a file cannot be created, cut or synced.
+    /// `Fault` if an allocation failed.
     pub(crate) fn settle<R: Files<File = File> + Log>(
         &self,
         rt: &R,
@@ -230,7 +241,7 @@ impl<'a> Folder<'a> {
             behind,
             whole,
         } = found;
-        match settled(rt, path.as_str(), file, behind, whole) {
+        match cut_or_create(rt, path.as_str(), file, behind, whole) {
             Ok(journal) => Ok(journal),
             Err(why) => Err(cannot_keep(rt, self.dir, path.as_str(), &why)),
         }

@@ -1,4 +1,4 @@
-//! The program over words, readers, writers and connections: what `main` calls.
+//! The program over arguments, readers, writers and connections, for `main` to call.
 #![tactic(auto)]
 
 mod accept;
@@ -6,10 +6,10 @@ mod command;
 mod early_end;
 mod folder;
 mod serve;
-mod stamped;
+mod server_observer;
+mod stamped_log;
 mod tally;
 mod turnstile;
-mod watch;
 
 pub use command::run;
-pub use stamped::Stamped;
+pub use stamped_log::StampedLog;

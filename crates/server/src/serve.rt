@@ -2,19 +2,19 @@
 
 ghost use Rattle.std.specs.Prelude.{◌≡◌};
 ghost use Rattle.std.specs.Thread.{IsSend};
-ghost use Rattle.room_lock.specs.Planned.{IsLedgerOf};
-ghost use Rattle.server.specs.Faults.{of_serving};
+ghost use Rattle.room_lock.specs.steps.Planned.{IsLedgerOf};
+ghost use Rattle.server.specs.steps.Faults.{of_serving};
 
 use crate::accept::Accepted;
 use crate::early_end::EarlyEnd;
 use crate::folder::Folder;
+use crate::server_observer::ServerObserver;
 use crate::tally::{Tally, empty_tallies, tallies_of};
-use crate::watch::Watch;
+use base_types::repeated_name;
 use commands::{Fault, room_names};
 use journal::Synced;
 use keeping::{Keeping, RoomFile};
 use log::{Log, warn};
-use op_names::repeated_name;
 use room_lock::{NewRooms, RoomLedger, Rooms};
 use rules::Limits;
 use sessions::{Forgets, Keeper, ServeFault, serve_streams};
@@ -30,7 +30,7 @@ use std::thread;
 use std::thread::Threads;
 use std::time::{Clock, Duration};
 
-/// What a fault of serving is to the program.
+/// The program's fault for a fault of serving.
 fn fault_of(fault: ServeFault) -> Fault
     ensures { result ≡ of_serving fault }
 {
@@ -42,29 +42,29 @@ fn fault_of(fault: ServeFault) -> Fault
     }
 }
 
-/// What `grace serve` is asked to do, and on what it runs.
+/// The options of `grace serve`, and what it runs on.
 #[derive(Drop)]
 pub(crate) struct Service<'a, 'w, R, W> {
     pub(crate) rt: &'a R,
     pub(crate) alloc: Global,
-    /// Where it listens, as std's `bind` reads it: a host and a port, which is 0 for any free one.
+    /// The address to listen on, in the form of std's `bind`: a host and a port. Port 0 asks for
+    /// any free port.
     pub(crate) address: &'w str,
-    /// How many connections it accepts, 1 to 100,000.
+    /// The number of sessions to serve, 1 to 100,000.
     pub(crate) sessions: u32,
-    /// How many it serves at a time, 1 to 64.
+    /// The number of sessions to serve at a time, 1 to 64.
     pub(crate) workers: u32,
-    /// How long a connection may keep a worker waiting, if there is a bound.
+    /// How long a connection may keep a worker waiting; `None` for no limit.
     pub(crate) idle: Option<Duration>,
-    /// How often it tells of its sessions and rooms, if it does.
+    /// The period of reports; `None` for no reports.
     pub(crate) report: Option<Duration>,
-    /// Are the rooms kept in files?
+    /// Whether the rooms are kept in files.
     pub(crate) is_kept: bool,
-    /// Where it tells that it listens, and writes the records.
+    /// Where it reports that it listens, and writes the records.
     pub(crate) output: &'a mut W,
 }
 
-/// The line that tells where a listener listens: the host as it was asked for, and the port that the
-/// system gave, since port 0 asks for any free one.
+/// The line that reports the address: the host as it was given, and the port that the system chose.
 fn listening_line<L: OpenListener>(
     alloc: Global,
     address: &str,
@@ -82,7 +82,7 @@ where
     R::Stream: Send,
     W: Write,
 {
-    /// Listens, tells so on the output, and serves what it accepts in these rooms.
+    /// Listens, reports so on the output, and serves what it accepts in these rooms.
     fn serve_rooms<P, K>(
         self,
         rooms: Rooms<P>,
@@ -102,13 +102,13 @@ where
         if !self.is_kept {
             warn!(rt; "rooms are in memory only; --keep DIR keeps them");
         }
-        let watch = Watch::new(rt, tallies, self.sessions, self.workers);
-        watch.begin();
+        let observer = ServerObserver::new(rt, tallies, self.sessions, self.workers);
+        observer.begin();
         let line = listening_line(alloc, self.address, &listener)?;
         if self.output.write_all(line.as_bytes()).is_err() || self.output.flush().is_err() {
             return Err(Fault::Output);
         }
-        self.serve_listening(rooms, &listener, &watch, keeper)
+        self.serve_listening(rooms, &listener, &observer, keeper)
     }
 
     /// Serves what the listener accepts.
@@ -116,7 +116,7 @@ where
         self,
         rooms: Rooms<P>,
         listener: &R::Listener,
-        watch: &Watch<'_, R>,
+        observer: &ServerObserver<'_, R>,
         keeper: &K,
     ) -> Result<(), Fault>
     where
@@ -127,7 +127,7 @@ where
         let failed = AtomicBool::new(false);
         let streams = Accepted {
             listener,
-            watch,
+            observer,
             left: u64::MAX,
             idle: self.idle,
             failed: &failed,
@@ -149,7 +149,7 @@ where
     }
 }
 
-/// Serves these connections to their end, and reports each time that so long has passed, if it is to.
+/// Serves these connections to their end, and reports once each period if there is one.
 fn serve_reporting<P, R, K, W>(
     rt: &R,
     alloc: Global,
@@ -168,7 +168,7 @@ where
     K::Receipt: Send,
     W: Write,
 {
-    let watch = streams.watch;
+    let observer = streams.observer;
     let (running, stop) = crossbeam_channel::bounded::<(), _>(alloc, 1)?;
     let served = thread::scope(
         thread::scope_env(),
@@ -177,10 +177,14 @@ where
             requires { IsSend P.row × IsSend R.Stream.row × IsSend K.Receipt.row }
         {
             let reporter = match period {
-                Some(period) => scope.spawn(move || watch.report_every(period, &stop)).ok(),
+                Some(period) => scope
+                    .spawn(move || observer.report_every(period, &stop))
+                    .ok(),
                 None => None,
             };
-            let served = serve_streams(rt, alloc, rooms, streams, workers, watch, keeper, output);
+            let served = serve_streams(
+                rt, alloc, rooms, streams, workers, observer, keeper, output,
+            );
             drop(running);
             if let Some(reporter) = reporter {
                 reporter.join(rt);
@@ -266,10 +270,14 @@ where
         serve_in_files::<Brand, R, W>(self, planned, &tallies, journals)
     }
 
-    /// Serves in rooms of these names with full limits, and gives the status: 0 where all sessions were
-    /// served and the records written; 2 for a bad room name or, where all are good, a room named twice;
-    /// 3 where it can't listen, accepting or the output failed, there is no worker or the rooms are torn;
-    /// 4 for want of memory. All but 0 come with a line on `errors`.
+    /// Serves in rooms of these names with full limits, and returns the exit status:
+    ///
+    /// - 0 if all sessions were served and the records written;
+    /// - 2 for a bad room name, or, if all are good, for a room named twice;
+    /// - 3 if listening, accepting or the output failed, no worker started, or the rooms are torn;
+    /// - 4 if an allocation failed.
+    ///
+    /// Before all but 0 it writes a line to `errors`.
     pub(crate) fn run<E: Write>(self, names: &[&'w str], errors: &mut E) -> u8 {
         match self.serve(names) {
             Ok(()) => 0,
@@ -280,9 +288,9 @@ where
         }
     }
 
-    /// Does as `run` in rooms that this folder keeps: each begins with the record that its file has. It is
-    /// 3 too where the folder can't keep them, another process has it, a file is no record, or one took no
-    /// more.
+    /// Like `run`, in rooms that this folder keeps. Each begins with the record in its file. The
+    /// status is also 3 if the folder cannot keep them or another process holds it. It is 3 if a
+    /// file is no record, or accepted no more.
     pub(crate) fn run_kept<E: Write>(self, dir: &'w str, names: &[&'w str], errors: &mut E) -> u8 {
         match self.serve_kept(dir, names) {
             Ok(()) => 0,

@@ -1,4 +1,4 @@
-//! What rooms have, counted as it comes.
+//! Counts of what the rooms have.
 
 ghost use Rattle.std.specs.Prelude.{◌≤◌, ◌<◌, ◌+◌, ◌*◌, IfOk, length};
 ghost use Rattle.std.specs.Prelude.{◌≡◌};
@@ -11,7 +11,7 @@ use std::alloc::{AllocError, Global};
 use std::sync::Arc;
 use std::sync::atomic::{AtomicU64, Ordering};
 
-/// The least count that is nine tenths of a limit.
+/// The least count that is at least nine tenths of a limit.
 fn nine_tenths(limit: u32) -> u64
     ensures reached { limit * 9 ≤ result * 10 }
     ensures least { result * 10 < limit * 9 + 10 }
@@ -19,7 +19,7 @@ fn nine_tenths(limit: u32) -> u64
     (u64::from(limit) * 9).div_ceil(10)
 }
 
-/// A room's name, and how many joins, entries and objects it has.
+/// A room's name, and its numbers of joins, entries and objects.
 #[derive(Drop)]
 pub(crate) struct Tally<'a> {
     name: &'a str,
@@ -28,13 +28,13 @@ pub(crate) struct Tally<'a> {
     objects: AtomicU64,
 }
 
-/// Counts one more.
+/// Adds 1, and returns the new count.
 fn count(counter: &AtomicU64) -> u64 {
     counter.fetch_add(1, Ordering::SeqCst).saturating_add(1)
 }
 
 impl<'a> Tally<'a> {
-    /// Of a room that begins empty.
+    /// The tally of a room that begins empty.
     fn empty(name: &'a str) -> Tally<'a> {
         Tally {
             name,
@@ -44,7 +44,7 @@ impl<'a> Tally<'a> {
         }
     }
 
-    /// Of a room that begins with this record.
+    /// The tally of a room that begins with this record.
     fn of_room(name: &'a str, room: &RoomState) -> Tally<'a> {
         Tally {
             name,
@@ -54,7 +54,7 @@ impl<'a> Tally<'a> {
         }
     }
 
-    /// Counts an entry, and warns where it makes nine tenths of the joins or of the entries.
+    /// Counts an entry. Warns when the joins or the entries reach nine tenths of their limit.
     pub(crate) fn add<R: Log>(&self, rt: &R, addition: Addition) {
         let entries = count(&self.entries);
         if entries == nine_tenths(Limits::MAX_ENTRIES) {
@@ -74,7 +74,7 @@ impl<'a> Tally<'a> {
         }
     }
 
-    /// Warns where a room begins with nine tenths of the joins or of the entries, or more.
+    /// Warns if a room begins with nine tenths of its joins or of its entries, or more.
     pub(crate) fn begin<R: Log>(&self, rt: &R) {
         let (joins, entries) = (load(&self.joins), load(&self.entries));
         if entries >= nine_tenths(Limits::MAX_ENTRIES) {
@@ -95,7 +95,7 @@ impl<'a> Tally<'a> {
         warn!(rt; "room {name} has {joins} of {limit} joins");
     }
 
-    /// Tells what the room has.
+    /// Reports what the room has.
     pub(crate) fn report<R: Log>(&self, rt: &R) {
         let name = self.name;
         let (joins, entries, objects) = (
@@ -109,12 +109,12 @@ impl<'a> Tally<'a> {
     }
 }
 
-/// What a counter has.
+/// The count.
 fn load(counter: &AtomicU64) -> u64 {
     counter.load(Ordering::SeqCst)
 }
 
-/// How many objects the entries create.
+/// The number of objects that the entries create.
 fn count_objects(entries: &[Arc<Entry>]) -> u64 {
     let mut objects: u64 = 0;
     for entry in entries {
@@ -127,7 +127,7 @@ fn count_objects(entries: &[Arc<Entry>]) -> u64 {
     objects
 }
 
-/// Of rooms of these names that begin empty, in the same order.
+/// The tallies of rooms of these names that begin empty, in the same order.
 pub(crate) fn empty_tallies<'a>(
     alloc: Global,
     names: &[&'a str],
@@ -139,7 +139,7 @@ pub(crate) fn empty_tallies<'a>(
     Ok(tallies)
 }
 
-/// Of rooms of these names that begin with these records, in the same order.
+/// The tallies of rooms of these names that begin with these records, in the same order.
 pub(crate) fn tallies_of<'a>(
     alloc: Global,
     names: &[&'a str],

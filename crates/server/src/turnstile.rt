@@ -1,18 +1,19 @@
-//! How many more sessions a server takes.
+//! The number of sessions that a server may still admit.
 
 ghost use Rattle.std.specs.Prelude.{◌≡◌, ◌↔◌, ◌<◌, ◌+◌, ◌^◌, IsTrue, IsFalse};
 
 use std::sync::{Condvar, Mutex, Wait};
 
-/// Lets so many sessions in. A connection is let in before it is known whether it is a session or a
-/// probe, which takes no place.
+/// Admits a number of sessions. A connection is admitted before it is known to be a session or a
+/// probe. A probe gives its place back.
 #[derive(Drop)]
 pub(crate) struct Turnstile {
     counts: Mutex<Counts>,
     changed: Condvar,
 }
 
-/// How many sessions there may still be, and how many connections aren't known yet.
+/// The number of sessions that may still be admitted, and of admitted connections that are not
+/// known yet.
 #[derive(Drop)]
 struct Counts {
     left: u32,
@@ -20,14 +21,14 @@ struct Counts {
 }
 
 impl Counts {
-    /// May it turn out that one more is let in, though none is left?
+    /// Returns whether no place is left, but a connection that is not known yet may give one back.
     fn is_undecided(&self) -> bool
         ensures { IsTrue result ↔ (self.now.left ≡ 0) × (0 < self.now.unknown) }
     {
         self.left == 0 && self.unknown > 0
     }
 
-    /// Takes a place for a connection that isn't known yet, where one is left.
+    /// Takes a place, if one is left, for a connection that is not known yet.
     fn take(&mut self) -> bool
         ensures taken { IsTrue result → self.old.left ≡ self.new.left + 1 }
         ensures none { IsFalse result → (self.old.left ≡ 0) × (self.new ≡ self.old) }
@@ -40,7 +41,7 @@ impl Counts {
         true
     }
 
-    /// A connection is known.
+    /// One connection is known now.
     fn know(&mut self)
         ensures left { self.new.left ≡ self.old.left }
         ensures known { 0 < self.old.unknown → self.old.unknown ≡ self.new.unknown + 1 }
@@ -48,7 +49,7 @@ impl Counts {
         self.unknown = self.unknown.saturating_sub(1);
     }
 
-    /// One more may be let in.
+    /// Gives one place back.
     fn give_back(&mut self)
         ensures left { self.old.left + 1 < 2 ^ 32 → self.new.left ≡ self.old.left + 1 }
         ensures unknown { self.new.unknown ≡ self.old.unknown }
@@ -58,7 +59,7 @@ impl Counts {
 }
 
 impl Turnstile {
-    /// Lets so many sessions in.
+    /// Admits this many sessions.
     pub(crate) fn new(sessions: u32) -> Turnstile {
         Turnstile {
             counts: Mutex::new(Counts {
@@ -69,8 +70,8 @@ impl Turnstile {
         }
     }
 
-    /// Lets a connection in, or tells that there are no more. Where none is left it waits until all
-    /// that were let in are known.
+    /// Admits a connection, or returns false if no place is left. In the latter case it first waits
+    /// until all admitted connections are known.
     pub(crate) fn let_in(&self, rt: &impl Wait) -> bool {
         let counts = self.counts.lock(rt);
         let mut counts = self
@@ -79,13 +80,13 @@ impl Turnstile {
         counts.take()
     }
 
-    /// A connection that was let in is a session.
+    /// An admitted connection is a session.
     pub(crate) fn is_session(&self, rt: &impl Wait) {
         self.counts.lock(rt).know();
         self.changed.notify_all();
     }
 
-    /// A connection that was let in is a probe: its place is free again.
+    /// An admitted connection is a probe: its place is free again.
     pub(crate) fn is_probe(&self, rt: &impl Wait) {
         let mut counts = self.counts.lock(rt);
         counts.know();

@@ -1,5 +1,5 @@
-//! Sessions over memory, one by one and by workers, whose streams fail or give and take little: tests of the
-//! public calls of `sessions`, and of `room_watch` over such streams.
+//! Tests of the public calls of `sessions`, and of `room_watch`. Sessions run over memory, one by
+//! one and by workers. Their streams fail, or give and take little at a time.
 #![tactic(auto)]
 
 #[cfg(test)]

@@ -7,10 +7,10 @@ mod served;
 mod told;
 mod watched;
 
-use op_names::RoomName;
+use base_types::RoomName;
 use room_lock::NewRooms;
 use rules::Limits;
-use sessions::{Arrival, Cause, Client, Gate};
+use sessions::{Arrival, Cause, Client, Observer};
 use std::process::Abort;
 use std::sync::atomic::{AtomicU64, Ordering};
 
@@ -49,8 +49,8 @@ fn room_name(rt: &(impl Abort + AllocGlobal), text: &str) -> RoomName {
     RoomName::parse(rt.alloc(), text.as_bytes()).expect(rt, "a name")
 }
 
-/// Rooms of these names that are to be made.
-fn planned(rt: &(impl Abort + AllocGlobal), names: &[&str]) -> NewRooms {
+/// A plan of rooms of these names.
+fn plan_rooms(rt: &(impl Abort + AllocGlobal), names: &[&str]) -> NewRooms {
     let mut parsed = Vec::new(rt.alloc());
     for name in names {
         parsed.push(room_name(rt, name)).expect(rt, "memory");
@@ -58,12 +58,12 @@ fn planned(rt: &(impl Abort + AllocGlobal), names: &[&str]) -> NewRooms {
     NewRooms::plan(rt.alloc(), parsed, Limits::full()).expect(rt, "rooms")
 }
 
-fn copied(rt: &(impl Abort + AllocGlobal), bytes: &[u8]) -> Vec<u8> {
+fn copy_of(rt: &(impl Abort + AllocGlobal), bytes: &[u8]) -> Vec<u8> {
     bytes.to_vec(rt.alloc()).expect(rt, "memory")
 }
 
-/// A frame: its first byte, the bit that tells whether it is masked with its payload's length, which one
-/// byte holds here, then the mask and the payload (RFC 6455, section 5.2).
+/// A frame (RFC 6455, section 5.2). `masked` is the mask bit of its second byte, whose other bits
+/// hold the length.
 fn frame(
     rt: &(impl Abort + AllocGlobal),
     first: u8,
@@ -81,7 +81,7 @@ fn frame(
 }
 
 /// A client's message of these words as a frame, masked with zeros.
-fn masked(rt: &(impl Abort + AllocGlobal), opcode: u8, words: &str) -> Vec<u8> {
+fn masked_frame(rt: &(impl Abort + AllocGlobal), opcode: u8, words: &str) -> Vec<u8> {
     frame(rt, 0x80 | opcode, 0x80, "\0\0\0\0", words)
 }
 
@@ -117,11 +117,13 @@ fn arrival<S>(stream: S) -> Arrival<S> {
 /// What a session sends: the head of its request, then a frame for each line, then a close.
 fn asked_parts(rt: &(impl Abort + AllocGlobal), lines: &str) -> Vec<Vec<u8>> {
     let mut parts = Vec::new(rt.alloc());
-    parts.push(copied(rt, HEAD.as_bytes())).expect(rt, "memory");
+    parts
+        .push(copy_of(rt, HEAD.as_bytes()))
+        .expect(rt, "memory");
     for words in lines.lines() {
-        parts.push(masked(rt, 2, words)).expect(rt, "memory");
+        parts.push(masked_frame(rt, 2, words)).expect(rt, "memory");
     }
-    parts.push(copied(rt, CLOSE)).expect(rt, "memory");
+    parts.push(copy_of(rt, CLOSE)).expect(rt, "memory");
     parts
 }
 
@@ -143,13 +145,13 @@ fn bytewise(rt: &(impl Abort + AllocGlobal), parts: &[Vec<u8>], whole: usize) ->
     for (place, part) in parts.iter().enumerate() {
         let size = if place < whole { part.len() } else { 1 };
         for piece in part.chunks(size.max(1)) {
-            pieces.push(copied(rt, piece)).expect(rt, "memory");
+            pieces.push(copy_of(rt, piece)).expect(rt, "memory");
         }
     }
     pieces
 }
 
-/// A gate that counts the calls that rooms have answered.
+/// An observer that counts the calls that rooms have answered.
 #[derive(Drop)]
 struct Counting {
     answered: AtomicU64,
@@ -167,7 +169,7 @@ impl Counting {
     }
 }
 
-impl Gate for Counting {
+impl Observer for Counting {
     fn before_call(&self, _session: u32) {}
 
     fn after_call(&self, _session: u32) {

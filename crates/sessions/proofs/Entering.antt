@@ -2,14 +2,14 @@
 use Rattle.std.proofs.Common.{◌≡◌, ◌⊎◌, inl, inr, List, Option, Result, Ok, refl, sym, subst}
 use Rattle.std.specs.Prelude.{◌↔◌, Contains, IfOk}
 use Rattle.std.proofs.lemmas.Result.{IfOk-at_ok}
-use Rattle.op_names.specs.Texts.{Bytes}
+use Rattle.base_types.specs.Texts.{Bytes}
 use Rattle.rules.specs.declared.history.Entry.{Entry}
 use Rattle.wire.specs.declared.reply.Reply.{Reply}
 use Rattle.room_lock.specs.declared.entrance.Entrance.{Entrance}
 use Rattle.room_lock.specs.declared.entrance.Entrance.TheVariants.{Entered, Refused, NoRoom}
-use Rattle.room_lock.specs.Entrances.{IfEntered, IfRefused}
+use Rattle.room_lock.specs.steps.Entrances.{IfEntered, IfRefused}
 use Rattle.room_lock.specs.Passes.{PassView, PrefixView}
-use Rattle.sessions.specs.Entrances.{IsAfter}
+use Rattle.sessions.specs.steps.Entrances.{IsAfter}
 use Rattle.sessions.specs.Sessions.{SessionView}
 use Rattle.sessions.specs.Turns.{IsLetIn, IsTurnedAway}
 

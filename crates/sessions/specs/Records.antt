@@ -3,7 +3,7 @@ use Rattle.std.specs.Prelude.{◌≡◌, ◌++◌, ◌∷◌, [], ℕ, All, List
 use Rattle.std.specs.Fmt.{decimal}
 use Rattle.std.specs.Io.KnownBytes.{Appends}
 use Rattle.serde_json.specs.Written.{compact_text}
-use Rattle.op_names.specs.Texts.{Bytes}
+use Rattle.base_types.specs.Texts.{Bytes}
 use Rattle.rules.specs.declared.history.Entry.{Entry}
 use Rattle.rules.specs.declared.limits.LimitValues.{LimitValues}
 use Rattle.rules.specs.Records.{IsLegal}
@@ -21,15 +21,18 @@ entry_lines (entry ∷ entries) = (compact_text (entry_form entry) ++ 10 ∷ [])
 
 -- the line with the room's name and the number of entries, and the lines of the entries
 abbrev pub record_lines : NamedRecord → List ℕ
-record_lines room = (codes "room " ++ room.name ++ (32 ∷ decimal (length room.entries)) ++ 10 ∷ []) ++ entry_lines room.entries
+record_lines room =
+    (codes "room " ++ room.name ++ (32 ∷ decimal (length room.entries)) ++ 10 ∷ [])
+    ++ entry_lines room.entries
 
--- of all rooms, one after the other
+-- the lines of all rooms, in order
 abbrev pub all_lines : List NamedRecord → List ℕ
 all_lines [] = []
 all_lines (room ∷ rooms) = record_lines room ++ all_lines rooms
 
--- What was added to what a writer holds are the lines of records of the rooms of these names, in order, each of which is legal.
-pub record PrintsRecords (limits : LimitValues) (names : List Bytes) (before after : Option (List ℕ)) : Type 0 where
+-- A writer got the lines of these rooms' records, in order. Each record is legal.
+pub record PrintsRecords
+    (limits : LimitValues) (names : List Bytes) (before after : Option (List ℕ)) : Type 0 where
   pub rooms : List NamedRecord
   pub names_are : map (λ room. room.name) rooms ≡ names
   pub legal : All (λ room. IsLegal limits room.entries) rooms

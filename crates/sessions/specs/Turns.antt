@@ -1,88 +1,124 @@
--- One message of a session, the reply to it, and the beginning of a room's record that the reply tells of, if it tells of one.
+-- One message of a session and its reply. `told` is the prefix of a room's record that the reply
+-- reports on, if it does.
 use Rattle.std.specs.Prelude.{◌≡◌, ◌⊎◌, ℕ, List, Option, Some, None, Contains, MatchOption}
-use Rattle.op_names.specs.Texts.{Bytes}
+use Rattle.base_types.specs.Texts.{Bytes}
 use Rattle.rules.specs.declared.history.Entry.{Entry}
 use Rattle.rules.specs.declared.limits.LimitValues.{LimitValues}
 use Rattle.rules.specs.declared.refusal.Refusal.{Refusal}
-use Rattle.rules.specs.declared.refusal.Refusal.TheVariants.{BadMessage, NotJoined, AlreadyJoined, NoSuchRoom}
+use Rattle.rules.specs.declared.refusal.Refusal.TheVariants.{BadMessage, NotJoined, AlreadyJoined}
+use Rattle.rules.specs.declared.refusal.Refusal.TheVariants.{NoSuchRoom}
 use Rattle.wire.specs.declared.request.Request.{Request}
 use Rattle.wire.specs.declared.request.Request.TheVariants.{Join, Back, Leave}
 use Rattle.wire.specs.declared.reply.Reply.{Reply}
 use Rattle.wire.specs.declared.reply.Reply.TheVariants.{No}
-use Rattle.wire.specs.Texts.{request_read, reply_text}
+use Rattle.wire.specs.Texts.{reply_text}
+use Rattle.wire.specs.steps.Reads.{request_read}
 use Rattle.room_lock.specs.Passes.{PassView, PrefixView, prefix_of}
-use Rattle.room_lock.specs.Told.{IsBack, IsBackRefusalOver, IsCall, IsJoin, IsLeaveOver, IsRefusalOver}
+use Rattle.room_lock.specs.Told.{IsBack, IsBackRefusalOver, IsCall, IsJoin, IsLeaveOver}
+use Rattle.room_lock.specs.Told.{IsRefusalOver}
 use Rattle.sessions.specs.Sessions.{SessionView}
 
--- the session itself refuses, and stays as it is; this tells of no room
+-- the session itself refuses, and is unchanged; the reply reports on no room
 abbrev pub IsRefused : Refusal → SessionView → SessionView → Option PrefixView → Reply → Type 0
 IsRefused refusal old new told reply = (reply ≡ No 0 refusal) × (told ≡ None) × (new ≡ old)
 
--- a call by the session's pass, which it keeps: this tells of all that the pass has then seen
-abbrev pub IsCallBy : LimitValues → PassView → SessionView → Request → Option PrefixView → Reply → Type 0
-IsCallBy limits was new request told reply = (now : PassView) × IsCall limits was now request reply × (told ≡ Some (prefix_of now.part)) × (new ≡ Some now)
+-- a call by the session's pass, which the session keeps; the reply reports on all that the pass has
+-- then seen
+abbrev pub IsCallBy : LimitValues → PassView → SessionView → Request → Option PrefixView → Reply
+    → Type 0
+IsCallBy limits was new request told reply =
+    (now : PassView) × IsCall limits was now request reply × (told ≡ Some (prefix_of now.part))
+    × (new ≡ Some now)
 
--- a leave: the session's pass is handed back, and the session is in no room; this tells of the record that the room had then
+-- A leave: the session's pass is handed back, and the session is in no room. The reply reports on
+-- the record at that time.
 abbrev pub IsLeaveBy : LimitValues → PassView → SessionView → Option PrefixView → Reply → Type 0
 IsLeaveBy limits was new told reply =
-    (then : PrefixView) × IsLeaveOver limits then.entries was.part reply × (then.place ≡ was.part.place) × (told ≡ Some then) × (new ≡ None)
+    (then : PrefixView) × IsLeaveOver limits then.entries was.part reply
+    × (then.place ≡ was.part.place) × (told ≡ Some then) × (new ≡ None)
 
--- somebody was let in: the session has the pass, of the room of this name; this tells of all that the pass has seen
-abbrev pub IsLetIn : (PassView → Reply → Type 0) → Bytes → SessionView → Option PrefixView → Reply → Type 0
-IsLetIn Holds name new told reply = (pass : PassView) × Holds pass reply × (pass.room ≡ name) × (told ≡ Some (prefix_of pass.part)) × (new ≡ Some pass)
+-- A site was let in: the session has its pass, of the room of this name. The reply reports on all
+-- that the pass has seen.
+abbrev pub IsLetIn : (PassView → Reply → Type 0) → Bytes → SessionView → Option PrefixView → Reply
+    → Type 0
+IsLetIn Holds name new told reply =
+    (pass : PassView) × Holds pass reply × (pass.room ≡ name) × (told ≡ Some (prefix_of pass.part))
+    × (new ≡ Some pass)
 
--- the room's refusal tells of the record that the room had then
+-- the room refused; the reply reports on the record at that time
 abbrev pub IsRefusedOn : (List Entry → Reply → Type 0) → Option PrefixView → Reply → Type 0
 IsRefusedOn Holds told reply = (then : PrefixView) × Holds then.entries reply × (told ≡ Some then)
 
--- nobody was: the room of this name refuses it, or there is none; and the session stays in no room
-pub record IsTurnedAway (Holds : List Entry → Reply → Type 0) (names : List Bytes) (name : Bytes) (new : SessionView) (told : Option PrefixView) (reply : Reply) : Type 0 where
+-- No site was let in: the room of this name refused, or there is none. The session stays in no
+-- room.
+pub record IsTurnedAway
+    (Holds : List Entry → Reply → Type 0) (names : List Bytes) (name : Bytes) (new : SessionView)
+    (told : Option PrefixView) (reply : Reply) : Type 0 where
   pub known : Contains names name → IsRefusedOn Holds told reply
   pub unknown : ¬ (Contains names name) → (reply ≡ No 0 NoSuchRoom) × (told ≡ None)
   pub same : new ≡ None
 
 -- a join, and a coming back as a site
-abbrev pub IsJoinBy : LimitValues → List Bytes → Bytes → SessionView → Option PrefixView → Reply → Type 0
-IsJoinBy limits names name new told reply = IsLetIn (IsJoin limits) name new told reply ⊎ IsTurnedAway (IsRefusalOver limits) names name new told reply
+abbrev pub IsJoinBy : LimitValues → List Bytes → Bytes → SessionView → Option PrefixView → Reply
+    → Type 0
+IsJoinBy limits names name new told reply =
+    IsLetIn (IsJoin limits) name new told reply
+    ⊎ IsTurnedAway (IsRefusalOver limits) names name new told reply
 
-abbrev pub IsBackBy : LimitValues → List Bytes → Bytes → ℕ → SessionView → Option PrefixView → Reply → Type 0
+abbrev pub IsBackBy : LimitValues → List Bytes → Bytes → ℕ → SessionView → Option PrefixView → Reply
+    → Type 0
 IsBackBy limits names name site new told reply =
-    IsLetIn (IsBack limits site) name new told reply ⊎ IsTurnedAway (λ r. IsBackRefusalOver limits r site) names name new told reply
+    IsLetIn (IsBack limits site) name new told reply
+    ⊎ IsTurnedAway (λ r. IsBackRefusalOver limits r site) names name new told reply
 
--- the answer to a request of a session that is in a room: it can't be let into one
-abbrev pub IsAnswerInside : LimitValues → PassView → SessionView → Request → Option PrefixView → Reply → Type 0
-IsAnswerInside limits was new (Join name) told reply = IsRefused AlreadyJoined (Some was) new told reply
-IsAnswerInside limits was new (Back name site) told reply = IsRefused AlreadyJoined (Some was) new told reply
+-- the answer to a request of a session that is in a room, which cannot enter another
+abbrev pub IsAnswerInside : LimitValues → PassView → SessionView → Request → Option PrefixView
+    → Reply → Type 0
+IsAnswerInside limits was new (Join name) told reply =
+    IsRefused AlreadyJoined (Some was) new told reply
+IsAnswerInside limits was new (Back name site) told reply =
+    IsRefused AlreadyJoined (Some was) new told reply
 IsAnswerInside limits was new Leave told reply = IsLeaveBy limits was new told reply
 IsAnswerInside limits was new request told reply = IsCallBy limits was new request told reply
 
--- and of one that is in none: it can do nothing else
-abbrev pub IsAnswerOutside : LimitValues → List Bytes → SessionView → Request → Option PrefixView → Reply → Type 0
+-- the answer to a request of a session in no room, which can only enter one
+abbrev pub IsAnswerOutside : LimitValues → List Bytes → SessionView → Request → Option PrefixView
+    → Reply → Type 0
 IsAnswerOutside limits names new (Join name) told reply = IsJoinBy limits names name new told reply
-IsAnswerOutside limits names new (Back name site) told reply = IsBackBy limits names name site new told reply
+IsAnswerOutside limits names new (Back name site) told reply =
+    IsBackBy limits names name site new told reply
 IsAnswerOutside limits names new request told reply = IsRefused NotJoined None new told reply
 
 -- the answer to a request of a session
-abbrev pub IsAnswer : LimitValues → List Bytes → SessionView → SessionView → Request → Option PrefixView → Reply → Type 0
-IsAnswer limits names (Some was) new request told reply = IsAnswerInside limits was new request told reply
-IsAnswer limits names None new request told reply = IsAnswerOutside limits names new request told reply
+abbrev pub IsAnswer : LimitValues → List Bytes → SessionView → SessionView → Request
+    → Option PrefixView → Reply → Type 0
+IsAnswer limits names (Some was) new request told reply =
+    IsAnswerInside limits was new request told reply
+IsAnswer limits names None new request told reply =
+    IsAnswerOutside limits names new request told reply
 
 -- the answer to a message
-abbrev pub IsTurn : LimitValues → List Bytes → SessionView → SessionView → Bytes → Option PrefixView → Reply → Type 0
+abbrev pub IsTurn : LimitValues → List Bytes → SessionView → SessionView → Bytes → Option PrefixView
+    → Reply → Type 0
 IsTurn limits names old new bytes told reply =
-    MatchOption (request_read bytes) (IsRefused BadMessage old new told reply) (λ request. IsAnswer limits names old new request told reply)
+    MatchOption (request_read bytes) (IsRefused BadMessage old new told reply)
+    (λ request. IsAnswer limits names old new request told reply)
 
--- the text is that of the answer, which tells of this beginning of a record
-abbrev pub IsTextOfTurn : LimitValues → List Bytes → SessionView → SessionView → Bytes → Option PrefixView → List ℕ → Type 0
-IsTextOfTurn limits names old new bytes told text = (reply : Reply) × (text ≡ reply_text reply) × IsTurn limits names old new bytes told reply
+-- the text is that of the answer, which reports on this prefix of a record
+abbrev pub IsTextOfTurn : LimitValues → List Bytes → SessionView → SessionView → Bytes
+    → Option PrefixView → List ℕ → Type 0
+IsTextOfTurn limits names old new bytes told text =
+    (reply : Reply) × (text ≡ reply_text reply) × IsTurn limits names old new bytes told reply
 
--- the receipt shows that what is told of a room is kept; where nothing is told of one, there is none
+-- The receipt shows that what is reported of a room is kept. There is none if nothing is reported.
 abbrev pub IsKept : {R : Type 0} → (R → PrefixView → Type 0) → Option PrefixView → Option R → Type 0
 IsKept shows (Some told) (Some receipt) = shows receipt told
 IsKept shows None None = Unit {0}
 IsKept shows _ _ = ⊥
 
--- the message changed nothing, or it was answered, though nobody was told
+-- the message changed nothing, or it was answered, but the reply was lost
 abbrev pub MayStand : LimitValues → List Bytes → SessionView → SessionView → Bytes → Type 0
 MayStand limits names old new bytes =
-    (new ≡ old) ⊎ ((told : Option PrefixView) × (reply : Reply) × IsTurn limits names old new bytes told reply)
+    (new ≡ old)
+    ⊎ ((told : Option PrefixView) × (reply : Reply)
+    × IsTurn limits names old new bytes told reply)

@@ -7,30 +7,32 @@ ghost use Rattle.sessions.specs.declared.cause.Cause.TheVariants as cause;
 ghost use Rattle.sessions.specs.Turns.{IsKept};
 
 use crate::cause::Cause;
-use crate::gate::{Addition, Gate};
 use crate::host::Host;
 use crate::keeper::{KeepFault, Keeper};
+use crate::observer::{Addition, Observer};
 use room_lock::{Prefix, RoomLedger};
 use std::sync::Wait;
 use wire::{Refusal, Reply, write_reply};
 
-/// A reply, and the beginning of a room's record that it tells of, where it tells of one.
+/// A reply, and the prefix of a room's record that it reports on, if it reports on a room.
 #[derive(Drop)]
 pub(crate) struct Answer<P: RoomLedger> {
     pub(crate) reply: Reply,
     pub(crate) told: Option<Prefix<P>>,
 }
 
-/// The text of a reply, and the receipt that what it tells of a room is kept. The reply to a message
-/// that no room was asked for has none.
+/// The text of a reply, and the receipt that what it reports of a room is kept. A reply that asked
+/// no room has no receipt.
 #[derive(Drop)]
 pub struct Answered<T> {
+    /// The text of the reply.
     pub text: String,
+    /// The receipt, if the reply reports on a room.
     pub receipt: Option<T>,
 }
 
 impl<P: RoomLedger> Answer<P> {
-    /// A reply that a room gave, when its record began so.
+    /// The reply of a room whose record was `told` at that time.
     pub(crate) fn of_room(told: Prefix<P>, reply: Reply) -> Answer<P>
         ensures reply { result.reply ≡ reply }
         ensures told { result.told ≡ Some told }
@@ -41,7 +43,7 @@ impl<P: RoomLedger> Answer<P> {
         }
     }
 
-    /// A refusal that the session makes itself.
+    /// A refusal by the session itself.
     pub(crate) fn own_refusal(refusal: Refusal) -> Answer<P>
         ensures reply { result.reply ≡ No 0 refusal }
         ensures told { result.told ≡ None }
@@ -52,36 +54,37 @@ impl<P: RoomLedger> Answer<P> {
         }
     }
 
-    /// Tells the gate of the entry that the room has got with this reply, where it has got one.
-    fn tell_growth<G: Gate>(&self, gate: &G) {
+    /// Reports the entry that the room has added with this reply, if there is one.
+    fn tell_growth<O: Observer>(&self, observer: &O) {
         if let Some(told) = &self.told
             && let Some(addition) = Addition::of(&self.reply)
         {
-            gate.after_entry(told.place(), addition);
+            observer.after_entry(told.place(), addition);
         }
     }
 
-    /// The text of the reply, once what it tells is kept. The gate is told first, since the entry stands
-    /// whatever comes. The text is made then, so that nobody waits for one that can't be made.
-    pub(crate) fn keep<R: Wait, G: Gate, K: Keeper<P>>(
+    /// The text of the reply, once what it reports is kept. The observer hears of the entry first,
+    /// since it stands whatever follows. The text is created before the wait, so that no thread
+    /// waits in vain.
+    pub(crate) fn keep<R: Wait, O: Observer, K: Keeper<P>>(
         self,
-        host: &Host<'_, P, R, G, K>,
+        host: &Host<'_, P, R, O, K>,
     ) -> Result<Answered<K::Receipt>, Cause>
         ensures text { IfOk result (λ answered.
             string_bytes answered.text ≡ reply_text self.reply) }
         ensures kept { IfOk result (λ answered. IsKept K.shows self.told answered.receipt) }
         ensures cause { IfErr result (λ why. (why ≡ cause.NoMemory) ⊎ (why ≡ cause.NotKept)) }
     {
-        self.tell_growth(host.gate);
+        self.tell_growth(host.observer);
         let text = write_reply(host.alloc, &self.reply)?;
         let receipt = receipt_of(host, &self.told)?;
         Ok(Answered { text, receipt })
     }
 }
 
-/// The receipt that what is told of a room is kept, where anything is told of one.
-fn receipt_of<P: RoomLedger, R: Wait, G, K: Keeper<P>>(
-    host: &Host<'_, P, R, G, K>,
+/// The receipt that `told` is kept, if there is a `told`.
+fn receipt_of<P: RoomLedger, R: Wait, O, K: Keeper<P>>(
+    host: &Host<'_, P, R, O, K>,
     told: &Option<Prefix<P>>,
 ) -> Result<Option<K::Receipt>, KeepFault>
     ensures { IfOk result (IsKept K.shows told.now) }

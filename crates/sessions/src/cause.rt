@@ -1,10 +1,11 @@
 //! Why a session ends.
 
 ghost use Rattle.std.specs.Prelude.{◌≡◌, ◌≢◌};
+ghost use Rattle.sessions.specs.steps.Causes.{cause_of_stream};
 ghost use Rattle.sessions.specs.declared.cause.Cause.TheVariants as cause;
 
 use crate::keeper::KeepFault;
-use op_names::NoMemory;
+use base_types::NoMemory;
 use room_lock::CallFault;
 use thiserror::Error;
 use tungstenite::Error as StreamError;
@@ -12,24 +13,28 @@ use tungstenite::Error as StreamError;
 /// Why a session ended.
 #[derive(Clone, Copy, Debug, PartialEq, Eq, Error)]
 pub enum Cause {
-    /// The client closed it, and the closing came to its end.
+    /// The client closed the session, and the closing handshake was completed (RFC 6455, section
+    /// 7).
     #[error("closed")]
     Closed,
-    /// The stream began with no handshake of RFC 6455, or ended within it. No message was read.
+    /// The stream did not begin with a whole opening handshake (RFC 6455, section 4). No message
+    /// was read.
     #[error("handshake failed")]
     HandshakeFailed,
-    /// The stream failed or ended, or what came on it is not allowed by RFC 6455 or too long.
+    /// The stream failed or ended, or it carried what RFC 6455 or the limits on length do not
+    /// allow.
     #[error("stream fault")]
     StreamFault,
+    /// An allocation failed.
     #[error("out of memory")]
     NoMemory,
-    /// Its pass is not of the rooms.
+    /// The session's pass belongs to other rooms.
     #[error("torn from its room")]
     Torn,
-    /// What a reply would have told of a room is not kept.
+    /// What a reply would have reported of a room is not kept.
     #[error("record not kept")]
     NotKept,
-    /// It was no session: a probe was answered.
+    /// The connection was a probe, and was answered. There was no session.
     #[error("probe")]
     Probe,
 }
@@ -43,7 +48,7 @@ impl From<NoMemory> for Cause {
 }
 
 impl From<CallFault> for Cause {
-    ghost use Rattle.sessions.specs.Causes.{cause_of_call};
+    ghost use Rattle.sessions.specs.steps.Causes.{cause_of_call};
 
     ghost from_gives = { λ fault gives. gives ≡ cause_of_call fault };
 
@@ -56,7 +61,7 @@ impl From<CallFault> for Cause {
 }
 
 impl From<KeepFault> for Cause {
-    ghost use Rattle.sessions.specs.Causes.{cause_of_keep};
+    ghost use Rattle.sessions.specs.steps.Causes.{cause_of_keep};
 
     ghost from_gives = { λ fault gives. gives ≡ cause_of_keep fault };
 
@@ -68,9 +73,10 @@ impl From<KeepFault> for Cause {
     }
 }
 
-/// Why a stream that fails after its handshake ends a session.
+/// The cause for an error of the stream after the handshake.
 pub(crate) fn cause_of(fault: &StreamError) -> Cause
-    ensures { result ≢ cause.HandshakeFailed }
+    ensures cause { result ≡ cause_of_stream fault.now }
+    ensures not_handshake { result ≢ cause.HandshakeFailed }
 {
     match fault {
         StreamError::ConnectionClosed | StreamError::AlreadyClosed => Cause::Closed,

@@ -1,21 +1,25 @@
-//! Who is served.
+//! The clients that are served.
 
 use std::fmt;
 use std::fmt::{Display, Formatter};
 use std::net::SocketAddr;
 
-/// A connection that is to be served, with the address that it comes from, where that is known.
+/// A connection that is to be served, with its remote address if that is known.
 #[derive(Drop)]
 pub struct Arrival<S> {
+    /// The connection.
     pub stream: S,
+    /// The remote address, if it is known.
     pub address: Option<SocketAddr>,
 }
 
-/// The client of a session: the session's number, and where the connection comes from, where that is
-/// known. It is shown as `session 3 127.0.0.1:5000`.
+/// The client of a session: the session's number, and the remote address if that is known. It is
+/// displayed as `session 3 127.0.0.1:5000`.
 #[derive(Clone, Copy)]
 pub struct Client {
+    /// The number of the session, from 1.
     pub session: u32,
+    /// The remote address, if it is known.
     pub address: Option<SocketAddr>,
 }
 

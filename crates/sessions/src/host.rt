@@ -3,13 +3,18 @@
 use room_lock::{RoomLedger, Rooms};
 use std::alloc::Global;
 
-/// What sessions are served with: the rooms that they ask, the gate that is told of it, and who keeps
-/// what the rooms answer.
+/// What sessions are served with: the runtime, the allocator, the rooms, the observer and the
+/// keeper.
 #[derive(Drop)]
-pub struct Host<'a, P: RoomLedger, R, G, K> {
+pub struct Host<'a, P: RoomLedger, R, O, K> {
+    /// The runtime.
     pub rt: &'a R,
+    /// The allocator.
     pub alloc: Global,
+    /// The rooms that sessions call.
     pub rooms: &'a Rooms<P>,
-    pub gate: &'a G,
+    /// The observer that hears of the calls.
+    pub observer: &'a O,
+    /// The keeper of what replies report.
     pub keeper: &'a K,
 }

@@ -1,4 +1,4 @@
-//! Who keeps what replies tell of rooms.
+//! Keeping what replies report of rooms.
 
 ghost use Rattle.std.specs.Prelude.{IfOk};
 
@@ -7,28 +7,33 @@ use std::alloc::Global;
 use std::sync::Wait;
 use thiserror::Error;
 
-/// Why what a reply tells of a room is not kept.
+/// Why what a reply reports of a room is not kept.
 #[derive(Clone, Copy, Debug, PartialEq, Eq, Error)]
 pub enum KeepFault {
-    /// Whoever keeps the room's record can't.
+    /// The keeper could not keep the room's record.
     #[error("not kept")]
     NotKept,
+    /// An allocation failed.
     #[error("out of memory")]
     NoMemory,
 }
 
-/// Keeps what replies tell of rooms, before they are sent.
+/// Keeps what replies report of rooms, before they are sent.
 pub trait Keeper<P: RoomLedger> {
     ghost use Rattle.room_lock.specs.Passes.{PrefixView};
 
-    /// What shows that the beginning of a record is kept.
+    /// The proof at run time that a prefix of a record is kept.
     type Receipt: Drop;
 
-    /// The receipt shows that this beginning of a room's record is kept.
+    /// The receipt shows that this prefix of a room's record is kept.
     ghost shows: { Self.Receipt → PrefixView → Type 0 };
 
-    /// Gives a receipt once this beginning of a room's record is kept, for which it may wait. `NotKept`
-    /// where it is not kept, `NoMemory` where memory was refused; it may be asked again.
+    /// Waits until this prefix of a room's record is kept, and gives a receipt. It may be called
+    /// again after an error.
+    ///
+    /// # Errors
+    /// `NotKept` if the prefix is not kept.
+    /// `NoMemory` if an allocation failed.
     fn keep(
         &self,
         rt: &impl Wait,

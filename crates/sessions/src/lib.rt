@@ -4,23 +4,24 @@
 mod answer;
 mod cause;
 mod client;
-mod gate;
 mod host;
 mod keeper;
+pub mod laws;
+mod observer;
 mod pool;
 mod probe;
 mod record;
 mod serve;
 mod session;
 mod streams;
-mod warned;
+mod warning_observer;
 
 pub use answer::Answered;
 pub use cause::Cause;
 pub use client::{Arrival, Client};
-pub use gate::{Addition, Gate, Open};
 pub use host::Host;
 pub use keeper::{Forgets, KeepFault, Keeper};
+pub use observer::{Addition, NoObserver, Observer};
 pub use pool::{PoolFault, run_pool};
 pub use probe::{PROBE_ANSWER, is_probe};
 pub use serve::serve_one;

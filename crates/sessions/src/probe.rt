@@ -1,4 +1,4 @@
-//! The probe of a monitor: a plain request for `/health`.
+//! The probe of a monitor: a plain HTTP request for `/health`.
 
 ghost use Rattle.std.specs.Prelude.{IsTrue, codes, nat_eq};
 ghost use Rattle.std.specs.List.{starts_with};
@@ -6,21 +6,22 @@ ghost use Rattle.std.specs.List.{starts_with};
 use std::io;
 use std::io::{Read, Write};
 
-/// How the request of a probe begins.
+/// The start of a probe's request.
 const ASKED: &str = "GET /health HTTP/1.";
 
-/// What a probe is answered.
+/// The response to a probe.
 pub const PROBE_ANSWER: &str =
     "HTTP/1.1 200 OK\r\nContent-Type: text/plain\r\nContent-Length: 3\r\nCache-Control: no-store\r\nConnection: close\r\n\r\nok\n";
 
-/// Does this line name what a WebSocket is asked for with?
+/// Returns whether this line is an `Upgrade` header, by which a WebSocket is requested (RFC 6455,
+/// section 4.1).
 fn asks_for_upgrade(line: &[u8]) -> bool {
     let name = "upgrade:".as_bytes();
     line.len() >= name.len() && line[..name.len()].eq_ignore_ascii_case(name)
 }
 
-/// Are these bytes the whole head of a probe? It begins as a request for `/health`, ends with an empty
-/// line, and asks for no WebSocket.
+/// Returns whether these bytes are the whole head of a probe. It begins as a request for `/health`,
+/// ends with an empty line, and has no `Upgrade` header.
 pub fn is_probe(head: &[u8]) -> bool
     ensures { IsTrue result → IsTrue (starts_with nat_eq head.now (codes "GET /health HTTP/1.")) }
 {
@@ -31,11 +32,11 @@ pub fn is_probe(head: &[u8]) -> bool
         && !head.split(|byte| *byte == b'\n').any(asks_for_upgrade)
 }
 
-/// A stream that tells whether what it gave began as a probe does.
+/// A stream that records whether what it has read began as a probe.
 #[derive(Drop)]
 pub(crate) struct Heard<S> {
     stream: S,
-    /// What has yet to come, or nothing once something else came.
+    /// What is still expected; empty once something else was read.
     awaited: &'static [u8],
     is_other: bool,
 }
@@ -50,12 +51,12 @@ impl<S> Heard<S> {
         }
     }
 
-    /// Did it begin as a probe does?
+    /// Returns whether what was read began as a probe.
     pub(crate) fn began_as_probe(&self) -> bool {
         !self.is_other && self.awaited.is_empty()
     }
 
-    /// Compares what came with what was awaited.
+    /// Compares what was read with what was expected.
     fn hear(&mut self, bytes: &[u8]) {
         let count = bytes.len().min(self.awaited.len());
         if self.awaited[..count] == bytes[..count] {
@@ -68,7 +69,7 @@ impl<S> Heard<S> {
 }
 
 impl<S: Write> Heard<S> {
-    /// Answers a probe. A write that fails changes nothing.
+    /// Writes the response to a probe. Ignores a failed write.
     pub(crate) fn answer_probe(&mut self) {
         let _ = self.stream.write_all(PROBE_ANSWER.as_bytes());
         let _ = self.stream.flush();

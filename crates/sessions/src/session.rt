@@ -1,23 +1,26 @@
 //! A session: the messages of one client, one after the other.
 
-ghost use Rattle.std.specs.Prelude.{◌≡◌, ◌⊎◌, IfErr, IfOk, OnErr, Ok, None, Some, option_map, string_bytes};
+ghost use Rattle.std.specs.Prelude.{◌≡◌, ◌⊎◌, Err, IfErr, IfOk, OnErr, Ok, None, Some};
+ghost use Rattle.std.specs.Prelude.{bytes_eq, option_map, position, string_bytes};
 ghost use Rattle.sessions.specs.declared.cause.Cause.TheVariants as cause;
-ghost use Rattle.sessions.specs.Entrances.{IsAfter};
-ghost use Rattle.sessions.specs.Turns.{IsAnswer, IsAnswerInside, IsAnswerOutside, IsBackBy, IsCallBy, IsJoinBy, IsLeaveBy, IsKept, IsTextOfTurn, IsTurn, MayStand};
+ghost use Rattle.sessions.specs.steps.Entrances.{IsAfter};
+ghost use Rattle.sessions.specs.Turns.{IsAnswer, IsAnswerInside, IsAnswerOutside, IsBackBy};
+ghost use Rattle.sessions.specs.Turns.{IsCallBy, IsJoinBy, IsLeaveBy, IsKept, IsTextOfTurn, IsTurn};
+ghost use Rattle.sessions.specs.Turns.{MayStand};
 
 use crate::answer::{Answer, Answered};
 use crate::cause::Cause;
-use crate::gate::Gate;
 use crate::host::Host;
 use crate::keeper::Keeper;
-use op_names::{NoMemory, RoomName};
+use crate::observer::Observer;
+use base_types::{NoMemory, RoomName};
 use room_lock::{Entrance, Pass, RoomLedger};
 use std::alloc::Global;
 use std::marker::Model;
 use std::sync::Wait;
 use wire::{ReadFault, Refusal, Request, read_request};
 
-/// A session, with its pass where it is in a room. It can't be dropped: `end` hands the pass back.
+/// A session, with its pass if it is in a room. It cannot be dropped: `end` hands the pass back.
 pub struct Session<P: RoomLedger> {
     number: u32,
     pass: Option<Pass<P>>,
@@ -39,7 +42,7 @@ impl<P: RoomLedger> Session<P> {
         Session { number, pass: None }
     }
 
-    /// A session of this number, in the pass's room.
+    /// A session of this number, in the room of the pass.
     fn inside(number: u32, pass: Pass<P>) -> Session<P>
         ensures { result ≡ Some pass }
     {
@@ -49,15 +52,15 @@ impl<P: RoomLedger> Session<P> {
         }
     }
 
-    /// Its pass, where it is in a room.
+    /// The pass, if the session is in a room.
     pub fn pass(&self) -> Option<&Pass<P>>
         ensures { option_map (λ pass. pass.now) result ≡ self.now }
     {
         self.pass.as_ref()
     }
 
-    /// Ends the session: its site is free for who comes back.
-    pub fn end<R: Wait, G, K>(self, host: &Host<'_, P, R, G, K>) {
+    /// Ends the session, and frees its site for a coming back.
+    pub fn end<R: Wait, O, K>(self, host: &Host<'_, P, R, O, K>) {
         let Session { number: _, pass } = self;
         if let Some(pass) = pass
             && let Err(stray) = host.rooms.hand_back(host.rt, pass)
@@ -66,17 +69,23 @@ impl<P: RoomLedger> Session<P> {
         }
     }
 
-    /// Answers one message by the text of its reply, and gives the session as it then is. The session
-    /// itself refuses what is no request, a join or a coming back from within a room, anything else
-    /// from without, and a room that there is not. Otherwise a room answers, and that is the one call of
-    /// the rooms: a join or a coming back may give a pass, a leave hands it back, and all else is asked
-    /// by it. A room's answer is given once all that it tells of the room is kept, with the receipt; the
-    /// session's own refusals have none. `NoMemory` where memory was refused, and `NotKept` where the
-    /// answer is not kept: then the call may stand, and nobody is told. `Torn` where the pass is of
-    /// other rooms.
-    pub fn message<R: Wait, G: Gate, K: Keeper<P>>(
+    /// Answers one message. Returns the session as it is then, and the text of the reply.
+    /// The session itself refuses four things. These are bytes that are no request, `join` and
+    /// `back` in a room, other requests in no room, and rooms that do not exist. Every other
+    /// request is one call of the rooms: `join` and `back` may give a pass, `leave` hands it back,
+    /// and the rest call the room by it.
+    /// The reply of a room is returned once what it reports of the room is kept, with the receipt.
+    /// The session's own refusals have no receipt.
+    ///
+    /// # Errors
+    /// `NoMemory` if an allocation failed. The call of the rooms may stand, although no reply is
+    /// sent.
+    /// `NotKept` if the reply of the room is not kept. The call of the rooms stands, although no
+    /// reply is sent.
+    /// `Torn` if the pass belongs to other rooms; the session is unchanged.
+    pub fn message<R: Wait, O: Observer, K: Keeper<P>>(
         self,
-        host: &Host<'_, P, R, G, K>,
+        host: &Host<'_, P, R, O, K>,
         bytes: &[u8],
     ) -> (Session<P>, Result<Answered<K::Receipt>, Cause>)
         ensures ok { IfOk result.1 (λ answered. (told : _) × IsTextOfTurn P.limits
@@ -94,10 +103,10 @@ impl<P: RoomLedger> Session<P> {
         }
     }
 
-    /// The answer to a message; on `Err` nothing is changed.
-    fn answer<R: Wait, G: Gate, K>(
+    /// The answer to a message. On `Err` nothing has changed.
+    fn answer<R: Wait, O: Observer, K>(
         self,
-        host: &Host<'_, P, R, G, K>,
+        host: &Host<'_, P, R, O, K>,
         bytes: &[u8],
     ) -> (Session<P>, Result<Answer<P>, Cause>)
         ensures ok { IfOk result.1 (λ answer. IsTurn P.limits
@@ -112,10 +121,10 @@ impl<P: RoomLedger> Session<P> {
         }
     }
 
-    /// The answer to a request; on `Err` nothing is changed.
-    fn ask<R: Wait, G: Gate, K>(
+    /// The answer to a request. On `Err` nothing has changed.
+    fn ask<R: Wait, O: Observer, K>(
         self,
-        host: &Host<'_, P, R, G, K>,
+        host: &Host<'_, P, R, O, K>,
         request: Request,
     ) -> (Session<P>, Result<Answer<P>, Cause>)
         ensures ok { IfOk result.1 (λ answer. IsAnswer P.limits
@@ -131,9 +140,9 @@ impl<P: RoomLedger> Session<P> {
     }
 }
 
-/// The answer to a request from within the pass's room; on `Err` the session keeps the pass as it was.
-fn ask_inside<P: RoomLedger, R: Wait, G: Gate, K>(
-    host: &Host<'_, P, R, G, K>,
+/// The answer to a request in the room of the pass. On `Err` the session keeps the pass as it was.
+fn ask_inside<P: RoomLedger, R: Wait, O: Observer, K>(
+    host: &Host<'_, P, R, O, K>,
     number: u32,
     pass: Pass<P>,
     request: Request,
@@ -153,9 +162,9 @@ fn ask_inside<P: RoomLedger, R: Wait, G: Gate, K>(
     }
 }
 
-/// The answer to a request from within no room; on `Err` the session stays there.
-fn ask_outside<P: RoomLedger, R: Wait, G: Gate, K>(
-    host: &Host<'_, P, R, G, K>,
+/// The answer to a request in no room. On `Err` the session stays in none.
+fn ask_outside<P: RoomLedger, R: Wait, O: Observer, K>(
+    host: &Host<'_, P, R, O, K>,
     number: u32,
     request: &Request,
 ) -> (Session<P>, Result<Answer<P>, Cause>)
@@ -175,8 +184,8 @@ fn ask_outside<P: RoomLedger, R: Wait, G: Gate, K>(
 }
 
 /// Joins the room of this name.
-fn join<P: RoomLedger, R: Wait, G: Gate, K>(
-    host: &Host<'_, P, R, G, K>,
+fn join<P: RoomLedger, R: Wait, O: Observer, K>(
+    host: &Host<'_, P, R, O, K>,
     number: u32,
     name: &RoomName,
 ) -> (Session<P>, Result<Answer<P>, Cause>)
@@ -185,15 +194,15 @@ fn join<P: RoomLedger, R: Wait, G: Gate, K>(
     ensures err { OnErr result.1 (result.0 ≡ None) }
     ensures cause { IfErr result.1 (λ why. why ≡ cause.NoMemory) }
 {
-    host.gate.before_call(number);
+    host.observer.before_call(number);
     let joined = host.rooms.join(host.rt, host.alloc, name);
-    host.gate.after_call(number);
+    host.observer.after_call(number);
     enter(number, joined)
 }
 
 /// Comes back as this site of the room of this name.
-fn back<P: RoomLedger, R: Wait, G: Gate, K>(
-    host: &Host<'_, P, R, G, K>,
+fn back<P: RoomLedger, R: Wait, O: Observer, K>(
+    host: &Host<'_, P, R, O, K>,
     number: u32,
     name: &RoomName,
     site: u32,
@@ -203,13 +212,13 @@ fn back<P: RoomLedger, R: Wait, G: Gate, K>(
     ensures err { OnErr result.1 (result.0 ≡ None) }
     ensures cause { IfErr result.1 (λ why. why ≡ cause.NoMemory) }
 {
-    host.gate.before_call(number);
+    host.observer.before_call(number);
     let returned = host.rooms.back(host.rt, host.alloc, name, site);
-    host.gate.after_call(number);
+    host.observer.after_call(number);
     enter(number, returned)
 }
 
-/// The session after an entrance, with the answer.
+/// The session after an entrance, and the answer.
 fn enter<P: RoomLedger>(
     number: u32,
     entrance: Result<Entrance<P>, NoMemory>,
@@ -236,9 +245,9 @@ fn enter<P: RoomLedger>(
     }
 }
 
-/// Asks the room by the pass; on `Err` the session keeps it as it was.
-fn call<P: RoomLedger, R: Wait, G: Gate, K>(
-    host: &Host<'_, P, R, G, K>,
+/// Calls the room by the pass. On `Err` the session keeps the pass as it was.
+fn call<P: RoomLedger, R: Wait, O: Observer, K>(
+    host: &Host<'_, P, R, O, K>,
     number: u32,
     mut pass: Pass<P>,
     request: Request,
@@ -247,10 +256,12 @@ fn call<P: RoomLedger, R: Wait, G: Gate, K>(
         IsCallBy P.limits pass result.0 request answer.told answer.reply) }
     ensures err { OnErr result.1 (result.0 ≡ Some pass) }
     ensures cause { IfErr result.1 (λ why. (why ≡ cause.NoMemory) ⊎ (why ≡ cause.Torn)) }
+    ensures other_rooms { ¬ (position (bytes_eq pass.room) host.now.rooms.now ≡ Some pass.part.place)
+        → result.1 ≡ Err cause.Torn }
 {
-    host.gate.before_call(number);
+    host.observer.before_call(number);
     let reply = host.rooms.call(host.rt, host.alloc, &mut pass, request);
-    host.gate.after_call(number);
+    host.observer.after_call(number);
     let answer = match reply {
         Ok(reply) => Ok(Answer::of_room(pass.part().prefix(), reply)),
         Err(fault) => Err(Cause::from(fault)),
@@ -258,9 +269,9 @@ fn call<P: RoomLedger, R: Wait, G: Gate, K>(
     (Session::inside(number, pass), answer)
 }
 
-/// Hands the pass back; on `Err` the session keeps it.
-fn leave<P: RoomLedger, R: Wait, G: Gate, K>(
-    host: &Host<'_, P, R, G, K>,
+/// Hands the pass back. On `Err` the session keeps it.
+fn leave<P: RoomLedger, R: Wait, O: Observer, K>(
+    host: &Host<'_, P, R, O, K>,
     number: u32,
     pass: Pass<P>,
 ) -> (Session<P>, Result<Answer<P>, Cause>)
@@ -268,10 +279,12 @@ fn leave<P: RoomLedger, R: Wait, G: Gate, K>(
         IsLeaveBy P.limits pass result.0 answer.told answer.reply) }
     ensures err { OnErr result.1 (result.0 ≡ Some pass) }
     ensures cause { IfErr result.1 (λ why. why ≡ cause.Torn) }
+    ensures other_rooms { ¬ (position (bytes_eq pass.room) host.now.rooms.now ≡ Some pass.part.place)
+        → result.1 ≡ Err cause.Torn }
 {
-    host.gate.before_call(number);
+    host.observer.before_call(number);
     let left = host.rooms.hand_back(host.rt, pass);
-    host.gate.after_call(number);
+    host.observer.after_call(number);
     match left {
         Ok((told, reply)) => (Session::new(number), Ok(Answer::of_room(told, reply))),
         Err(pass) => (Session::inside(number, pass), Err(Cause::Torn)),

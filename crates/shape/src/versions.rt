@@ -1,21 +1,21 @@
 //! Groups as they are shown.
 
 ghost use Rattle.std.specs.Prelude.{◌≡◌, ◌<◌, false, All, IfOk, Contains, length, map};
-ghost use Rattle.op_names.specs.VersionIds.{id_cmp};
+ghost use Rattle.base_types.specs.VersionIds.{id_cmp};
 ghost use Rattle.rules.specs.Bodies.{initial_in, is_change_body};
 ghost use Rattle.rules.specs.Lists.{sort_by};
 ghost use Rattle.rules.specs.Groups.{groups_of, identifier};
 ghost use Rattle.rules.specs.Versions.{by_id, shown_of};
-ghost use Rattle.places.specs.Members.{places};
-ghost use Rattle.version_groups.specs.Kept.{AreGroups};
-ghost use Rattle.places.specs.Changes.{at, clash_of};
-ghost use Rattle.shape.specs.Kept.{version_at, AreGroupsOf};
-ghost use Rattle.version_ids.specs.Scopes.{places_in_conflict};
+ghost use Rattle.places.specs.steps.PlaceSet.{places};
+ghost use Rattle.version_groups.specs.steps.Kept.{AreGroups};
+ghost use Rattle.places.specs.steps.Changes.{at, is_conflict_of};
+ghost use Rattle.shape.specs.steps.Kept.{version_at, AreGroupsOf};
+ghost use Rattle.version_ids.specs.steps.Scopes.{places_in_conflict};
 
 use attributes::attributes_of;
-use conflict::Clashes;
-use op_names::{NoMemory, VersionId};
-use places::{Members, Relation};
+use base_types::{NoMemory, VersionId};
+use conflict::ObjectChanges;
+use places::{PlaceSet, Relation};
 use rules::{AttrList, Body, Op, Shown, Version};
 use std::alloc::Global;
 use version_groups::Groups;
@@ -29,7 +29,7 @@ fn listed_ids<R: Relation>(
 ) -> Result<Vec<VersionId>, NoMemory>
     requires { All (All (λ place. place < R.size relation.now)) groups.now.groups }
     ensures { let all = places (R.size relation.now)
-        in let id_of = identifier (R.clashes relation.now) (R.name_at relation.now) all
+        in let id_of = identifier (R.conflicts relation.now) (R.name_at relation.now) all
         in IfOk result (λ ids. ids.items ≡ map id_of groups.now.groups) }
 {
     let conflicting = places_in_conflict(alloc, relation)?;
@@ -46,9 +46,10 @@ pub(crate) fn sorted_ids<R: Relation>(
     relation: &R,
     groups: &Groups,
 ) -> Result<Vec<VersionId>, NoMemory>
-    requires { AreGroups (R.clashes relation.now) (places (R.size relation.now)) groups.now.groups }
+    requires { AreGroups (R.conflicts relation.now) (places (R.size relation.now))
+        groups.now.groups }
     ensures { let all = places (R.size relation.now)
-        in let id_of = identifier (R.clashes relation.now) (R.name_at relation.now) all
+        in let id_of = identifier (R.conflicts relation.now) (R.name_at relation.now) all
         in IfOk result (λ ids. ids.items ≡ sort_by id_cmp (map id_of groups.now.groups)) }
 {
     let _ = relation.len();
@@ -61,12 +62,12 @@ pub(crate) fn sorted_ids<R: Relation>(
 fn shown_of(
     alloc: Global,
     creation: &Op,
-    changes: &Clashes,
-    group: &Members,
+    changes: &ObjectChanges,
+    group: &PlaceSet,
 ) -> Result<Shown, NoMemory>
     requires creation { is_change_body creation.now.body ≡ false }
     requires group { let all = places (length changes.now.ops)
-        in Contains (groups_of (clash_of changes.now.ops) all) group.now }
+        in Contains (groups_of (is_conflict_of changes.now.ops) all) group.now }
     ensures { let ops = map (at changes.now.ops) group.now
         in IfOk result (λ shown. shown ≡ shown_of (initial_in creation.now.body) ops) }
 {
@@ -84,15 +85,15 @@ fn shown_of(
 fn version_of(
     alloc: Global,
     creation: &Op,
-    changes: &Clashes,
-    conflicting: &Members,
-    group: &Members,
+    changes: &ObjectChanges,
+    conflicting: &PlaceSet,
+    group: &PlaceSet,
 ) -> Result<Version, NoMemory>
     requires creation { is_change_body creation.now.body ≡ false }
     requires conflicting { conflicting.now
-        ≡ places_in_conflict (clash_of changes.now.ops) (length changes.now.ops) }
+        ≡ places_in_conflict (is_conflict_of changes.now.ops) (length changes.now.ops) }
     requires group { let all = places (length changes.now.ops)
-        in Contains (groups_of (clash_of changes.now.ops) all) group.now }
+        in Contains (groups_of (is_conflict_of changes.now.ops) all) group.now }
     ensures { IfOk result (λ version. version ≡ version_at creation.now changes.now.ops group.now) }
 {
     let id = id_by(alloc, changes, conflicting, group)?;
@@ -104,7 +105,7 @@ fn version_of(
 fn listed_versions(
     alloc: Global,
     creation: &Op,
-    changes: &Clashes,
+    changes: &ObjectChanges,
     groups: &Groups,
 ) -> Result<Vec<Version>, NoMemory>
     requires creation { is_change_body creation.now.body ≡ false }
@@ -130,7 +131,7 @@ fn listed_versions(
 pub(crate) fn sorted_versions(
     alloc: Global,
     creation: &Op,
-    changes: &Clashes,
+    changes: &ObjectChanges,
     groups: &Groups,
 ) -> Result<Vec<Version>, NoMemory>
     requires creation { is_change_body creation.now.body ≡ false }

@@ -1,4 +1,4 @@
-//! A history, and its beginnings that were seen.
+//! A history, and the prefixes of it that were seen.
 
 ghost use Rattle.std.specs.Prelude.{◌≡◌, ◌+◌, ◌<◌, ◌≤◌, ◌^◌, ◌++◌, ◌∷◌, [], length, map, MatchBool};
 ghost use Rattle.std.specs.Arc.{arc_value};
@@ -11,7 +11,7 @@ use std::marker::Model;
 use std::sync::{Arc, Wait};
 use std::thread::yield_now;
 
-/// The history of one room: how many entries it has. Contracts see which history it is.
+/// The history of one room. At run time it is the number of entries. Contracts see its identity.
 #[derive(Drop)]
 pub struct History {
     count: Word<Entry, u64, Law>,
@@ -20,7 +20,7 @@ pub struct History {
 impl Model for History {
     ghost use Rattle.std.specs.Prelude.{◌≡◌};
     ghost use Rattle.logbook.specs.Pages.{Book};
-    ghost use Rattle.shared_history.specs.Rules.{counter_of};
+    ghost use Rattle.shared_history.specs.steps.Rules.{counter_of};
 
     ghost Value = { Book };
 
@@ -29,8 +29,8 @@ impl Model for History {
     ghost invariant = { λ history. history.count ≡ counter_of history.count.book };
 }
 
-/// A beginning of a history that its holder has seen. Contracts see which history it is, and the
-/// entries of the beginning; no value of them is kept.
+/// A prefix of a history that its holder has seen. At run time it is the number of entries.
+/// Contracts see which history it belongs to and the entries of the prefix.
 #[derive(Drop)]
 pub struct Front {
     count: u64,
@@ -48,7 +48,7 @@ impl Model for Front {
     ghost invariant = { λ front. front.count ≡ length front.seen.log };
 }
 
-/// A new history, with nothing in it, and the front that has seen nothing.
+/// A new history without entries, and a front that has seen none.
 pub fn open() -> (History, Front)
     ensures history { result.1.history ≡ result.0 }
     ensures entries { result.1.entries ≡ [] }
@@ -59,14 +59,14 @@ pub fn open() -> (History, Front)
 }
 
 impl Front {
-    /// How many entries the beginning has.
+    /// The number of entries in the prefix.
     pub fn len(&self) -> u64
         ensures { result ≡ length self.now.entries }
     {
         self.count
     }
 
-    /// Another front that has seen the same.
+    /// Another front that has seen the same prefix.
     pub fn copy(&self) -> Front
         ensures { result ≡ self.now }
     {
@@ -76,8 +76,9 @@ impl Front {
         }
     }
 
-    /// Adds an entry to the history, after all that was seen. Where the history has more entries
-    /// than were seen it waits for good; those who add under one lock, on one front, never do.
+    /// Appends an entry to the history, right after what this front has seen. Does not return if
+    /// the history has more entries than this front has seen. Callers that append under one lock by
+    /// one front never meet that case.
     pub fn add<R: Wait>(&mut self, rt: &R, history: &History, entry: &Entry)
         requires history { self.old.history ≡ history.now }
         requires count { length self.old.entries < 2 ^ 62 }
@@ -93,7 +94,7 @@ impl Front {
         unreachable!()
     }
 
-    /// Adds entries to the history, one after the other, as `add` does.
+    /// Appends entries to the history in order, each as `add` does.
     pub fn add_all<R: Wait>(&mut self, rt: &R, history: &History, entries: &[Arc<Entry>])
         requires history { self.old.history ≡ history.now }
         requires count { length self.old.entries + length entries.now < 2 ^ 62 }
@@ -105,7 +106,8 @@ impl Front {
         }
     }
 
-    /// Adds an entry, where the history has no more entries than were seen, and says whether it did.
+    /// Appends an entry if the history has no more entries than this front has seen. Returns
+    /// whether it did.
     fn try_add(&mut self, history: &History, entry: &Entry) -> bool
         requires history { self.old.history ≡ history.now }
         requires count { length self.old.entries < 2 ^ 62 }
@@ -129,7 +131,8 @@ impl Front {
         true
     }
 
-    /// Of two fronts of one history the shorter begins the longer. It runs nothing: it shows.
+    /// Proves that of two fronts of one history the shorter is a prefix of the longer. It has no
+    /// effect at run time.
     pub fn shorter_begins_longer(&self, other: &Front)
         requires { self.now.history ≡ other.now.history }
         ensures { length self.now.entries ≤ length other.now.entries →

@@ -1,25 +1,25 @@
-//! State vectors: maps from sites to counts, by which an operation says what its author had seen
-//! (Sun and Chen, ACM TOCHI 9(1), 2002).
+//! State vectors: maps from sites to counts. An operation carries one to say which operations its
+//! author had seen (Sun and Chen, ACM TOCHI 9(1), 2002).
 #![tactic(auto)]
 
 ghost use Rattle.std.specs.Prelude.{◌≡◌, ℕ, List, [], true, false, ◌<◌, length, IfOk, OnErr};
 ghost use Rattle.std.specs.List.{HoldsAt};
 ghost use Rattle.std.specs.Result.{result_err};
-ghost use Rattle.op_names.specs.Faults.{FailsBy, OnFault};
+ghost use Rattle.base_types.specs.steps.Faults.{FailsBy, OnFault};
 ghost use Rattle.state_vector.specs.Vectors.{count_of, counts, covers, same_pairs};
 ghost use Rattle.state_vector.specs.Vectors.{pair_fault, vector_fault, is_vector};
 ghost use Rattle.state_vector.specs.declared.VectorFault.TheVariants as vector_fault_of;
 ghost use Rattle.std.specs.Cmp.Rules.{comparing};
 ghost use Rattle.std.proofs.Common.{rules};
 
-use op_names::{MAX_SEQ, MAX_SITE, NoMemory, OpName};
+use base_types::{MAX_SEQ, MAX_SITE, NoMemory, OpName};
 use smallvec::SmallVec;
 use std::alloc::{AllocError, Global};
 use std::marker::Model;
 use thiserror::Error;
 
-/// Why a list of pairs is no state vector: the first bad pair decides, and of its causes the first
-/// in this order.
+/// Why a list of pairs is not a state vector: the fault of the first bad pair, the first variant
+/// that applies in this order.
 #[derive(Clone, Copy, Debug, PartialEq, Eq, Error)]
 pub enum VectorFault {
     /// The site is not from 1 to 256, or the count is above 16,384.
@@ -28,7 +28,7 @@ pub enum VectorFault {
     #[error("a count is 0")]
     ZeroCount,
     /// The site is not above the one before it.
-    #[error("the sites do not rise")]
+    #[error("the sites do not increase strictly")]
     NotRising,
     #[error("out of memory")]
     NoMemory,
@@ -45,7 +45,8 @@ impl From<AllocError> for VectorFault {
 /// Pairs of a site and a count, of which up to four need no allocation: most vectors have no more.
 pub type SitePairs = SmallVec<(u32, u32), 4>;
 
-/// A map from sites to counts: strictly rising sites from 1 to 256, with counts from 1 to 16,384.
+/// A map from sites to counts: strictly increasing sites from 1 to 256, each with a count from 1 to
+/// 16,384.
 #[derive(Debug, Drop)]
 pub struct StateVector {
     pairs: SitePairs,
@@ -59,7 +60,7 @@ impl Model for StateVector {
     ghost invariant = { λ vector. is_vector vector.pairs.items ≡ true };
 }
 
-/// What is wrong with a pair that comes after the site `last`, 0 for the first pair.
+/// The fault of a pair that follows the site `last`, which is 0 for the first pair.
 fn pair_fault(last: u32, pair: (u32, u32)) -> Option<VectorFault>
     ensures { result ≡ pair_fault last pair }
 {
@@ -90,7 +91,7 @@ fn vector_fault(pairs: &[(u32, u32)]) -> Option<VectorFault>
     None
 }
 
-/// Are the pairs of some sites covered by those of others? Goes along both once.
+/// Do some pairs cover others, both by increasing site? Linear in both.
 fn covers(pairs: &[(u32, u32)], others: &[(u32, u32)]) -> bool
     requires pairs { is_vector pairs.now ≡ true }
     requires others { is_vector others.now ≡ true }
@@ -126,12 +127,16 @@ impl StateVector {
         }
     }
 
-    /// The vector of these pairs of a site and a count. Otherwise the fault of the first bad pair,
-    /// or `NoMemory`.
+    /// Makes a vector of a copy of these pairs of a site and a count. Linear in their number.
+    ///
+    /// # Errors
+    ///
+    /// - `OutOfRange`, `ZeroCount` or `NotRising`, the first that applies to the first bad pair.
+    /// - `NoMemory` if an allocation failed.
     pub fn from_pairs(alloc: Global, pairs: &[(u32, u32)]) -> Result<StateVector, VectorFault>
         ensures ok { IfOk result (λ vector. (vector ≡ pairs.now) × (is_vector pairs.now ≡ true)) }
         ensures fault { FailsBy VectorFault.NoMemory (vector_fault pairs.now) result }
-        ensures refused { OnFault VectorFault.NoMemory result (is_vector pairs.now ≡ false) }
+        ensures invalid { OnFault VectorFault.NoMemory result (is_vector pairs.now ≡ false) }
     {
         if let Some(fault) = vector_fault(pairs) {
             return Err(fault);
@@ -140,12 +145,15 @@ impl StateVector {
         Ok(StateVector { pairs })
     }
 
-    /// The vector of these pairs of a site and a count, which it takes as they stand. Otherwise the
-    /// fault of the first bad pair.
+    /// Makes a vector of these pairs of a site and a count, without an allocation.
+    ///
+    /// # Errors
+    ///
+    /// `OutOfRange`, `ZeroCount` or `NotRising`, the first that applies to the first bad pair.
     pub fn from_site_pairs(pairs: SitePairs) -> Result<StateVector, VectorFault>
         ensures ok { IfOk result (λ vector. vector ≡ pairs.items) }
         ensures fault { result_err result ≡ vector_fault pairs.items }
-        ensures refused { OnErr result (is_vector pairs.items ≡ false) }
+        ensures invalid { OnErr result (is_vector pairs.items ≡ false) }
     {
         match vector_fault(&pairs) {
             Some(fault) => Err(fault),
@@ -172,21 +180,21 @@ impl StateVector {
         }
     }
 
-    /// Does it count the operation of this name?
+    /// Does the vector count the operation of this name?
     pub fn has(&self, name: OpName) -> bool
         ensures { result ≡ counts self.now name }
     {
         name.seq() <= self.count(name.site())
     }
 
-    /// Does it count all that the other counts? Goes along both once.
+    /// Does it count everything that the other vector counts? Linear in both.
     pub fn covers(&self, other: &StateVector) -> bool
         ensures { result ≡ covers self.now other.now }
     {
         covers(&self.pairs, &other.pairs)
     }
 
-    /// Its pairs of a site and a count, with the sites rising.
+    /// Its pairs of a site and a count, by increasing site.
     pub fn pairs(&self) -> &[(u32, u32)]
         ensures pairs { result.now ≡ self.now }
         ensures range { is_vector self.now ≡ true }
@@ -194,7 +202,11 @@ impl StateVector {
         &self.pairs
     }
 
-    /// Another one of the same pairs.
+    /// Returns an equal copy.
+    ///
+    /// # Errors
+    ///
+    /// `NoMemory` if an allocation failed.
     pub fn copy(&self, alloc: Global) -> Result<StateVector, NoMemory>
         ensures { IfOk result (λ vector. vector ≡ self.now) }
     {

@@ -3,20 +3,21 @@ use Rattle.std.proofs.Common.{◌≡◌, ℕ, List, [], ◌∷◌, true, Some, r
 use Rattle.std.specs.Prelude.{◌↔◌}
 use Rattle.std.proofs.lemmas.Option.{cond_some}
 use Rattle.serde_json.specs.Data.{Data}
-use Rattle.op_names.specs.declared.op_name.TheConstants.{MAX_SITE}
+use Rattle.base_types.specs.declared.op_name.TheConstants.{MAX_SITE}
 use Rattle.wire.specs.declared.request.Request.{Request}
 use Rattle.wire.specs.declared.reply.Reply.{Reply}
 use Rattle.wire.specs.Form.{list_form, whole_form}
-use Rattle.wire.specs.Reading.{items_in, whole_in, field_at, end_at}
-use Rattle.wire.specs.Requests.{request_of}
-use Rattle.wire.specs.Replies.{reply_of}
+use Rattle.wire.specs.steps.Reading.{items_in, whole_in, field_at, end_at}
+use Rattle.wire.specs.steps.Requests.{request_of}
+use Rattle.wire.specs.steps.Replies.{reply_of}
 use Rattle.wire.proofs.Exact.{ReadsForms, bind_some, items_take, items_again, exact_end, field_some}
 use Rattle.wire.proofs.PartForms.{exact_site}
 use Rattle.wire.proofs.Requests.{reads_requests}
 use Rattle.wire.proofs.Replies.{reads_replies}
 use Rattle.wire.proofs.ByForm.{texts_by_form, one_value}
 use Rattle.transcript.specs.declared.line.TranscriptLine.{TranscriptLine}
-use Rattle.transcript.specs.Lines.{go_together, IsLineForm, IsLine, IsLineText, line_with, line_at, line_of, line_read}
+use Rattle.transcript.specs.Lines.{go_together, IsLineForm, IsLine, IsLineText}
+use Rattle.transcript.specs.steps.Reads.{line_with, line_at, line_of, line_read}
 
 with_takes : (site : ℕ) (request : Request) (reply : Reply) (line : TranscriptLine) → line_with site request reply ≡ Some line → (go_together site request reply ≡ true) × (record { site = site; request = request; reply = reply } ≡ line)
 with_takes site request reply line e = cond_some (go_together site request reply) (record { site = site; request = request; reply = reply }) line e

@@ -2,10 +2,10 @@
 use Rattle.std.proofs.Common.{◌≡◌, ℕ, true, false, List, [], ◌∷◌, ◌++◌, map, Option, Some, refl, sym, ap, subst, ◌∙◌, append_assoc}
 use Rattle.std.proofs.lemmas.List.{map-append}
 use Rattle.transcript.specs.declared.line.TranscriptLine.{TranscriptLine}
-use Rattle.transcript.specs.Lines.{line_read}
+use Rattle.transcript.specs.steps.Reads.{line_read}
 use Rattle.transcript.specs.Order.{AreInOrder}
-use Rattle.transcript.specs.Fronts.{IsNoNext, IsFront}
-use Rattle.transcript.specs.Tables.{OrderedLines}
+use Rattle.transcript.specs.steps.Fronts.{IsNoNext, IsFront}
+use Rattle.transcript.specs.steps.Tables.{OrderedLines}
 
 -- the first lines of the file are read, and these are left
 pub record IsReadSoFar (count : ℕ) (file : List (List ℕ)) (ordered : OrderedLines) (rest : List (List ℕ)) : Type 0 where

@@ -7,12 +7,12 @@ use Rattle.std.proofs.lemmas.List.{get_or_append_left}
 use Rattle.std.proofs.lemmas.List.Elements.{All-push}
 use Rattle.std.proofs.lemmas.List.Quantifiers.{all_pairs_push}
 use Rattle.std.proofs.Math.Seq.{get_or-append_seam}
-use Rattle.op_names.specs.Names.{is_site}
-use Rattle.op_names.specs.declared.op_name.TheConstants.{MAX_SITE}
+use Rattle.base_types.specs.Names.{is_site}
+use Rattle.base_types.specs.declared.op_name.TheConstants.{MAX_SITE}
 use Rattle.transcript.specs.declared.line.TranscriptLine.{TranscriptLine}
 use Rattle.transcript.specs.Lines.{IsLine, adds, at_of, entries_after}
 use Rattle.transcript.specs.Order.{IsInOrder, IsNext, AreInOrder}
-use Rattle.transcript.specs.Tables.{OrderedLines, IsReached, IsFree, AreTables}
+use Rattle.transcript.specs.steps.Tables.{OrderedLines, IsReached, IsFree, AreTables}
 
 pub site_fits : (line : TranscriptLine) → IsLine line → line.site ≤ MAX_SITE
 site_fits line h = let site : is_site line.site ≡ true = h.site in grind (arith, nat_tests)

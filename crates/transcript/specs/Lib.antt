@@ -1,4 +1,3 @@
 pub mod Lines
 pub mod Order
-pub mod Fronts
-pub mod Tables
+pub mod steps

@@ -1,14 +1,14 @@
-//! As many lines of a transcript as are in form and in order.
+//! Reading a transcript as far as its lines are in form and in order.
 
 ghost use Rattle.std.specs.Prelude.{◌≡◌, IfOk};
 ghost use Rattle.wire.specs.Lines.{lines_of};
-ghost use Rattle.transcript.specs.Fronts.{IsFront};
-ghost use Rattle.transcript.specs.Tables.{IsNextIn};
+ghost use Rattle.transcript.specs.steps.Fronts.{IsFront};
+ghost use Rattle.transcript.specs.steps.Tables.{IsNextIn};
 
 use crate::line::{TranscriptLine, read_line};
 use crate::lines::first_line;
 use crate::order::Order;
-use op_names::NoMemory;
+use base_types::NoMemory;
 use std::alloc::Global;
 use std::marker::Model;
 use wire::if_in_form;
@@ -21,14 +21,14 @@ pub struct Front {
 }
 
 impl Model for Front {
-    ghost use Rattle.transcript.specs.Fronts.{FrontLines};
+    ghost use Rattle.transcript.specs.steps.Fronts.{FrontLines};
 
     ghost Value = { FrontLines };
 
     ghost view = { λ front. record { lines = front.lines.items; stopped = front.stopped } };
 }
 
-/// The line that the bytes are a text of, where it may come next.
+/// The line that the bytes encode, if it is in form and may come next.
 fn next_line(alloc: Global, order: &Order, bytes: &[u8]) -> Result<Option<TranscriptLine>, NoMemory>
     ensures { IfOk result (IsNextIn order.now bytes.now) }
 {
@@ -39,8 +39,11 @@ fn next_line(alloc: Global, order: &Order, bytes: &[u8]) -> Result<Option<Transc
 }
 
 impl Front {
-    /// The lines of a transcript of a record with so many entries, up to the first that is not in form
-    /// or may not come next. Linear in the bytes and the entries, in time and in memory.
+    /// Reads a transcript of a record with `count` entries, up to the first line that is not in
+    /// form or may not come next. Linear in the bytes and in `count`, in time and in memory.
+    ///
+    /// # Errors
+    /// `NoMemory` if an allocation failed.
     pub fn read(alloc: Global, count: usize, transcript: &[u8]) -> Result<Front, NoMemory>
         ensures { IfOk result (IsFront count (lines_of transcript.now)) }
     {
@@ -63,14 +66,14 @@ impl Front {
         })
     }
 
-    /// The lines, in their order.
+    /// The lines that were read, in order.
     pub fn lines(&self) -> &[TranscriptLine]
         ensures { result.now ≡ self.now.lines }
     {
         self.lines.as_slice()
     }
 
-    /// Is there a line after them that is not in form or may not come next?
+    /// Returns whether a line follows that is not in form or may not come next.
     pub fn is_stopped(&self) -> bool
         ensures { result ≡ self.now.stopped }
     {

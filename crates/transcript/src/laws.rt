@@ -1,8 +1,9 @@
-//! Laws of the form of a line.
+//! Laws of the form of a line. These functions have no effect at run time.
 
 ghost use Rattle.std.specs.Prelude.{◌≡◌, ◌↔◌, List, ℕ, Some};
 ghost use Rattle.transcript.specs.declared.line.TranscriptLine.{TranscriptLine};
-ghost use Rattle.transcript.specs.Lines.{IsLineText, line_read};
+ghost use Rattle.transcript.specs.Lines.{IsLineText};
+ghost use Rattle.transcript.specs.steps.Reads.{line_read};
 
 /// Bytes are a text of at most one line.
 #[tactic(auto, using(crate::proofs::LineTexts::one_line))]
@@ -11,7 +12,7 @@ pub fn one_line()
         → IsLineText bytes p → IsLineText bytes q → p ≡ q }
 {}
 
-/// The line that bytes are read as is the one that they are a text of.
+/// Reading bytes gives the line that they are a text of.
 #[tactic(auto, using(crate::proofs::LineTexts::lines_by_form))]
 pub fn lines_by_form()
     ensures { (bytes : List ℕ) (line : TranscriptLine) →

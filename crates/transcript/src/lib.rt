@@ -1,5 +1,5 @@
-//! Transcripts: what the sites of a room asked and were answered, a line each, and the order in which
-//! such lines may stand.
+//! Transcripts: one line for each request of a site and its reply, and the order in which lines may
+//! stand.
 #![tactic(auto)]
 
 mod front;

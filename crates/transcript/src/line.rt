@@ -2,48 +2,53 @@
 
 ghost use Rattle.std.specs.Prelude.{◌≡◌, ◌≤◌};
 ghost use Rattle.serde_json.specs.View.{view};
-ghost use Rattle.wire.specs.Reading.{Gives};
+ghost use Rattle.wire.specs.steps.Reading.{Gives};
 ghost use Rattle.rules.specs.declared.limits.TheConstants.Limits.{MAX_ENTRIES};
-ghost use Rattle.transcript.specs.Lines.{adds, at_of, entries_after, is_join, is_joined, is_returned, is_answer, go_together, line_with, line_of, line_read};
+ghost use Rattle.transcript.specs.Lines.{adds, at_of, entries_after, is_join, is_joined};
+ghost use Rattle.transcript.specs.Lines.{is_returned, is_answer, go_together};
+ghost use Rattle.transcript.specs.steps.Reads.{line_with, line_of};
+ghost use Rattle.transcript.specs.steps.Reads.{line_read};
 
-use op_names::MAX_SITE;
+use base_types::MAX_SITE;
 use serde_json::Value;
 use std::alloc::Global;
 use wire::{ReadFault, Reply, Request, items_of, json_of, reply_of, request_of, whole_of};
 
-/// What a site asked, and what it was answered.
+/// A request of a site, and the reply to it.
 #[derive(Drop)]
 pub struct TranscriptLine {
-    /// The site, from 1 to 256: of a join the one that it was given, of a back the one that it
-    /// asks for.
+    /// The site, from 1 to 256. For a join it is the site that joined, and for a back the site that
+    /// returned.
     pub site: u32,
+    /// What the site asked.
     pub request: Request,
+    /// What the room replied.
     pub reply: Reply,
 }
 
-/// Is the request a join?
+/// Returns whether the request is a join.
 pub fn is_join(request: &Request) -> bool
     ensures { result ≡ is_join request.now }
 {
     matches!(request, Request::Join { .. })
 }
 
-/// Is it a join that was let in?
+/// Returns whether the reply lets a new site in.
 fn is_joined(reply: &Reply) -> bool
     ensures { result ≡ is_joined reply.now }
 {
     matches!(reply, Reply::Joined { .. })
 }
 
-/// Does it let a site in again?
+/// Returns whether the reply lets a site in again.
 fn is_returned(reply: &Reply) -> bool
     ensures { result ≡ is_returned reply.now }
 {
     matches!(reply, Reply::Returned { .. })
 }
 
-/// Is it what a room answers to a site that is in? It doesn't let the site in again, and is no
-/// refusal of the codes 1 to 4, 19 and 20.
+/// Returns whether a room may give this reply to a site that is in it. It is not `back`, and no
+/// refusal with code 1 to 4, 19 or 20.
 fn is_answer(reply: &Reply) -> bool
     ensures { result ≡ is_answer reply.now }
 {
@@ -54,7 +59,7 @@ fn is_answer(reply: &Reply) -> bool
     }
 }
 
-/// May this site's request and this reply stand in one line?
+/// Returns whether this request of the site and this reply may stand in one line.
 fn go_together(site: u32, request: &Request, reply: &Reply) -> bool
     ensures { result ≡ go_together site request.now reply.now }
 {
@@ -65,7 +70,7 @@ fn go_together(site: u32, request: &Request, reply: &Reply) -> bool
     }
 }
 
-/// Does the reply say that an entry was added?
+/// Returns whether the reply reports a new entry.
 pub fn adds(reply: &Reply) -> bool
     ensures { result ≡ adds reply.now }
 {
@@ -75,7 +80,7 @@ pub fn adds(reply: &Reply) -> bool
     )
 }
 
-/// How many entries there were before the call, as the reply says.
+/// The number of entries before the call, as the reply reports it.
 pub fn at_of(reply: &Reply) -> u32
     ensures { result ≡ at_of reply.now }
 {
@@ -92,7 +97,7 @@ pub fn at_of(reply: &Reply) -> u32
     }
 }
 
-/// How many entries there were after the call, as the reply says.
+/// The number of entries after the call, as the reply reports it.
 pub(crate) fn entries_after(reply: &Reply) -> u32
     requires { at_of reply.now ≤ MAX_ENTRIES }
     ensures { result ≡ entries_after reply.now }
@@ -104,7 +109,7 @@ pub(crate) fn entries_after(reply: &Reply) -> u32
     }
 }
 
-/// The line of these three, where request and reply may stand together.
+/// The line of these three values. `Bad` if request and reply may not stand together.
 fn line_with(site: u32, request: Request, reply: Reply) -> Result<TranscriptLine, ReadFault>
     ensures { Gives (λ line. line) result (line_with site request reply) }
 {
@@ -119,8 +124,8 @@ fn line_with(site: u32, request: Request, reply: Reply) -> Result<TranscriptLine
     }
 }
 
-/// The line whose form a JSON value is. Otherwise `Bad`, or `NoMemory`.
-#[tactic(auto, unfolding(crate::specs::Lines::line_of, crate::specs::Lines::line_at))]
+/// The line that a JSON value encodes. `Bad` if there is none, `NoMemory` if an allocation failed.
+#[tactic(auto, unfolding(crate::specs::steps::Reads::line_of, crate::specs::steps::Reads::line_at))]
 fn line_of(alloc: Global, value: &Value) -> Result<TranscriptLine, ReadFault>
     ensures { Gives (λ line. line) result (line_of (view value.now)) }
 {
@@ -133,9 +138,9 @@ fn line_of(alloc: Global, value: &Value) -> Result<TranscriptLine, ReadFault>
     line_with(site, request, reply)
 }
 
-/// The line that the bytes are a text of: UTF-8 that holds one JSON value, the line's form.
-/// Otherwise `Bad`, or `NoMemory`. Linear in the bytes.
-#[tactic(auto, unfolding(crate::specs::Lines::line_read))]
+/// The line that the bytes encode: UTF-8 text of one JSON value in the form of a line. Linear in
+/// the bytes. `Bad` if there is none, `NoMemory` if an allocation failed.
+#[tactic(auto, unfolding(crate::specs::steps::Reads::line_read))]
 pub(crate) fn read_line(alloc: Global, bytes: &[u8]) -> Result<TranscriptLine, ReadFault>
     ensures { Gives (λ line. line) result (line_read bytes.now) }
 {

@@ -1,27 +1,27 @@
-//! Lines in order, with tables that tell whether another may come next.
+//! Lines in order, with tables that decide in constant time whether another line may come next.
 
 ghost use Rattle.std.specs.Prelude.{◌≡◌, ◌↔◌, ◌++◌, ◌∷◌, [], IfOk, OnOk, OnErr, IsTrue};
 ghost use Rattle.transcript.specs.Lines.{IsLine};
 ghost use Rattle.transcript.specs.Order.{IsNext, AreInOrder};
 
 use crate::line::{TranscriptLine, adds, at_of, entries_after};
-use op_names::{MAX_SITE, NoMemory};
+use base_types::{MAX_SITE, NoMemory};
 use std::alloc::Global;
 use std::marker::Model;
 
-/// The lines of a transcript so far, of a record with so many entries.
+/// The lines of a transcript so far, of a record with `count` entries.
 #[derive(Drop)]
 pub(crate) struct Order {
     count: usize,
     lines: Vec<TranscriptLine>,
-    /// Of each site, how many entries there were after its lines.
+    /// By site: the number of entries after the site's last line.
     reached: Vec<u32>,
-    /// Of each place, whether some line says that it added the entry there.
+    /// By place in the record: whether a line reports that it added this entry.
     claimed: Vec<bool>,
 }
 
 impl Model for Order {
-    ghost use Rattle.transcript.specs.Tables.{OrderedLines, AreTables};
+    ghost use Rattle.transcript.specs.steps.Tables.{OrderedLines, AreTables};
 
     ghost Value = { OrderedLines };
 
@@ -33,8 +33,8 @@ impl Model for Order {
 }
 
 impl Order {
-    /// No lines yet, of a record with so many entries. `NoMemory` also where one more than these
-    /// doesn't fit. Linear in their number.
+    /// No lines yet, of a record with `count` entries. `NoMemory` if an allocation failed, or if
+    /// `count + 1` overflows. Linear in `count`.
     pub(crate) fn new(alloc: Global, count: usize) -> Result<Order, NoMemory>
         ensures count { IfOk result (λ order. order.count ≡ count) }
         ensures lines { IfOk result (λ order. order.lines ≡ []) }
@@ -50,7 +50,7 @@ impl Order {
         })
     }
 
-    /// May the line come next? In constant time.
+    /// Returns whether the line may come next. Constant time.
     pub(crate) fn takes(&self, line: &TranscriptLine) -> bool
         requires { IsLine line.now }
         ensures { IsTrue result ↔ IsNext self.now.count self.now.lines line.now }
@@ -61,8 +61,8 @@ impl Order {
             && !(adds(&line.reply) && self.claimed[at as usize])
     }
 
-    /// The line comes next. `NoMemory` changes nothing. In constant time, but for the growth of the
-    /// list of lines.
+    /// Adds the next line. `NoMemory` if an allocation failed; then nothing has changed. Amortized
+    /// constant time.
     pub(crate) fn take(&mut self, line: TranscriptLine) -> Result<(), NoMemory>
         requires in_form { IsLine line }
         requires next { IsNext self.old.count self.old.lines line }
@@ -82,7 +82,7 @@ impl Order {
         Ok(())
     }
 
-    /// The lines.
+    /// The lines, in order.
     pub(crate) fn into_lines(self) -> Vec<TranscriptLine>
         ensures lines { result.items ≡ self.lines }
         ensures order { AreInOrder self.count self.lines }

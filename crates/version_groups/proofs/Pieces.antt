@@ -5,13 +5,13 @@ use Rattle.std.proofs.lemmas.List.{append-nil, take_more, map-append}
 use Rattle.std.proofs.lemmas.List.Elements.{filter-append}
 use Rattle.std.specs.Prelude.{All}
 use Rattle.std.proofs.lemmas.List.Elements.{All-nil, All-cons, All-same}
-use Rattle.op_names.specs.Names.{Name}
+use Rattle.base_types.specs.Names.{Name}
 use Rattle.rules.specs.Groups.{in_conflict_with}
 use Rattle.rules.proofs.Lists.{In-filter_back, filter_agree}
-use Rattle.places.specs.Relations.{IsRelation}
+use Rattle.places.specs.steps.Relations.{IsRelation}
 use Rattle.places.proofs.Places.{below, has-filter, with_place_last, in_if_has, has_if_in}
-use Rattle.places.specs.Members.{has, is_within, with_place, places}
-use Rattle.version_groups.specs.Steps.{AreBelow, group_after, candidate, incompatible_groups}
+use Rattle.places.specs.steps.PlaceSet.{has, is_within, with_place, places}
+use Rattle.version_groups.specs.steps.Steps.{AreBelow, group_after, candidate, incompatible_groups}
 
 -- what a test keeps of places below n is below n
 filtered_below : (p : ℕ → Bool) (n : ℕ) (g : List ℕ) → AreBelow n g → AreBelow n (filter p g)
@@ -31,16 +31,16 @@ pub one_low : (n place : ℕ) (one : List ℕ) → one ≡ place ∷ [] → plac
 one_low n place one e l = All-same (λ x. x < n) one (place ∷ []) e (All-cons (λ x. x < n) place [] l (All-nil (λ x. x < n)))
 
 -- the places below one without those that it is in conflict with
-pub compatible_is : (n : ℕ) (name : ℕ → Name) (clash : ℕ → ℕ → Bool) → IsRelation n name clash → (place : ℕ) → place < n → (one conflicting first compatible : List ℕ)
-    → one ≡ place ∷ [] → conflicting ≡ filter (in_conflict_with clash one) (places n) → first ≡ places place → compatible ≡ filter (λ x. not (has conflicting x)) first
-    → compatible ≡ filter (λ x. not (clash place x)) (places place)
-compatible_is n name clash r place l one conflicting first compatible o m f e =
+pub compatible_is : (n : ℕ) (name : ℕ → Name) (is_conflict : ℕ → ℕ → Bool) → IsRelation n name is_conflict → (place : ℕ) → place < n → (one conflicting first compatible : List ℕ)
+    → one ≡ place ∷ [] → conflicting ≡ filter (in_conflict_with is_conflict one) (places n) → first ≡ places place → compatible ≡ filter (λ x. not (has conflicting x)) first
+    → compatible ≡ filter (λ x. not (is_conflict place x)) (places place)
+compatible_is n name is_conflict r place l one conflicting first compatible o m f e =
     e
     ∙ ap (filter (λ x. not (has conflicting x))) f
-    ∙ filter_agree (λ x. not (has conflicting x)) (λ x. not (clash place x)) (places place) (λ x i.
+    ∙ filter_agree (λ x. not (has conflicting x)) (λ x. not (is_conflict place x)) (places place) (λ x i.
     let b : x < place = below place x i in
     let w : x < n = omega arith in
-    ap not (ap (λ (v : List ℕ). has v x) m ∙ has-filter (in_conflict_with clash one) n x w ∙ ap (λ (v : List ℕ). in_conflict_with clash v x) o ∙ or_none (clash x place) ∙ r.both_ways x place w l))
+    ap not (ap (λ (v : List ℕ). has v x) m ∙ has-filter (in_conflict_with is_conflict one) n x w ∙ ap (λ (v : List ℕ). in_conflict_with is_conflict v x) o ∙ or_none (is_conflict x place) ∙ r.both_ways x place w l))
   where
     or_none : (b : Bool) → (b || false) ≡ b
     or_none true = refl

@@ -1,14 +1,14 @@
-//! One place more: each group takes it in or stays, and what is compatible of a group that stays is
-//! a candidate.
+//! One more place. Each group takes the place in, or stays. What of a group that stays is
+//! compatible with the place becomes a candidate for a new group.
 
 ghost use Rattle.std.specs.Prelude.{◌≡◌, ◌-◌, ◌<◌, map, filter, not, IfOk, OnOk, All};
 ghost use Rattle.std.specs.List.{list_any};
-ghost use Rattle.places.specs.Members.{has, is_within, places, with_place};
-ghost use Rattle.version_groups.specs.Kept.{AreGroups};
-ghost use Rattle.version_groups.specs.Steps.{group_after, candidate, incompatible_groups, sift, next_groups, with_candidate, AreBelow};
+ghost use Rattle.places.specs.steps.PlaceSet.{has, is_within, places, with_place};
+ghost use Rattle.version_groups.specs.steps.Kept.{AreGroups};
+ghost use Rattle.version_groups.specs.steps.Steps.{group_after, candidate, incompatible_groups, sift, next_groups, with_candidate, AreBelow};
 
-use op_names::NoMemory;
-use places::{Members, Relation};
+use base_types::NoMemory;
+use places::{PlaceSet, Relation};
 use std::alloc::Global;
 use std::collections::VecDeque;
 
@@ -17,12 +17,13 @@ use std::collections::VecDeque;
 pub(crate) fn groups_with_last<R: Relation>(
     alloc: Global,
     relation: &R,
-    kept: &[Members],
-) -> Result<Vec<Members>, NoMemory>
+    kept: &[PlaceSet],
+) -> Result<Vec<PlaceSet>, NoMemory>
     requires some { 0 < R.size relation.now }
-    requires kept { AreGroups (R.clashes relation.now) (places (R.size relation.now - 1)) kept.now }
+    requires kept { AreGroups (R.conflicts relation.now) (places (R.size relation.now - 1))
+        kept.now }
     ensures { IfOk result (λ next.
-        AreGroups (R.clashes relation.now) (places (R.size relation.now)) next.items) }
+        AreGroups (R.conflicts relation.now) (places (R.size relation.now)) next.items) }
 {
     let place = relation.len() - 1;
     let compatible = compatible_places(alloc, relation, place)?;
@@ -34,27 +35,27 @@ fn compatible_places<R: Relation>(
     alloc: Global,
     relation: &R,
     place: u32,
-) -> Result<Members, NoMemory>
+) -> Result<PlaceSet, NoMemory>
     requires { place < R.size relation.now }
     ensures { IfOk result (λ compatible. compatible
-        ≡ filter (λ other. not (R.clashes relation.now place other)) (places place)) }
+        ≡ filter (λ other. not (R.conflicts relation.now place other)) (places place)) }
 {
     // With the length of a relation comes that conflict goes both ways.
     let _ = relation.len();
-    let mut one = Members::empty(alloc);
+    let mut one = PlaceSet::empty(alloc);
     one.insert(place)?;
     let conflicting = relation.in_conflict_with(alloc, &one)?;
-    let below = Members::first_places(alloc, place)?;
+    let below = PlaceSet::first_places(alloc, place)?;
     below.without(alloc, &conflicting)
 }
 
 /// The groups with one place more.
 fn step(
     alloc: Global,
-    kept: &[Members],
-    compatible: &Members,
+    kept: &[PlaceSet],
+    compatible: &PlaceSet,
     place: u32,
-) -> Result<Vec<Members>, NoMemory>
+) -> Result<Vec<PlaceSet>, NoMemory>
     requires { All (AreBelow place) kept.now }
     ensures { IfOk result (λ next.
         next.items ≡ next_groups (has compatible.now) place kept.now) }
@@ -65,7 +66,7 @@ fn step(
 }
 
 /// A group with the place.
-fn with_place(alloc: Global, group: &Members, place: u32) -> Result<Members, NoMemory>
+fn with_place(alloc: Global, group: &PlaceSet, place: u32) -> Result<PlaceSet, NoMemory>
     ensures { IfOk result (λ members. members ≡ with_place place group.now) }
 {
     let mut members = group.copy(alloc)?;
@@ -77,10 +78,10 @@ fn with_place(alloc: Global, group: &Members, place: u32) -> Result<Members, NoM
 #[tactic(auto, using(crate::proofs::Pieces::candidate_is))]
 fn candidate_of(
     alloc: Global,
-    group: &Members,
-    compatible: &Members,
+    group: &PlaceSet,
+    compatible: &PlaceSet,
     place: u32,
-) -> Result<Members, NoMemory>
+) -> Result<PlaceSet, NoMemory>
     requires { AreBelow place group.now }
     ensures { IfOk result (λ members.
         members ≡ candidate (has compatible.now) place group.now) }
@@ -93,10 +94,10 @@ fn candidate_of(
 /// Each group, with the place where they are compatible, and a candidate for each that isn't.
 fn groups_and_candidates(
     alloc: Global,
-    groups: &[Members],
-    compatible: &Members,
+    groups: &[PlaceSet],
+    compatible: &PlaceSet,
     place: u32,
-) -> Result<(Vec<Members>, VecDeque<Members>), NoMemory>
+) -> Result<(Vec<PlaceSet>, VecDeque<PlaceSet>), NoMemory>
     requires { All (AreBelow place) groups.now }
     ensures groups { IfOk result (λ both. both.0.items
         ≡ map (group_after (has compatible.now) place) groups.now) }
@@ -116,10 +117,10 @@ fn groups_and_candidates(
     Ok((next, candidates))
 }
 
-/// Puts each candidate behind the groups, but those that lie in a group or in a later candidate.
+/// Appends each candidate that is part of no group and of no later candidate.
 fn add_candidates(
-    groups: &mut Vec<Members>,
-    mut candidates: VecDeque<Members>,
+    groups: &mut Vec<PlaceSet>,
+    mut candidates: VecDeque<PlaceSet>,
 ) -> Result<(), NoMemory>
     ensures { OnOk result (groups.new.items ≡ sift groups.old.items candidates.items) }
 {
@@ -129,11 +130,11 @@ fn add_candidates(
     Ok(())
 }
 
-/// Puts a candidate behind the groups, where it lies in none of them and in no later candidate.
+/// Appends a candidate if it is part of no group and of no later candidate.
 fn add_candidate(
-    groups: &mut Vec<Members>,
-    candidate: Members,
-    later: &VecDeque<Members>,
+    groups: &mut Vec<PlaceSet>,
+    candidate: PlaceSet,
+    later: &VecDeque<PlaceSet>,
 ) -> Result<(), NoMemory>
     ensures { OnOk result (groups.new.items
         ≡ with_candidate groups.old.items candidate later.now.items) }
@@ -144,15 +145,15 @@ fn add_candidate(
     Ok(())
 }
 
-/// Does a candidate lie in one of the groups?
-fn lies_in(candidate: &Members, groups: &[Members]) -> bool
+/// Is a candidate part of one of the groups?
+fn lies_in(candidate: &PlaceSet, groups: &[PlaceSet]) -> bool
     ensures { result ≡ list_any (is_within candidate.now) groups.now }
 {
     groups.iter().any(|group| candidate.is_subset(group))
 }
 
-/// Does a candidate lie in one of the later candidates?
-fn lies_in_later(candidate: &Members, later: &VecDeque<Members>) -> bool
+/// Is a candidate part of one of the later candidates?
+fn lies_in_later(candidate: &PlaceSet, later: &VecDeque<PlaceSet>) -> bool
     ensures { result ≡ list_any (is_within candidate.now) later.now.items }
 {
     later.iter().any(|other| candidate.is_subset(other))

@@ -11,8 +11,8 @@ use Rattle.std.proofs.lemmas.Bool.{true≢false, false_from_ne_true, and_parts, 
 use Rattle.std.proofs.lemmas.Cmp.{tied_itself}
 use Rattle.std.proofs.lemmas.List.{nil_from_length}
 use Rattle.std.proofs.lemmas.List.Sorted.{searchable_from_sorted}
-use Rattle.op_names.specs.Names.{Name, name_cmp, same_name}
-use Rattle.op_names.specs.VersionIds.{names_rise}
+use Rattle.base_types.specs.Names.{Name, name_cmp, same_name}
+use Rattle.base_types.specs.VersionIds.{names_rise}
 use Rattle.rules.specs.Groups.{is_named}
 use Rattle.rules.proofs.Counted.{same_name-true, same_name-refl}
 use Rattle.rules.proofs.Lists.{In, In-from_Contains, Contains-from_In, any_from, any_back}

@@ -5,13 +5,13 @@ use Rattle.std.proofs.lemmas.Bool.{cases_Bool}
 use Rattle.std.proofs.lemmas.List.FromFn.{length-range_with_len, get_or-range_with_len}
 use Rattle.rules.proofs.Lists.{In, In-filter_back, filter_agree}
 use Rattle.rules.proofs.Once.{Once, Once-filter}
-use Rattle.places.specs.Members.{has, places}
+use Rattle.places.specs.steps.PlaceSet.{has, places}
 use Rattle.places.proofs.Rising.{among_places, range_rises}
 use Rattle.places.proofs.Places.{Once-places, below, has-filter, all_below, skip_next}
-use Rattle.op_names.specs.Names.{Name, name_cmp}
+use Rattle.base_types.specs.Names.{Name, name_cmp}
 use Rattle.rules.specs.Lists.{sort_by}
 use Rattle.rules.specs.Groups.{identifier, in_conflict_with}
-use Rattle.version_ids.specs.Scopes.{places_in_conflict, AreAmong}
+use Rattle.version_ids.specs.steps.Scopes.{places_in_conflict, AreAmong}
 
 pub low : (n : ℕ) (s : List ℕ) → AreAmong n s → (x : ℕ) → In x s → x < n
 low n s w x m = below n x (In-filter_back (has s) x (places n) (subst (λ l. In x l) (sym w) m)).0
@@ -70,11 +70,11 @@ all_low n s w = all_below (has s) n s (sym w)
 pub all_places : (n m : ℕ) (all : List ℕ) → m ≡ n → all ≡ places m → All (λ place. place < n) all
 all_places n m all q e = all_low n all (all_among n m all q e)
 
-pub conflicting_with_all : (clash : ℕ → ℕ → Bool) (n m : ℕ) (all conflicting : List ℕ) → m ≡ n → all ≡ places m → conflicting ≡ filter (in_conflict_with clash all) (places n) → conflicting ≡ places_in_conflict clash n
-conflicting_with_all clash n m all conflicting q e f = f ∙ ap (λ l. filter (in_conflict_with clash l) (places n)) (e ∙ ap places q)
+pub conflicting_with_all : (is_conflict : ℕ → ℕ → Bool) (n m : ℕ) (all conflicting : List ℕ) → m ≡ n → all ≡ places m → conflicting ≡ filter (in_conflict_with is_conflict all) (places n) → conflicting ≡ places_in_conflict is_conflict n
+conflicting_with_all is_conflict n m all conflicting q e f = f ∙ ap (λ l. filter (in_conflict_with is_conflict l) (places n)) (e ∙ ap places q)
 
 -- the identifier, by the places that are in conflict with some
-pub identified : (clash : ℕ → ℕ → Bool) (name : ℕ → Name) (n : ℕ) (scope s conflicting : List ℕ) (id : List Name) → AreAmong n s → conflicting ≡ filter (in_conflict_with clash scope) (places n)
-    → id ≡ sort_by name_cmp (map name (filter (has conflicting) s)) → id ≡ identifier clash name scope s
+pub identified : (is_conflict : ℕ → ℕ → Bool) (name : ℕ → Name) (n : ℕ) (scope s conflicting : List ℕ) (id : List Name) → AreAmong n s → conflicting ≡ filter (in_conflict_with is_conflict scope) (places n)
+    → id ≡ sort_by name_cmp (map name (filter (has conflicting) s)) → id ≡ identifier is_conflict name scope s
 unfolding identifier
-identified clash name n scope s conflicting id w e f = f ∙ ap (λ l. sort_by name_cmp (map name l)) (kept_conflicting n s conflicting (filter (has conflicting) s) (in_conflict_with clash scope) w e refl)
+identified is_conflict name n scope s conflicting id w e f = f ∙ ap (λ l. sort_by name_cmp (map name l)) (kept_conflicting n s conflicting (filter (has conflicting) s) (in_conflict_with is_conflict scope) w e refl)

@@ -2,59 +2,71 @@
 #![tactic(auto)]
 
 ghost use Rattle.std.specs.Prelude.{◌≡◌, ◌<◌, map, filter, not, All, IfOk, OnOk};
-ghost use Rattle.op_names.specs.Names.{name_cmp};
+ghost use Rattle.base_types.specs.Names.{name_cmp};
 ghost use Rattle.rules.specs.Groups.{in_conflict_with, identifier, group_named, is_named};
 ghost use Rattle.rules.specs.Lists.{sort_by, HasNoRepeats};
-ghost use Rattle.places.specs.Members.{has, places};
-ghost use Rattle.places.specs.Relations.{IsRelation};
-ghost use Rattle.version_ids.specs.Scopes.{places_in_conflict, AreAmong};
+ghost use Rattle.places.specs.steps.PlaceSet.{has, places};
+ghost use Rattle.places.specs.steps.Relations.{IsRelation};
+ghost use Rattle.version_ids.specs.steps.Scopes.{places_in_conflict, AreAmong};
 
-use op_names::{NoMemory, OpName, VersionId};
-use places::{Members, Relation};
+use base_types::{NoMemory, OpName, VersionId};
+use places::{PlaceSet, Relation};
 use std::alloc::Global;
 
 pub mod laws;
 
-/// The places that are in conflict with some place.
-pub fn places_in_conflict<R: Relation>(alloc: Global, relation: &R) -> Result<Members, NoMemory>
+/// The places that conflict with some place.
+///
+/// # Errors
+///
+/// `NoMemory` if an allocation failed.
+pub fn places_in_conflict<R: Relation>(alloc: Global, relation: &R) -> Result<PlaceSet, NoMemory>
     ensures { IfOk result (λ conflicting.
-        conflicting ≡ places_in_conflict (R.clashes relation.now) (R.size relation.now)) }
+        conflicting ≡ places_in_conflict (R.conflicts relation.now) (R.size relation.now)) }
 {
-    let all = Members::first_places(alloc, relation.len())?;
+    let all = PlaceSet::first_places(alloc, relation.len())?;
     relation.in_conflict_with(alloc, &all)
 }
 
-/// The identifier of a group of a relation's places: the rising list of the names of those members
-/// that are in conflict with some place. Those places (`places_in_conflict`) serve for each group.
+/// The identifier of a group: the names of its members that conflict with some place of the
+/// relation, in increasing order. `in_conflict` are the places that conflict with some place; they
+/// serve all groups.
+///
+/// # Errors
+///
+/// `NoMemory` if an allocation failed.
 #[tactic(auto, using(places::proofs::Rising::among_places))]
 pub fn id_by<R: Relation>(
     alloc: Global,
     relation: &R,
-    conflicting: &Members,
-    group: &Members,
+    conflicting: &PlaceSet,
+    group: &PlaceSet,
 ) -> Result<VersionId, NoMemory>
     requires conflicting { conflicting.now
-        ≡ places_in_conflict (R.clashes relation.now) (R.size relation.now) }
+        ≡ places_in_conflict (R.conflicts relation.now) (R.size relation.now) }
     requires group { All (λ place. place < R.size relation.now) group.now }
     ensures { let all = places (R.size relation.now) in IfOk result (λ id.
-        id ≡ identifier (R.clashes relation.now) (R.name_at relation.now) all group.now) }
+        id ≡ identifier (R.conflicts relation.now) (R.name_at relation.now) all group.now) }
 {
     group.rises();
     id_of_conflicting(alloc, relation, conflicting, group)
 }
 
-/// The group of the known places that has an identifier among them, or `None` where no group of
-/// them has it.
+/// The group of the known places with this identifier, or `None` if none of their groups has it.
+///
+/// # Errors
+///
+/// `NoMemory` if an allocation failed.
 #[tactic(auto, using(places::proofs::Rising::among_places))]
 pub fn resolve<R: Relation>(
     alloc: Global,
     relation: &R,
-    known: &Members,
+    known: &PlaceSet,
     id: &VersionId,
-) -> Result<Option<Members>, NoMemory>
+) -> Result<Option<PlaceSet>, NoMemory>
     requires { All (λ place. place < R.size relation.now) known.now }
     ensures { IfOk result (λ group. group
-        ≡ group_named (R.clashes relation.now) (R.name_at relation.now) known.now id.now) }
+        ≡ group_named (R.conflicts relation.now) (R.name_at relation.now) known.now id.now) }
 {
     known.rises();
     let named = places_named(alloc, relation, known, id)?;
@@ -71,15 +83,15 @@ pub fn resolve<R: Relation>(
 fn identifier_among<R: Relation>(
     alloc: Global,
     relation: &R,
-    scope: &Members,
-    group: &Members,
+    scope: &PlaceSet,
+    group: &PlaceSet,
 ) -> Result<VersionId, NoMemory>
     requires scope { AreAmong (R.size relation.now) scope.now }
     requires group { AreAmong (R.size relation.now) group.now }
     ensures id { IfOk result (λ id. id
-        ≡ identifier (R.clashes relation.now) (R.name_at relation.now) scope.now group.now) }
+        ≡ identifier (R.conflicts relation.now) (R.name_at relation.now) scope.now group.now) }
     ensures relation { OnOk result
-        (IsRelation (R.size relation.now) (R.name_at relation.now) (R.clashes relation.now)) }
+        (IsRelation (R.size relation.now) (R.name_at relation.now) (R.conflicts relation.now)) }
 {
     // With the length of a relation comes what it keeps.
     let _ = relation.len();
@@ -92,8 +104,8 @@ fn identifier_among<R: Relation>(
 fn id_of_conflicting<R: Relation>(
     alloc: Global,
     relation: &R,
-    conflicting: &Members,
-    group: &Members,
+    conflicting: &PlaceSet,
+    group: &PlaceSet,
 ) -> Result<VersionId, NoMemory>
     requires { AreAmong (R.size relation.now) group.now }
     ensures { let named = filter (has conflicting.now) group.now
@@ -109,8 +121,8 @@ fn id_of_conflicting<R: Relation>(
 fn names_in_conflict<R: Relation>(
     alloc: Global,
     relation: &R,
-    conflicting: &Members,
-    group: &Members,
+    conflicting: &PlaceSet,
+    group: &PlaceSet,
 ) -> Result<Vec<OpName>, NoMemory>
     requires { AreAmong (R.size relation.now) group.now }
     ensures { let named = filter (has conflicting.now) group.now
@@ -151,14 +163,14 @@ fn id_of_names(mut names: Vec<OpName>) -> VersionId
 fn places_named<R: Relation>(
     alloc: Global,
     relation: &R,
-    known: &Members,
+    known: &PlaceSet,
     id: &VersionId,
-) -> Result<Members, NoMemory>
+) -> Result<PlaceSet, NoMemory>
     requires { AreAmong (R.size relation.now) known.now }
     ensures { IfOk result (λ named.
         named ≡ filter (is_named (R.name_at relation.now) id.now) known.now) }
 {
-    let mut named = Members::empty(alloc);
+    let mut named = PlaceSet::empty(alloc);
     if id.names().is_empty() {
         return Ok(named);
     }
@@ -181,13 +193,14 @@ fn is_name_in(id: &VersionId, name: OpName) -> bool
 fn compatible_places<R: Relation>(
     alloc: Global,
     relation: &R,
-    known: &Members,
-    named: &Members,
-) -> Result<Members, NoMemory>
+    known: &PlaceSet,
+    named: &PlaceSet,
+) -> Result<PlaceSet, NoMemory>
     requires known { AreAmong (R.size relation.now) known.now }
     requires named { All (λ place. place < R.size relation.now) named.now }
     ensures { IfOk result (λ group. group
-        ≡ filter (λ place. not (in_conflict_with (R.clashes relation.now) named.now place)) known.now) }
+        ≡ filter (λ place. not (in_conflict_with (R.conflicts relation.now) named.now place))
+        known.now) }
 {
     let conflicting = relation.in_conflict_with(alloc, named)?;
     known.without(alloc, &conflicting)

@@ -6,8 +6,8 @@ use Rattle.rules.specs.AttrLists.{Attr, are_pairs, pairs_fault}
 use Rattle.rules.specs.declared.history.Body.{Body}
 use Rattle.rules.specs.declared.history.Body.TheVariants.{New, Put, DropVersion}
 use Rattle.wire.specs.Form.{list_form, names_form, WordAndFields, body_form, old_body_form, operation_form, IsBody, IsFormBy}
-use Rattle.wire.specs.Reading.{no_others, by_word, Words, WordReader}
-use Rattle.wire.specs.Bodies.{new_at, put_at, drop_at, set_at, body_words, body_at, operation_at}
+use Rattle.wire.specs.steps.Reading.{no_others, by_word, Words, WordReader}
+use Rattle.wire.specs.steps.Bodies.{new_at, put_at, drop_at, set_at, body_words, body_at, operation_at}
 use Rattle.wire.proofs.Exact.{IsExact, exact_end, exact_field, field_some, IsWordOf, word_of_fields, words_take, no_other_word, same_message}
 use Rattle.wire.proofs.PartForms.{exact_name, exact_seen, exact_id, exact_key, exact_kind, exact_value, exact_attrs, exact_pairs}
 

@@ -8,8 +8,8 @@ use Rattle.serde_json.specs.Read.{read}
 use Rattle.wire.specs.declared.fault.ReadFault.{ReadFault}
 use Rattle.wire.specs.declared.fault.ReadFault.TheVariants.{Bad, NoMemory}
 use Rattle.wire.specs.Form.{HasForm, IsTextOf}
-use Rattle.wire.specs.Reading.{Gives}
-use Rattle.wire.specs.Texts.{json_of, text_in}
+use Rattle.wire.specs.steps.Reading.{Gives}
+use Rattle.wire.specs.steps.Reads.{json_of, text_in}
 use Rattle.wire.proofs.Exact.{ReadsForms, bind_some, some_is}
 
 -- ---- what was given

@@ -7,9 +7,9 @@ use Rattle.rules.specs.declared.history.Op.{Op}
 use Rattle.rules.specs.declared.history.Body.{Body}
 use Rattle.rules.specs.declared.history.Body.TheVariants.{New, Put, DropVersion}
 use Rattle.wire.specs.Form.{list_form, whole_form, name_form, names_form, WordAndFields, body_form, old_body_form, entry_form_by, IsEntry, IsEntryForm}
-use Rattle.wire.specs.Reading.{name_in}
-use Rattle.wire.specs.Bodies.{operation_at}
-use Rattle.wire.specs.Entries.{join_at, change_at, entry_words, entry_of}
+use Rattle.wire.specs.steps.Reading.{name_in}
+use Rattle.wire.specs.steps.Bodies.{operation_at}
+use Rattle.wire.specs.steps.Entries.{join_at, change_at, entry_words, entry_of}
 use Rattle.wire.proofs.Exact.{ReadsForms, bind_some, some_is, exact_end, exact_field, IsWordOf, word_of_fields, message_takes, message_again}
 use Rattle.wire.proofs.PartForms.{exact_site, exact_name}
 use Rattle.wire.proofs.Bodies.{AreReadAgain, body_again, old_body_again, operation_takes, operation_again, AreAlone, old_alone, from_any}

@@ -3,7 +3,7 @@ use Rattle.std.proofs.Common.{◌≡◌, ℕ, List, Some}
 use Rattle.std.specs.Prelude.{◌↔◌}
 use Rattle.rules.specs.declared.history.Entry.{Entry}
 use Rattle.wire.specs.Form.{IsEntryText}
-use Rattle.wire.specs.Texts.{entry_read}
+use Rattle.wire.specs.steps.Reads.{entry_read}
 use Rattle.wire.proofs.Entries.{reads_entries}
 use Rattle.wire.proofs.ByForm.{texts_by_form, one_value}
 

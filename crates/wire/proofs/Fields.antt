@@ -1,7 +1,7 @@
 -- A list of one field, and a part that isn't read.
 use Rattle.std.proofs.Common.{◌≡◌, ◌<◌, ◌≤◌, List, [], ◌∷◌, length, get_or, Option, None, Result, Ok, Err, arith}
 use Rattle.std.specs.Result.{IsErrAnd}
-use Rattle.wire.specs.Reading.{Fails, Gives}
+use Rattle.wire.specs.steps.Reading.{Fails, Gives}
 use Rattle.wire.specs.declared.fault.ReadFault.{ReadFault}
 use Rattle.wire.specs.declared.fault.ReadFault.TheVariants.{Bad, NoMemory}
 

@@ -5,22 +5,22 @@ use Rattle.std.specs.List.{AllByRecursion}
 use Rattle.std.specs.Option.{option_or}
 use Rattle.std.proofs.lemmas.Option.{cond_some}
 use Rattle.std.proofs.lemmas.Bool.Decides.{nat_tests}
-use Rattle.op_names.specs.declared.op_name.TheConstants.{MAX_SITE, MAX_SEQ}
+use Rattle.base_types.specs.declared.op_name.TheConstants.{MAX_SITE, MAX_SEQ}
 use Rattle.rules.specs.declared.limits.TheConstants.Limits.{MAX_ENTRIES}
 use Rattle.wire.specs.declared.request.TheConstants.{MAX_FROM}
 use Rattle.serde_json.specs.Data.{Data, null, boolean, number, string, array, object}
-use Rattle.op_names.specs.Names.{is_op_name, is_site, is_seq}
-use Rattle.op_names.specs.VersionIds.{names_rise}
-use Rattle.op_names.specs.Texts.{is_room_name, is_key, is_kind, is_value_text}
-use Rattle.op_names.specs.declared.value.Value.{Value}
-use Rattle.op_names.specs.declared.value.Value.TheVariants.{Number, Text}
+use Rattle.base_types.specs.Names.{is_op_name, is_site, is_seq}
+use Rattle.base_types.specs.VersionIds.{names_rise}
+use Rattle.base_types.specs.Texts.{is_room_name, is_key, is_kind, is_value_text}
+use Rattle.base_types.specs.declared.value.Value.{Value}
+use Rattle.base_types.specs.declared.value.Value.TheVariants.{Number, Text}
 use Rattle.state_vector.specs.Vectors.{is_vector, vector_fault, fault_after, pair_fault}
 use Rattle.state_vector.specs.declared.VectorFault.{VectorFault}
 use Rattle.state_vector.specs.declared.VectorFault.TheVariants.{OutOfRange}
 use Rattle.rules.specs.AttrLists.{Attr, are_attrs, are_pairs}
 use Rattle.wire.specs.Form.{whole_form, name_form, names_form, value_form, attr_form, attrs_form, is_from, is_at, IsValue, IsAttr, IsId, AreAttrs, ArePairs}
-use Rattle.wire.specs.Reading.{◌>>=◌, whole_in, pair_in, name_in, room_in, seen_in, id_in, key_in, kind_in, value_in, attr_in, attrs_in, pairs_in, integer_in}
-use Rattle.wire.specs.Replies.{at_in}
+use Rattle.wire.specs.steps.Reading.{◌>>=◌, whole_in, pair_in, name_in, room_in, seen_in, id_in, key_in, kind_in, value_in, attr_in, attrs_in, pairs_in, integer_in}
+use Rattle.wire.specs.steps.Replies.{at_in}
 use Rattle.wire.proofs.Exact.{IsExact, exact_by, bind_some, some_is, exact_list, exact_passing, exact_two, exact_text_where, exact_whole, exact_integer}
 
 -- ---- numbers

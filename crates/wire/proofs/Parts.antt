@@ -11,7 +11,7 @@ use Rattle.serde_json.specs.declared.number.N.{N}
 use Rattle.serde_json.specs.declared.number.N.TheVariants.{PosInt, NegInt, Float}
 use Rattle.serde_json.specs.declared.number.Number.{Number}
 use Rattle.wire.specs.Form.{IsNumber}
-use Rattle.wire.specs.Reading.{listed, integer_at}
+use Rattle.wire.specs.steps.Reading.{listed, integer_at}
 
 pub listed_items_view : (vs : List Value) → listed (items_view vs) ≡ map view vs
 listed_items_view [] = refl

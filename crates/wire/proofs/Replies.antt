@@ -9,6 +9,7 @@ use Rattle.serde_json.specs.Data.{Data, null, boolean, number, string, array, ob
 use Rattle.serde_json.specs.Find.{as_str}
 use Rattle.rules.specs.AttrLists.{Attr}
 use Rattle.rules.specs.Refusals.{code_of, word_of, refusal_at}
+use Rattle.rules.specs.declared.refusal.TheConstants.{MAX_REFUSAL_CODE}
 use Rattle.rules.specs.declared.refusal.Refusal.{Refusal}
 use Rattle.rules.specs.declared.refusal.Refusal.TheVariants.{BadMessage, NotJoined, AlreadyJoined, NoSuchRoom, RoomFull, RecordFull, WrongSeq, OwnCount, Ahead, NotClosed, NoSuchObject, NoSuchVersion, ObjectFull, TooManyKeys, TooManyVersions, TooManyObjects, TooFar, Gone, NoSuchSite, SiteInUse}
 use Rattle.rules.specs.declared.history.Entry.{Entry}
@@ -20,9 +21,9 @@ use Rattle.wire.specs.declared.reply.Reply.{Reply}
 use Rattle.wire.specs.declared.reply.Reply.TheVariants.{Joined, Returned, Made, Taken, Versions, Objects, Entries, Left, No}
 use Rattle.wire.specs.Rising.{rise, attr_before, id_before, version_before}
 use Rattle.wire.specs.Form.{list_form, whole_form, name_form, names_form, attrs_form, shown_form, version_form, object_form, AreIds, AreShown, IsShown, IsVersion, AreVersions, IsObject, entry_form, AreForms, IsEntry, IsEntryForm, IsListForm, IsReply, IsReplyForm, reply_form}
-use Rattle.wire.specs.Reading.{◌>>=◌, field_at, end_at, whole_in, natural_in, list_in, no_others, by_word}
-use Rattle.wire.specs.Entries.{entry_of}
-use Rattle.wire.specs.Replies.{at_in, ids_in, shown_attrs_in, shown_in, version_in, versions_in, object_in, joined_at, returned_at, made_at, taken_at, versions_at, objects_at, entries_at, left_at, refusal_with, refusal_fields, no_at, reply_words, reply_of}
+use Rattle.wire.specs.steps.Reading.{◌>>=◌, field_at, end_at, whole_in, natural_in, list_in, no_others, by_word}
+use Rattle.wire.specs.steps.Entries.{entry_of}
+use Rattle.wire.specs.steps.Replies.{at_in, ids_in, shown_attrs_in, shown_in, version_in, versions_in, object_in, joined_at, returned_at, made_at, taken_at, versions_at, objects_at, entries_at, left_at, refusal_with, refusal_fields, no_at, reply_words, reply_of}
 use Rattle.wire.proofs.Exact.{IsExact, ReadsForms, AreExact, reads_list, field_some, bind_some, some_is, exact_list, exact_passing, exact_two, exact_made, exact_text, exact_whole, exact_end, exact_field, IsWordOf, word_of_fields, no_other_word, message_takes, message_again}
 use Rattle.wire.proofs.PartForms.{exact_site, exact_from, exact_at, exact_name, exact_id, exact_kind, exact_attr}
 use Rattle.wire.proofs.Entries.{reads_entries}
@@ -126,8 +127,8 @@ refusal_again SiteInUse = refl
 fields_take : (ds : List Data) (r : Refusal) → refusal_fields ds ≡ Some r → Unit {0} × (ds ≡ whole_form (code_of r) ∷ string (word_of r) ∷ [])
 unfolding refusal_fields
 fields_take ds r e =
-    let a = bind_some (field_at (whole_in 1 20) (field_at as_str end_at) ds) (λ p. refusal_with p.0 p.1.0) r e in
-    let b = (exact_field (exact_whole 1 20) (exact_field exact_text exact_end)).takes ds a.0 a.1 in
+    let a = bind_some (field_at (whole_in 1 MAX_REFUSAL_CODE) (field_at as_str end_at) ds) (λ p. refusal_with p.0 p.1.0) r e in
+    let b = (exact_field (exact_whole 1 MAX_REFUSAL_CODE) (exact_field exact_text exact_end)).takes ds a.0 a.1 in
     let c = refusal_takes a.0.0 a.0.1.0 r a.2 in
     (tt, b.1 ∙ rw (c.0, c.1) refl)
 

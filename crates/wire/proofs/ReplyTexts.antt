@@ -3,7 +3,7 @@ use Rattle.std.proofs.Common.{◌≡◌, ℕ, List, Some}
 use Rattle.std.specs.Prelude.{◌↔◌}
 use Rattle.wire.specs.declared.reply.Reply.{Reply}
 use Rattle.wire.specs.Form.{IsReplyText}
-use Rattle.wire.specs.Texts.{reply_read}
+use Rattle.wire.specs.steps.Reads.{reply_read}
 use Rattle.wire.proofs.Replies.{reads_replies}
 use Rattle.wire.proofs.ByForm.{texts_by_form, one_value}
 

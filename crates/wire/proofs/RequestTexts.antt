@@ -5,8 +5,8 @@ use Rattle.std.proofs.lemmas.Bool.Decides.{nat_tests}
 use Rattle.wire.specs.declared.request.TheConstants.{MAX_REQUEST_LEN}
 use Rattle.wire.specs.declared.request.Request.{Request}
 use Rattle.wire.specs.Form.{IsRequestText}
-use Rattle.wire.specs.Requests.{request_of}
-use Rattle.wire.specs.Texts.{text_in, request_read}
+use Rattle.wire.specs.steps.Requests.{request_of}
+use Rattle.wire.specs.steps.Reads.{text_in, request_read}
 use Rattle.wire.proofs.Exact.{some_is}
 use Rattle.wire.proofs.Requests.{reads_requests}
 use Rattle.wire.proofs.ByForm.{text_takes, text_again}

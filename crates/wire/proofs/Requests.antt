@@ -1,16 +1,16 @@
 -- The reader of requests is exact.
 use Rattle.std.proofs.Common.{◌≡◌, inl, ℕ, Option, List, [], ◌∷◌, codes, Some, refl, subst, ◌∙◌}
 use Rattle.serde_json.specs.Data.{Data, string}
-use Rattle.op_names.specs.declared.op_name.TheConstants.{MAX_SEQ}
+use Rattle.base_types.specs.declared.op_name.TheConstants.{MAX_SEQ}
 use Rattle.state_vector.specs.Vectors.{Vector}
 use Rattle.rules.specs.declared.history.Body.{Body}
 use Rattle.rules.specs.declared.history.Body.TheVariants.{New, Put, DropVersion}
 use Rattle.wire.specs.declared.request.Request.{Request}
 use Rattle.wire.specs.declared.request.Request.TheVariants.{Join, Back, Change, Show, Pull, Leave, List as ListObjects}
 use Rattle.wire.specs.Form.{list_form, whole_form, name_form, names_form, WordAndFields, body_form, old_body_form, request_form_by, IsRequest, IsRequestForm}
-use Rattle.wire.specs.Reading.{by_word, whole_in}
-use Rattle.wire.specs.Bodies.{operation_at}
-use Rattle.wire.specs.Requests.{join_at, back_at, change_at, show_at, list_at, pull_at, leave_at, request_words, request_of}
+use Rattle.wire.specs.steps.Reading.{by_word, whole_in}
+use Rattle.wire.specs.steps.Bodies.{operation_at}
+use Rattle.wire.specs.steps.Requests.{join_at, back_at, change_at, show_at, list_at, pull_at, leave_at, request_words, request_of}
 use Rattle.wire.proofs.Exact.{ReadsForms, bind_some, some_is, exact_end, exact_field, IsWordOf, word_of_fields, message_takes, message_again}
 use Rattle.wire.proofs.PartForms.{exact_seq, exact_site, exact_from, exact_name, exact_room}
 use Rattle.wire.proofs.Bodies.{AreReadAgain, body_again, old_body_again, operation_takes, operation_again, AreAlone, old_alone, from_any}

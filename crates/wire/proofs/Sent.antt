@@ -21,7 +21,7 @@ use Rattle.serde_json.proofs.FreeTexts.{text_of_value}
 use Rattle.serde_json.proofs.Numbers.{number_of-decimal, number_of-negative}
 use Rattle.serde_json.proofs.Texts.{print-outline}
 use Rattle.wire.specs.Form.{list_form}
-use Rattle.wire.specs.Sending.{IsHeldNumber, IsHeld, AreHeld, Sends}
+use Rattle.wire.specs.steps.Sending.{IsHeldNumber, IsHeld, AreHeld, Sends}
 
 pub held_integer : (z : ℤ) → FitsSigned w64 z → IsHeldNumber (of_integer z)
 held_integer (pos n) h = omega arith

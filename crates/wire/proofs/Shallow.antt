@@ -4,8 +4,8 @@ use Rattle.std.specs.List.{AllByRecursion}
 use Rattle.serde_json.specs.Data.{Data, string, number, depth, items_depth}
 use Rattle.serde_json.specs.Find.{of_integer}
 use Rattle.serde_json.specs.View.{items_of}
-use Rattle.op_names.specs.declared.value.Value.{Value}
-use Rattle.op_names.specs.declared.value.Value.TheVariants.{Number, Text}
+use Rattle.base_types.specs.declared.value.Value.{Value}
+use Rattle.base_types.specs.declared.value.Value.TheVariants.{Number, Text}
 use Rattle.state_vector.specs.Vectors.{Vector}
 use Rattle.rules.specs.AttrLists.{Attr}
 use Rattle.wire.specs.declared.request.Request.{Request}

@@ -1,6 +1,6 @@
 -- Which requests ask to be let into a room.
 use Rattle.std.specs.Prelude.{Option, Some, None}
-use Rattle.op_names.specs.Texts.{Bytes}
+use Rattle.base_types.specs.Texts.{Bytes}
 use Rattle.wire.specs.declared.request.Request.{Request}
 use Rattle.wire.specs.declared.request.Request.TheVariants.{Join, Back}
 

@@ -1,21 +1,23 @@
 -- The JSON forms of requests, replies and entries, and of their parts.
-use Rattle.std.specs.Prelude.{◌≡◌, ℕ, ◌^◌, ◌<◌, ◌≤◌, ℤ, pos, negsuc, List, [], ◌∷◌, map, length, codes, Bool, nat_le, true, Some, IsUtf8, ◌⊎◌}
+use Rattle.std.specs.Prelude.{◌≡◌, ℕ, ◌^◌, ◌<◌, ◌≤◌, ℤ, pos, negsuc, List, [], ◌∷◌, map, length}
+use Rattle.std.specs.Prelude.{codes, Bool, nat_le, true, Some, IsUtf8, ◌⊎◌}
 use Rattle.std.specs.List.{AllByRecursion}
 use Rattle.serde_json.specs.Data.{Data, number, unsigned, string, array}
 use Rattle.serde_json.specs.Find.{of_integer}
 use Rattle.serde_json.specs.Read.{read}
 use Rattle.serde_json.specs.View.{items_of}
-use Rattle.op_names.specs.Names.{is_site, is_seq, is_op_name}
-use Rattle.op_names.specs.VersionIds.{names_rise}
-use Rattle.op_names.specs.Texts.{is_room_name, is_key, is_kind, is_value_text}
-use Rattle.op_names.specs.declared.value.Value.{Value}
-use Rattle.op_names.specs.declared.value.Value.TheVariants.{Number, Text}
+use Rattle.base_types.specs.Names.{is_site, is_seq, is_op_name}
+use Rattle.base_types.specs.VersionIds.{names_rise}
+use Rattle.base_types.specs.Texts.{is_room_name, is_key, is_kind, is_value_text}
+use Rattle.base_types.specs.declared.value.Value.{Value}
+use Rattle.base_types.specs.declared.value.Value.TheVariants.{Number, Text}
 use Rattle.state_vector.specs.Vectors.{Vector, is_vector}
 use Rattle.rules.specs.AttrLists.{Attr, are_attrs, are_pairs}
 use Rattle.rules.specs.declared.limits.TheConstants.Limits.{MAX_ENTRIES}
 use Rattle.wire.specs.declared.request.TheConstants.{MAX_FROM, MAX_REQUEST_LEN}
 use Rattle.wire.specs.declared.request.Request.{Request}
-use Rattle.wire.specs.declared.request.Request.TheVariants.{Join, Back, Change, Show, Pull, Leave, List as ListObjects}
+use Rattle.wire.specs.declared.request.Request.TheVariants.{Join, Back, Change, Show, Pull, Leave}
+use Rattle.wire.specs.declared.request.Request.TheVariants.{List as ListObjects}
 use Rattle.rules.specs.declared.history.Entry.{Entry}
 use Rattle.rules.specs.declared.history.Entry.TheVariants.{Operation, Join as JoinOf}
 use Rattle.rules.specs.declared.history.Body.{Body}
@@ -26,7 +28,8 @@ use Rattle.rules.specs.declared.version.Shown.TheVariants.{Attrs, Gone}
 use Rattle.rules.specs.Refusals.{code_of, word_of}
 use Rattle.wire.specs.Rising.{rise, attr_before, id_before, version_before}
 use Rattle.wire.specs.declared.reply.Reply.{Reply}
-use Rattle.wire.specs.declared.reply.Reply.TheVariants.{Joined, Returned, Made, Taken, Versions, Objects, Entries, Left, No}
+use Rattle.wire.specs.declared.reply.Reply.TheVariants.{Joined, Returned, Made, Taken, Versions}
+use Rattle.wire.specs.declared.reply.Reply.TheVariants.{Objects, Entries, Left, No}
 
 -- a JSON list of these values
 abbrev pub list_form : List Data → Data
@@ -87,17 +90,20 @@ AreAttrs attrs = AllByRecursion IsAttr attrs × (are_attrs attrs ≡ true)
 abbrev pub ArePairs : List Attr → Type 0
 ArePairs pairs = AllByRecursion IsAttr pairs × (are_pairs pairs ≡ true)
 
--- the word that an operation begins with, and its last fields, which follow what its author had seen
+-- the word that an operation begins with, and its last fields, which follow what its author had
+-- seen
 abbrev pub WordAndFields : Type 0
 WordAndFields = List ℕ × List Data
 
 -- what an operation does, as it is written
 abbrev pub body_form : Body → WordAndFields
 body_form (New kind attrs) = (codes "new", string kind ∷ attrs_form attrs ∷ [])
-body_form (Put object version pairs) = (codes "put", name_form object ∷ names_form version ∷ attrs_form pairs ∷ [])
+body_form (Put object version pairs) =
+    (codes "put", name_form object ∷ names_form version ∷ attrs_form pairs ∷ [])
 body_form (DropVersion object version) = (codes "drop", name_form object ∷ names_form version ∷ [])
 
--- what an operation does, in the old form: a put of one pair has its key and its value in no list. All else is as it is written
+-- what an operation does, in the old form: a put of one pair has its key and its value in no list.
+-- All else is as it is written
 abbrev pub old_body_form : Body → WordAndFields
 old_body_form (Put object version (pair ∷ [])) =
     (codes "set", name_form object ∷ names_form version ∷ string pair.0 ∷ value_form pair.1 ∷ [])
@@ -116,10 +122,12 @@ operation_form head seen does = list_form (string does.0 ∷ head ∷ names_form
 -- the form of a request, with bodies in these forms: a list of its word and its fields
 abbrev pub request_form_by : (Body → WordAndFields) → Request → Data
 request_form_by of_body (Join room) = list_form (string (codes "join") ∷ string room ∷ [])
-request_form_by of_body (Back room site) = list_form (string (codes "back") ∷ string room ∷ whole_form site ∷ [])
+request_form_by of_body (Back room site) =
+    list_form (string (codes "back") ∷ string room ∷ whole_form site ∷ [])
 request_form_by of_body (Change seq seen body) = operation_form (whole_form seq) seen (of_body body)
 request_form_by of_body (Show name) = list_form (string (codes "show") ∷ name_form name ∷ [])
-request_form_by of_body (ListObjects from) = list_form (string (codes "list") ∷ whole_form from ∷ [])
+request_form_by of_body (ListObjects from) =
+    list_form (string (codes "list") ∷ whole_form from ∷ [])
 request_form_by of_body (Pull from) = list_form (string (codes "pull") ∷ whole_form from ∷ [])
 request_form_by of_body Leave = list_form (string (codes "leave") ∷ [])
 
@@ -146,7 +154,8 @@ abbrev pub IsRequestForm : Data → Request → Type 0
 IsRequestForm = IsFormBy request_form_by
 
 -- the JSON value is a form of x, which is in range
-pub record HasForm {X : Type 0} (IsForm : Data → X → Type 0) (Fits : X → Type 0) (d : Data) (x : X) : Type 0 where
+pub record HasForm {X : Type 0} (IsForm : Data → X → Type 0) (Fits : X
+    → Type 0) (d : Data) (x : X) : Type 0 where
   pub form : IsForm d x
   pub in_range : Fits x
 
@@ -154,8 +163,10 @@ pub record HasForm {X : Type 0} (IsForm : Data → X → Type 0) (Fits : X → T
 abbrev pub IsRequestValue : Data → Request → Type 0
 IsRequestValue = HasForm IsRequestForm IsRequest
 
--- the bytes are a text of x, with any white space and escapes: UTF-8 that is read as a form of x, which is in range
-pub record IsTextOf {X : Type 0} (IsForm : Data → X → Type 0) (Fits : X → Type 0) (bytes : List ℕ) (x : X) : Type 0 where
+-- the bytes are a text of x, with any white space and escapes: UTF-8 that is read as a form of x,
+-- which is in range
+pub record IsTextOf {X : Type 0} (IsForm : Data → X → Type 0) (Fits : X
+    → Type 0) (bytes : List ℕ) (x : X) : Type 0 where
   pub utf8 : IsUtf8 bytes
   pub value : Data
   pub is_read : read bytes ≡ Some value
@@ -218,21 +229,33 @@ IsListForm IsForm d xs = (ds : List Data) × AreForms IsForm ds xs × (d ≡ lis
 
 -- the form in which a reply is written: its word, the number of entries before the call, and more
 abbrev pub reply_form : Reply → Data
-reply_form (Joined at site) = list_form (string (codes "joined") ∷ whole_form at ∷ whole_form site ∷ [])
-reply_form (Returned at site seq) = list_form (string (codes "back") ∷ whole_form at ∷ whole_form site ∷ whole_form seq ∷ [])
+reply_form (Joined at site) =
+    list_form (string (codes "joined") ∷ whole_form at ∷ whole_form site ∷ [])
+reply_form (Returned at site seq) =
+    list_form (string (codes "back") ∷ whole_form at ∷ whole_form site ∷ whole_form seq ∷ [])
 reply_form (Made at name) = list_form (string (codes "made") ∷ whole_form at ∷ name_form name ∷ [])
-reply_form (Taken at ids) = list_form (string (codes "taken") ∷ whole_form at ∷ list_form (map names_form ids) ∷ [])
+reply_form (Taken at ids) =
+    list_form (string (codes "taken") ∷ whole_form at ∷ list_form (map names_form ids) ∷ [])
 reply_form (Versions at name kind versions) =
-    list_form (string (codes "versions") ∷ whole_form at ∷ name_form name ∷ string kind ∷ list_form (map version_form versions) ∷ [])
+    list_form
+    (string (codes "versions") ∷ whole_form at ∷ name_form name ∷ string kind
+    ∷ list_form (map version_form versions) ∷ [])
 reply_form (Objects at from total objects) =
-    list_form (string (codes "objects") ∷ whole_form at ∷ whole_form from ∷ whole_form total ∷ list_form (map object_form objects) ∷ [])
+    list_form
+    (string (codes "objects") ∷ whole_form at ∷ whole_form from ∷ whole_form total
+    ∷ list_form (map object_form objects) ∷ [])
 reply_form (Entries at from entries) =
-    list_form (string (codes "entries") ∷ whole_form at ∷ whole_form from ∷ list_form (map entry_form entries) ∷ [])
+    list_form
+    (string (codes "entries") ∷ whole_form at ∷ whole_form from
+    ∷ list_form (map entry_form entries) ∷ [])
 reply_form (Left at) = list_form (string (codes "left") ∷ whole_form at ∷ [])
 reply_form (No at refusal) =
-    list_form (string (codes "no") ∷ whole_form at ∷ whole_form (code_of refusal) ∷ string (word_of refusal) ∷ [])
+    list_form
+    (string (codes "no") ∷ whole_form at ∷ whole_form (code_of refusal)
+    ∷ string (word_of refusal) ∷ [])
 
--- the JSON value is a form of the reply: the one that is written, but that entries of a page may have their old forms
+-- the JSON value is a form of the reply: the one that is written, but that entries of a page may
+-- have their old forms
 abbrev pub IsReplyForm : Data → Reply → Type 0
 IsReplyForm d (Entries at from entries) =
     (page : Data) × IsListForm IsEntryForm page entries
@@ -277,8 +300,10 @@ IsReply (Taken at ids) = (is_at at ≡ true) × AreIds ids
 IsReply (Versions at name kind versions) =
     (is_at at ≡ true) × (is_op_name name ≡ true) × (is_kind kind ≡ true) × AreVersions versions
 IsReply (Objects at from total objects) =
-    (is_at at ≡ true) × (is_from from ≡ true) × (is_at total ≡ true) × AllByRecursion IsObject objects
-IsReply (Entries at from entries) = (is_at at ≡ true) × (is_from from ≡ true) × AllByRecursion IsEntry entries
+    (is_at at ≡ true) × (is_from from ≡ true) × (is_at total ≡ true)
+    × AllByRecursion IsObject objects
+IsReply (Entries at from entries) = (is_at at ≡ true) × (is_from from ≡ true)
+    × AllByRecursion IsEntry entries
 IsReply (Left at) = is_at at ≡ true
 IsReply (No at refusal) = is_at at ≡ true
 

@@ -1,13 +1,6 @@
 pub mod Lines
 pub mod Form
 pub mod Rising
-pub mod Reading
-pub mod Bodies
-pub mod Requests
 pub mod Entering
-pub mod Entries
-pub mod Replies
-pub mod Equality
-pub mod Faults
 pub mod Texts
-pub mod Sending
+pub mod steps

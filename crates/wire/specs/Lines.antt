@@ -13,4 +13,5 @@ onto_first byte (line ∷ lines) = (byte ∷ line) ∷ lines
 -- the lines that bytes are: each is ended by LF, and the last may lack it
 abbrev pub lines_of : List ℕ → List (List ℕ)
 lines_of [] = []
-lines_of (byte ∷ bytes) = if ends_line byte then [] ∷ lines_of bytes else onto_first byte (lines_of bytes)
+lines_of (byte ∷ bytes) =
+    if ends_line byte then [] ∷ lines_of bytes else onto_first byte (lines_of bytes)

@@ -1,7 +1,7 @@
 -- Lists in strictly rising order.
 use Rattle.std.specs.Prelude.{ℕ, Bool, true, ◌&&◌, List, [], ◌∷◌}
 use Rattle.std.specs.Ordering.{is_lt}
-use Rattle.op_names.specs.VersionIds.{id_cmp}
+use Rattle.base_types.specs.VersionIds.{id_cmp}
 use Rattle.rules.specs.AttrLists.{Attr}
 use Rattle.rules.specs.Versions.{key_cmp}
 use Rattle.rules.specs.declared.version.Version.{Version}

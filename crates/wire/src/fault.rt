@@ -1,25 +1,29 @@
-//! What can go wrong: memory, and bytes that are out of form.
+//! Faults of reading: a failed allocation, and bytes that are not in form.
 
 ghost use Rattle.std.specs.Prelude.{◌≡◌, Err, IfNone, IfOk, IfSome, Ok, OnErr};
 ghost use Rattle.wire.specs.declared.fault.ReadFault.TheVariants.{Bad, NoMemory};
 
-use op_names::{ListFault, NameFault};
+use base_types::{ListFault, NameFault};
 use state_vector::VectorFault;
 use std::alloc::{AllocError, AllocFailed};
 use thiserror::Error;
 
-/// Why bytes were refused.
+/// Why bytes could not be read.
 #[derive(Clone, Copy, Debug, PartialEq, Eq, Error)]
 pub enum ReadFault {
-    /// They have no such form.
+    /// They are not in form.
     #[error("the bytes have no such form")]
     Bad,
     #[error("out of memory")]
     NoMemory,
 }
 
-/// What was read, or `None` where the bytes have no such form. Otherwise `NoMemory`.
-pub fn if_in_form<T>(read: Result<T, ReadFault>) -> Result<Option<T>, op_names::NoMemory>
+/// Gives what was read, or `None` for `Bad`.
+///
+/// # Errors
+///
+/// `NoMemory` if an allocation failed.
+pub fn if_in_form<T>(read: Result<T, ReadFault>) -> Result<Option<T>, base_types::NoMemory>
     ensures some { IfOk result (λ found. IfSome found (λ value. read ≡ Ok value)) }
     ensures none { IfOk result (λ found. IfNone found (read ≡ Err Bad)) }
     ensures err { OnErr result (read ≡ Err NoMemory) }
@@ -27,7 +31,7 @@ pub fn if_in_form<T>(read: Result<T, ReadFault>) -> Result<Option<T>, op_names::
     match read {
         Ok(value) => Ok(Some(value)),
         Err(ReadFault::Bad) => Ok(None),
-        Err(ReadFault::NoMemory) => Err(op_names::NoMemory),
+        Err(ReadFault::NoMemory) => Err(base_types::NoMemory),
     }
 }
 
@@ -47,16 +51,16 @@ impl<T: Drop> From<AllocFailed<T>> for ReadFault {
     }
 }
 
-impl From<op_names::NoMemory> for ReadFault {
+impl From<base_types::NoMemory> for ReadFault {
     ghost from_gives = { λ _ e. e ≡ NoMemory };
 
-    fn from(_fault: op_names::NoMemory) -> ReadFault {
+    fn from(_fault: base_types::NoMemory) -> ReadFault {
         ReadFault::NoMemory
     }
 }
 
 impl From<NameFault> for ReadFault {
-    ghost use Rattle.wire.specs.Faults.{of_name};
+    ghost use Rattle.wire.specs.steps.Faults.{of_name};
     ghost use Rattle.std.specs.Prelude.{◌≡◌};
 
     ghost from_gives = { λ f e. e ≡ of_name f };
@@ -70,21 +74,20 @@ impl From<NameFault> for ReadFault {
 }
 
 impl From<ListFault> for ReadFault {
-    ghost use Rattle.wire.specs.Faults.{of_list};
+    ghost use Rattle.wire.specs.steps.Faults.{of_list};
     ghost use Rattle.std.specs.Prelude.{◌≡◌};
 
     ghost from_gives = { λ f e. e ≡ of_list f };
 
     fn from(fault: ListFault) -> ReadFault {
         match fault {
-            ListFault::NoMemory => ReadFault::NoMemory,
             ListFault::NotRising => ReadFault::Bad,
         }
     }
 }
 
 impl From<VectorFault> for ReadFault {
-    ghost use Rattle.wire.specs.Faults.{of_vector};
+    ghost use Rattle.wire.specs.steps.Faults.{of_vector};
     ghost use Rattle.std.specs.Prelude.{◌≡◌};
 
     ghost from_gives = { λ f e. e ≡ of_vector f };
@@ -98,7 +101,7 @@ impl From<VectorFault> for ReadFault {
 }
 
 impl From<serde_json::Error> for ReadFault {
-    ghost use Rattle.wire.specs.Faults.{IsOfText};
+    ghost use Rattle.wire.specs.steps.Faults.{IsOfText};
 
     ghost from_gives = { IsOfText };
 

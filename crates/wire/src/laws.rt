@@ -1,4 +1,4 @@
-//! Laws of the forms.
+//! Laws of the JSON forms. Each function has an empty body: its contract is the law.
 
 ghost use Rattle.std.specs.Prelude.{◌≡◌, ◌↔◌, List, ℕ, ℤ, Some};
 ghost use Rattle.serde_json.specs.Find.{as_i64, of_integer};
@@ -8,7 +8,7 @@ ghost use Rattle.rules.specs.declared.history.Entry.{Entry};
 ghost use Rattle.wire.specs.declared.request.Request.{Request};
 ghost use Rattle.wire.specs.declared.reply.Reply.{Reply};
 ghost use Rattle.wire.specs.Form.{IsNumber, IsRequestText, IsEntryText, IsReplyText};
-ghost use Rattle.wire.specs.Texts.{request_read, entry_read, reply_read};
+ghost use Rattle.wire.specs.steps.Reads.{request_read, entry_read, reply_read};
 
 /// Bytes are a text of at most one request.
 #[tactic(auto, using(crate::proofs::RequestTexts::one_request))]

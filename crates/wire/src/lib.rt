@@ -1,5 +1,5 @@
-//! Requests, replies and entries of a record, and their JSON forms. A put of one pair is read from
-//! its old form too, which began with the word `set`; what is written is never in it.
+//! Requests, replies and entries of a record, and their JSON forms. A put of one pair is also read
+//! from its old form, which begins with the word `set`. That form is never written.
 #![tactic(auto)]
 
 mod fault;

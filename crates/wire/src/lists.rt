@@ -1,11 +1,11 @@
-//! The lists in replies: each is seen as the plain list of its members.
+//! The lists in replies. Contracts see each as the plain list of its members.
 
 ghost use Rattle.std.specs.Prelude.{◌≡◌, List, ℕ, map};
 ghost use Rattle.std.specs.Arc.{arc_value};
 ghost use Rattle.rules.specs.Names.{Name};
 ghost use Rattle.rules.specs.Texts.{Bytes};
 
-use op_names::{Kind, OpName, VersionId};
+use base_types::{Kind, OpName, VersionId};
 use rules::{Entry, Version};
 use std::marker::Model;
 use std::sync::Arc;
@@ -40,7 +40,7 @@ impl IdList {
 
 impl PartialEq for IdList {
     ghost use Rattle.std.specs.Cmp.{partial_equiv_from_equiv};
-    ghost use Rattle.wire.specs.Equality.{same_ids, same_ids-equivalence};
+    ghost use Rattle.wire.specs.steps.Equality.{same_ids, same_ids-equivalence};
 
     ghost eq = { same_ids };
 
@@ -52,7 +52,7 @@ impl PartialEq for IdList {
 }
 
 impl Eq for IdList {
-    ghost use Rattle.wire.specs.Equality.{same_ids-equivalence};
+    ghost use Rattle.wire.specs.steps.Equality.{same_ids-equivalence};
 
     ghost laws = { same_ids-equivalence };
 }
@@ -90,7 +90,7 @@ impl VersionList {
 
 impl PartialEq for VersionList {
     ghost use Rattle.std.specs.Cmp.{partial_equiv_from_equiv};
-    ghost use Rattle.wire.specs.Equality.{same_versions, same_versions-equivalence};
+    ghost use Rattle.wire.specs.steps.Equality.{same_versions, same_versions-equivalence};
 
     ghost eq = { same_versions };
 
@@ -102,7 +102,7 @@ impl PartialEq for VersionList {
 }
 
 impl Eq for VersionList {
-    ghost use Rattle.wire.specs.Equality.{same_versions-equivalence};
+    ghost use Rattle.wire.specs.steps.Equality.{same_versions-equivalence};
 
     ghost laws = { same_versions-equivalence };
 }
@@ -137,7 +137,7 @@ impl ObjectList {
 
 impl PartialEq for ObjectList {
     ghost use Rattle.std.specs.Cmp.{partial_equiv_from_equiv};
-    ghost use Rattle.wire.specs.Equality.{same_objects, same_objects-equivalence};
+    ghost use Rattle.wire.specs.steps.Equality.{same_objects, same_objects-equivalence};
 
     ghost eq = { same_objects };
 
@@ -149,12 +149,12 @@ impl PartialEq for ObjectList {
 }
 
 impl Eq for ObjectList {
-    ghost use Rattle.wire.specs.Equality.{same_objects-equivalence};
+    ghost use Rattle.wire.specs.steps.Equality.{same_objects-equivalence};
 
     ghost laws = { same_objects-equivalence };
 }
 
-/// Entries of a record, each shared with the record that holds it.
+/// Entries of a record. Each is shared with the record that stores it.
 #[derive(Drop)]
 pub struct EntryList {
     entries: Vec<Arc<Entry>>,
@@ -188,7 +188,7 @@ impl EntryList {
 
 impl PartialEq for EntryList {
     ghost use Rattle.std.specs.Cmp.{partial_equiv_from_equiv};
-    ghost use Rattle.wire.specs.Equality.{same_entries, same_entries-equivalence};
+    ghost use Rattle.wire.specs.steps.Equality.{same_entries, same_entries-equivalence};
 
     ghost eq = { same_entries };
 
@@ -200,7 +200,7 @@ impl PartialEq for EntryList {
 }
 
 impl Eq for EntryList {
-    ghost use Rattle.wire.specs.Equality.{same_entries-equivalence};
+    ghost use Rattle.wire.specs.steps.Equality.{same_entries-equivalence};
 
     ghost laws = { same_entries-equivalence };
 }

@@ -1,62 +1,62 @@
-//! What a session is answered.
+//! Replies to a session.
 
 ghost use Rattle.std.specs.Prelude.{◌≡◌};
-ghost use Rattle.wire.specs.Equality.{same_listing, same_page};
+ghost use Rattle.wire.specs.steps.Equality.{same_listing, same_page};
 
 use crate::lists::{EntryList, IdList, ObjectList, VersionList};
-use op_names::{Kind, OpName};
+use base_types::{Kind, OpName};
 use rules::Refusal;
 
-/// The answer to a request. `at` is the number of the record's entries before the call, and 0 where
-/// no room was asked.
+/// The reply to a request. `at` is the number of entries in the record before the call, and 0 if no
+/// room was asked.
 #[derive(Drop)]
 pub enum Reply {
-    /// The session is now this site of the room.
+    /// The session entered the room as this new site.
     Joined {
         at: u32,
         site: u32,
     },
-    /// The session is this site of the room again, which has made so many creations and changes.
+    /// The session entered the room again as this site, which has made `seq` operations.
     Returned {
         at: u32,
         site: u32,
         seq: u32,
     },
-    /// The object of this name is created.
+    /// The object of this name was created.
     Made {
         at: u32,
         name: OpName,
     },
-    /// The change is taken, and the object's versions now have these identifiers, rising.
+    /// The change was added. The object's versions now have these identifiers, in increasing order.
     Taken {
         at: u32,
         ids: IdList,
     },
-    /// The versions of an object, by rising identifiers.
+    /// The versions of an object, by increasing identifier.
     Versions {
         at: u32,
         object: OpName,
         kind: Kind,
         versions: VersionList,
     },
-    /// A page of the objects, of which there are `total`.
+    /// A page of the room's objects, of which there are `total`.
     Objects {
         at: u32,
         from: u32,
         total: u32,
         objects: ObjectList,
     },
-    /// A page of the record.
+    /// A page of the room's record.
     Entries {
         at: u32,
         from: u32,
         entries: EntryList,
     },
-    /// The session is now in no room.
+    /// The session left the room.
     Left {
         at: u32,
     },
-    /// The request is refused, and nothing changed.
+    /// The request was refused, and nothing changed.
     No {
         at: u32,
         refusal: Refusal,
@@ -65,7 +65,7 @@ pub enum Reply {
 
 impl PartialEq for Reply {
     ghost use Rattle.std.specs.Cmp.{partial_equiv_from_equiv};
-    ghost use Rattle.wire.specs.Equality.{same_reply, same_reply-equivalence};
+    ghost use Rattle.wire.specs.steps.Equality.{same_reply, same_reply-equivalence};
 
     ghost eq = { same_reply };
 
@@ -118,7 +118,7 @@ impl PartialEq for Reply {
 }
 
 impl Eq for Reply {
-    ghost use Rattle.wire.specs.Equality.{same_reply-equivalence};
+    ghost use Rattle.wire.specs.steps.Equality.{same_reply-equivalence};
 
     ghost laws = { same_reply-equivalence };
 }

@@ -1,56 +1,56 @@
-//! What a session may ask for.
+//! Requests of a session.
 
 ghost use Rattle.std.specs.Prelude.{◌≡◌, option_map, IfOk};
 
-use op_names::{NoMemory, OpName, RoomName};
+use base_types::{NoMemory, OpName, RoomName};
 use rules::Body;
 use state_vector::StateVector;
 use std::alloc::Global;
 
-/// How many bytes the text of a request may have.
+/// The greatest length of a request's text, in bytes.
 pub const MAX_REQUEST_LEN: usize = 16_384;
 
-/// The greatest place from which a page is asked for.
+/// The greatest place at which a page may be asked to start.
 pub const MAX_FROM: u32 = 65_535;
 
-/// What a session asks for.
+/// A request of a session.
 #[derive(Drop)]
 pub enum Request {
-    /// To be let into a room, as a new site.
+    /// Enter a room as a new site.
     Join {
         room: RoomName,
     },
-    /// To be let into a room again, as a site of it.
+    /// Enter a room again as a site that has joined it.
     Back {
         room: RoomName,
         site: u32,
     },
-    /// To add an operation, as the site's of this number.
+    /// Add an operation, with its number among the site's operations and what its author had seen.
     Change {
         seq: u32,
         seen: StateVector,
         body: Body,
     },
-    /// The versions of an object.
+    /// Show the versions of an object.
     Show {
         object: OpName,
     },
-    /// A page of the room's objects.
+    /// Read a page of the room's objects.
     List {
         from: u32,
     },
-    /// A page of the room's record.
+    /// Read a page of the room's record.
     Pull {
         from: u32,
     },
-    /// To be in no room.
+    /// Leave the room.
     Leave,
 }
 
 impl Request {
     ghost use Rattle.wire.specs.Entering.{room_to_enter};
 
-    /// The name of the room that it asks to be let into, for the first time or again.
+    /// The name of the room that a join or a back asks to enter, or `None` for other requests.
     pub fn room_to_enter(&self) -> Option<&RoomName>
         ensures { option_map (λ name. name.now) result ≡ room_to_enter self.now }
     {
@@ -65,7 +65,11 @@ impl Request {
         }
     }
 
-    /// Another one that is equal.
+    /// Returns an equal copy.
+    ///
+    /// # Errors
+    ///
+    /// `NoMemory` if an allocation failed.
     pub fn copy(&self, alloc: Global) -> Result<Request, NoMemory>
         ensures { IfOk result (λ request. request ≡ self.now) }
     {

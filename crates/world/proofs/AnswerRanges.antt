@@ -5,8 +5,8 @@ use Rattle.std.specs.List.{AllByRecursion}
 use Rattle.std.proofs.lemmas.Bool.{and_from, and_parts, eq-eqb, le-leb, leb-true}
 use Rattle.std.proofs.lemmas.List.{length_push}
 use Rattle.std.proofs.lemmas.List.Sums.{length-filter, count_by-le-length}
-use Rattle.op_names.specs.Names.{Name, is_site, is_seq, is_op_name}
-use Rattle.op_names.specs.Texts.{Bytes}
+use Rattle.base_types.specs.Names.{Name, is_site, is_seq, is_op_name}
+use Rattle.base_types.specs.Texts.{Bytes}
 use Rattle.rules.specs.declared.history.Op.{Op}
 use Rattle.rules.specs.declared.history.Entry.{Entry}
 use Rattle.rules.specs.declared.history.Entry.TheVariants.{Join, Operation}
@@ -30,7 +30,7 @@ use Rattle.room_core.specs.Room.{Room, all_objects, with_entry}
 use Rattle.drawing.specs.Shown.{ids_with, shown_by}
 use Rattle.room_core.specs.Answers.{Outcome, answer, entry_or_refusal, has_site, join_answer, operation_answer, operation_reply, page, site_answer, reply_alone}
 use Rattle.world.specs.Alone.{outside_answer, move_of}
-use Rattle.world.specs.Steps.{asker_answer}
+use Rattle.world.specs.steps.Steps.{asker_answer}
 use Rattle.world.proofs.Ranges.{IsOp, all_if, all_take, all_drop, all_push, ops_in_range, kind_in_range, versions_in_range, ids_in_range}
 
 -- ---- a legal record is within its limits

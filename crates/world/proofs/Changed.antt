@@ -7,15 +7,15 @@ use Rattle.std.proofs.lemmas.List.{get_or-set_same, get_or-set_other, length-map
 use Rattle.wire.specs.declared.request.Request.{Request}
 use Rattle.wire.specs.declared.reply.Reply.{Reply}
 use Rattle.wire.specs.Entering.{room_to_enter}
-use Rattle.wire.specs.Texts.{request_read}
+use Rattle.wire.specs.steps.Reads.{request_read}
 use Rattle.room_core.specs.Room.{Room, with_entry}
 use Rattle.room_core.specs.Answers.{Outcome}
 use Rattle.world.specs.declared.seats.Seat.{Seat}
 use Rattle.world.specs.declared.seats.Asker.{Asker}
 use Rattle.world.specs.Alone.{Message, Alone, no_site, answer_to, move_of, after_move, after_reply, use_after, alone_answer, alone_after}
 use Rattle.world.specs.Rooms.{Rooms, place_of, named_place, owner_from, owner_of, after_at, rooms_after}
-use Rattle.world.specs.State.{State, Named, names_in, names_of, seat_of, no_room, rooms_in, room_at, is_used, uses_in, use_at, site_at, alone_at, rooms_of, SeatsWithin}
-use Rattle.world.specs.Steps.{asker_answer, place_answer, asker_of, seat_in, IsMoved}
+use Rattle.world.specs.State.{WorldState, Named, names_in, names_of, seat_of, no_room, rooms_in, room_at, is_used, uses_in, use_at, site_at, alone_at, rooms_of, SeatsWithin}
+use Rattle.world.specs.steps.Steps.{asker_answer, place_answer, asker_of, seat_in, IsMoved}
 use Rattle.world.proofs.Places.{place_of_within}
 use Rattle.world.proofs.SeatMaps.{seat_within}
 
@@ -72,7 +72,7 @@ site_at_other-moved : (place other : ℕ) (reply : Reply) (session : ℕ) (old :
 site_at_other-moved place other reply session old q apart none = other_by place other (move_of reply) session old q apart none
 
 -- an answer of one room, with its entry and its moves, is that room's alone
-module _ (state new : State) (message : Message) (place : ℕ) (outcome : Outcome)
+module _ (state new : WorldState) (message : Message) (place : ℕ) (outcome : Outcome)
     (within : place < length state.rooms)
     (apart : (other : ℕ) → eqb place other ≡ false → site_at other (seat_of state.seats message.session) ≡ None)
     (is_answer : alone_answer (alone_at state place) message ≡ outcome)
@@ -152,7 +152,7 @@ by_asker : (room : Room) (in_use : ℕ → Bool) (who : Option ℕ) (request : R
 by_asker room in_use None request = refl
 by_asker room in_use (Some site) request = refl
 
-module _ (state : State) (message : Message) (request : Request)
+module _ (state : WorldState) (message : Message) (request : Request)
     (is_request : request_read message.bytes ≡ Some request)
   where
     owner_by : (o : Option ℕ) → owner_from (option_map (λ (s : Seat). s.place) (seat_of state.seats message.session)) (named_place (names_of state) (Some request)) ≡ o → owner_of (names_of state) (rooms_of state) message ≡ o
@@ -174,7 +174,7 @@ module _ (state : State) (message : Message) (request : Request)
             let who = site_at asker.place (seat_of state.seats message.session) in
             ap (answer_to room in_use who) is_request ∙ by_asker room in_use who request ∙ ap (λ w. asker_answer room in_use w request) asks.site
 
-        pub asked_after : (new : State) → asker.place < length state.rooms
+        pub asked_after : (new : WorldState) → asker.place < length state.rooms
             → rooms_in new.rooms ≡ set (rooms_in state.rooms) asker.place (with_entry (room_at state.rooms asker.place) (place_answer state.rooms asker.place asker.site request).1)
             → uses_in new.rooms ≡ set (uses_in state.rooms) asker.place (use_after (place_answer state.rooms asker.place asker.site request).0 asker.site (use_at state.rooms asker.place))
             → IsMoved state.seats new.seats (place_answer state.rooms asker.place asker.site request).0 asker.session asker.place
@@ -198,7 +198,7 @@ within_by : (rooms : List Named) (session : ℕ) (request : Request) (o : Option
 within_by rooms session request None asker g = absurd (cc)
 within_by rooms session request (Some name) asker g = within_at rooms session name (place_of (names_in rooms) name) asker refl g
 
-pub asker_within : (state : State) (session : ℕ) (seat : Option Seat) (request : Request) (asker : Asker) → SeatsWithin state.seats (length state.rooms) → seat_of state.seats session ≡ seat
+pub asker_within : (state : WorldState) (session : ℕ) (seat : Option Seat) (request : Request) (asker : Asker) → SeatsWithin state.seats (length state.rooms) → seat_of state.seats session ≡ seat
     → asker_of (names_of state) session seat request ≡ Some asker → asker.place < length state.rooms
 asker_within state session None request asker h e f = within_by state.rooms session request (room_to_enter request) asker f
 asker_within state session (Some seat) request asker h e f =

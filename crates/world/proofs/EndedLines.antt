@@ -4,9 +4,10 @@ use Rattle.std.proofs.lemmas.Bool.{ne_eqb}
 use Rattle.std.proofs.lemmas.List.{length-map, length-append}
 use Rattle.std.specs.Io.KnownBytes.{Appends}
 use Rattle.wire.specs.Lines.{lines_of, onto_first}
-use Rattle.world.specs.State.{State, names_of, rooms_of}
-use Rattle.world.specs.Script.{lines_out, lines_end, breaks_in, ended_lines, HasNoBreak, AnswersRead}
-use Rattle.world.specs.Answered.{kept_part, Answered}
+use Rattle.world.specs.State.{WorldState, names_of, rooms_of}
+use Rattle.world.specs.Script.{lines_out, lines_end}
+use Rattle.world.specs.steps.Endings.{breaks_in, ended_lines, HasNoBreak, AnswersRead}
+use Rattle.world.specs.steps.Answered.{kept_part, Answered}
 use Rattle.world.proofs.Parts.{first_output, first_end}
 use Rattle.world.proofs.Transcript.{ReadSoFar}
 
@@ -24,7 +25,7 @@ no_breaks [] h = refl
 no_breaks (x ∷ line) h = rw (ne_eqb x 10 h.0) (no_breaks line h.1)
 
 -- as many lines were answered as end in what was taken
-ended_count : {from to : State} {taken held text : List ℕ} (h : Answered from to taken held text) → HasNoBreak held → length h.lines ≡ breaks_in taken
+ended_count : {from to : WorldState} {taken held text : List ℕ} (h : Answered from to taken held text) → HasNoBreak held → length h.lines ≡ breaks_in taken
 ended_count {taken = taken} {held = held} h clean =
     let all = lines_of (taken ++ 0 ∷ []) in
     let last = lines_of (held ++ 0 ∷ []) in
@@ -37,13 +38,13 @@ ended_count {taken = taken} {held = held} h clean =
     let none : breaks_in held ≡ 0 = no_breaks held clean in
     omega arith
 
-ended_are : {from to : State} {taken held text : List ℕ} (h : Answered from to taken held text) → HasNoBreak held → take (length h.lines + 0) (lines_of (taken ++ [])) ≡ ended_lines taken
+ended_are : {from to : WorldState} {taken held text : List ℕ} (h : Answered from to taken held text) → HasNoBreak held → take (length h.lines + 0) (lines_of (taken ++ [])) ≡ ended_lines taken
 ended_are {taken = taken} h clean =
     let count : length h.lines + 0 ≡ breaks_in taken = omega (arith, ended_count h clean) in
     ap (λ k. take k (lines_of (taken ++ []))) count ∙ ap (λ xs. take (breaks_in taken) (lines_of xs)) (append-nil taken)
 
 -- a read failed
-pub read_fault : {had has a b : Option (List ℕ)} {old now : State} {line : List ℕ} → ReadSoFar had has a b old now line → HasNoBreak line → AnswersRead had has a b old now
+pub read_fault : {had has a b : Option (List ℕ)} {old now : WorldState} {line : List ℕ} → ReadSoFar had has a b old now line → HasNoBreak line → AnswersRead had has a b old now
 read_fault {a = a} {b = b} {old = old} h clean =
     let answered = h.wrote.answered in
     record {

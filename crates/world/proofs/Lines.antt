@@ -6,8 +6,9 @@ use Rattle.std.proofs.lemmas.Bool.{ne_eqb, eqb-true, eq-eqb}
 use Rattle.memchr.specs.Find.{Nowhere, NoneBefore, Passes, is_byte}
 use Rattle.wire.specs.Lines.{lines_of, onto_first}
 use Rattle.world.specs.Alone.{message_of}
-use Rattle.world.specs.State.{State, names_of, rooms_of}
-use Rattle.world.specs.Script.{number_then, HasNoBreak, message_in, text_for, rooms_for, lines_out, lines_end, output_of, end_of}
+use Rattle.world.specs.State.{WorldState, names_of, rooms_of}
+use Rattle.world.specs.Script.{number_then, message_in, text_for, rooms_for, lines_out, lines_end, output_of, end_of}
+use Rattle.world.specs.steps.Endings.{HasNoBreak}
 
 pub number_then_more : (value : ℕ) (bytes : List ℕ) (i : ℕ) → i < length bytes
     → number_then value (drop i bytes) ≡ cond (eqb (get_or bytes i 0) 32) (Some (message_of value (drop (i + 1) bytes)))
@@ -51,11 +52,11 @@ break_at bytes place first found = (
   no_break_front bytes place (λ k lt e. first.before k (omega arith) lt (eq-eqb _ _ e)),
 )
 
-pub output_last : (mid : State) (line : List ℕ) → HasNoBreak line → 0 < length line → output_of mid line ≡ text_for (names_of mid) (rooms_of mid) (message_in line)
+pub output_last : (mid : WorldState) (line : List ℕ) → HasNoBreak line → 0 < length line → output_of mid line ≡ text_for (names_of mid) (rooms_of mid) (message_in line)
 output_last mid [] h some = absurd (omega (arith, some))
 output_last mid (x ∷ line) h some = ap (lines_out (names_of mid) (rooms_of mid)) (lines_last x line h) ∙ append-nil _
 
-pub end_last : (mid : State) (line : List ℕ) → HasNoBreak line → 0 < length line → end_of mid line ≡ rooms_for (names_of mid) (rooms_of mid) (message_in line)
+pub end_last : (mid : WorldState) (line : List ℕ) → HasNoBreak line → 0 < length line → end_of mid line ≡ rooms_for (names_of mid) (rooms_of mid) (message_in line)
 end_last mid [] h some = absurd (omega (arith, some))
 end_last mid (x ∷ line) h some = ap (lines_end (names_of mid) (rooms_of mid)) (lines_last x line h)
 

@@ -8,14 +8,16 @@ use Rattle.std.proofs.lemmas.Fmt.{length-decimal-le}
 use Rattle.rules.specs.declared.refusal.Refusal.TheVariants.{BadMessage}
 use Rattle.wire.specs.Lines.{lines_of, onto_first}
 use Rattle.wire.specs.declared.reply.Reply.TheVariants.{No}
-use Rattle.wire.specs.Texts.{request_read, reply_text, reply_read}
+use Rattle.wire.specs.Texts.{reply_text}
+use Rattle.wire.specs.steps.Reads.{request_read, reply_read}
 use Rattle.room_core.specs.Shown.{HasObject}
 use Rattle.world.specs.Alone.{Message, message_of, Alone, answer_to, after_reply, use_after, alone_reply, alone_after}
 use Rattle.world.specs.Rooms.{Rooms, named_place, lone_answer, owner_from, owner_of, reply_at, after_at, reply_to, rooms_after}
-use Rattle.world.specs.State.{State, names_of, rooms_of}
-use Rattle.world.specs.Script.{message_in, text_for, rooms_for, lines_out, lines_end, output_of, HasNoBreak}
+use Rattle.world.specs.State.{WorldState, names_of, rooms_of}
+use Rattle.world.specs.Script.{message_in, text_for, rooms_for, lines_out, lines_end, output_of}
+use Rattle.world.specs.steps.Endings.{HasNoBreak}
 use Rattle.world.specs.declared.script.TheConstants.{LINE_LIMIT}
-use Rattle.world.specs.Answered.{kept_part, LineShows, LinesShow}
+use Rattle.world.specs.steps.Answered.{kept_part, LineShows, LinesShow}
 use Rattle.world.proofs.Changed.{rooms_same, alone_same}
 use Rattle.world.proofs.Lines.{no_break_parts}
 use Rattle.world.proofs.LineForms.{line_of_message, message_of_line}
@@ -116,7 +118,7 @@ same_by names rooms line a b long (Some m) p e f =
     subst (λ q. SameAnswer names rooms (Some m) q) (sym other.3 ∙ f) (same_bad names rooms m other.0 other.1 other.2)
 same_by names rooms line a b long None (Some m) e f =
     let other = other_end line b a m long f in
-    let clash : None ≡ Some (message_of m.session other.0) = sym e ∙ other.3 in
+    let is_conflict : None ≡ Some (message_of m.session other.0) = sym e ∙ other.3 in
     absurd (cc)
 
 same_answer : (names : List (List ℕ)) (rooms : Rooms) (line a b : List ℕ) → LINE_LIMIT ≤ length line → SameAnswer names rooms (message_in (line ++ a)) (message_in (line ++ b))
@@ -216,7 +218,7 @@ lines_cut_by false line rest e h = ap (λ l. map kept_part (lines_of (l ++ rest)
 pub lines_cut : (line rest : List ℕ) → HasNoBreak line → map kept_part (lines_of (line ++ rest)) ≡ map kept_part (lines_of (kept_part line ++ rest))
 lines_cut line rest h = lines_cut_by (ltb LINE_LIMIT (length line)) line rest refl h
 
-pub output_dropped : (mid : State) (line : List ℕ) (x : ℕ) (rest : List ℕ) → HasNoBreak line → x ≢ 10 → LINE_LIMIT ≤ length line → output_of mid (line ++ x ∷ rest) ≡ output_of mid (line ++ rest)
+pub output_dropped : (mid : WorldState) (line : List ℕ) (x : ℕ) (rest : List ℕ) → HasNoBreak line → x ≢ 10 → LINE_LIMIT ≤ length line → output_of mid (line ++ x ∷ rest) ≡ output_of mid (line ++ rest)
 output_dropped mid line x rest h ne long =
     out_kept (names_of mid) (rooms_of mid) (lines_of (line ++ x ∷ rest))
     ∙ ap (lines_out (names_of mid) (rooms_of mid)) (lines_dropped line x rest h ne long)

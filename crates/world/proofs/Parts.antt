@@ -8,10 +8,11 @@ use Rattle.byte_streams.specs.Fronts.{AppendsFront}
 use Rattle.byte_streams.proofs.Written.{no_front}
 use Rattle.wire.specs.Lines.{lines_of}
 use Rattle.world.specs.Rooms.{Rooms}
-use Rattle.world.specs.State.{State, names_of, rooms_of}
-use Rattle.world.specs.Script.{HasNoBreak, Stops, message_in, text_for, rooms_for, lines_out, lines_end, output_of, end_of}
+use Rattle.world.specs.State.{WorldState, names_of, rooms_of}
+use Rattle.world.specs.Script.{message_in, text_for, rooms_for, lines_out, lines_end, output_of, end_of}
+use Rattle.world.specs.steps.Endings.{HasNoBreak, Stops}
 use Rattle.world.specs.declared.script.TheConstants.{LINE_LIMIT}
-use Rattle.world.specs.Answered.{kept_part, line_text, IsHeld, LinesShow, IsPastLine, IsPastEnd, Answered, Adds, AnswersSome, Hands, Wrote, WroteSome}
+use Rattle.world.specs.steps.Answered.{kept_part, line_text, IsHeld, LinesShow, IsPastLine, IsPastEnd, Answered, Adds, AnswersSome, Hands, Wrote, WroteSome}
 use Rattle.world.proofs.LongLines.{lines_cut, out_kept, end_kept, shows_kept, shows_whole}
 use Rattle.world.proofs.Lines.{lines_break, lines_last, end_last, no_break_append, no_break_parts}
 
@@ -27,14 +28,14 @@ end_append : (names : List (List ℕ)) (rooms : Rooms) (a b : List (List ℕ)) �
 end_append names rooms [] b = refl
 end_append names rooms (line ∷ a) b = end_append names (rooms_for names rooms (message_in line)) a b
 
-out_from : (from to : State) (lines more : List (List ℕ)) → rooms_of to ≡ lines_end (names_of from) (rooms_of from) lines → names_of to ≡ names_of from
+out_from : (from to : WorldState) (lines more : List (List ℕ)) → rooms_of to ≡ lines_end (names_of from) (rooms_of from) lines → names_of to ≡ names_of from
     → lines_out (names_of from) (rooms_of from) (lines ++ more) ≡ lines_out (names_of from) (rooms_of from) lines ++ lines_out (names_of to) (rooms_of to) more
 out_from from to lines more e f =
     out_append (names_of from) (rooms_of from) lines more
     ∙ ap (λ r. lines_out (names_of from) (rooms_of from) lines ++ lines_out (names_of from) r more) (sym e)
     ∙ ap (λ ns. lines_out (names_of from) (rooms_of from) lines ++ lines_out ns (rooms_of to) more) (sym f)
 
-end_from : (from to : State) (lines more : List (List ℕ)) → rooms_of to ≡ lines_end (names_of from) (rooms_of from) lines → names_of to ≡ names_of from
+end_from : (from to : WorldState) (lines more : List (List ℕ)) → rooms_of to ≡ lines_end (names_of from) (rooms_of from) lines → names_of to ≡ names_of from
     → lines_end (names_of from) (rooms_of from) (lines ++ more) ≡ lines_end (names_of to) (rooms_of to) more
 end_from from to lines more e f =
     end_append (names_of from) (rooms_of from) lines more
@@ -45,17 +46,17 @@ shows_append : (names : List (List ℕ)) (rooms : Rooms) (a b : List (List ℕ))
 shows_append names rooms [] b h k = k
 shows_append names rooms (line ∷ a) b h k = (h.0, shows_append names (rooms_for names rooms (message_in line)) a b h.1 k)
 
-shows_from : (from to : State) (lines more : List (List ℕ)) → rooms_of to ≡ lines_end (names_of from) (rooms_of from) lines → names_of to ≡ names_of from
+shows_from : (from to : WorldState) (lines more : List (List ℕ)) → rooms_of to ≡ lines_end (names_of from) (rooms_of from) lines → names_of to ≡ names_of from
     → LinesShow (names_of from) (rooms_of from) lines → LinesShow (names_of to) (rooms_of to) more → LinesShow (names_of from) (rooms_of from) (lines ++ more)
 shows_from from to lines more e f h k =
     shows_append (names_of from) (rooms_of from) lines more h (subst (λ r. LinesShow (names_of from) r more) e (subst (λ ns. LinesShow ns (rooms_of to) more) f k))
 
 -- ---- what was answered so far
 
-pub answered_none : (s : State) (held : List ℕ) → Answered s s held held []
+pub answered_none : (s : WorldState) (held : List ℕ) → Answered s s held held []
 answered_none s held = record { lines = []; rooms = refl; names = refl; is_text = refl; shown = tt; same = λ rest. refl }
 
-answered_more : {from to : State} {taken held text : List ℕ} (more : List ℕ) → Answered from to taken held text → Answered from to (taken ++ more) (held ++ more) text
+answered_more : {from to : WorldState} {taken held text : List ℕ} (more : List ℕ) → Answered from to taken held text → Answered from to (taken ++ more) (held ++ more) text
 answered_more {taken = taken} {held = held} more h = record {
   lines = h.lines;
   rooms = h.rooms;
@@ -67,7 +68,7 @@ answered_more {taken = taken} {held = held} more h = record {
       ∙ ap (λ xs. map kept_part (h.lines ++ lines_of xs)) (sym (append_assoc held more rest));
 }
 
-answered_then : {s0 s1 s2 : State} {taken held last t u : List ℕ} → Answered s0 s1 taken held t → Answered s1 s2 held last u → Answered s0 s2 taken last (t ++ u)
+answered_then : {s0 s1 s2 : WorldState} {taken held last t u : List ℕ} → Answered s0 s1 taken held t → Answered s1 s2 held last u → Answered s0 s2 taken last (t ++ u)
 answered_then {s0 = s0} {s1 = s1} {s2 = s2} {taken = taken} {held = held} {last = last} {t = t} {u = u} h k = record {
   lines = h.lines ++ k.lines;
   rooms = k.rooms ∙ sym (end_from s0 s1 h.lines k.lines h.rooms h.names);
@@ -83,7 +84,7 @@ answered_then {s0 = s0} {s1 = s1} {s2 = s2} {taken = taken} {held = held} {last 
 }
 
 -- by the first lines of all, or by all
-module _ {from to : State} {taken held text : List ℕ} (h : Answered from to taken held text) (rest : List ℕ) where
+module _ {from to : WorldState} {taken held text : List ℕ} (h : Answered from to taken held text) (rest : List ℕ) where
   first_same : (n : ℕ) → map kept_part (take (length h.lines + n) (lines_of (taken ++ rest))) ≡ map kept_part (h.lines ++ take n (lines_of (held ++ rest)))
   first_same n =
       sym (take-map kept_part (length h.lines + n) (lines_of (taken ++ rest)))
@@ -123,7 +124,7 @@ module _ {from to : State} {taken held text : List ℕ} (h : Answered from to ta
 -- ---- more bytes of a line
 
 -- they join it
-pub answered_kept : (s : State) (line bytes longer : List ℕ) → longer ≡ kept_part (line ++ bytes) → HasNoBreak line → HasNoBreak bytes
+pub answered_kept : (s : WorldState) (line bytes longer : List ℕ) → longer ≡ kept_part (line ++ bytes) → HasNoBreak line → HasNoBreak bytes
     → IsHeld longer × Answered s s (line ++ bytes) longer []
 answered_kept s line bytes longer e clean more =
     let all = line ++ bytes in
@@ -145,12 +146,12 @@ kept_bytes line bytes held count is_held short is_count =
     ∙ ap (λ n. take n (line ++ bytes)) limit
 
 -- nothing was answered
-pub answers_nothing : (s new : State) (taken : List ℕ) → new ≡ s → AnswersSome s new taken
+pub answers_nothing : (s new : WorldState) (taken : List ℕ) → new ≡ s → AnswersSome s new taken
 answers_nothing s new taken same = subst (λ n. AnswersSome s n taken) (sym same) (record { held = taken; text = []; answered = answered_none s taken })
 
 -- ---- a line ends
 
-pub answered_line : (s new : State) (line : List ℕ) → HasNoBreak line → IsPastLine s line new → Answered s new (line ++ 10 ∷ []) [] (line_text s line)
+pub answered_line : (s new : WorldState) (line : List ℕ) → HasNoBreak line → IsPastLine s line new → Answered s new (line ++ 10 ∷ []) [] (line_text s line)
 answered_line s new line clean past = record {
   lines = line ∷ [];
   rooms = past.rooms;
@@ -161,24 +162,24 @@ answered_line s new line clean past = record {
 }
 
 -- it was answered, but the answer is lost, or it was not answered
-pub answered_lost : (s new : State) (line : List ℕ) → HasNoBreak line → (new ≡ s) ⊎ IsPastLine s line new → AnswersSome s new (line ++ 10 ∷ [])
+pub answered_lost : (s new : WorldState) (line : List ℕ) → HasNoBreak line → (new ≡ s) ⊎ IsPastLine s line new → AnswersSome s new (line ++ 10 ∷ [])
 answered_lost s new line clean (inl same) = answers_nothing s new (line ++ 10 ∷ []) same
 answered_lost s new line clean (inr past) = record { held = []; text = line_text s line; answered = answered_line s new line clean past }
 
 -- it is the line that was held
-pub answered_end : {s0 s1 s2 : State} {taken held text : List ℕ} → Answered s0 s1 taken held [] → Answered s1 s2 (held ++ 10 ∷ []) [] text → Answered s0 s2 (taken ++ 10 ∷ []) [] text
+pub answered_end : {s0 s1 s2 : WorldState} {taken held text : List ℕ} → Answered s0 s1 taken held [] → Answered s1 s2 (held ++ 10 ∷ []) [] text → Answered s0 s2 (taken ++ 10 ∷ []) [] text
 answered_end h k = answered_then (answered_more (10 ∷ []) h) k
 
-pub answers_end : {s0 s1 s2 : State} {taken held : List ℕ} → Answered s0 s1 taken held [] → AnswersSome s1 s2 (held ++ 10 ∷ []) → AnswersSome s0 s2 (taken ++ 10 ∷ [])
+pub answers_end : {s0 s1 s2 : WorldState} {taken held : List ℕ} → Answered s0 s1 taken held [] → AnswersSome s1 s2 (held ++ 10 ∷ []) → AnswersSome s0 s2 (taken ++ 10 ∷ [])
 answers_end h k = record { held = k.held; text = k.text; answered = answered_then (answered_more (10 ∷ []) h) k.answered }
 
 -- ---- what was written so far
 
-pub wrote_none : (a : Option (List ℕ)) (s : State) (held pending : List ℕ) → pending ≡ [] → Wrote a a s s held held pending
+pub wrote_none : (a : Option (List ℕ)) (s : WorldState) (held pending : List ℕ) → pending ≡ [] → Wrote a a s s held held pending
 wrote_none a s held pending e = record { written = []; adds = Appends-nil a; answered = subst (λ p. Answered s s held held p) (sym e) (answered_none s held) }
 
 -- a line ended
-pub wrote_line : {a b : Option (List ℕ)} {s0 : State} (s1 s2 : State) {taken : List ℕ} (line first others rest longer before after : List ℕ) → rest ≡ first ++ 10 ∷ others
+pub wrote_line : {a b : Option (List ℕ)} {s0 : WorldState} (s1 s2 : WorldState) {taken : List ℕ} (line first others rest longer before after : List ℕ) → rest ≡ first ++ 10 ∷ others
     → Wrote a b s0 s1 taken (line ++ rest) before → Adds s1 s2 (line ++ first ++ 10 ∷ []) longer before after → Wrote a b s0 s2 taken (longer ++ others) after
 wrote_line {s0 = s0} s1 s2 {taken = taken} line first others rest longer before after is h k =
     let next : line ++ rest ≡ (line ++ first ++ 10 ∷ []) ++ others =
@@ -191,7 +192,7 @@ wrote_line {s0 = s0} s1 s2 {taken = taken} line first others rest longer before 
     }
 
 -- the bytes that are held were cut
-pub wrote_cut : {a b : Option (List ℕ)} {s0 s1 : State} {taken held shorter pending : List ℕ} → Wrote a b s0 s1 taken held pending → Answered s1 s1 held shorter [] → Wrote a b s0 s1 taken shorter pending
+pub wrote_cut : {a b : Option (List ℕ)} {s0 s1 : WorldState} {taken held shorter pending : List ℕ} → Wrote a b s0 s1 taken held pending → Answered s1 s1 held shorter [] → Wrote a b s0 s1 taken shorter pending
 wrote_cut {s0 = s0} {s1 = s1} {taken = taken} {shorter = shorter} {pending = pending} h k = record {
   written = h.written;
   adds = h.adds;
@@ -199,7 +200,7 @@ wrote_cut {s0 = s0} {s1 = s1} {taken = taken} {shorter = shorter} {pending = pen
 }
 
 -- some of the answers were written
-pub wrote_hands : {a b c : Option (List ℕ)} {s0 s1 : State} {taken held before after : List ℕ} → Wrote a b s0 s1 taken held before → Hands b c before after → Wrote a c s0 s1 taken held after
+pub wrote_hands : {a b c : Option (List ℕ)} {s0 s1 : WorldState} {taken held before after : List ℕ} → Wrote a b s0 s1 taken held before → Hands b c before after → Wrote a c s0 s1 taken held after
 wrote_hands {a = a} {b = b} {c = c} {s0 = s0} {s1 = s1} {taken = taken} {held = held} {before = before} {after = after} h k = record {
   written = h.written ++ k.front;
   adds = Appends-trans a b c _ _ h.adds k.adds;
@@ -212,22 +213,22 @@ hands_all {before = before} h e = record { front = before; adds = h; whole = sym
 pub hands_front : {b c : Option (List ℕ)} {before : List ℕ} (h : AppendsFront b c before) → Hands b c before h.rest
 hands_front h = record { front = h.front; adds = h.adds; whole = h.whole }
 
-pub wrote_kept : {a b c : Option (List ℕ)} {s0 s1 : State} {taken held pending : List ℕ} → Wrote a b s0 s1 taken held pending → Keeps b c → Wrote a c s0 s1 taken held pending
+pub wrote_kept : {a b c : Option (List ℕ)} {s0 s1 : WorldState} {taken held pending : List ℕ} → Wrote a b s0 s1 taken held pending → Keeps b c → Wrote a c s0 s1 taken held pending
 wrote_kept {a = a} {b = b} {c = c} h k = record { written = h.written; adds = Appends-kept a b c _ h.adds k; answered = h.answered }
 
-pub some_of : {a b : Option (List ℕ)} {s0 s1 : State} {taken held pending : List ℕ} → Wrote a b s0 s1 taken held pending → WroteSome a b s0 s1 taken
+pub some_of : {a b : Option (List ℕ)} {s0 s1 : WorldState} {taken held pending : List ℕ} → Wrote a b s0 s1 taken held pending → WroteSome a b s0 s1 taken
 some_of {held = held} {pending = pending} h = record { held = held; pending = pending; wrote = h }
 
 hands_more : {b c : Option (List ℕ)} {before after : List ℕ} (lost : List ℕ) → Hands b c before after → Hands b c (before ++ lost) (after ++ lost)
 hands_more {after = after} lost h = record { front = h.front; adds = h.adds; whole = ap (λ t. t ++ lost) h.whole ∙ append_assoc h.front after lost }
 
 -- a line ended, and answers up to here are there
-pub record WroteUpTo (a b : Option (List ℕ)) (s0 s2 : State) (taken after : List ℕ) : Type 0 where
+pub record WroteUpTo (a b : Option (List ℕ)) (s0 s2 : WorldState) (taken after : List ℕ) : Type 0 where
   pub held : List ℕ
   pub lost : List ℕ
   pub wrote : Wrote a b s0 s2 taken held (after ++ lost)
 
-pub wrote_up_to : {T E : Type 0} {a b : Option (List ℕ)} {s0 : State} (r : Result T E) (s1 s2 : State) {taken : List ℕ} (line first others rest longer before after : List ℕ) → rest ≡ first ++ 10 ∷ others
+pub wrote_up_to : {T E : Type 0} {a b : Option (List ℕ)} {s0 : WorldState} (r : Result T E) (s1 s2 : WorldState) {taken : List ℕ} (line first others rest longer before after : List ℕ) → rest ≡ first ++ 10 ∷ others
     → Wrote a b s0 s1 taken (line ++ rest) before → OnOk r (Adds s1 s2 (line ++ first ++ 10 ∷ []) longer before after) → OnErr r (after ≡ before) → OnErr r (AnswersSome s1 s2 (line ++ first ++ 10 ∷ []))
     → WroteUpTo a b s0 s2 taken after
 wrote_up_to {a = a} {b = b} {s0 = s0} (Ok x) s1 s2 {taken = taken} line first others rest longer before after is h k none some = record {
@@ -242,23 +243,23 @@ wrote_up_to {a = a} {b = b} {s0 = s0} (Err y) s1 s2 {taken = taken} line first o
       (wrote_line s1 s2 line first others rest some.held before (before ++ some.text) is h (record { text = some.text; added = refl; answered = some.answered }));
 }
 
-pub up_to_hands : {a b c : Option (List ℕ)} {s0 s2 : State} {taken after left : List ℕ} → WroteUpTo a b s0 s2 taken after → Hands b c after left → WroteSome a c s0 s2 taken
+pub up_to_hands : {a b c : Option (List ℕ)} {s0 s2 : WorldState} {taken after left : List ℕ} → WroteUpTo a b s0 s2 taken after → Hands b c after left → WroteSome a c s0 s2 taken
 up_to_hands h k = some_of (wrote_hands h.wrote (hands_more h.lost k))
 
 -- one part after another
-pub wrote_then : {a b c : Option (List ℕ)} {s0 s1 s2 : State} {taken held last pending : List ℕ} → Wrote a b s0 s1 taken held [] → Wrote b c s1 s2 held last pending → Wrote a c s0 s2 taken last pending
+pub wrote_then : {a b c : Option (List ℕ)} {s0 s1 s2 : WorldState} {taken held last pending : List ℕ} → Wrote a b s0 s1 taken held [] → Wrote b c s1 s2 held last pending → Wrote a c s0 s2 taken last pending
 wrote_then {a = a} {b = b} {c = c} {s0 = s0} {s2 = s2} {taken = taken} {last = last} {pending = pending} h k = record {
   written = h.written ++ k.written;
   adds = Appends-trans a b c _ _ h.adds k.adds;
   answered = subst (λ t. Answered s0 s2 taken last t) (ap (λ t. t ++ (k.written ++ pending)) (append-nil h.written) ∙ sym (append_assoc h.written k.written pending)) (answered_then h.answered k.answered);
 }
 
-pub wrote_more : {a b : Option (List ℕ)} {s0 s1 : State} {taken held pending : List ℕ} (more : List ℕ) → Wrote a b s0 s1 taken held pending → Wrote a b s0 s1 (taken ++ more) (held ++ more) pending
+pub wrote_more : {a b : Option (List ℕ)} {s0 s1 : WorldState} {taken held pending : List ℕ} (more : List ℕ) → Wrote a b s0 s1 taken held pending → Wrote a b s0 s1 (taken ++ more) (held ++ more) pending
 wrote_more more h = record { written = h.written; adds = h.adds; answered = answered_more more h.answered }
 
 -- ---- where a script stops
 
-pub stops_of : {a b : Option (List ℕ)} {s0 s1 : State} {taken held pending : List ℕ} (rest : List ℕ) → Wrote a b s0 s1 taken held pending → Stops a b s0 s1 (taken ++ rest)
+pub stops_of : {a b : Option (List ℕ)} {s0 s1 : WorldState} {taken held pending : List ℕ} (rest : List ℕ) → Wrote a b s0 s1 taken held pending → Stops a b s0 s1 (taken ++ rest)
 stops_of {s0 = s0} {s1 = s1} {pending = pending} rest h = record {
   count = length h.answered.lines + 0;
   rooms = sym (first_end h.answered rest 0);
@@ -271,7 +272,7 @@ stops_of {s0 = s0} {s1 = s1} {pending = pending} rest h = record {
   };
 }
 
-pub stops_then : {a b c : Option (List ℕ)} {s0 s1 s2 : State} {taken held : List ℕ} (rest : List ℕ) → Wrote a b s0 s1 taken held [] → Stops b c s1 s2 (held ++ rest) → Stops a c s0 s2 (taken ++ rest)
+pub stops_then : {a b c : Option (List ℕ)} {s0 s1 s2 : WorldState} {taken held : List ℕ} (rest : List ℕ) → Wrote a b s0 s1 taken held [] → Stops b c s1 s2 (held ++ rest) → Stops a c s0 s2 (taken ++ rest)
 stops_then {a = a} {b = b} {c = c} {s1 = s1} {held = held} rest h k = record {
   count = length h.answered.lines + k.count;
   rooms = k.rooms ∙ sym (first_end h.answered rest k.count);
@@ -289,7 +290,7 @@ stops_then {a = a} {b = b} {c = c} {s1 = s1} {held = held} rest h k = record {
 }
 
 -- the last line was answered, and some of the answer written
-pub stops_line : (a c : Option (List ℕ)) (s new : State) (line : List ℕ) → HasNoBreak line → 0 < length line → IsPastLine s line new → AppendsFront a c (line_text s line) → Stops a c s new line
+pub stops_line : (a c : Option (List ℕ)) (s new : WorldState) (line : List ℕ) → HasNoBreak line → 0 < length line → IsPastLine s line new → AppendsFront a c (line_text s line) → Stops a c s new line
 stops_line a c s new [] clean some past part = absurd (omega (arith, some))
 stops_line a c s new (x ∷ line) clean some past part =
     let one : (x ∷ line) ∷ [] ≡ take 1 (lines_of (x ∷ line)) = ap (take 1) (sym (lines_last x line clean)) in
@@ -306,16 +307,16 @@ stops_line a c s new (x ∷ line) clean some past part =
     }
 
 -- nothing was done
-pub stops_at_once : (a : Option (List ℕ)) (s : State) (bytes : List ℕ) → Stops a a s s bytes
+pub stops_at_once : (a : Option (List ℕ)) (s : WorldState) (bytes : List ℕ) → Stops a a s s bytes
 stops_at_once a s bytes = stops_of bytes (wrote_none a s [] [] refl)
 
 -- the last line was answered or not, and nothing is written
-pub stops_lost : (a : Option (List ℕ)) (s new : State) (line : List ℕ) → HasNoBreak line → 0 < length line → (new ≡ s) ⊎ IsPastLine s line new → Stops a a s new line
+pub stops_lost : (a : Option (List ℕ)) (s new : WorldState) (line : List ℕ) → HasNoBreak line → 0 < length line → (new ≡ s) ⊎ IsPastLine s line new → Stops a a s new line
 stops_lost a s new line clean some (inl same) = subst (λ n. Stops a a s n line) (sym same) (stops_at_once a s line)
 stops_lost a s new line clean some (inr past) = stops_line a a s new line clean some past (no_front a _)
 
 -- the last line was answered
-pub past_end : (s new : State) (line : List ℕ) → HasNoBreak line → 0 < length line → IsPastLine s line new → IsPastEnd s line new
+pub past_end : (s new : WorldState) (line : List ℕ) → HasNoBreak line → 0 < length line → IsPastLine s line new → IsPastEnd s line new
 past_end s new [] clean some past = absurd (omega (arith, some))
 past_end s new (x ∷ line) clean some past = record {
   rooms = past.rooms ∙ sym (end_last s (x ∷ line) clean some);
@@ -324,7 +325,7 @@ past_end s new (x ∷ line) clean some past = record {
 }
 
 -- what was written is a front of the whole output
-pub stops_front : {a b : Option (List ℕ)} {s0 s1 : State} {bytes : List ℕ} → Stops a b s0 s1 bytes → AppendsFront a b (output_of s0 bytes)
+pub stops_front : {a b : Option (List ℕ)} {s0 s1 : WorldState} {bytes : List ℕ} → Stops a b s0 s1 bytes → AppendsFront a b (output_of s0 bytes)
 stops_front {s0 = s0} {bytes = bytes} h =
     let later = lines_out (names_of s0) (lines_end (names_of s0) (rooms_of s0) (take h.count (lines_of bytes))) (drop h.count (lines_of bytes)) in
     record {

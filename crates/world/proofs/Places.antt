@@ -8,7 +8,7 @@ use Rattle.wire.specs.declared.request.Request.{Request}
 use Rattle.world.specs.Alone.{use_after}
 use Rattle.world.specs.Rooms.{place_of}
 use Rattle.world.specs.State.{Named, names_in, rooms_in, room_at, is_used, uses_in, use_at}
-use Rattle.world.specs.Steps.{asker_answer, place_answer}
+use Rattle.world.specs.steps.Steps.{asker_answer, place_answer}
 
 -- one room is replaced by another of its name
 pub names_set : (rooms : List Named) (i : ℕ) (old new : Named) → old ≡ get_or rooms i old → new.name ≡ old.name → names_in (set rooms i new) ≡ names_in rooms

@@ -7,10 +7,10 @@ use Rattle.std.specs.Ordering.{is_lt}
 use Rattle.std.specs.Cmp.{IsTotalOrder}
 use Rattle.std.specs.declared.cmp.Ordering.{Ordering}
 use Rattle.std.proofs.lemmas.Bool.{and_from, not-true}
-use Rattle.op_names.specs.Names.{Name, name_cmp, is_op_name}
-use Rattle.op_names.specs.Texts.{Bytes, is_key, is_kind}
-use Rattle.op_names.specs.VersionIds.{id_cmp, names_rise}
-use Rattle.op_names.specs.declared.value.Value.{Value}
+use Rattle.base_types.specs.Names.{Name, name_cmp, is_op_name}
+use Rattle.base_types.specs.Texts.{Bytes, is_key, is_kind}
+use Rattle.base_types.specs.VersionIds.{id_cmp, names_rise}
+use Rattle.base_types.specs.declared.value.Value.{Value}
 use Rattle.rules.specs.declared.history.Op.{Op}
 use Rattle.rules.specs.declared.history.Body.{Body}
 use Rattle.rules.specs.declared.history.Body.TheVariants.{New, Put, DropVersion}

@@ -1,7 +1,7 @@
 -- Which answers of a room to whoever asks show an object.
 use Rattle.std.proofs.Common.{◌≡◌, ℕ, Bool, List, Option, Some, None}
-use Rattle.op_names.specs.Names.{Name}
-use Rattle.op_names.specs.Texts.{Bytes}
+use Rattle.base_types.specs.Names.{Name}
+use Rattle.base_types.specs.Texts.{Bytes}
 use Rattle.rules.specs.declared.version.Version.{Version}
 use Rattle.wire.specs.declared.request.Request.{Request}
 use Rattle.wire.specs.declared.request.Request.TheVariants as request
@@ -9,7 +9,7 @@ use Rattle.wire.specs.declared.reply.Reply.TheVariants.{Versions}
 use Rattle.room_core.specs.Room.{Room}
 use Rattle.room_core.proofs.Shows.{IsShownBy, join_shows, back_shows, answer_shows}
 use Rattle.world.specs.Alone.{outside_answer}
-use Rattle.world.specs.Steps.{asker_answer}
+use Rattle.world.specs.steps.Steps.{asker_answer}
 
 module _ (room : Room) (at : ℕ) (object : Name) (kind : Bytes) (vs : List Version) (in_use : ℕ → Bool) where
   -- a session that is in no room is shown nothing

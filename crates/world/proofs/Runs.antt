@@ -5,7 +5,7 @@ use Rattle.std.proofs.lemmas.List.{length_push, take_more, map-append}
 use Rattle.wire.specs.Texts.{reply_text}
 use Rattle.world.specs.Alone.{Message, Alone, alone_reply, alone_after, alone_texts, alone_end}
 use Rattle.world.specs.Rooms.{Rooms, owner_of, reply_at, after_at, reply_to, rooms_after, lone_reply, owners, texts, rooms_end, at_room, at_none}
-use Rattle.world.specs.State.{State, names_of, rooms_of}
+use Rattle.world.specs.State.{WorldState, names_of, rooms_of}
 use Rattle.world.specs.Shown.{ShowsGroups, AllShowGroups}
 use Rattle.world.specs.Run.{answered_messages, answer_texts, IsAnswer, IsRun, AnswersSomeOf}
 
@@ -110,7 +110,7 @@ all_show_push names rooms (m ∷ all) (t ∷ ts) message text e all_show shows =
 
 -- ---- a run
 
-pub run_from : (old new : State) (messages : List Message) (ts : List (List ℕ)) → ts ≡ texts (names_of old) (rooms_of old) messages
+pub run_from : (old new : WorldState) (messages : List Message) (ts : List (List ℕ)) → ts ≡ texts (names_of old) (rooms_of old) messages
     → AllShowGroups (names_of old) (rooms_of old) messages ts → rooms_of new ≡ rooms_end (names_of old) (rooms_of old) messages → names_of new ≡ names_of old → IsRun old messages ts new
 run_from old new messages ts replies shown rooms is_names =
     let names = names_of old in
@@ -126,14 +126,14 @@ run_from old new messages ts replies shown rooms is_names =
 
 -- ---- a run so far
 
-pub record SoFar (old : State) (all : List Message) (answers : List (Option (List ℕ))) (new : State) : Type 0 where
+pub record SoFar (old : WorldState) (all : List Message) (answers : List (Option (List ℕ))) (new : WorldState) : Type 0 where
   pub count : length answers ≡ length all
   pub names : names_of new ≡ names_of old
   pub replies : answer_texts answers ≡ texts (names_of old) (rooms_of old) (answered_messages all answers)
   pub shown : AllShowGroups (names_of old) (rooms_of old) (answered_messages all answers) (answer_texts answers)
   pub rooms : rooms_of new ≡ rooms_end (names_of old) (rooms_of old) (answered_messages all answers)
 
-pub so_far_answered : (old mid new : State) (all : List Message) (answers : List (Option (List ℕ))) (message : Message) (text : List ℕ) → SoFar old all answers mid
+pub so_far_answered : (old mid new : WorldState) (all : List Message) (answers : List (Option (List ℕ))) (message : Message) (text : List ℕ) → SoFar old all answers mid
     → IsAnswer mid message text new → SoFar old (all ++ message ∷ []) (answers ++ Some text ∷ []) new
 so_far_answered old mid new all answers message text h answer =
     let names = names_of old in
@@ -163,7 +163,7 @@ so_far_answered old mid new all answers message text h answer =
           ∙ ap (rooms_end names start) (sym both);
     }
 
-pub so_far_refused : (old mid new : State) (all : List Message) (answers : List (Option (List ℕ))) (message : Message) → SoFar old all answers mid → new ≡ mid
+pub so_far_refused : (old mid new : WorldState) (all : List Message) (answers : List (Option (List ℕ))) (message : Message) → SoFar old all answers mid → new ≡ mid
     → SoFar old (all ++ message ∷ []) (answers ++ None ∷ []) new
 so_far_refused old mid new all answers message h same =
     let both = answered_push all answers message None h.count ∙ append-nil (answered_messages all answers) in
@@ -178,14 +178,14 @@ so_far_refused old mid new all answers message h same =
       rooms = ap rooms_of same ∙ h.rooms ∙ ap (rooms_end (names_of old) (rooms_of old)) (sym both);
     }
 
-pub answers_of : (old : State) (all : List Message) (answers : List (Option (List ℕ))) (new : State) → SoFar old all answers new → AnswersSomeOf old all answers new
+pub answers_of : (old : WorldState) (all : List Message) (answers : List (Option (List ℕ))) (new : WorldState) → SoFar old all answers new → AnswersSomeOf old all answers new
 answers_of old all answers new h = record {
   count = h.count;
   run = run_from old new (answered_messages all answers) (answer_texts answers) h.replies h.shown h.rooms h.names;
 }
 
 -- the lists of the loop, with one more
-pub so_far_more : {A B : Type 0} (old new : State) (view : A → Message) (text_of : B → Option (List ℕ)) (items : List A) (i : ℕ) (item : A) (answers longer : List B) (answer : B)
+pub so_far_more : {A B : Type 0} (old new : WorldState) (view : A → Message) (text_of : B → Option (List ℕ)) (items : List A) (i : ℕ) (item : A) (answers longer : List B) (answer : B)
     → longer ≡ answers ++ answer ∷ [] → i < length items → item ≡ get_or items i item
     → SoFar old (map view (take i items) ++ view item ∷ []) (map text_of answers ++ text_of answer ∷ []) new
     → SoFar old (map view (take (i + 1) items)) (map text_of longer) new

@@ -10,8 +10,8 @@ use Rattle.world.specs.declared.seats.Seat.{Seat}
 use Rattle.world.specs.declared.seats.Asker.{Asker}
 use Rattle.wire.specs.declared.reply.Reply.{Reply}
 use Rattle.world.specs.Alone.{move_of, after_move}
-use Rattle.world.specs.State.{State, Named, seat_of, SeatsWithin}
-use Rattle.world.specs.Steps.{seat_in, IsMoved, RepliesTo}
+use Rattle.world.specs.State.{WorldState, Named, seat_of, SeatsWithin}
+use Rattle.world.specs.steps.Steps.{seat_in, IsMoved, RepliesTo}
 
 -- the test of a number in a tree is equality
 is_at-nat : (a b : ℕ) → is_at (nat_cmp a) b ≡ eqb a b
@@ -57,7 +57,7 @@ seats_within (Ok x) reply place n m session old new lt e h moves same =
 seats_within (Err y) reply place n m session old new lt e h moves same =
     λ q. subst (λ k. IfSome (seat_of new q) (λ (s : Seat). s.place < k)) (sym e) (subst (λ es. IfSome (seat_of es q) (λ (s : Seat). s.place < n)) (sym same) (h q))
 
-abbrev pub state_of : List Named → List (ℕ × Seat) → State
+abbrev pub state_of : List Named → List (ℕ × Seat) → WorldState
 state_of rooms seats = record { rooms = rooms; seats = seats }
 
 pub moves_of : {T E : Type 0} (r : Result T E) (bytes : T → List ℕ) (asker : Asker) (reply : Reply) (old new : List (ℕ × Seat))

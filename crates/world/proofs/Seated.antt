@@ -2,13 +2,13 @@
 use Rattle.std.proofs.Common.{◌≡◌, ℕ, inl, inr, Bool, true, false, cond, eqb, List, [], ◌∷◌, get_or, zero, suc, Option, Some, None, refl, sym, ap, subst, ◌∙◌}
 use Rattle.std.proofs.lemmas.Bool.{eq-eqb, eqb-true, eqb-false}
 use Rattle.rules.specs.declared.limits.LimitValues.{LimitValues}
-use Rattle.wire.specs.Texts.{request_read}
+use Rattle.wire.specs.steps.Reads.{request_read}
 use Rattle.room_core.specs.Room.{Room, with_entry}
 use Rattle.room_core.specs.Answers.{Outcome, has_site}
 use Rattle.world.specs.Alone.{Alone, Message, after_move, use_after_move, move_of, no_site, alone_answer, alone_after, alone_end}
 use Rattle.world.specs.Rooms.{owners, at_room, rooms_end}
 use Rattle.world.specs.State.{uses_in, empty_rooms, alone_at, rooms_of, new_world}
-use Rattle.world.specs.Seated.{IsSeated, empty_alone}
+use Rattle.world.specs.steps.Seated.{IsSeated, empty_alone}
 use Rattle.world.proofs.Moves.{Moves, answer_moves, still_joined}
 use Rattle.world.proofs.UsedSites.{nobody_in}
 use Rattle.world.proofs.Runs.{end_law}

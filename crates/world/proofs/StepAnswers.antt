@@ -1,15 +1,16 @@
 -- One message and its answer: what is shown of an object is shown of the message's own room.
 use Rattle.std.proofs.Common.{◌≡◌, ℕ, ◌<◌, Bool, cond, List, length, set, Option, Some, None, Result, Ok, Err, IfOk, OnOk, refl, sym, ap, ◌∙◌, subst}
 use Rattle.std.proofs.lemmas.Bool.{eq-eqb}
-use Rattle.op_names.specs.Names.{Name}
-use Rattle.op_names.specs.Texts.{Bytes}
+use Rattle.base_types.specs.Names.{Name}
+use Rattle.base_types.specs.Texts.{Bytes}
 use Rattle.rules.specs.declared.refusal.Refusal.{Refusal}
 use Rattle.rules.specs.declared.refusal.Refusal.TheVariants.{BadMessage}
 use Rattle.rules.specs.declared.version.Version.{Version}
 use Rattle.rules.specs.Records.{IsLegal}
 use Rattle.wire.specs.declared.request.Request.{Request}
 use Rattle.wire.specs.declared.reply.Reply.TheVariants.{Versions, No}
-use Rattle.wire.specs.Texts.{request_read, reply_text, reply_read}
+use Rattle.wire.specs.Texts.{reply_text}
+use Rattle.wire.specs.steps.Reads.{request_read, reply_read}
 use Rattle.room_core.specs.Room.{Room, with_entry}
 use Rattle.room_core.specs.Answers.{Outcome}
 use Rattle.room_core.specs.Shown.{HasObject}
@@ -17,8 +18,8 @@ use Rattle.room_core.proofs.Shows.{IsShownBy, has_if_shown}
 use Rattle.world.specs.declared.seats.Asker.{Asker}
 use Rattle.world.specs.Alone.{Message, use_after, alone_answer, alone_after}
 use Rattle.world.specs.Rooms.{Rooms, owner_of, reply_at, after_at, reply_to, rooms_after}
-use Rattle.world.specs.State.{State, names_of, rooms_in, room_at, uses_in, use_at, seat_of, alone_at, rooms_of}
-use Rattle.world.specs.Steps.{place_answer, asker_of, IsTextOf, RepliesTo}
+use Rattle.world.specs.State.{WorldState, names_of, rooms_in, room_at, uses_in, use_at, seat_of, alone_at, rooms_of}
+use Rattle.world.specs.steps.Steps.{place_answer, asker_of, IsTextFor, RepliesTo}
 use Rattle.world.specs.Shown.{OwnerHasObject, ShowsGroups}
 use Rattle.world.specs.Run.{IsAnswer}
 use Rattle.world.proofs.Changed.{owner_is, answer_is, asked_after}
@@ -26,7 +27,7 @@ use Rattle.world.proofs.LongLines.{bad_reply, bad_after}
 use Rattle.world.proofs.RoomShows.{room_shows}
 
 -- the room at a place, which the message is of, answers with versions
-module _ (state : State) (message : Message) (place : ℕ) (who : Option ℕ) (asks : Request)
+module _ (state : WorldState) (message : Message) (place : ℕ) (who : Option ℕ) (asks : Request)
     (owner : owner_of (names_of state) (rooms_of state) message ≡ Some place)
     (is_answer : alone_answer (alone_at state place) message ≡ place_answer state.rooms place who asks)
     (legal : IsLegal (room_at state.rooms place).limits (room_at state.rooms place).entries)
@@ -54,7 +55,7 @@ module _ (state : State) (message : Message) (place : ℕ) (who : Option ℕ) (a
     }
 
 -- the text is read as the answer of the room that the message is of
-owner_shows : (state : State) (message : Message) (place : ℕ) (who : Option ℕ) (asks : Request) (text : List ℕ)
+owner_shows : (state : WorldState) (message : Message) (place : ℕ) (who : Option ℕ) (asks : Request) (text : List ℕ)
     → owner_of (names_of state) (rooms_of state) message ≡ Some place
     → alone_answer (alone_at state place) message ≡ place_answer state.rooms place who asks
     → IsLegal (room_at state.rooms place).limits (room_at state.rooms place).entries
@@ -70,9 +71,9 @@ refusal_shows names rooms message why text is_read at object kind vs e = absurd 
 
 -- ---- a refusal that looks into no room
 
-refusal_answer : (state : State) (message : Message) (why : Refusal) (text : List ℕ)
+refusal_answer : (state : WorldState) (message : Message) (why : Refusal) (text : List ℕ)
     → reply_to (names_of state) (rooms_of state) message ≡ No 0 why → rooms_after (names_of state) (rooms_of state) message ≡ rooms_of state
-    → IsTextOf text (No 0 why) → IsAnswer state message text state
+    → IsTextFor text (No 0 why) → IsAnswer state message text state
 refusal_answer state message why text is_reply is_rooms t = record {
   is_text = t.is_text ∙ ap reply_text (sym is_reply);
   is_read = t.is_read ∙ ap Some (sym is_reply);
@@ -82,14 +83,14 @@ refusal_answer state message why text is_reply is_rooms t = record {
 }
 
 -- the bytes are no request
-pub bad_answer : (state : State) (message : Message) (text : List ℕ) → request_read message.bytes ≡ None → IsTextOf text (No 0 BadMessage) → IsAnswer state message text state
+pub bad_answer : (state : WorldState) (message : Message) (text : List ℕ) → request_read message.bytes ≡ None → IsTextFor text (No 0 BadMessage) → IsAnswer state message text state
 bad_answer state message text e t =
     refusal_answer state message BadMessage text (bad_reply (names_of state) (rooms_of state) message e) (bad_after (names_of state) (rooms_of state) message e) t
 
 -- ---- an answer of a room
 
-pub room_answer : (state : State) (message : Message) (request : Request) (is_request : request_read message.bytes ≡ Some request) (asker : Asker)
-    (found : asker_of (names_of state) message.session (seat_of state.seats message.session) request ≡ Some asker) (new : State) (text : List ℕ)
+pub room_answer : (state : WorldState) (message : Message) (request : Request) (is_request : request_read message.bytes ≡ Some request) (asker : Asker)
+    (found : asker_of (names_of state) message.session (seat_of state.seats message.session) request ≡ Some asker) (new : WorldState) (text : List ℕ)
     → asker.place < length state.rooms
     → IsLegal (room_at state.rooms asker.place).limits (room_at state.rooms asker.place).entries
     → names_of new ≡ names_of state

@@ -1,11 +1,13 @@
 -- One room alone, and the sessions in it.
-use Rattle.std.specs.Prelude.{ℕ, ◌==◌, Bool, true, false, List, [], ◌∷◌, Option, Some, None, option_map, if◌then◌else◌}
+use Rattle.std.specs.Prelude.{ℕ, ◌==◌, Bool, true, false, List, [], ◌∷◌, Option, Some, None}
+use Rattle.std.specs.Prelude.{option_map, if◌then◌else◌}
 use Rattle.rules.specs.declared.refusal.Refusal.TheVariants.{BadMessage, NotJoined}
 use Rattle.wire.specs.declared.request.Request.{Request}
 use Rattle.wire.specs.declared.request.Request.TheVariants.{Join, Back}
 use Rattle.wire.specs.declared.reply.Reply.{Reply}
 use Rattle.wire.specs.declared.reply.Reply.TheVariants.{Joined, Returned, Left, No}
-use Rattle.wire.specs.Texts.{request_read, reply_text}
+use Rattle.wire.specs.Texts.{reply_text}
+use Rattle.wire.specs.steps.Reads.{request_read}
 use Rattle.room_core.specs.Room.{Room, with_entry}
 use Rattle.room_core.specs.Answers.{Outcome, reply_alone, join_answer, back_reply, answer}
 
@@ -17,7 +19,8 @@ pub record Message : Type 0 where
 abbrev pub message_of : ℕ → List ℕ → Message
 message_of session bytes = record { session = session; bytes = bytes }
 
--- the answer to a request of somebody who is in no room, where these sites of this room are in use: to join it, to come back as a site, or another one
+-- the answer to a request of somebody who is in no room, where these sites of this room are in use:
+-- to join it, to come back as a site, or another one
 abbrev pub outside_answer : Room → (ℕ → Bool) → Request → Outcome
 outside_answer room in_use (Join name) = join_answer room
 outside_answer room in_use (Back name site) = reply_alone (back_reply room (in_use site) site)
@@ -29,7 +32,8 @@ answer_to room in_use who None = reply_alone (No 0 BadMessage)
 answer_to room in_use None (Some request) = outside_answer room in_use request
 answer_to room in_use (Some site) (Some request) = answer room site request
 
--- a room alone: its record, the site of each session that is in it, and whether somebody is in as a site
+-- a room alone: its record, the site of each session that is in it, and whether somebody is in as a
+-- site
 pub record Alone : Type 0 where
   pub room : Room
   pub site_of : ℕ → Option ℕ
@@ -47,9 +51,11 @@ move_of (Left at) = Some None
 move_of _ = None
 
 -- what each session stands for after a move of one of them, where a site gives it this
-abbrev pub after_move : {A : Type 0} → Option (Option ℕ) → (ℕ → A) → ℕ → (ℕ → Option A) → ℕ → Option A
+abbrev pub after_move : {A : Type 0} → Option (Option ℕ) → (ℕ → A) → ℕ → (ℕ → Option A) → ℕ
+    → Option A
 after_move None given session old other = old other
-after_move (Some site) given session old other = if session == other then option_map given site else old other
+after_move (Some site) given session old other =
+    if session == other then option_map given site else old other
 
 -- what each session stands for after a reply to one of them
 abbrev pub after_reply : {A : Type 0} → Reply → (ℕ → A) → ℕ → (ℕ → Option A) → ℕ → Option A
@@ -68,7 +74,8 @@ use_after reply was in_use site = use_after_move (move_of reply) was in_use site
 
 -- the answer to a message of the room, and the room after it
 abbrev pub alone_answer : Alone → Message → Outcome
-alone_answer alone message = answer_to alone.room alone.in_use (alone.site_of message.session) (request_read message.bytes)
+alone_answer alone message =
+    answer_to alone.room alone.in_use (alone.site_of message.session) (request_read message.bytes)
 
 abbrev pub alone_reply : Alone → Message → Reply
 alone_reply alone message = (alone_answer alone message).0
@@ -83,7 +90,8 @@ alone_after alone message = record {
 -- the texts of the replies to the room's messages, one after the other, and the room after them all
 abbrev pub alone_texts : Alone → List Message → List (List ℕ)
 alone_texts alone [] = []
-alone_texts alone (message ∷ messages) = reply_text (alone_reply alone message) ∷ alone_texts (alone_after alone message) messages
+alone_texts alone (message ∷ messages) =
+    reply_text (alone_reply alone message) ∷ alone_texts (alone_after alone message) messages
 
 abbrev pub alone_end : Alone → List Message → Alone
 alone_end alone [] = alone

@@ -1,12 +1,14 @@
 -- Many rooms, and which room each message is of.
-use Rattle.std.specs.Prelude.{ℕ, Bool, false, ◌==◌, List, [], ◌∷◌, Option, Some, None, option_and_then, position, bytes_eq, if◌then◌else◌}
+use Rattle.std.specs.Prelude.{ℕ, Bool, false, ◌==◌, List, [], ◌∷◌, Option, Some, None}
+use Rattle.std.specs.Prelude.{option_and_then, position, bytes_eq, if◌then◌else◌}
 use Rattle.rules.specs.declared.refusal.Refusal.{Refusal}
 use Rattle.rules.specs.declared.refusal.Refusal.TheVariants.{BadMessage, NotJoined, NoSuchRoom}
 use Rattle.wire.specs.declared.request.Request.{Request}
 use Rattle.wire.specs.declared.reply.Reply.{Reply}
 use Rattle.wire.specs.declared.reply.Reply.TheVariants.{No}
 use Rattle.wire.specs.Entering.{room_to_enter}
-use Rattle.wire.specs.Texts.{request_read, reply_text}
+use Rattle.wire.specs.Texts.{reply_text}
+use Rattle.wire.specs.steps.Reads.{request_read}
 use Rattle.world.specs.Alone.{Message, Alone, after_reply, alone_reply, alone_after}
 
 -- the place of the first room of this name
@@ -23,13 +25,15 @@ abbrev pub named_place : List (List ℕ) → Option Request → Option ℕ
 named_place names None = None
 named_place names (Some request) = option_and_then (place_of names) (room_to_enter request)
 
--- the room that a message is of: the one that its session is in, or else the one that it asks to be let into
+-- the room that a message is of: the one that its session is in, or else the one that it asks to be
+-- let into
 abbrev pub owner_from : Option ℕ → Option ℕ → Option ℕ
 owner_from (Some place) named = Some place
 owner_from None named = named
 
 abbrev pub owner_of : List (List ℕ) → Rooms → Message → Option ℕ
-owner_of names rooms message = owner_from (rooms.inside message.session) (named_place names (request_read message.bytes))
+owner_of names rooms message =
+    owner_from (rooms.inside message.session) (named_place names (request_read message.bytes))
 
 -- the reply to a message of no room, by the message alone
 abbrev pub lone_refusal : Option (List ℕ) → Refusal
@@ -51,8 +55,12 @@ reply_at rooms message (Some place) = alone_reply (rooms.alone place) message
 abbrev pub after_at : Rooms → Message → Option ℕ → Rooms
 after_at rooms message None = rooms
 after_at rooms message (Some place) = record {
-  inside = after_reply (alone_reply (rooms.alone place) message) (λ site. place) message.session rooms.inside;
-  alone = λ other. if place == other then alone_after (rooms.alone place) message else rooms.alone other;
+  inside =
+      after_reply (alone_reply (rooms.alone place) message)
+      (λ site. place) message.session rooms.inside;
+  alone =
+      λ other. if place == other then alone_after (rooms.alone place) message
+      else rooms.alone other;
 }
 
 abbrev pub reply_to : List (List ℕ) → Rooms → Message → Reply
@@ -61,18 +69,23 @@ reply_to names rooms message = reply_at rooms message (owner_of names rooms mess
 abbrev pub rooms_after : List (List ℕ) → Rooms → Message → Rooms
 rooms_after names rooms message = after_at rooms message (owner_of names rooms message)
 
--- over a list of messages: the room that each is of, the text of each reply, and the rooms after all
+-- over a list of messages: the room that each is of, the text of each reply, and the rooms after
+-- all
 abbrev pub owners : List (List ℕ) → Rooms → List Message → List (Option ℕ)
 owners names rooms [] = []
-owners names rooms (message ∷ messages) = owner_of names rooms message ∷ owners names (rooms_after names rooms message) messages
+owners names rooms (message ∷ messages) =
+    owner_of names rooms message ∷ owners names (rooms_after names rooms message) messages
 
 abbrev pub texts : List (List ℕ) → Rooms → List Message → List (List ℕ)
 texts names rooms [] = []
-texts names rooms (message ∷ messages) = reply_text (reply_to names rooms message) ∷ texts names (rooms_after names rooms message) messages
+texts names rooms (message ∷ messages) =
+    reply_text (reply_to names rooms message)
+    ∷ texts names (rooms_after names rooms message) messages
 
 abbrev pub rooms_end : List (List ℕ) → Rooms → List Message → Rooms
 rooms_end names rooms [] = rooms
-rooms_end names rooms (message ∷ messages) = rooms_end names (rooms_after names rooms message) messages
+rooms_end names rooms (message ∷ messages) =
+    rooms_end names (rooms_after names rooms message) messages
 
 -- what stands at the places of one room, and at those of no room
 abbrev pub is_place : ℕ → Option ℕ → Bool
@@ -82,7 +95,8 @@ is_place place (Some other) = other == place
 abbrev pub at_room : {A : Type 0} → ℕ → List (Option ℕ) → List A → List A
 at_room place [] xs = []
 at_room place (owner ∷ owners) [] = []
-at_room place (owner ∷ owners) (x ∷ xs) = if is_place place owner then x ∷ at_room place owners xs else at_room place owners xs
+at_room place (owner ∷ owners) (x ∷ xs) =
+    if is_place place owner then x ∷ at_room place owners xs else at_room place owners xs
 
 abbrev pub at_none : {A : Type 0} → List (Option ℕ) → List A → List A
 at_none [] xs = []

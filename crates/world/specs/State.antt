@@ -1,7 +1,8 @@
 -- A world as contracts see it.
-use Rattle.std.specs.Prelude.{ℕ, ◌+◌, ◌<◌, IfSome, ◌==◌, Bool, false, List, [], map, Option, Some, None, option_map, slice_index_or, replicate, if◌then◌else◌}
+use Rattle.std.specs.Prelude.{ℕ, ◌+◌, ◌<◌, IfSome, ◌==◌, Bool, false, List, [], map, Option, Some}
+use Rattle.std.specs.Prelude.{None, option_map, slice_index_or, replicate, if◌then◌else◌}
 use Rattle.std.specs.Map.{lookup}
-use Rattle.op_names.specs.declared.op_name.TheConstants.{MAX_SITE}
+use Rattle.base_types.specs.declared.op_name.TheConstants.{MAX_SITE}
 use Rattle.rules.specs.declared.limits.LimitValues.{LimitValues}
 use Rattle.room_core.specs.Room.{Room, empty_room}
 use Rattle.world.specs.declared.seats.Seat.{Seat}
@@ -15,14 +16,14 @@ pub record Named : Type 0 where
   pub in_use : List Bool
 
 -- a world: its rooms in order, and the seat of each session that is in one
-pub record State : Type 0 where
+pub record WorldState : Type 0 where
   pub rooms : List Named
   pub seats : List (ℕ × Seat)
 
 abbrev pub names_in : List Named → List (List ℕ)
 names_in rooms = map (λ room. room.name) rooms
 
-abbrev pub names_of : State → List (List ℕ)
+abbrev pub names_of : WorldState → List (List ℕ)
 names_of state = names_in state.rooms
 
 abbrev pub seat_of : List (ℕ × Seat) → ℕ → Option Seat
@@ -30,11 +31,14 @@ seat_of seats session = lookup (λ key. session == key) seats
 
 -- each seat is in one of so many rooms
 abbrev pub SeatsWithin : List (ℕ × Seat) → ℕ → Type 0
-SeatsWithin seats count = (session : ℕ) → IfSome (seat_of seats session) (λ seat. seat.place < count)
+SeatsWithin seats count = (session : ℕ)
+    → IfSome (seat_of seats session) (λ seat. seat.place < count)
 
 -- what stands at a place past the last room
 abbrev pub no_room : Room
-no_room = empty_room (record { joins = 0; entries = 0; objects = 0; changes = 0; keys = 0; versions = 0; page = 0 })
+no_room =
+    empty_room
+    (record { joins = 0; entries = 0; objects = 0; changes = 0; keys = 0; versions = 0; page = 0 })
 
 -- the room at a place
 abbrev pub rooms_in : List Named → List Room
@@ -62,14 +66,14 @@ abbrev pub site_at : ℕ → Option Seat → Option ℕ
 site_at place None = None
 site_at place (Some seat) = if seat.place == place then Some seat.site else None
 
-abbrev pub alone_at : State → ℕ → Alone
+abbrev pub alone_at : WorldState → ℕ → Alone
 alone_at state place = record {
   room = room_at state.rooms place;
   site_of = λ session. site_at place (seat_of state.seats session);
   in_use = use_at state.rooms place;
 }
 
-abbrev pub rooms_of : State → Rooms
+abbrev pub rooms_of : WorldState → Rooms
 rooms_of state = record {
   inside = λ session. option_map (λ seat. seat.place) (seat_of state.seats session);
   alone = alone_at state;
@@ -77,7 +81,8 @@ rooms_of state = record {
 
 -- rooms of these names, and nobody in them
 abbrev pub empty_rooms : List (List ℕ) → LimitValues → List Named
-empty_rooms names limits = map (λ name. record { name = name; room = empty_room limits; in_use = no_sites }) names
+empty_rooms names limits =
+    map (λ name. record { name = name; room = empty_room limits; in_use = no_sites }) names
 
-abbrev pub new_world : List (List ℕ) → LimitValues → State
+abbrev pub new_world : List (List ℕ) → LimitValues → WorldState
 new_world names limits = record { rooms = empty_rooms names limits; seats = [] }

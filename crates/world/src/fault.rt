@@ -3,7 +3,7 @@
 ghost use Rattle.std.specs.Prelude.{◌≡◌};
 ghost use Rattle.world.specs.declared.fault.ScriptFault.TheVariants as script_fault;
 
-use op_names::NoMemory;
+use base_types::NoMemory;
 use thiserror::Error;
 
 /// Why a script ended early.

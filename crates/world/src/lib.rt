@@ -1,17 +1,17 @@
-//! Many rooms, the sessions that are in them, and scripts of their messages.
+//! Many rooms, the sessions in them, and scripts of their messages.
 #![tactic(auto)]
 
 ghost use Rattle.std.specs.Prelude.{◌≡◌, ◌↔◌, ℕ, map, option_map, Some, None, IfOk, OnOk, OnErr, IsErrOf, string_bytes, bytes_eq};
 ghost use Rattle.std.specs.Arc.{arc_value};
-ghost use Rattle.op_names.specs.Repeats.{first_repeat};
+ghost use Rattle.base_types.specs.Repeats.{first_repeat};
 ghost use Rattle.rules.specs.declared.refusal.Refusal.{Refusal};
-ghost use Rattle.wire.specs.Texts.{request_read};
+ghost use Rattle.wire.specs.steps.Reads.{request_read};
 ghost use Rattle.wire.specs.declared.reply.Reply.TheVariants.{No};
 ghost use Rattle.wire.specs.Entering.{room_to_enter};
 ghost use Rattle.world.specs.Alone.{message_of};
 ghost use Rattle.world.specs.Rooms.{place_of, lone_refusal};
-ghost use Rattle.world.specs.State.{State, names_in, names_of, room_at, new_world};
-ghost use Rattle.world.specs.Steps.{asker_of, IsTextOf};
+ghost use Rattle.world.specs.State.{WorldState, names_in, names_of, room_at, new_world};
+ghost use Rattle.world.specs.steps.Steps.{asker_of, IsTextFor};
 ghost use Rattle.world.specs.Run.{IsAnswer, AnswersSomeOf};
 
 mod fault;
@@ -21,9 +21,9 @@ mod script;
 mod seats;
 mod sites;
 
+use base_types::{NoMemory, RoomName, repeated_name};
 pub use fault::ScriptFault;
 use named_room::{NamedRoom, answer_at, empty_rooms, place_of};
-use op_names::{NoMemory, RoomName, repeated_name};
 pub use room_core::RoomsFault;
 use rules::{Entry, Limits};
 use seats::{Asker, Seat, seat_at};
@@ -33,7 +33,7 @@ use std::marker::Model;
 use std::sync::Arc;
 use wire::{Refusal, Reply, Request, if_in_form, read_request, write_reply};
 
-/// Rooms, and who is in them.
+/// Rooms, and the sessions that are in them.
 #[derive(Drop)]
 pub struct World {
     rooms: Vec<NamedRoom>,
@@ -42,9 +42,9 @@ pub struct World {
 
 impl Model for World {
     ghost use Rattle.std.specs.Prelude.{length};
-    ghost use Rattle.world.specs.State.{State, SeatsWithin};
+    ghost use Rattle.world.specs.State.{WorldState, SeatsWithin};
 
-    ghost Value = { State };
+    ghost Value = { WorldState };
 
     ghost view = { λ w. record { rooms = w.rooms.items; seats = w.seats.entries } };
 
@@ -58,14 +58,15 @@ fn request_read(alloc: Global, bytes: &[u8]) -> Result<Option<Request>, NoMemory
     if_in_form(read_request(alloc, bytes))
 }
 
-/// The text of a refusal that looks into no room.
+/// The text of a refusal that asks no room.
 fn refusal_text(alloc: Global, refusal: Refusal) -> Result<String, NoMemory>
-    ensures { IfOk result (λ text. IsTextOf (string_bytes text) (No 0 refusal)) }
+    ensures { IfOk result (λ text. IsTextFor (string_bytes text) (No 0 refusal)) }
 {
     write_reply(alloc, &Reply::No { at: 0, refusal })
 }
 
-/// Who asks, and which room: a session that has a seat, or one that asks to be let into a room.
+/// The room that a request is for, and the session's site there: by the session's seat, or by the
+/// name that a join or a back gives.
 fn asker_of(
     rooms: &[NamedRoom],
     session: u32,
@@ -90,7 +91,7 @@ fn asker_of(
     })
 }
 
-/// Why a request is refused that is of no room.
+/// Why a request that is for no room is refused.
 fn lone_refusal(request: &Request) -> Refusal
     ensures { result ≡ lone_refusal (room_to_enter request.now) }
 {
@@ -101,9 +102,12 @@ fn lone_refusal(request: &Request) -> Refusal
 }
 
 impl World {
-    /// Rooms of these names, in this order, with nobody in them. `SameName` where a name stands
-    /// twice, with the first place, from 0, whose name stands at an earlier place too; otherwise
-    /// `NoMemory`.
+    /// Empty rooms of these names, in this order, with nobody in them.
+    ///
+    /// # Errors
+    ///
+    /// - `SameName` with the first place, from 0, whose name is also at an earlier place.
+    /// - `NoMemory` if an allocation failed.
     pub fn new(alloc: Global, names: &[RoomName], limits: Limits) -> Result<World, RoomsFault>
         ensures ok { IfOk result (λ world. world ≡ new_world names.now limits) }
         ensures apart { OnOk result (first_repeat bytes_eq names.now ≡ None) }
@@ -118,7 +122,7 @@ impl World {
         Ok(World { rooms, seats })
     }
 
-    /// The record of the room of this name, or `None` where there is no such room.
+    /// The record of the room of this name, or `None` if there is no such room.
     #[tactic(auto, using(crate::proofs::Places::place_of_within, crate::proofs::Places::room_at_read))]
     pub fn entries(&self, name: &RoomName) -> Option<&[Arc<Entry>]>
         ensures { let place = place_of (names_of self.now) name.now in
@@ -131,10 +135,13 @@ impl World {
         }
     }
 
-    /// Answers a message of a session: the text of the reply, which is the room's that the session
-    /// is in or asks to be let into. Where it shows an object, its versions are the maximal
-    /// compatible groups of its operations, by the record of that room. `NoMemory` where memory was
-    /// refused, and then nothing is changed.
+    /// Answers a message of a session with the text of the reply. The reply is that of the room
+    /// which the session is in or asks to enter. If it shows an object, the versions are the
+    /// maximal compatible groups of its operations in that room's record.
+    ///
+    /// # Errors
+    ///
+    /// `NoMemory` if an allocation failed. Nothing changes.
     pub fn step(&mut self, alloc: Global, session: u32, bytes: &[u8]) -> Result<String, NoMemory>
         ensures answer { let message = message_of session bytes.now in
             IfOk result (λ text. IsAnswer self.old message (string_bytes text) self.new) }
@@ -151,11 +158,13 @@ impl World {
         answer_at(alloc, &mut self.rooms, &mut self.seats, asker, request)
     }
 
-    /// Answers messages in order: for each the text of its reply, or `None` where memory was
-    /// refused for it and nothing done. Each room's replies are those of that room alone, and
-    /// wherever one shows an object, its versions are the maximal compatible groups of its
-    /// operations. `NoMemory` where the list of the answers can't be made, and then nothing is
-    /// changed.
+    /// Answers messages in order: for each the text of its reply, or `None` if an allocation failed
+    /// for it and it changed nothing. Each room's replies are those of that room alone. Wherever a
+    /// reply shows an object, its versions are the maximal compatible groups of its operations.
+    ///
+    /// # Errors
+    ///
+    /// `NoMemory` if the list of the answers can't be allocated. Nothing changes.
     pub fn run(
         &mut self,
         alloc: Global,

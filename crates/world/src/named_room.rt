@@ -5,15 +5,15 @@ ghost use Rattle.std.specs.Arc.{arc_value};
 ghost use Rattle.rules.specs.Records.{IsLegal};
 ghost use Rattle.wire.specs.Form.{IsReply, IsRequest};
 ghost use Rattle.room_core.specs.Room.{with_entry};
-ghost use Rattle.room_core.specs.Plans.{IsReady, Plans, entry_added};
+ghost use Rattle.room_core.specs.steps.Plans.{IsReady, Plans, entry_added};
 ghost use Rattle.world.specs.Rooms.{place_of};
 ghost use Rattle.world.specs.Alone.{outside_answer, use_after};
 ghost use Rattle.world.specs.State.{Named, names_in, rooms_in, room_at, is_used, uses_in, use_at, empty_rooms};
-ghost use Rattle.world.specs.Steps.{asker_answer, place_answer, RepliesTo};
+ghost use Rattle.world.specs.steps.Steps.{asker_answer, place_answer, RepliesTo};
 
 use crate::seats::{Asker, Seat, move_of, move_seat};
 use crate::sites::SitesInUse;
-use op_names::{NoMemory, RoomName};
+use base_types::{NoMemory, RoomName};
 use room_core::{Planned, RoomState};
 use rules::{Entry, Limits, Refusal};
 use std::alloc::Global;
@@ -71,7 +71,7 @@ pub(crate) fn place_of(rooms: &[NamedRoom], name: &RoomName) -> Option<usize>
     rooms.iter().position(|room| room.name == *name)
 }
 
-/// The plan of an answer: to a request of a site, or of a session that is in no room.
+/// Prepares the answer to a request of a site, or of a session that is in no room.
 fn plan(
     alloc: Global,
     room: &mut RoomState,
@@ -88,7 +88,7 @@ fn plan(
     }
 }
 
-/// The plan of an answer to a session that is in no room.
+/// Prepares the answer to a request of a session that is in no room.
 fn plan_outside(
     alloc: Global,
     room: &mut RoomState,
@@ -110,7 +110,7 @@ fn plan_outside(
     }
 }
 
-/// The text of a planned answer of the room at this place, by which the session is moved.
+/// Writes the text of a prepared answer, and moves the session by it.
 fn answer_text(
     alloc: Global,
     seats: &mut BTreeMap<u32, Seat>,
@@ -128,7 +128,7 @@ fn answer_text(
     Ok(text)
 }
 
-/// Puts a planned answer in place, once its text is written and the session is moved.
+/// Carries out a prepared answer, whose text is written and whose session is moved.
 fn put_in_place(
     alloc: Global,
     room: &mut RoomState,
@@ -165,8 +165,7 @@ impl NamedRoom {
         self.state.entries()
     }
 
-    /// Answers a request of a site, or of a session that is in no room. On `Err` nothing is
-    /// changed.
+    /// Answers a request of a site, or of a session that is in no room. On `Err` nothing changes.
     fn answer(
         &mut self,
         alloc: Global,
@@ -175,11 +174,13 @@ impl NamedRoom {
         request: Request,
     ) -> Result<String, NoMemory>
         requires { IsRequest request }
+        // The reply.
         ensures legal { IsLegal self.old.room.limits self.old.room.entries }
         ensures ok { let in_use = is_used self.old.in_use in
             let reply = (asker_answer self.old.room in_use asker.site request).0 in
             IfOk result (λ text.
             RepliesTo asker reply (string_bytes text) seats.old.entries seats.new.entries) }
+        // The room after it.
         ensures room { let in_use = is_used self.old.in_use in
             let added = (asker_answer self.old.room in_use asker.site request).1 in
             OnOk result (self.new.room ≡ with_entry self.old.room added) }
@@ -202,7 +203,7 @@ impl NamedRoom {
     }
 }
 
-/// Answers a request of a site, or of a session that is in no room. On `Err` nothing is changed.
+/// Answers a request of a site, or of a session that is in no room. On `Err` nothing changes.
 #[tactic(auto, using(crate::proofs::Places::names_set, crate::proofs::Places::rooms_set, crate::proofs::Places::room_at_read))]
 pub(crate) fn answer_at(
     alloc: Global,

@@ -1,4 +1,4 @@
-//! Scripts: lines of sessions and their messages, answered as they come.
+//! Scripts: lines with the messages of sessions, answered in order.
 
 ghost use Rattle.std.specs.Prelude.{◌≡◌, ◌≢◌, ◌⊎◌, ℕ, List, [], ◌∷◌, ◌++◌, length, option_map, IfOk, IfSome, IfErr, OnOk, OnErr, IsErrOf, MatchOption};
 ghost use Rattle.std.specs.Fmt.{decimal};
@@ -6,15 +6,16 @@ ghost use Rattle.std.specs.Io.KnownBytes.{Appends, IsAtEnd, Keeps};
 ghost use Rattle.world.specs.Alone.{message_of};
 ghost use Rattle.world.specs.State.{names_of};
 ghost use Rattle.byte_streams.specs.Fronts.{AppendsFront};
-ghost use Rattle.world.specs.Script.{message_in, output_of, HasNoBreak, AnswersScript, Stops, AnswersRead};
-ghost use Rattle.world.specs.Answered.{kept_part, line_text, IsHeld, IsPastLine, IsPastEnd, Adds, AnswersSome, Hands, Wrote, WroteSome};
+ghost use Rattle.world.specs.Script.{message_in, output_of, AnswersScript};
+ghost use Rattle.world.specs.steps.Endings.{HasNoBreak, Stops, AnswersRead};
+ghost use Rattle.world.specs.steps.Answered.{kept_part, line_text, IsHeld, IsPastLine, IsPastEnd, Adds, AnswersSome, Hands, Wrote, WroteSome};
 
 use crate::World;
 use crate::fault::ScriptFault;
+use base_types::NoMemory;
 use byte_streams::{read_buffer, write_out};
 use itoa::Buffer;
 use memchr::memchr;
-use op_names::NoMemory;
 use std::alloc::Global;
 use std::io::{Read, Write};
 
@@ -24,7 +25,7 @@ const LINE_LIMIT: usize = 16396;
 /// From how many bytes on the answers are written out though not all that was read is answered.
 const MANY_ANSWERS: usize = 65536;
 
-/// The session and the message that a line is, if it is of that form.
+/// The session and the message of a line, if it is of that form.
 #[tactic(auto, using(crate::proofs::Lines::number_then_more))]
 fn message_in(line: &[u8]) -> Option<(u32, &[u8])>
     ensures { message_in line.now ≡ option_map (λ m. message_of m.0 m.1.now) result }
@@ -61,7 +62,7 @@ fn split_line(bytes: &[u8]) -> Option<(&[u8], &[u8])>
     Some((&bytes[..place], &bytes[place + 1..]))
 }
 
-/// Adds bytes to the line, as many as can decide something.
+/// Appends bytes to the line, as many as can make a difference.
 fn keep_bytes(line: &mut Vec<u8>, bytes: &[u8]) -> Result<(), NoMemory>
     requires held { IsHeld line.old.items }
     ensures ok { OnOk result (line.new.items ≡ kept_part (line.old.items ++ bytes.now)) }
@@ -71,7 +72,7 @@ fn keep_bytes(line: &mut Vec<u8>, bytes: &[u8]) -> Result<(), NoMemory>
     Ok(())
 }
 
-/// Writes the answers out, and forgets them.
+/// Writes the answers, and clears them.
 fn hand_out<W: Write>(output: &mut W, answers: &mut Vec<u8>) -> Result<(), ScriptFault>
     ensures ok { OnOk result
         (Appends (W.contents output.old) (W.contents output.new) answers.old.items) }
@@ -87,7 +88,7 @@ fn hand_out<W: Write>(output: &mut W, answers: &mut Vec<u8>) -> Result<(), Scrip
     Ok(())
 }
 
-/// Writes the answers out if it must be now, or if there are many.
+/// Writes the answers if asked to, or if there are many.
 fn hand_out_many<W: Write>(
     output: &mut W,
     answers: &mut Vec<u8>,
@@ -106,7 +107,7 @@ fn hand_out_many<W: Write>(
     Ok(())
 }
 
-/// Hands on what was written.
+/// Flushes the output.
 fn flush_out<W: Write>(output: &mut W) -> Result<(), ScriptFault>
     ensures kept { Keeps (W.contents output.old) (W.contents output.new) }
     ensures kind { IfErr result (λ fault. fault ≡ ScriptFault.Write) }
@@ -117,7 +118,7 @@ fn flush_out<W: Write>(output: &mut W) -> Result<(), ScriptFault>
     }
 }
 
-/// Adds the line that goes out for a reply to the answers. On `Err` none of it is added.
+/// Appends the line of a reply to the answers. On `Err` nothing of it is appended.
 fn add_reply(answers: &mut Vec<u8>, session: u32, reply: &str) -> Result<(), NoMemory>
     ensures ok { let line = decimal session ++ (32 ∷ reply.now) ++ 10 ∷ [] in
         OnOk result (answers.new.items ≡ answers.old.items ++ line) }
@@ -134,7 +135,7 @@ fn add_reply(answers: &mut Vec<u8>, session: u32, reply: &str) -> Result<(), NoM
 }
 
 impl World {
-    /// Adds the answer to a line of a script. On `Err` no answer is added.
+    /// Appends the answer to a line of a script. On `Err` no answer is appended.
     fn answer_line(
         &mut self,
         alloc: Global,
@@ -158,7 +159,7 @@ impl World {
         Ok(())
     }
 
-    /// Takes the bytes before a line break, and adds the answer to the line that they end.
+    /// Takes the bytes before a line feed, and appends the answer to the line that they end.
     fn end_line(
         &mut self,
         alloc: Global,
@@ -185,7 +186,7 @@ impl World {
         Ok(())
     }
 
-    /// Answers each line that ends in the next bytes of a script, and gives the bytes that are
+    /// Answers each line that ends in the next bytes of a script, and returns the bytes that are
     /// left.
     fn answer_lines<'b, W: Write>(
         &mut self,
@@ -247,7 +248,7 @@ impl World {
         Ok(())
     }
 
-    /// Answers the line that is left when a script ends.
+    /// Answers the last line of a script, which has no line feed.
     fn finish<W: Write>(
         &mut self,
         alloc: Global,
@@ -274,20 +275,26 @@ impl World {
         flush_out(output)
     }
 
-    /// Answers a script: each line of its input that is a session's number, a space and a message
-    /// by the session, a space and the text of the reply, and each other line by `?`. Each room's
-    /// replies are those of that room alone, and wherever one shows an object, its versions are the
-    /// maximal compatible groups of its operations. All whole lines that a read gave are answered
-    /// and flushed before the next read; a last line may lack its line break.
+    /// Answers a script. A line that is a session's number, a space and a message is answered by
+    /// the session, a space and the text of the reply. Any other line is answered by `?`. Each
+    /// room's replies are those of that room alone. Wherever a reply shows an object, its versions
+    /// are the maximal compatible groups of its operations.
     ///
-    /// `Read` where a read fails, or after 1,000,000,000 reads; `Write` where a write or a flush does;
-    /// `NoMemory` where memory was refused. What a signal interrupts has failed too: hand in streams
-    /// that are `byte_streams::Uninterrupted`. Then some of the first lines were
-    /// answered, and a front of their answers is written; on `Read` those are all the lines whose
-    /// end was read, and their answers are written whole.
+    /// All whole lines of a read are answered and flushed before the next read. The last line may
+    /// lack its line feed. A signal that interrupts a call makes it fail: pass
+    /// `byte_streams::Uninterrupted` streams.
     ///
-    /// The clauses say this of a reader whose bytes are known and a writer that tells what it
-    /// holds, as a slice and a `Vec` do. What a pipe or a file then does with the bytes, none says.
+    /// The clauses hold for a reader with known bytes and a writer that tells what it holds, such
+    /// as a slice and a `Vec`. No clause speaks of a pipe or a file. and their answers are written.
+    /// answers are written.
+    ///
+    /// # Errors
+    ///
+    /// - `Read` if a read failed, or after 1,000,000,000 reads. All lines whose end was read are
+    ///   answered,
+    /// - `Write` if a write or a flush failed. Some first lines were answered, and some first bytes
+    ///   of their
+    /// - `NoMemory` if an allocation failed; otherwise as for `Write`.
     pub fn script<R: Read, W: Write>(
         &mut self,
         alloc: Global,

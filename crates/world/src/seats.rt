@@ -1,15 +1,15 @@
-//! Which sessions are in a room, and at which site.
+//! Which sessions are in a room, and as which site.
 
 ghost use Rattle.std.specs.Prelude.{◌≡◌, ℕ, Some, None, IfOk, OnOk, OnErr, option_map};
 ghost use Rattle.world.specs.Alone.{move_of};
 ghost use Rattle.world.specs.State.{seat_of};
-ghost use Rattle.world.specs.Steps.{IsMoved};
+ghost use Rattle.world.specs.steps.Steps.{IsMoved};
 
-use op_names::NoMemory;
+use base_types::NoMemory;
 use std::collections::BTreeMap;
 use wire::Reply;
 
-/// The room that a session is in, by its place, and its site there.
+/// A session's seat: the place of its room, and its site there.
 #[derive(Clone, Copy, Debug, PartialEq, Eq)]
 pub(crate) struct Seat {
     pub(crate) place: usize,
@@ -32,7 +32,7 @@ pub(crate) fn seat_at(seats: &BTreeMap<u32, Seat>, session: u32) -> Option<Seat>
     seats.get(&session).copied()
 }
 
-/// Where a reply puts its session, if it moves it: at a site of the room, or out of it.
+/// Where a reply puts its session: at a site of the room, or out of it. `None` if it moves nobody.
 pub(crate) fn move_of(reply: &Reply) -> Option<Option<u32>>
     ensures { result ≡ move_of reply.now }
 {

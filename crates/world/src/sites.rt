@@ -1,15 +1,15 @@
-//! As which sites of a room somebody is in.
+//! Which sites of a room are in use.
 
 ghost use Rattle.std.specs.Prelude.{◌≡◌, ◌≤◌, ◌==◌, ℕ, IfOk, Some, false, true, if◌then◌else◌};
-ghost use Rattle.op_names.specs.declared.op_name.TheConstants.{MAX_SITE};
+ghost use Rattle.base_types.specs.declared.op_name.TheConstants.{MAX_SITE};
 ghost use Rattle.world.specs.Alone.{use_after_move};
 ghost use Rattle.world.specs.State.{is_used, no_sites};
 
-use op_names::{MAX_SITE, NoMemory};
+use base_types::{MAX_SITE, NoMemory};
 use std::alloc::Global;
 use std::marker::Model;
 
-/// The sites of a room that somebody is in as. Contracts see for each site whether it is in use.
+/// The sites of a room that are in use. Contracts see for each site whether it is.
 #[derive(Drop)]
 pub(crate) struct SitesInUse {
     used: Vec<bool>,
@@ -17,7 +17,7 @@ pub(crate) struct SitesInUse {
 
 impl Model for SitesInUse {
     ghost use Rattle.std.specs.Prelude.{◌≡◌, ◌+◌, List, Bool, length};
-    ghost use Rattle.op_names.specs.declared.op_name.TheConstants.{MAX_SITE};
+    ghost use Rattle.base_types.specs.declared.op_name.TheConstants.{MAX_SITE};
 
     ghost Value = { List Bool };
 
@@ -35,7 +35,7 @@ impl SitesInUse {
         Ok(SitesInUse { used })
     }
 
-    /// Is somebody in as this site?
+    /// Is the site in use?
     pub(crate) fn has(&self, site: u32) -> bool
         ensures { result ≡ is_used self.now site }
     {
@@ -45,7 +45,7 @@ impl SitesInUse {
         }
     }
 
-    /// Somebody is now in as this site. Takes no memory.
+    /// Marks the site as in use. No allocation.
     pub(crate) fn add(&mut self, site: u32)
         requires { site ≤ MAX_SITE }
         ensures { is_used self.new
@@ -54,7 +54,7 @@ impl SitesInUse {
         self.used[site as usize] = true;
     }
 
-    /// Nobody is now in as this site. Takes no memory.
+    /// Marks the site as free. No allocation.
     pub(crate) fn remove(&mut self, site: u32)
         ensures { is_used self.new
             ≡ (λ other. if site == other then false else is_used self.old other) }
@@ -64,7 +64,7 @@ impl SitesInUse {
         }
     }
 
-    /// Follows the move of a session that was in as a site, or in none. Takes no memory.
+    /// Follows the move of a session that was in as a site, or in no room. No allocation.
     pub(crate) fn follow(&mut self, now: Option<Option<u32>>, was: Option<u32>)
         requires { (site : ℕ) → now ≡ Some (Some site) → site ≤ MAX_SITE }
         ensures { is_used self.new ≡ use_after_move now was (is_used self.old) }

@@ -1,6 +1,6 @@
 //! `check_over` over memory.
 
-use super::{Closed, Failing, Outcome};
+use super::{Closed, Failing, Flushing, Outcome};
 use byte_streams::Uninterrupted;
 use commands::{Fault, check_over, read_up_to};
 use std::io;
@@ -24,7 +24,7 @@ const TRANSCRIPT: &str = r#"[1,["join","r"],["joined",0,1]]
 "#;
 
 /// What is done with these files.
-fn checked<A: Read, B: Read>(rt: &impl AllocGlobal, first: &mut A, second: &mut B) -> Outcome {
+fn run_check<A: Read, B: Read>(rt: &impl AllocGlobal, first: &mut A, second: &mut B) -> Outcome {
     let mut output = Vec::new(rt.alloc());
     let mut errors = Vec::new(rt.alloc());
     let status = check_over(rt.alloc(), first, second, &mut output, &mut errors);
@@ -38,7 +38,7 @@ fn checked<A: Read, B: Read>(rt: &impl AllocGlobal, first: &mut A, second: &mut 
 #[test]
 fn a_true_transcript_holds(rt: HostRuntime) {
     let (mut first, mut second) = (RECORD.as_bytes(), TRANSCRIPT.as_bytes());
-    assert!(rt; checked(&rt, &mut first, &mut second).is(0, "holds\n", ""));
+    assert!(rt; run_check(&rt, &mut first, &mut second).is(0, "holds\n", ""));
 }
 
 #[test]
@@ -46,11 +46,11 @@ fn files_that_fail(rt: HostRuntime) {
     let whole = RECORD.as_bytes();
     let mut failing = Failing { bytes: b"[" };
     let mut second = TRANSCRIPT.as_bytes();
-    let ran = checked(&rt, &mut failing, &mut second);
+    let ran = run_check(&rt, &mut failing, &mut second);
     assert!(rt; ran.is(3, "", "grace: input failed\n"));
     assert_eq!(rt; second, TRANSCRIPT.as_bytes());
     let mut first = whole;
-    let ran = checked(&rt, &mut first, &mut failing);
+    let ran = run_check(&rt, &mut first, &mut failing);
     assert!(rt; ran.is(3, "", "grace: input failed\n"));
     assert!(rt; first.is_empty());
 }
@@ -68,6 +68,30 @@ fn a_verdict_on_an_output_that_fails(rt: HostRuntime) {
     );
     assert_eq!(rt; status, 3);
     assert_eq!(rt; errors.as_slice(), "grace: output failed\n".as_bytes());
+}
+
+#[test]
+fn a_verdict_is_flushed(rt: HostRuntime) {
+    for fails in [false, true] {
+        let mut output = Flushing::new(&rt, fails);
+        let mut errors = Vec::new(rt.alloc());
+        let (mut first, mut second) = (RECORD.as_bytes(), TRANSCRIPT.as_bytes());
+        let status = check_over(
+            rt.alloc(),
+            &mut first,
+            &mut second,
+            &mut output,
+            &mut errors,
+        );
+        assert_eq!(rt; output.held.as_slice(), "holds\n".as_bytes());
+        if fails {
+            assert_eq!(rt; status, 3);
+            assert_eq!(rt; errors.as_slice(), "grace: output failed\n".as_bytes());
+        } else {
+            assert_eq!(rt; status, 0);
+            assert!(rt; output.has_flushed("holds\n"));
+        }
+    }
 }
 
 /// A reader that is interrupted before each byte.

@@ -1,6 +1,6 @@
 //! `migrate_over` over memory.
 
-use super::{Closed, Failing, Outcome};
+use super::{Closed, Failing, Flushing, Outcome};
 use commands::migrate_over;
 use std::io::Read;
 
@@ -24,7 +24,7 @@ const MIGRATED: &str = r#"["join",1]
 "#;
 
 /// What is done with this file.
-fn migrated<R: Read>(rt: &impl AllocGlobal, input: &mut R) -> Outcome {
+fn run_migrate<R: Read>(rt: &impl AllocGlobal, input: &mut R) -> Outcome {
     let mut output = Vec::new(rt.alloc());
     let mut errors = Vec::new(rt.alloc());
     let status = migrate_over(rt.alloc(), input, &mut output, &mut errors);
@@ -37,22 +37,22 @@ fn migrated<R: Read>(rt: &impl AllocGlobal, input: &mut R) -> Outcome {
 
 #[test]
 fn a_record_is_written_anew(rt: HostRuntime) {
-    assert!(rt; migrated(&rt, &mut RECORD.as_bytes()).is(0, MIGRATED, ""));
-    assert!(rt; migrated(&rt, &mut MIGRATED.as_bytes()).is(0, MIGRATED, ""));
+    assert!(rt; run_migrate(&rt, &mut RECORD.as_bytes()).is(0, MIGRATED, ""));
+    assert!(rt; run_migrate(&rt, &mut MIGRATED.as_bytes()).is(0, MIGRATED, ""));
 }
 
 #[test]
 fn what_is_no_record(rt: HostRuntime) {
     let mut twice = "[\"join\",1]\n[\"join\",1]\n".as_bytes();
-    assert!(rt; migrated(&rt, &mut twice).is(1, "bad record line 2\n", ""));
-    assert!(rt; migrated(&rt, &mut "{}".as_bytes()).is(1, "bad record line 1\n", ""));
-    assert!(rt; migrated(&rt, &mut "".as_bytes()).is(0, "", ""));
+    assert!(rt; run_migrate(&rt, &mut twice).is(1, "bad record line 2\n", ""));
+    assert!(rt; run_migrate(&rt, &mut "{}".as_bytes()).is(1, "bad record line 1\n", ""));
+    assert!(rt; run_migrate(&rt, &mut "".as_bytes()).is(0, "", ""));
 }
 
 #[test]
 fn a_record_that_fails(rt: HostRuntime) {
     let mut failing = Failing { bytes: b"[" };
-    assert!(rt; migrated(&rt, &mut failing).is(3, "", "grace: input failed\n"));
+    assert!(rt; run_migrate(&rt, &mut failing).is(3, "", "grace: input failed\n"));
 }
 
 #[test]
@@ -62,4 +62,26 @@ fn an_output_that_fails(rt: HostRuntime) {
     let status = migrate_over(rt.alloc(), &mut input, &mut Closed, &mut errors);
     assert_eq!(rt; status, 3);
     assert_eq!(rt; errors.as_slice(), "grace: output failed\n".as_bytes());
+}
+
+/// Rewrites this text on an output whose flushes may fail. Returns the status and the output.
+fn run_flushing(rt: &impl AllocGlobal, text: &str, fails: bool) -> (u8, Flushing) {
+    let mut output = Flushing::new(rt, fails);
+    let mut errors = Vec::new(rt.alloc());
+    let mut input = text.as_bytes();
+    let status = migrate_over(rt.alloc(), &mut input, &mut output, &mut errors);
+    (status, output)
+}
+
+#[test]
+fn what_is_written_is_flushed(rt: HostRuntime) {
+    let (status, output) = run_flushing(&rt, RECORD, false);
+    assert_eq!(rt; status, 0);
+    assert!(rt; output.has_flushed(MIGRATED));
+    let (status, output) = run_flushing(&rt, "{}", false);
+    assert_eq!(rt; status, 1);
+    assert!(rt; output.has_flushed("bad record line 1\n"));
+    let (status, output) = run_flushing(&rt, RECORD, true);
+    assert_eq!(rt; status, 3);
+    assert_eq!(rt; output.held.as_slice(), MIGRATED.as_bytes());
 }

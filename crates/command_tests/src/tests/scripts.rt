@@ -4,7 +4,7 @@ mod rows;
 mod streams;
 
 use self::rows::{LIMITED, SHORT};
-use op_names::RoomName;
+use base_types::RoomName;
 use rules::{LimitValues, Limits};
 use std::alloc::Global;
 use std::io;

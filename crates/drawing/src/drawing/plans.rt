@@ -1,29 +1,32 @@
 //! What is planned to be added: joins, creations and changes.
 
 ghost use Rattle.std.specs.Prelude.{◌≡◌, ◌<◌, false, length, true, IfErr, IfOk, None, OnOk, Some};
-ghost use Rattle.op_names.specs.Names.{is_site};
+ghost use Rattle.base_types.specs.Names.{is_site};
 ghost use Rattle.rules.specs.declared.history.Entry.TheVariants.{Join};
 ghost use Rattle.rules.specs.Bodies.{is_change_body};
 ghost use Rattle.rules.specs.Operations.{object_of};
 ghost use Rattle.state_vector.specs.Vectors.{counts};
-ghost use Rattle.shape.specs.Planned.{IsPlanned};
-ghost use Rattle.drawing.specs.Additions.{HasShape, IsNext, IsPlanFor, IsReady, body_refusal};
+ghost use Rattle.shape.specs.steps.Planned.{IsPlanned};
+ghost use Rattle.drawing.specs.steps.Additions.{HasShape, IsNext, IsPlanFor, IsReady, body_refusal};
 ghost use Rattle.drawing.specs.Shown.{ids_with};
-ghost use Rattle.drawing.specs.Faults.{IsRefusal};
-ghost use Rattle.drawing.specs.State.{spare_of};
+ghost use Rattle.drawing.specs.steps.Faults.{IsRefusal};
+ghost use Rattle.drawing.specs.steps.State.{spare_of};
 
 use super::{Drawing, object_of};
 use crate::addition::{Addition, Part};
 use crate::fault::AddFault;
-use op_names::{NoMemory, OpName};
+use base_types::{NoMemory, OpName};
 use rules::{Body, Entry, Op, Refusal, SharedOp};
 use shape::{PlannedChange, Shape};
 use std::alloc::Global;
 use std::sync::Arc;
 
 impl Drawing {
-    /// Plans to add a join where there is room for an entry. The drawing stays as it is. Otherwise
-    /// `NoMemory`.
+    /// Prepares a join. The record must not be full. The drawing stays as it is.
+    ///
+    /// # Errors
+    ///
+    /// `NoMemory` if an allocation failed.
     pub fn plan_join(&mut self, alloc: Global, site: u32) -> Result<Addition, NoMemory>
         requires { length self.old.room.entries < self.old.room.limits.entries }
         ensures entry { IfOk result (λ added. added.entry ≡ Join site) }
@@ -38,15 +41,19 @@ impl Drawing {
         })
     }
 
-    /// Plans to add an operation that may come next, whatever it does. The drawing stays as it is.
-    /// `Refused` where what it does is not allowed, with the first cause that applies: of a creation
-    /// `TooManyObjects`; of a change `NoSuchObject`, `NoSuchVersion`, `Gone`, `ObjectFull`,
-    /// `TooManyKeys` or `TooManyVersions`. `NoMemory` if an allocation failed.
+    /// Prepares an operation that may come next in causal order. The drawing stays as it is.
+    /// `NoSuchObject`, `NoSuchVersion`, `Gone`, `ObjectFull`, `TooManyKeys` or `TooManyVersions`.
+    ///
+    /// # Errors
+    ///
+    /// - `Refused` with the first refusal that applies. A creation gives `TooManyObjects`; a change
+    ///   gives
+    /// - `NoMemory` if an allocation failed.
     pub fn plan(&mut self, alloc: Global, op: Op) -> Result<Addition, AddFault>
         requires { IsNext self.old.room op }
         ensures planned { IfOk result (IsPlanFor self.old.room op self.new) }
         ensures allowed { OnOk result (body_refusal self.old.room op ≡ None) }
-        ensures refused { IfErr result (IsRefusal (body_refusal self.old.room op)) }
+        ensures refusal { IfErr result (IsRefusal (body_refusal self.old.room op)) }
         ensures room { self.new.room ≡ self.old.room }
     {
         match &op.body {
@@ -61,7 +68,7 @@ impl Drawing {
         requires creation { is_change_body op.body ≡ false }
         ensures planned { IfOk result (IsPlanFor self.old.room op self.new) }
         ensures allowed { OnOk result (body_refusal self.old.room op ≡ None) }
-        ensures refused { IfErr result (IsRefusal (body_refusal self.old.room op)) }
+        ensures refusal { IfErr result (IsRefusal (body_refusal self.old.room op)) }
         ensures room { self.new.room ≡ self.old.room }
     {
         if self.count_objects() >= self.limits.objects() {
@@ -95,7 +102,7 @@ impl Drawing {
         requires change { is_change_body op.body ≡ true }
         ensures planned { IfOk result (IsPlanFor self.old.room op self.new) }
         ensures allowed { OnOk result (body_refusal self.old.room op ≡ None) }
-        ensures refused { IfErr result (IsRefusal (body_refusal self.old.room op)) }
+        ensures refusal { IfErr result (IsRefusal (body_refusal self.old.room op)) }
         ensures room { self.new.room ≡ self.old.room }
     {
         if !op.seen.has(object_of(&op)) {
@@ -123,7 +130,8 @@ impl Drawing {
         Ok(())
     }
 
-    /// Plans a change that counts the name of its object, on that object, and gives the object's place.
+    /// Plans a change that counts the name of its object, on that object, and gives the object's
+    /// place.
     fn plan_at_object(
         &mut self,
         alloc: Global,
@@ -139,7 +147,7 @@ impl Drawing {
         ensures ids { IfOk result (λ p. p.1.ids ≡ ids_with self.old.room op) }
         // Whether there is one.
         ensures allowed { OnOk result (body_refusal self.old.room op ≡ None) }
-        ensures refused { IfErr result (IsRefusal (body_refusal self.old.room op)) }
+        ensures refusal { IfErr result (IsRefusal (body_refusal self.old.room op)) }
         // The memory for the operation stays.
         ensures entries { self.new.reserve.entries ≡ self.old.reserve.entries }
         ensures operations { self.new.reserve.operations ≡ self.old.reserve.operations }

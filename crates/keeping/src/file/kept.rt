@@ -1,4 +1,4 @@
-//! What is in a room's file for good.
+//! What a room's file keeps.
 
 ghost use Rattle.std.specs.Prelude.{◌≡◌, ◌⊎◌, ◌<◌, true, false, length};
 ghost use Rattle.keeping.specs.Kept.{IsKeptIn};
@@ -6,8 +6,8 @@ ghost use Rattle.keeping.specs.Kept.{IsKeptIn};
 use room_lock::{Prefix, RoomLedger};
 use std::marker::Model;
 
-/// A beginning of a room's record that is in the room's file for good. Only the module of the file can
-/// make one; others copy it.
+/// A prefix of a room's record that the room's file keeps. Only the module of the file creates one;
+/// other code copies it.
 #[derive(Drop)]
 pub struct Kept<P: RoomLedger> {
     prefix: Prefix<P>,
@@ -22,7 +22,7 @@ impl<P: RoomLedger> Model for Kept<P> {
 }
 
 impl<P: RoomLedger> Kept<P> {
-    /// This beginning is in the file for good.
+    /// The file keeps this prefix.
     pub(super) fn of(prefix: &Prefix<P>) -> Kept<P>
         ensures { result ≡ prefix.now }
     {
@@ -31,21 +31,21 @@ impl<P: RoomLedger> Kept<P> {
         }
     }
 
-    /// Another one of the same entries.
+    /// A copy for the same entries.
     pub fn copy(&self) -> Kept<P>
         ensures { result ≡ self.now }
     {
         Kept::of(&self.prefix)
     }
 
-    /// The beginning of the record.
+    /// The prefix of the record.
     pub fn prefix(&self) -> &Prefix<P>
         ensures { result.now ≡ self.now }
     {
         &self.prefix
     }
 
-    /// Is all of this beginning of the room's record in the file?
+    /// Returns whether the file keeps all of this prefix of the room's record.
     pub fn covers(&self, told: &Prefix<P>) -> bool
         ensures yes { result ≡ true → IsKeptIn self.now told.now }
         ensures no { result ≡ false → ¬ (told.now.place ≡ self.now.place)

@@ -1,8 +1,8 @@
 //! Each room has a lock of its own.
 
-ghost use Rattle.room_lock.specs.Planned.{IsLedgerOf};
+ghost use Rattle.room_lock.specs.steps.Planned.{IsLedgerOf};
 
-use super::{CREATION, asked, entered, left, planned, room_name};
+use super::{CREATION, ask, join_room, leave_room, plan_rooms, room_name};
 use room_lock::{NewRooms, RoomLedger, Rooms};
 use rules::Limits;
 use std::marker::Brand;
@@ -12,7 +12,8 @@ use std::thread;
 use std::thread::Threads;
 use std::time::{Clock, Duration};
 
-/// Waits, at most 10,000 times a millisecond, until the other thread says so.
+/// Waits up to 10,000 times for a millisecond until the other thread says so. Returns whether it
+/// did.
 fn is_said(rt: &(impl Wait + Clock), said: &Mutex<bool>) -> bool {
     for _turn in 0..10_000 {
         if *said.lock(rt) {
@@ -23,7 +24,7 @@ fn is_said(rt: &(impl Wait + Clock), said: &Mutex<bool>) -> bool {
     false
 }
 
-/// Holds a room's lock, which it says, until a call in another room was answered.
+/// Holds a room's lock until a call in another room was answered.
 fn holds<P: RoomLedger>(
     rt: &(impl Wait + Clock + Abort + AllocGlobal),
     rooms: &Rooms<P>,
@@ -38,7 +39,7 @@ fn holds<P: RoomLedger>(
     seen.expect(rt, "a room")
 }
 
-/// Calls a room once the other room's lock is held, and says that it was answered.
+/// Calls a room while the other room's lock is held.
 fn calls<P: RoomLedger>(
     rt: &(impl Wait + Clock + Abort + AllocGlobal),
     rooms: &Rooms<P>,
@@ -47,10 +48,10 @@ fn calls<P: RoomLedger>(
     answered: &Mutex<bool>,
 ) -> bool {
     let is_held = is_said(rt, held);
-    let mut pass = entered(rt, rooms, name);
-    let reply = asked(rt, rooms, &mut pass, CREATION);
+    let mut pass = join_room(rt, rooms, name);
+    let reply = ask(rt, rooms, &mut pass, CREATION);
     *answered.lock(rt) = true;
-    left(rt, rooms, pass);
+    leave_room(rt, rooms, pass);
     is_held && reply.as_str() == r#"["made",1,[1,1]]"#
 }
 
@@ -73,5 +74,5 @@ fn locks_are_apart<
 
 #[test]
 fn rooms_have_locks_of_their_own(rt: HostRuntime) {
-    locks_are_apart::<Brand, _>(&rt, planned(&rt, &["a", "b"], Limits::full()));
+    locks_are_apart::<Brand, _>(&rt, plan_rooms(&rt, &["a", "b"], Limits::full()));
 }

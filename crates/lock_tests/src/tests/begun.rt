@@ -2,9 +2,9 @@
 
 ghost use Rattle.std.specs.Prelude.{◌≡◌};
 ghost use Rattle.rules.specs.Limits.{full_limits};
-ghost use Rattle.room_lock.specs.Planned.{IsLedgerOf};
+ghost use Rattle.room_lock.specs.steps.Planned.{IsLedgerOf};
 
-use super::{asked, entered, left, returned, room_name};
+use super::{ask, come_back, join_room, leave_room, room_name};
 use room_core::{RoomState, RoomsFault};
 use room_lock::{NewRooms, RoomLedger, Rooms};
 use rules::Limits;
@@ -44,7 +44,7 @@ fn planned_with(rt: &(impl Abort + AllocGlobal), state: RoomState) -> NewRooms
     NewRooms::with_records(rt.alloc(), names, Limits::full(), states).expect(rt, "rooms")
 }
 
-/// Both sites are come back as, a third one joins, and all of the record is there at the end.
+/// Both sites come back, a third one joins, and the whole record is there at the end.
 fn go_on_in<P: RoomLedger, R: Wait + Abort + AllocGlobal>(rt: &R, planned: NewRooms)
     requires { IsLedgerOf planned P.name P.parts P.limits P.books }
 {
@@ -52,26 +52,26 @@ fn go_on_in<P: RoomLedger, R: Wait + Abort + AllocGlobal>(rt: &R, planned: NewRo
     assert_eq!(rt; begun.len(), 1);
     assert_eq!(rt; begun[0].place(), 0);
     assert_eq!(rt; begun[0].len(), 3);
-    let mut first = returned(rt, &rooms, "r", 1);
+    let mut first = come_back(rt, &rooms, "r", 1);
     assert_eq!(rt; first.part().count_seen(), 3);
     assert_eq!(rt; first.part().count_added(), 2);
-    let shown = asked(rt, &rooms, &mut first, r#"["show",[1,1]]"#);
+    let shown = ask(rt, &rooms, &mut first, r#"["show",[1,1]]"#);
     assert_eq!(rt;
         shown.as_str(),
         r#"["versions",3,[1,1],"rect",[[[],[["x",0]]]]]"#
     );
-    let second = returned(rt, &rooms, "r", 2);
+    let second = come_back(rt, &rooms, "r", 2);
     assert_eq!(rt; second.part().count_added(), 1);
-    let third = entered(rt, &rooms, "r");
+    let third = join_room(rt, &rooms, "r");
     assert_eq!(rt; third.part().site(), 3);
     let news = rooms.news(rt, rt.alloc(), &begun[0]).expect(rt, "news");
     assert_eq!(rt; news.entries.len(), 1);
     assert_eq!(rt; news.whole.len(), 4);
     assert!(rt; begun[0].begins(&news.whole));
     assert!(rt; !news.whole.begins(&begun[0]));
-    left(rt, &rooms, first);
-    left(rt, &rooms, second);
-    left(rt, &rooms, third);
+    leave_room(rt, &rooms, first);
+    leave_room(rt, &rooms, second);
+    leave_room(rt, &rooms, third);
     let records = rooms.close(rt.alloc()).expect(rt, "records");
     assert_eq!(rt; records[0].entries.len(), 4);
 }

@@ -1,8 +1,8 @@
-//! Two threads that ask one room, and what it has when it is closed.
+//! Two threads in one room, and the record when it is closed.
 
-ghost use Rattle.room_lock.specs.Planned.{IsLedgerOf};
+ghost use Rattle.room_lock.specs.steps.Planned.{IsLedgerOf};
 
-use super::{CREATION, asked, entered, left, planned, size_of};
+use super::{CREATION, ask, join_room, leave_room, plan_rooms, size_of};
 use room_lock::{CloseFault, NewRooms, Pass, RoomLedger, Rooms};
 use rules::Limits;
 use std::marker::Brand;
@@ -11,14 +11,15 @@ use std::sync::Wait;
 use std::thread;
 use std::thread::Threads;
 
-/// A session: it joins, and creates an object.
+/// A session that joins and creates an object.
 fn session<P: RoomLedger>(rt: &(impl Wait + Abort + AllocGlobal), rooms: &Rooms<P>) -> Pass<P> {
-    let mut pass = entered(rt, rooms, "r");
-    let _reply = asked(rt, rooms, &mut pass, CREATION);
+    let mut pass = join_room(rt, rooms, "r");
+    let _reply = ask(rt, rooms, &mut pass, CREATION);
     pass
 }
 
-/// How many entries the room has when it is closed, where all passes were handed back or all but one.
+/// The number of entries when the room is closed, after all passes but perhaps one were handed
+/// back.
 fn closed_in<P: RoomLedger + Send + Sync, R: Threads + Wait + Sync + Abort + AllocGlobal>(
     rt: &R,
     planned: NewRooms,
@@ -34,9 +35,9 @@ fn closed_in<P: RoomLedger + Send + Sync, R: Threads + Wait + Sync + Abort + All
         move || session(rt, shared),
     );
     assert_eq!(rt; size_of(rt, shared, "r"), 4);
-    left(rt, shared, first);
+    leave_room(rt, shared, first);
     if all {
-        left(rt, shared, second);
+        leave_room(rt, shared, second);
     } else {
         second.give_up();
     }
@@ -54,7 +55,7 @@ fn closed<R: Threads + Wait + Sync + Abort + AllocGlobal>(
     rt: &R,
     all: bool,
 ) -> Result<usize, CloseFault> {
-    closed_in::<Brand, R>(rt, planned(rt, &["r"], Limits::full()), all)
+    closed_in::<Brand, R>(rt, plan_rooms(rt, &["r"], Limits::full()), all)
 }
 
 #[test]

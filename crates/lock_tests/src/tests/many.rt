@@ -1,9 +1,9 @@
-//! Eight threads that ask four rooms, and what the rooms have when they are closed.
+//! Eight threads in four rooms, and the records when they are closed.
 
-ghost use Rattle.room_lock.specs.Planned.{IsLedgerOf};
+ghost use Rattle.room_lock.specs.steps.Planned.{IsLedgerOf};
 
-use super::{CREATION, asked, entered, left, planned, request_of};
-use op_names::{Key, OpName, Value, VersionId};
+use super::{CREATION, ask, join_room, leave_room, plan_rooms, request_of};
+use base_types::{Key, OpName, Value, VersionId};
 use room_core::RoomState;
 use room_lock::{NewRooms, Pass, RoomLedger, Rooms};
 use rules::{Body, Entry, Limits, Pairs};
@@ -129,7 +129,7 @@ fn shows_and_puts<P: RoomLedger>(
 
 /// A session of 300 calls, which leaves.
 fn session<P: RoomLedger>(rt: &(impl Wait + Abort + AllocGlobal), rooms: &Rooms<P>, name: &str) {
-    let mut pass = entered(rt, rooms, name);
+    let mut pass = join_room(rt, rooms, name);
     let mut counted = Counted {
         entries: 0,
         operations: [0; 4],
@@ -137,7 +137,7 @@ fn session<P: RoomLedger>(rt: &(impl Wait + Abort + AllocGlobal), rooms: &Rooms<
     for turn in 0..100 {
         shows_and_puts(rt, rooms, &mut pass, &mut counted, turn);
     }
-    left(rt, rooms, pass);
+    leave_room(rt, rooms, pass);
 }
 
 /// Does a new room take the whole record, of three joins, a creation and 200 puts?
@@ -157,9 +157,9 @@ fn asked_by_threads<P: RoomLedger + Send + Sync, R: Threads + Wait + Sync + Abor
     rooms: &Rooms<P>,
 ) {
     for name in NAMES {
-        let mut pass = entered(rt, rooms, name);
-        let _reply = asked(rt, rooms, &mut pass, CREATION);
-        left(rt, rooms, pass);
+        let mut pass = join_room(rt, rooms, name);
+        let _reply = ask(rt, rooms, &mut pass, CREATION);
+        leave_room(rt, rooms, pass);
     }
     let ask = |place: usize| session(rt, rooms, NAMES[place % 4]);
     thread::map_indices(rt, rt.alloc(), 8, &ask).expect(rt, "memory");
@@ -182,5 +182,5 @@ fn many_threads_in<P: RoomLedger + Send + Sync, R: Threads + Wait + Sync + Abort
 
 #[test]
 fn many_threads(rt: HostRuntime) {
-    many_threads_in::<Brand, _>(&rt, planned(&rt, &NAMES, Limits::full()));
+    many_threads_in::<Brand, _>(&rt, plan_rooms(&rt, &NAMES, Limits::full()));
 }

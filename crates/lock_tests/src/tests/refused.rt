@@ -1,9 +1,9 @@
-//! Joins that are refused.
+//! Refused joins.
 
-ghost use Rattle.room_lock.specs.Planned.{IsLedgerOf};
+ghost use Rattle.room_lock.specs.steps.Planned.{IsLedgerOf};
 
-use super::{planned, room_name};
-use op_names::NoMemory;
+use super::{plan_rooms, room_name};
+use base_types::NoMemory;
 use room_lock::{Entrance, NewRooms, RoomLedger, Rooms};
 use rules::{LimitValues, Limits};
 use std::marker::Brand;
@@ -11,8 +11,8 @@ use std::process::Abort;
 use std::sync::Wait;
 use wire::write_reply;
 
-/// The text of the reply to a join of this room, if there is such a room. A reply that refuses comes
-/// with the record that it tells of.
+/// The text of the reply to a join of this room, or `None` if there is no such room. A refusal
+/// comes with the record that it reports on.
 fn join_reply<P: RoomLedger>(
     rt: &(impl Wait + Abort + AllocGlobal),
     rooms: &Rooms<P>,
@@ -45,14 +45,14 @@ fn second_reply<P: RoomLedger, R: Wait + Abort + AllocGlobal>(rt: &R, planned: N
     join_reply(rt, &rooms, "r").expect(rt, "a room")
 }
 
-/// A room that is to be made, with these limits.
+/// A plan of one room with these limits.
 pub(super) fn room_of(rt: &(impl Abort + AllocGlobal), joins: u32, entries: u32) -> NewRooms {
     let limits = LimitValues {
         joins,
         entries,
         ..LimitValues::FULL
     };
-    planned(rt, &["r"], Limits::new(limits).expect(rt, "limits"))
+    plan_rooms(rt, &["r"], Limits::new(limits).expect(rt, "limits"))
 }
 
 #[test]
@@ -65,4 +65,10 @@ fn a_full_room_lets_nobody_in(rt: HostRuntime) {
 fn a_full_record_lets_nobody_in(rt: HostRuntime) {
     let reply = second_reply::<Brand, _>(&rt, room_of(&rt, 9, 1));
     assert!(rt; reply.as_str() == r#"["no",1,6,"record-full"]"#);
+}
+
+#[test]
+fn a_full_room_with_a_full_record_is_a_full_room(rt: HostRuntime) {
+    let reply = second_reply::<Brand, _>(&rt, room_of(&rt, 1, 1));
+    assert!(rt; reply.as_str() == r#"["no",1,5,"room-full"]"#);
 }

@@ -4,19 +4,23 @@ ghost use Rattle.std.specs.Prelude.{◌≡◌, true, IfOk, OnOk, OnErr};
 ghost use Rattle.rules.specs.Records.{is_placed, admits};
 ghost use Rattle.room_core.specs.Room.{with_entry};
 ghost use Rattle.room_core.specs.Answers.{answer_to, admitted};
-ghost use Rattle.room_core.specs.Plans.{Plans};
+ghost use Rattle.room_core.specs.steps.Plans.{Plans};
 
 use super::RoomState;
 use crate::planned::Planned;
-use op_names::NoMemory;
+use base_types::NoMemory;
 use rules::Entry;
 use std::alloc::Global;
 
 impl RoomState {
-    /// Adds an entry where it may come next, and says whether it may: exactly where it is a join of
-    /// the next site or an operation of one that has joined, and the room wouldn't refuse it.
-    /// Otherwise the room stays as it is, as it does with `NoMemory`. Takes as long as the answer to
-    /// a request that asks for the entry.
+    /// Adds an entry if it may come next, and tells whether it may. It may if it is a join of the
+    /// next site or an operation of a site that has joined, and the room wouldn't refuse it. Takes
+    /// the time of the answer to a request for the entry. If the entry may not come next, the room
+    /// stays as it is.
+    ///
+    /// # Errors
+    ///
+    /// `NoMemory` if an allocation failed. The room stays as it is.
     pub fn accept(&mut self, alloc: Global, entry: &Entry) -> Result<bool, NoMemory>
         ensures accepted { let room = self.old.room
             in IfOk result (λ accepted. accepted ≡ admits room.limits room.entries entry.now) }

@@ -1,22 +1,22 @@
 //! The plans of a room's answers: to joins and operations, and to what only reads.
 
 ghost use Rattle.std.specs.Prelude.{◌≡◌, ◌+◌, length, false, true, None, Some, IfOk};
-ghost use Rattle.op_names.specs.Names.{is_op_name};
+ghost use Rattle.base_types.specs.Names.{is_op_name};
 ghost use Rattle.rules.specs.declared.history.Op.{Op as AnyOp};
 ghost use Rattle.rules.specs.declared.history.Entry.TheVariants.{Join, Operation};
 ghost use Rattle.rules.specs.Records.{sites, is_placed};
 ghost use Rattle.wire.specs.declared.reply.Reply.{Reply as AnyReply};
 ghost use Rattle.wire.specs.declared.reply.Reply.TheVariants.{No};
-ghost use Rattle.drawing.specs.Additions.{ids_of, IsReady as CanBeAdded};
-ghost use Rattle.drawing.specs.State.{State};
+ghost use Rattle.drawing.specs.steps.Additions.{ids_of, IsReady as CanBeAdded};
+ghost use Rattle.drawing.specs.steps.State.{DrawingState};
 ghost use Rattle.room_core.specs.Answers.{join_answer, operation_answer, operation_by, entry_answer, list_reply, pull_reply, has_site};
-ghost use Rattle.room_core.specs.Plans.{entry_added, outcome, order_refusal, refusal_in, reply_by, IsAdmitted, IsReady, Plans};
+ghost use Rattle.room_core.specs.steps.Plans.{entry_added, outcome, order_refusal, refusal_in, reply_by, IsAdmitted, IsReady, Plans};
 
 use super::RoomState;
 use crate::pages::entries_page;
 use crate::planned::Planned;
+use base_types::{NoMemory, OpName};
 use drawing::{AddFault, Addition};
-use op_names::{NoMemory, OpName};
 use rules::{Body, Op, Refusal};
 use state_vector::StateVector;
 use std::alloc::Global;
@@ -48,7 +48,11 @@ impl RoomState {
         }
     }
 
-    /// Plans the next join. The room stays as it is.
+    /// Prepares the answer to the next join. The room stays as it is.
+    ///
+    /// # Errors
+    ///
+    /// `NoMemory` if an allocation failed.
     #[tactic(auto, unfolding(crate::specs::Answers::join_answer))]
     pub fn plan_join(&mut self, alloc: Global) -> Result<Planned, NoMemory>
         ensures { Plans self.old self.new (join_answer self.old.room) result }
@@ -123,7 +127,7 @@ impl RoomState {
         ensures reply { result.reply
             ≡ reply_by (length self.now.room.entries) name (ids_of addition.part) }
         ensures entry { entry_added result.addition ≡ Some addition.entry }
-        ensures ready { (s : State) → CanBeAdded s addition
+        ensures ready { (s : DrawingState) → CanBeAdded s addition
             → IsAdmitted s.room addition.entry → IsReady s result.addition }
     {
         let at = self.drawing.len();

@@ -1,8 +1,6 @@
 //! What a room answers that no script reaches.
 
-mod logs;
-
-use op_names::Kind;
+use base_types::Kind;
 use room_core::{Limits, RoomState};
 use rules::{Attrs, Body, LimitValues};
 use state_vector::StateVector;

@@ -4,8 +4,8 @@ mod orders;
 mod rows;
 
 use self::rows::{EXAMPLES, LIMITED, PAGES};
+use base_types::OpName;
 use late_join::{FeedFault, Limits, Replica, TakeFault};
-use op_names::OpName;
 use rules::{Entry, LimitValues};
 use std::process::Abort;
 use wire::{read_entry, write_reply};
@@ -14,10 +14,14 @@ use wire::{read_entry, write_reply};
 pub struct Example {
     pub name: &'static str,
     pub limits: LimitValues,
-    /// Lines ENTRY => ANSWER, where the answer is taken, repeat, early or the word of a refusal; page
-    /// REPLY => ANSWER, where a page is fed and the answer tells where it stands and how long it and
-    /// the record are, or which place of it is answered so; SITE SEQ => REPLY, where the object of that
-    /// name is shown; count => ENTRIES, how many were taken; or objects => NAMES.
+    /// The lines have five forms.
+    ///
+    /// - ENTRY => ANSWER: the answer is taken, repeat, early or the word of a refusal.
+    /// - page REPLY => ANSWER: a page is fed. The answer gives its place, its length and the
+    ///   record's length, or the place that was not taken and why.
+    /// - SITE SEQ => REPLY: the object of that name is shown.
+    /// - count => ENTRIES: how many entries were taken.
+    /// - objects => NAMES: the names of the objects.
     pub parts: &'static [&'static str],
 }
 
@@ -87,7 +91,7 @@ fn answers(rt: &(impl Abort + AllocGlobal), replica: &mut Replica, line: &str) -
     match asked.split_once(' ') {
         Some(("page", page)) => fed(rt, replica, page).as_str() == expected,
         Some((site, seq)) => shows(rt, replica, site, seq, expected),
-        None if asked == "count" => expected.parse() == Ok(replica.taken()),
+        None if asked == "count" => expected.parse() == Ok(replica.count_taken()),
         None if asked == "objects" => names(rt, replica).as_str() == expected,
         None => word_of(replica.take(rt.alloc(), entry_of(rt, asked))) == expected,
     }
@@ -136,5 +140,5 @@ fn sites_out_of_range(rt: HostRuntime) {
             "room-full"
         );
     }
-    assert_eq!(rt; replica.taken(), 0);
+    assert_eq!(rt; replica.count_taken(), 0);
 }

@@ -4,7 +4,7 @@ mod entries;
 mod replies;
 mod requests;
 
-use op_names::NoMemory;
+use base_types::NoMemory;
 use std::process::Abort;
 use wire::ReadFault;
 

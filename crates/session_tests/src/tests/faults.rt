@@ -12,6 +12,9 @@ pub(super) struct Calls {
     fails: u64,
     reads: AtomicU64,
     given: AtomicU64,
+    flushes: AtomicU64,
+    /// The writes since the last flush.
+    unflushed: AtomicU64,
 }
 
 impl Calls {
@@ -22,6 +25,8 @@ impl Calls {
             fails,
             reads: AtomicU64::new(0),
             given: AtomicU64::new(0),
+            flushes: AtomicU64::new(0),
+            unflushed: AtomicU64::new(0),
         }
     }
 
@@ -55,6 +60,11 @@ impl Calls {
     /// How many reads there were, with one that failed.
     pub(super) fn reads(&self) -> u64 {
         self.reads.load(Ordering::SeqCst)
+    }
+
+    /// Returns whether there was one flush, and no write after it.
+    pub(super) fn end_with_the_only_flush(&self) -> bool {
+        self.flushes.load(Ordering::SeqCst) == 1 && self.unflushed.load(Ordering::SeqCst) == 0
     }
 
     /// How many parts were given whole.
@@ -111,11 +121,14 @@ pub(super) struct Sparing<'a, W> {
 impl<W: Write> Write for Sparing<'_, W> {
     fn write(&mut self, bytes: &[u8]) -> io::Result<usize> {
         self.calls.write()?;
+        self.calls.unflushed.fetch_add(1, Ordering::SeqCst);
         self.inner.write(&bytes[..bytes.len().min(self.most)])
     }
 
     fn flush(&mut self) -> io::Result<()> {
         self.calls.write()?;
+        self.calls.flushes.fetch_add(1, Ordering::SeqCst);
+        self.calls.unflushed.store(0, Ordering::SeqCst);
         self.inner.flush()
     }
 }

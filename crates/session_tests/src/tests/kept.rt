@@ -1,16 +1,17 @@
 //! Sessions whose replies are kept before they are sent: `Session::message`, `serve_one` and
 //! `serve_streams` with keepers that count, and that fail.
 
-ghost use Rattle.room_lock.specs.Planned.{IsLedgerOf};
+ghost use Rattle.room_lock.specs.steps.Planned.{IsLedgerOf};
 
 use super::faults::{Calls, Parts};
 use super::{
-    ANSWERED, ASKED, CLOSED, ENTRIES, FIRST, arrival, asked_parts, frames_of, planned, text_frame,
+    ANSWERED, ASKED, CLOSED, ENTRIES, FIRST, arrival, asked_parts, frames_of, plan_rooms,
+    text_frame,
 };
 use log::sink::Locked;
 use log::{LevelFilter, Log, Logged};
 use room_lock::{NewRooms, Prefix, RoomLedger, Rooms};
-use sessions::{Cause, Host, KeepFault, Keeper, Open, Session, serve_one, serve_streams};
+use sessions::{Cause, Host, KeepFault, Keeper, NoObserver, Session, serve_one, serve_streams};
 use std::alloc::Global;
 use std::marker::Brand;
 use std::process::Abort;
@@ -125,7 +126,7 @@ fn receipts_in<P: RoomLedger>(
         rt,
         alloc: rt.alloc(),
         rooms: &rooms,
-        gate: &Open,
+        observer: &NoObserver,
         keeper: &keeper,
     };
     let mut session = Session::new(1);
@@ -142,7 +143,7 @@ fn receipts_in<P: RoomLedger>(
 
 #[test]
 fn each_reply_of_a_room_is_kept_once(rt: HostRuntime) {
-    let (receipts, asked) = receipts_in::<Brand>(&rt, planned(&rt, &NAMES));
+    let (receipts, asked) = receipts_in::<Brand>(&rt, plan_rooms(&rt, &NAMES));
     assert_eq!(rt; receipts.as_slice(), TOLD.as_slice());
     let told = TOLD.iter().filter(|told| told.is_some()).count();
     assert_eq!(rt; asked, told as u64);
@@ -165,7 +166,7 @@ struct Run {
 
 /// Serves a session that asks this.
 fn serve<P: RoomLedger, R: Wait + Abort + AllocGlobal>(
-    host: &Host<'_, P, R, Open, Counted>,
+    host: &Host<'_, P, R, NoObserver, Counted>,
     asked: &str,
 ) -> Ended {
     let (rt, alloc) = (host.rt, host.alloc);
@@ -194,7 +195,7 @@ fn sessions_in<P: RoomLedger>(
         rt,
         alloc: rt.alloc(),
         rooms: &rooms,
-        gate: &Open,
+        observer: &NoObserver,
         keeper,
     };
     let mut ends = Vec::new(rt.alloc());
@@ -209,10 +210,10 @@ fn sessions_in<P: RoomLedger>(
     Run { ends, entries }
 }
 
-/// What comes of sessions that ask this, one after the other. The rooms are closed then, so each pass
-/// was handed back.
+/// What comes of sessions that ask this, one after the other. The rooms are closed then, so each
+/// pass was handed back.
 fn run_sessions(rt: &(impl Wait + Abort + AllocGlobal), keeper: &Counted, scripts: &[&str]) -> Run {
-    sessions_in::<Brand>(rt, planned(rt, &NAMES), keeper, scripts)
+    sessions_in::<Brand>(rt, plan_rooms(rt, &NAMES), keeper, scripts)
 }
 
 /// The frames of these replies, then a close.
@@ -250,8 +251,8 @@ fn back_frames(rt: &(impl Abort + AllocGlobal), entries: usize) -> Vec<u8> {
 /// What the other is answered.
 const ANSWERED_ELSEWHERE: &str = "[\"joined\",0,1]\n[\"left\",1]";
 
-/// Looks at a session whose reply of this number is not kept: the replies before it were sent, then a
-/// close. Its call stands, its site is free, and the other room goes on.
+/// Looks at a session whose reply of this number is not kept: the replies before it were sent, then
+/// a close. Its call stands, its site is free, and the other room goes on.
 fn not_kept_at(
     rt: &(impl Wait + Abort + AllocGlobal),
     number: usize,
@@ -292,8 +293,8 @@ fn a_reply_is_not_sent_where_keeping_it_wants_memory(rt: HostRuntime) {
     }
 }
 
-/// A room of which two entries are kept and no more: from then on nothing that it answers is sent. The
-/// other room goes on.
+/// A room of which two entries are kept and no more: from then on nothing that it answers is sent.
+/// The other room goes on.
 #[test]
 fn a_room_that_is_not_kept_from_some_entry_on(rt: HostRuntime) {
     let keeper = Counted::new(Fails::Beyond(2));
@@ -337,7 +338,7 @@ fn printed_in<P: RoomLedger + Send + Sync, R: Threads + Wait + Log + Sync + Abor
         rooms,
         streams.into_iter(),
         1,
-        &Open,
+        &NoObserver,
         keeper,
         &mut output,
     );
@@ -349,7 +350,7 @@ fn printed<R: Threads + Wait + Log + Sync + Abort + AllocGlobal>(
     rt: &R,
     keeper: &Counted,
 ) -> Vec<u8> {
-    printed_in::<Brand, R>(rt, planned(rt, &["r"]), keeper)
+    printed_in::<Brand, R>(rt, plan_rooms(rt, &["r"]), keeper)
 }
 
 #[test]
@@ -361,6 +362,6 @@ fn a_session_whose_reply_is_not_kept_is_warned_of(rt: HostRuntime) {
     assert_eq!(rt; output.as_slice(), "room r 1\n[\"join\",1]\n".as_bytes());
     assert_eq!(rt;
         sink.into_inner().as_slice(),
-        "[WARN  sessions::warned] session 1 room r: record not kept\n".as_bytes()
+        "[WARN  sessions::warning_observer] session 1 room r: record not kept\n".as_bytes()
     );
 }

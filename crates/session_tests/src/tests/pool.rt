@@ -1,12 +1,12 @@
 //! Sessions by workers.
 
-ghost use Rattle.room_lock.specs.Planned.{IsLedgerOf};
+ghost use Rattle.room_lock.specs.steps.Planned.{IsLedgerOf};
 
 use super::faults::{Calls, Parts};
-use super::{HEAD, arrival, asked_parts, planned};
-use op_names::RoomName;
+use super::{HEAD, arrival, asked_parts, plan_rooms};
+use base_types::RoomName;
 use room_lock::{NewRooms, RoomLedger, Rooms};
-use sessions::{Cause, Client, Forgets, Gate, Host, Open, PoolFault, run_pool};
+use sessions::{Cause, Client, Forgets, Host, NoObserver, Observer, PoolFault, run_pool};
 use std::marker::Brand;
 use std::process::Abort;
 use std::sync::Wait;
@@ -54,7 +54,7 @@ fn wait_for<R: Clock>(rt: &R, answered: &AtomicU64, timed_out: &AtomicU64) {
     timed_out.fetch_add(1, Ordering::SeqCst);
 }
 
-impl<R: Clock> Gate for Crossed<R> {
+impl<R: Clock> Observer for Crossed<R> {
     fn before_call(&self, session: u32) {
         if session == 1 && self.first.load(Ordering::SeqCst) == 0 {
             wait_for(&self.rt, &self.second, &self.timed_out);
@@ -105,7 +105,7 @@ fn no_worker_in<P: RoomLedger + Send + Sync, R: Threads + Wait + Sync + Abort + 
         rt,
         alloc: rt.alloc(),
         rooms: &rooms,
-        gate: &Open,
+        observer: &NoObserver,
         keeper: &Forgets,
     };
     match run_pool(&host, streams.into_iter(), 0) {
@@ -116,7 +116,7 @@ fn no_worker_in<P: RoomLedger + Send + Sync, R: Threads + Wait + Sync + Abort + 
 
 #[test]
 fn no_worker(rt: HostRuntime) {
-    no_worker_in::<Brand, _>(&rt, planned(&rt, &["r"]));
+    no_worker_in::<Brand, _>(&rt, plan_rooms(&rt, &["r"]));
 }
 
 /// What a session of the pool asks.
@@ -161,18 +161,18 @@ fn pool_under_failure_in<
         };
         streams.push(arrival(stream)).expect(rt, "memory");
     }
-    let gate = Crossed::new(*rt);
+    let observer = Crossed::new(*rt);
     let host = Host {
         rt,
         alloc: rt.alloc(),
         rooms: &rooms,
-        gate: &gate,
+        observer: &observer,
         keeper: &Forgets,
     };
     let served = run_pool(&host, streams.into_iter(), 4).expect(rt, "a pool");
     assert_eq!(rt; served, 12);
-    assert_eq!(rt; gate.timed_out.load(Ordering::SeqCst), 0);
-    assert_eq!(rt; gate.ended.load(Ordering::SeqCst), 12);
+    assert_eq!(rt; observer.timed_out.load(Ordering::SeqCst), 0);
+    assert_eq!(rt; observer.ended.load(Ordering::SeqCst), 12);
     let records = rooms.close(rt.alloc()).expect(rt, "all passes");
     assert_eq!(rt; records.len(), 3);
     for record in &records {
@@ -183,5 +183,5 @@ fn pool_under_failure_in<
 
 #[test]
 fn pool_under_failure(rt: HostRuntime) {
-    pool_under_failure_in::<Brand, _>(&rt, planned(&rt, &NAMES));
+    pool_under_failure_in::<Brand, _>(&rt, plan_rooms(&rt, &NAMES));
 }

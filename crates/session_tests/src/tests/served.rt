@@ -1,11 +1,12 @@
-//! Sessions whose stream fails once, or gives and takes single bytes: `serve_one` and `serve_streams`.
+//! Sessions whose stream fails once, or gives and takes single bytes: `serve_one` and
+//! `serve_streams`.
 
-ghost use Rattle.room_lock.specs.Planned.{IsLedgerOf};
+ghost use Rattle.room_lock.specs.steps.Planned.{IsLedgerOf};
 
 use super::faults::{Calls, Parts, Sparing};
 use super::{
     ANSWERED, ASKED, Counting, ENTRIES, FIRST, RECORD, answer_frames, arrival, asked_parts,
-    bytewise, copied, frames_of, planned, text_frame,
+    bytewise, copy_of, frames_of, plan_rooms, text_frame,
 };
 use log::sink::Locked;
 use log::{LevelFilter, Log, Logged};
@@ -37,7 +38,7 @@ fn run_session_in<P: RoomLedger>(
     requires { IsLedgerOf planned P.name P.parts P.limits P.books }
 {
     let (rooms, _begun) = Rooms::<P>::new(rt, rt.alloc(), planned).expect(rt, "rooms");
-    let gate = Counting::new();
+    let observer = Counting::new();
     let mut output = Vec::new(rt.alloc());
     let stream = Duplex {
         reader: Parts::new(parts, calls),
@@ -51,7 +52,7 @@ fn run_session_in<P: RoomLedger>(
         rt,
         alloc: rt.alloc(),
         rooms: &rooms,
-        gate: &gate,
+        observer: &observer,
         keeper: &Forgets,
     };
     let cause = serve_one(&host, FIRST, stream);
@@ -59,21 +60,21 @@ fn run_session_in<P: RoomLedger>(
     assert_eq!(rt; records.len(), 1);
     Outcome {
         cause,
-        answered: gate.count(),
+        answered: observer.count(),
         entries: records[0].entries.len(),
         output,
     }
 }
 
-/// What comes of a session by a stream that takes so many bytes at a write. The room is `r`, and it is
-/// closed, so the session's pass was handed back.
+/// What comes of a session by a stream that takes so many bytes at a write. The room is `r`, and it
+/// is closed, so the session's pass was handed back.
 fn run_session(
     rt: &(impl Wait + Abort + AllocGlobal),
     parts: &[Vec<u8>],
     most: usize,
     calls: &Calls,
 ) -> Outcome {
-    run_session_in::<Brand>(rt, planned(rt, &["r"]), parts, most, calls)
+    run_session_in::<Brand>(rt, plan_rooms(rt, &["r"]), parts, most, calls)
 }
 
 /// Did the session end well, with all that it was to be answered?
@@ -97,8 +98,8 @@ fn entries_told(rt: &(impl Abort + AllocGlobal), output: &[u8]) -> usize {
     told
 }
 
-/// Looks at a session whose stream has failed: why it ended, and that its room has an entry for each
-/// call that added one, whether it was told or not.
+/// Checks a session whose stream has failed: why it ended, and the room's record. The room has an
+/// entry for each call that added one, whether or not its reply was sent.
 fn look_at(rt: &(impl Abort + AllocGlobal), run: &Outcome, calls: &Calls, fails: u64) {
     // The head of the request is one part, each message another, the close the last.
     let asked = calls.given().saturating_sub(1);
@@ -151,7 +152,8 @@ fn a_session_fails_at_each_call(rt: HostRuntime) {
     assert!(rt; failed >= 18);
 }
 
-/// A head that comes in single bytes is not answered; behind one that comes whole, single bytes are.
+/// A head that comes in single bytes is not answered; behind one that comes whole, single bytes
+/// are.
 #[test]
 fn a_session_in_single_bytes(rt: HostRuntime) {
     let parts = bytewise(&rt, &asked_parts(&rt, ASKED), 0);
@@ -186,7 +188,7 @@ fn run_streams_in<
     requires { IsLedgerOf planned P.name P.parts P.limits P.books }
 {
     let (rooms, _begun) = Rooms::<P>::new(rt, rt.alloc(), planned).expect(rt, "rooms");
-    let gate = Counting::new();
+    let observer = Counting::new();
     let stream = Duplex {
         reader: Parts::new(parts, stream_calls),
         writer: Sparing {
@@ -210,13 +212,13 @@ fn run_streams_in<
         rooms,
         streams,
         1,
-        &gate,
+        &observer,
         &Forgets,
         &mut writer,
     );
     Served {
         end,
-        answered: gate.count(),
+        answered: observer.count(),
         output,
     }
 }
@@ -229,7 +231,7 @@ fn run_streams<R: Threads + Wait + Log + Sync + Abort + AllocGlobal>(
     stream_calls: &Calls,
     output_calls: &Calls,
 ) -> Served {
-    let planned = planned(rt, &["r"]);
+    let planned = plan_rooms(rt, &["r"]);
     run_streams_in::<Brand, R>(rt, planned, parts, most, stream_calls, output_calls)
 }
 
@@ -242,8 +244,8 @@ fn record_of(rt: &(impl Abort + AllocGlobal), entries: usize) -> String {
     lines
 }
 
-/// Looks at the record after a session whose stream fails at this call; false where there is no such
-/// call.
+/// Looks at the record after a session whose stream fails at this call; false where there is no
+/// such call.
 fn tells_after<R: Threads + Wait + Log + Sync + Abort + AllocGlobal>(
     rt: &R,
     parts: &[Vec<u8>],
@@ -283,7 +285,7 @@ fn a_session_that_fails_is_warned_of(rt: HostRuntime) {
     let logged = Logged::new(rt, LevelFilter::Warn, &sink);
     let mut parts = Vec::new(rt.alloc());
     parts
-        .push(copied(&rt, "GET / HTTP/1.1\r\n\r\n".as_bytes()))
+        .push(copy_of(&rt, "GET / HTTP/1.1\r\n\r\n".as_bytes()))
         .expect(&rt, "memory");
     let calls = Calls::failing(0);
     let run = run_streams(&logged, &parts, usize::MAX, &calls, &calls);
@@ -291,11 +293,12 @@ fn a_session_that_fails_is_warned_of(rt: HostRuntime) {
     assert_eq!(rt; run.output.as_slice(), "room r 0\n".as_bytes());
     assert_eq!(rt;
         sink.into_inner().as_slice(),
-        "[WARN  sessions::warned] session 1: handshake failed\n".as_bytes()
+        "[WARN  sessions::warning_observer] session 1: handshake failed\n".as_bytes()
     );
 }
 
-/// Looks at what is written to an output that fails at this call; false where there is no such call.
+/// Looks at what is written to an output that fails at this call; false where there is no such
+/// call.
 fn tells_front<R: Threads + Wait + Log + Sync + Abort + AllocGlobal>(
     rt: &R,
     parts: &[Vec<u8>],
@@ -307,6 +310,7 @@ fn tells_front<R: Threads + Wait + Log + Sync + Abort + AllocGlobal>(
     if !calls.have_failed() {
         assert!(rt; run.end.is_ok());
         assert_eq!(rt; run.output.as_slice(), whole);
+        assert!(rt; calls.end_with_the_only_flush());
         return false;
     }
     assert_eq!(rt; run.end.err(), Some(ServeFault::Write), "call {fails}");
@@ -325,8 +329,8 @@ fn records_on_an_output_that_fails_at_each_call(rt: HostRuntime) {
         }
         failed = fails;
     }
-    // Something is written, and it is flushed.
-    assert!(rt; failed >= 2);
+    // A line for the room and for each entry is written, and they are flushed once.
+    assert_eq!(rt; failed, 5);
 }
 
 #[test]

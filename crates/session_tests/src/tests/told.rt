@@ -1,19 +1,21 @@
-//! What a gate is told: probes, and entries of rooms.
+//! What an observer hears: probes, and entries of rooms.
 
-ghost use Rattle.room_lock.specs.Planned.{IsLedgerOf};
+ghost use Rattle.room_lock.specs.steps.Planned.{IsLedgerOf};
 
 use super::faults::{Calls, Parts};
-use super::{ASKED, CLOSED, FIRST, asked_parts, copied, frames_of, planned};
-use op_names::RoomName;
+use super::{ASKED, CLOSED, FIRST, asked_parts, copy_of, frames_of, plan_rooms};
+use base_types::RoomName;
 use room_lock::{NewRooms, RoomLedger, Rooms};
-use sessions::{Addition, Cause, Client, Forgets, Gate, Host, PROBE_ANSWER, is_probe, serve_one};
+use sessions::{
+    Addition, Cause, Client, Forgets, Host, Observer, PROBE_ANSWER, is_probe, serve_one,
+};
 use std::marker::Brand;
 use std::process::Abort;
 use std::sync::Wait;
 use std::sync::atomic::{AtomicU64, Ordering};
 use tungstenite::Duplex;
 
-/// A gate that counts what it is told.
+/// An observer that counts what it hears.
 #[derive(Drop)]
 struct Told {
     probes: AtomicU64,
@@ -45,7 +47,8 @@ impl Told {
         [read(&self.probes), read(&self.sessions), read(&self.ended)]
     }
 
-    /// The sites, objects and changes that were added to the second room, and the sessions that ended in it.
+    /// The sites, objects and changes that were added to the second room, and the sessions that
+    /// ended in it.
     fn additions(&self) -> [u64; 4] {
         [
             read(&self.sites),
@@ -64,7 +67,7 @@ fn count(counter: &AtomicU64) {
     counter.fetch_add(1, Ordering::SeqCst);
 }
 
-impl Gate for Told {
+impl Observer for Told {
     fn before_call(&self, _session: u32) {}
 
     fn after_call(&self, _session: u32) {}
@@ -107,7 +110,7 @@ struct Outcome {
 fn run_in<P: RoomLedger>(
     rt: &(impl Wait + Abort + AllocGlobal),
     planned: NewRooms,
-    gate: &Told,
+    observer: &Told,
     parts: &[Vec<u8>],
 ) -> Outcome
     requires { IsLedgerOf planned P.name P.parts P.limits P.books }
@@ -123,7 +126,7 @@ fn run_in<P: RoomLedger>(
         rt,
         alloc: rt.alloc(),
         rooms: &rooms,
-        gate,
+        observer,
         keeper: &Forgets,
     };
     let cause = serve_one(&host, FIRST, stream);
@@ -131,22 +134,22 @@ fn run_in<P: RoomLedger>(
 }
 
 /// What comes of a connection that sends these parts, in rooms `s` and `r`.
-fn run(rt: &(impl Wait + Abort + AllocGlobal), gate: &Told, parts: &[Vec<u8>]) -> Outcome {
-    run_in::<Brand>(rt, planned(rt, &["s", "r"]), gate, parts)
+fn run(rt: &(impl Wait + Abort + AllocGlobal), observer: &Told, parts: &[Vec<u8>]) -> Outcome {
+    run_in::<Brand>(rt, plan_rooms(rt, &["s", "r"]), observer, parts)
 }
 
 /// What comes of a connection that sends this in pieces of so many bytes.
 fn run_text(
     rt: &(impl Wait + Abort + AllocGlobal),
-    gate: &Told,
+    observer: &Told,
     text: &str,
     size: usize,
 ) -> Outcome {
     let mut parts = Vec::new(rt.alloc());
     for piece in text.as_bytes().chunks(size.max(1)) {
-        parts.push(copied(rt, piece)).expect(rt, "memory");
+        parts.push(copy_of(rt, piece)).expect(rt, "memory");
     }
-    run(rt, gate, &parts)
+    run(rt, observer, &parts)
 }
 
 /// Heads of probes.
@@ -169,28 +172,28 @@ const OTHERS: [&str; 6] = [
 
 #[test]
 fn probes_are_answered_and_are_no_sessions(rt: HostRuntime) {
-    let gate = Told::new();
+    let observer = Told::new();
     for text in PROBES {
         assert!(rt; is_probe(text.as_bytes()), "{text}");
         for size in [4096, 7] {
-            let seen = run_text(&rt, &gate, text, size);
+            let seen = run_text(&rt, &observer, text, size);
             assert_eq!(rt; seen.cause, Cause::Probe, "{text}");
             assert_eq!(rt; seen.output.as_slice(), PROBE_ANSWER.as_bytes(), "{text}");
         }
     }
-    assert_eq!(rt; gate.connections(), [8, 0, 0]);
+    assert_eq!(rt; observer.connections(), [8, 0, 0]);
 }
 
 #[test]
 fn what_is_no_probe_is_a_session(rt: HostRuntime) {
-    let gate = Told::new();
+    let observer = Told::new();
     for text in OTHERS {
         assert!(rt; !is_probe(text.as_bytes()), "{text}");
-        let seen = run_text(&rt, &gate, text, 4096);
+        let seen = run_text(&rt, &observer, text, 4096);
         assert_eq!(rt; seen.cause, Cause::HandshakeFailed, "{text}");
         assert!(rt; seen.output.is_empty(), "{text}");
     }
-    assert_eq!(rt; gate.connections(), [0, 6, 6]);
+    assert_eq!(rt; observer.connections(), [0, 6, 6]);
 }
 
 /// A head that is not yet whole, and one that asks for a WebSocket, are no whole heads of a probe.
@@ -206,20 +209,20 @@ fn whole_heads_of_probes(rt: HostRuntime) {
 
 #[test]
 fn a_gate_is_told_of_each_entry(rt: HostRuntime) {
-    let gate = Told::new();
-    let seen = run(&rt, &gate, &asked_parts(&rt, ASKED));
+    let observer = Told::new();
+    let seen = run(&rt, &observer, &asked_parts(&rt, ASKED));
     assert_eq!(rt; seen.cause, Cause::Closed);
     assert!(rt; frames_of(&seen.output).ends_with(CLOSED));
-    assert_eq!(rt; gate.connections(), [0, 1, 1]);
-    assert_eq!(rt; gate.additions(), [1, 1, 1, 0]);
+    assert_eq!(rt; observer.connections(), [0, 1, 1]);
+    assert_eq!(rt; observer.additions(), [1, 1, 1, 0]);
     // A leave, a coming back and a put that is refused add nothing. The session ends in the room.
     let asked = r#"["join","r"]
 ["leave"]
 ["back","r",1]
 ["put",1,[],[1,1],[],[["x",5]]]
 ["new",1,[],"rect",[]]"#;
-    let seen = run(&rt, &gate, &asked_parts(&rt, asked));
+    let seen = run(&rt, &observer, &asked_parts(&rt, asked));
     assert_eq!(rt; seen.cause, Cause::Closed);
-    assert_eq!(rt; gate.connections(), [0, 2, 2]);
-    assert_eq!(rt; gate.additions(), [2, 2, 1, 1]);
+    assert_eq!(rt; observer.connections(), [0, 2, 2]);
+    assert_eq!(rt; observer.additions(), [2, 2, 1, 1]);
 }

@@ -1,8 +1,8 @@
-//! `watch_over` against the bytes of a server, over a stream and to an output that fail once, or give
-//! and take single bytes.
+//! `watch_over` against the bytes of a server, over a stream and to an output that fail once, or
+//! give and take single bytes.
 
 use super::faults::{Calls, Parts, Sparing};
-use super::{CLOSE, CLOSED, bytewise, copied, frames_of, masked, room_name, text_frame};
+use super::{CLOSE, CLOSED, bytewise, copy_of, frames_of, masked_frame, room_name, text_frame};
 use room_watch::{WatchFault, watch_over};
 use std::io;
 use std::process::Abort;
@@ -56,12 +56,12 @@ const SHOWN: &str = "[\"versions\",3,[1,1],\"rect\",[[[],[[\"x\",0]]]]]\n";
 fn answer_parts(rt: &(impl Abort + AllocGlobal), answered: &str) -> Vec<Vec<u8>> {
     let mut parts = Vec::new(rt.alloc());
     parts
-        .push(copied(rt, ACCEPTED.as_bytes()))
+        .push(copy_of(rt, ACCEPTED.as_bytes()))
         .expect(rt, "memory");
     for words in answered.lines() {
         parts.push(text_frame(rt, words)).expect(rt, "memory");
     }
-    parts.push(copied(rt, CLOSED)).expect(rt, "memory");
+    parts.push(copy_of(rt, CLOSED)).expect(rt, "memory");
     parts
 }
 
@@ -70,7 +70,7 @@ fn request_frames(rt: &(impl Abort + AllocGlobal), asked: &str) -> Vec<u8> {
     let mut frames = Vec::new(rt.alloc());
     for words in asked.lines() {
         frames
-            .extend_from_slice(&masked(rt, 1, words))
+            .extend_from_slice(&masked_frame(rt, 1, words))
             .expect(rt, "memory");
     }
     frames

@@ -8,4 +8,4 @@ in_conflict_with-requires g c = all_low (g.R.Relation.size c.args.relation.now) 
 pub returns-clause-id : goal.returns-clause-id
 returns-clause-id g c =
     IfOk-weaker c.id_of_conflicting.result _ _
-    (λ id e. identified (g.R.Relation.clashes c.args.relation.now) (g.R.Relation.name_at c.args.relation.now) (g.R.Relation.size c.args.relation.now) c.args.scope.now c.args.group.now c.in_ok-conflicting.conflicting id c.requires.group c.in_ok-conflicting.ensures e) c.id_of_conflicting.ensures
+    (λ id e. identified (g.R.Relation.conflicts c.args.relation.now) (g.R.Relation.name_at c.args.relation.now) (g.R.Relation.size c.args.relation.now) c.args.scope.now c.args.group.now c.in_ok-conflicting.conflicting id c.requires.group c.in_ok-conflicting.ensures e) c.id_of_conflicting.ensures

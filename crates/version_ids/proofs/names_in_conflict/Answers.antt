@@ -1,6 +1,6 @@
 use Rattle.std.proofs.Common.{◌≡◌, ◌∙◌}
 use Rattle.std.specs.Prelude.{filter}
-use Rattle.places.specs.Members.{has}
+use Rattle.places.specs.steps.PlaceSet.{has}
 use Rattle.version_ids.proofs.Scopes.{kept_low}
 use Rattle.version_ids.proofs.names_in_conflict.Goals as goal
 

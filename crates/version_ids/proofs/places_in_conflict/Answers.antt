@@ -7,4 +7,4 @@ in_conflict_with-requires g c = all_places (g.R.Relation.size c.args.relation.no
 
 pub returns : goal.returns
 returns g c =
-    IfOk-weaker c.in_conflict_with.result _ _ (λ conflicting e. conflicting_with_all (g.R.Relation.clashes c.args.relation.now) (g.R.Relation.size c.args.relation.now) c.len.result c.in_ok-all.all conflicting c.len.ensures.size c.in_ok-all.ensures e) c.in_conflict_with.ensures
+    IfOk-weaker c.in_conflict_with.result _ _ (λ conflicting e. conflicting_with_all (g.R.Relation.conflicts c.args.relation.now) (g.R.Relation.size c.args.relation.now) c.len.result c.in_ok-all.all conflicting c.len.ensures.size c.in_ok-all.ensures e) c.in_conflict_with.ensures

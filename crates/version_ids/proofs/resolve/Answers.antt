@@ -13,23 +13,23 @@ compatible_places-requires-clause-named g c =
 
 pub identifier_among-requires-clause-group : goal.identifier_among-requires-clause-group
 identifier_among-requires-clause-group g c =
-    kept_among (g.R.Relation.size c.args.relation.now) c.args.known.now c.in_ok-group.group (λ x. not (in_conflict_with (g.R.Relation.clashes c.args.relation.now) c.in_ok-named.named x))
+    kept_among (g.R.Relation.size c.args.relation.now) c.args.known.now c.in_ok-group.group (λ x. not (in_conflict_with (g.R.Relation.conflicts c.args.relation.now) c.in_ok-named.named x))
     (among_places _ _ c.rises.ensures c.requires) c.in_ok-group.ensures
 
 pub returns-then-eq : goal.returns-then-eq
 returns-then-eq g c =
-    let clash = g.R.Relation.clashes c.args.relation.now in
+    let is_conflict = g.R.Relation.conflicts c.args.relation.now in
     let known = c.args.known.now in
-    found_group (g.R.Relation.size c.args.relation.now) (g.R.Relation.name_at c.args.relation.now) clash c.in_ok-found.ensures.relation known
+    found_group (g.R.Relation.size c.args.relation.now) (g.R.Relation.name_at c.args.relation.now) is_conflict c.in_ok-found.ensures.relation known
     (among_places _ known c.rises.ensures c.requires) c.args.id.now c.in_ok-found.found c.in_ok-group.group
-    (c.in_ok-group.ensures ∙ ap (λ (l : List ℕ). filter (λ x. not (in_conflict_with clash l x)) known) c.in_ok-named.ensures)
+    (c.in_ok-group.ensures ∙ ap (λ (l : List ℕ). filter (λ x. not (in_conflict_with is_conflict l x)) known) c.in_ok-named.ensures)
     c.in_ok-found.ensures.id (sym c.eq.ensures ∙ c.if-eq.true)
 
 pub returns : goal.returns
 returns g c =
-    let clash = g.R.Relation.clashes c.args.relation.now in
+    let is_conflict = g.R.Relation.conflicts c.args.relation.now in
     let known = c.args.known.now in
-    no_group (g.R.Relation.size c.args.relation.now) (g.R.Relation.name_at c.args.relation.now) clash c.in_ok-found.ensures.relation known
+    no_group (g.R.Relation.size c.args.relation.now) (g.R.Relation.name_at c.args.relation.now) is_conflict c.in_ok-found.ensures.relation known
     (among_places _ known c.rises.ensures c.requires) c.args.id.now c.in_ok-found.found c.in_ok-group.group
-    (c.in_ok-group.ensures ∙ ap (λ (l : List ℕ). filter (λ x. not (in_conflict_with clash l x)) known) c.in_ok-named.ensures)
+    (c.in_ok-group.ensures ∙ ap (λ (l : List ℕ). filter (λ x. not (in_conflict_with is_conflict l x)) known) c.in_ok-named.ensures)
     c.in_ok-found.ensures.id (sym c.eq.ensures ∙ c.if-eq.false)

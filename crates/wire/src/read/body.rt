@@ -2,8 +2,8 @@
 
 ghost use Rattle.std.specs.Prelude.{map};
 ghost use Rattle.serde_json.specs.View.{view};
-ghost use Rattle.wire.specs.Bodies.{new_at, put_at, drop_at, set_at, body_at};
-ghost use Rattle.wire.specs.Reading.{Gives};
+ghost use Rattle.wire.specs.steps.Bodies.{new_at, put_at, drop_at, set_at, body_at};
+ghost use Rattle.wire.specs.steps.Reading.{Gives};
 
 use super::part::{attrs_of, id_of, key_of, kind_of, name_of, pairs_of, value_of};
 use crate::fault::ReadFault;
@@ -11,7 +11,7 @@ use rules::{Body, Pairs};
 use serde_json::Value;
 use std::alloc::Global;
 
-#[tactic(auto, unfolding(crate::specs::Bodies::new_at))]
+#[tactic(auto, unfolding(crate::specs::steps::Bodies::new_at))]
 fn new_of(alloc: Global, fields: &[Value]) -> Result<Body, ReadFault>
     ensures { Gives (λ body. body) result (new_at (map view fields.now)) }
 {
@@ -23,7 +23,7 @@ fn new_of(alloc: Global, fields: &[Value]) -> Result<Body, ReadFault>
     Ok(Body::New { kind, attrs })
 }
 
-#[tactic(auto, unfolding(crate::specs::Bodies::put_at))]
+#[tactic(auto, unfolding(crate::specs::steps::Bodies::put_at))]
 fn put_of(alloc: Global, fields: &[Value]) -> Result<Body, ReadFault>
     ensures { Gives (λ body. body) result (put_at (map view fields.now)) }
 {
@@ -40,7 +40,7 @@ fn put_of(alloc: Global, fields: &[Value]) -> Result<Body, ReadFault>
     })
 }
 
-#[tactic(auto, unfolding(crate::specs::Bodies::drop_at))]
+#[tactic(auto, unfolding(crate::specs::steps::Bodies::drop_at))]
 fn drop_of(alloc: Global, fields: &[Value]) -> Result<Body, ReadFault>
     ensures { Gives (λ body. body) result (drop_at (map view fields.now)) }
 {
@@ -53,7 +53,7 @@ fn drop_of(alloc: Global, fields: &[Value]) -> Result<Body, ReadFault>
 }
 
 /// A put of one pair, in the old form.
-#[tactic(auto, unfolding(crate::specs::Bodies::set_at))]
+#[tactic(auto, unfolding(crate::specs::steps::Bodies::set_at))]
 fn set_of(alloc: Global, fields: &[Value]) -> Result<Body, ReadFault>
     ensures { Gives (λ body. body) result (set_at (map view fields.now)) }
 {
@@ -72,7 +72,7 @@ fn set_of(alloc: Global, fields: &[Value]) -> Result<Body, ReadFault>
 }
 
 /// What the operation of a word does.
-#[tactic(auto, unfolding(crate::specs::Bodies::body_at))]
+#[tactic(auto, unfolding(crate::specs::steps::Bodies::body_at))]
 pub(super) fn body_of(alloc: Global, word: &str, fields: &[Value]) -> Result<Body, ReadFault>
     ensures { Gives (λ body. body) result (body_at word.now (map view fields.now)) }
 {

@@ -5,20 +5,20 @@ ghost use Rattle.std.specs.Arc.{arc_value};
 ghost use Rattle.serde_json.specs.View.{view};
 ghost use Rattle.rules.specs.declared.history.Entry.{Entry as AnyEntry};
 ghost use Rattle.wire.specs.Form.{IsEntryText};
-ghost use Rattle.wire.specs.Reading.{Gives};
-ghost use Rattle.wire.specs.Entries.{join_at, change_at, entry_of};
-ghost use Rattle.wire.specs.Texts.{entry_read};
+ghost use Rattle.wire.specs.steps.Reading.{Gives};
+ghost use Rattle.wire.specs.steps.Entries.{join_at, change_at, entry_of};
+ghost use Rattle.wire.specs.steps.Reads.{entry_read};
 
 use super::body::body_of;
 use super::part::{Part, name_of, read_text, seen_of, whole_of, worded_of};
 use crate::fault::ReadFault;
-use op_names::MAX_SITE;
+use base_types::MAX_SITE;
 use rules::{Entry, Op};
 use serde_json::Value;
 use std::alloc::Global;
 use std::sync::Arc;
 
-#[tactic(auto, unfolding(crate::specs::Entries::join_at))]
+#[tactic(auto, unfolding(crate::specs::steps::Entries::join_at))]
 fn join_of(fields: &[Value]) -> Result<Entry, ReadFault>
     ensures { Gives (λ entry. entry) result (join_at (map view fields.now)) }
 {
@@ -29,7 +29,7 @@ fn join_of(fields: &[Value]) -> Result<Entry, ReadFault>
     Ok(Entry::Join(site))
 }
 
-#[tactic(auto, unfolding(crate::specs::Entries::change_at))]
+#[tactic(auto, unfolding(crate::specs::steps::Entries::change_at))]
 fn change_of(alloc: Global, word: &str, fields: &[Value]) -> Result<Entry, ReadFault>
     ensures { Gives (λ entry. entry) result (change_at word.now (map view fields.now)) }
 {
@@ -49,7 +49,7 @@ impl Part for Entry {
 
     ghost read_in = { entry_of };
 
-    #[tactic(auto, unfolding(crate::specs::Entries::entry_of))]
+    #[tactic(auto, unfolding(crate::specs::steps::Entries::entry_of))]
     fn read(alloc: Global, value: &Value) -> Result<Entry, ReadFault> {
         let (word, fields) = worded_of(value)?;
         match word {
@@ -72,8 +72,13 @@ impl Part for Arc<Entry> {
     }
 }
 
-/// The entry that the bytes are a text of: UTF-8 that holds one JSON value, a form of the entry.
-/// Otherwise `Bad`, or `NoMemory`.
+/// Reads an entry from bytes: UTF-8 that is one JSON value, a form of the entry. Linear in the
+/// bytes.
+///
+/// # Errors
+///
+/// - `Bad` if they are not such a text.
+/// - `NoMemory` if an allocation failed.
 pub fn read_entry(alloc: Global, bytes: &[u8]) -> Result<Entry, ReadFault>
     ensures ok { IfOk result (IsEntryText bytes.now) }
     ensures bad { IsErrOf result ReadFault.Bad → (e : AnyEntry) → ¬ IsEntryText bytes.now e }

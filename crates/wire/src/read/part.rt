@@ -4,19 +4,23 @@ ghost use Rattle.std.specs.Prelude.{map, Option, List, ℕ};
 ghost use Rattle.serde_json.specs.Data.{Data};
 ghost use Rattle.serde_json.specs.Find.{as_str};
 ghost use Rattle.serde_json.specs.View.{view};
-ghost use Rattle.wire.specs.Reading.{Gives, items_in, worded_in, integer_in, whole_in, name_in, room_in, pair_in, list_in, seen_in, id_in, key_in, kind_in, value_in, attr_in, attrs_in, pairs_in};
-ghost use Rattle.wire.specs.Texts.{json_of, text_in};
+ghost use Rattle.wire.specs.steps.Reading.{Gives, items_in, worded_in, integer_in, whole_in, name_in, room_in, pair_in, list_in, seen_in, id_in, key_in, kind_in, value_in, attr_in, attrs_in, pairs_in};
+ghost use Rattle.wire.specs.steps.Reads.{json_of, text_in};
 ghost use Rattle.rules.specs.AttrLists.{Attr};
 
 use crate::fault::ReadFault;
-use op_names::{Key, Kind, OpName, RoomName, VersionId};
+use base_types::{Key, Kind, OpName, RoomName, VersionId};
 use rules::{Attrs, Pairs};
 use serde_json::Value;
 use state_vector::{SitePairs, StateVector};
 use std::alloc::Global;
 
-/// The items of a list. Otherwise `Bad`.
-#[tactic(auto, using(crate::proofs::Parts::listed_items_view), unfolding(crate::specs::Reading::items_in))]
+/// The items of a JSON list.
+///
+/// # Errors
+///
+/// `Bad` if the value is not a list.
+#[tactic(auto, using(crate::proofs::Parts::listed_items_view), unfolding(crate::specs::steps::Reading::items_in))]
 pub fn items_of(value: &Value) -> Result<&[Value], ReadFault>
     ensures { Gives (λ items. map view items.now) result (items_in (view value.now)) }
 {
@@ -31,7 +35,7 @@ pub(crate) fn text_of(value: &Value) -> Result<&str, ReadFault>
 }
 
 /// A list of a word and what follows it.
-#[tactic(auto, unfolding(crate::specs::Reading::worded_in))]
+#[tactic(auto, unfolding(crate::specs::steps::Reading::worded_in))]
 pub(crate) fn worded_of(value: &Value) -> Result<(&str, &[Value]), ReadFault>
     ensures { Gives (λ worded. (worded.0.now, map view worded.1.now)) result
         (worded_in (view value.now)) }
@@ -43,15 +47,20 @@ pub(crate) fn worded_of(value: &Value) -> Result<(&str, &[Value]), ReadFault>
     Ok((word, rest))
 }
 
-/// The JSON value that the bytes are a text of. Otherwise `Bad`, or `NoMemory`. Linear in the bytes.
-#[tactic(auto, unfolding(crate::specs::Texts::json_of))]
+/// Reads a JSON value from bytes. Linear in the bytes.
+///
+/// # Errors
+///
+/// - `Bad` if they are not the text of one JSON value in UTF-8.
+/// - `NoMemory` if an allocation failed.
+#[tactic(auto, unfolding(crate::specs::steps::Reads::json_of))]
 pub fn json_of(alloc: Global, bytes: &[u8]) -> Result<Value, ReadFault>
     ensures { Gives view result (json_of bytes.now) }
 {
     Ok(Value::from_slice(alloc, bytes)?)
 }
 
-#[tactic(auto, using(crate::proofs::Parts::integer_at_view), unfolding(crate::specs::Reading::integer_in))]
+#[tactic(auto, using(crate::proofs::Parts::integer_at_view), unfolding(crate::specs::steps::Reading::integer_in))]
 fn integer_of(value: &Value) -> Result<i64, ReadFault>
     ensures { Gives (λ number. number) result (integer_in (view value.now)) }
 {
@@ -59,8 +68,12 @@ fn integer_of(value: &Value) -> Result<i64, ReadFault>
     number.as_i64().ok_or(ReadFault::Bad)
 }
 
-/// A whole number from `low` to `high`, both included. Otherwise `Bad`.
-#[tactic(auto, unfolding(crate::specs::Reading::whole_in, crate::specs::Reading::natural_in))]
+/// Reads a whole number from `low` to `high`, both included.
+///
+/// # Errors
+///
+/// `Bad` if the value is not such a number.
+#[tactic(auto, unfolding(crate::specs::steps::Reading::whole_in, crate::specs::steps::Reading::natural_in))]
 pub fn whole_of(value: &Value, low: u32, high: u32) -> Result<u32, ReadFault>
     ensures { Gives (λ number. number) result (whole_in low high (view value.now)) }
 {
@@ -73,7 +86,7 @@ pub fn whole_of(value: &Value, low: u32, high: u32) -> Result<u32, ReadFault>
 }
 
 /// Two numbers. Whoever takes them tests their ranges.
-#[tactic(auto, unfolding(crate::specs::Reading::pair_in, crate::specs::Reading::two_in, crate::specs::Reading::two_at))]
+#[tactic(auto, unfolding(crate::specs::steps::Reading::pair_in, crate::specs::steps::Reading::two_in, crate::specs::steps::Reading::two_at))]
 fn pair_of(value: &Value) -> Result<(u32, u32), ReadFault>
     ensures { Gives (λ pair. pair) result (pair_in (view value.now)) }
 {
@@ -85,7 +98,7 @@ fn pair_of(value: &Value) -> Result<(u32, u32), ReadFault>
     Ok((first, second))
 }
 
-#[tactic(auto, unfolding(crate::specs::Reading::name_in))]
+#[tactic(auto, unfolding(crate::specs::steps::Reading::name_in))]
 pub(crate) fn name_of(value: &Value) -> Result<OpName, ReadFault>
     ensures { Gives (λ name. name) result (name_in (view value.now)) }
 {
@@ -93,7 +106,7 @@ pub(crate) fn name_of(value: &Value) -> Result<OpName, ReadFault>
     OpName::new(site, seq).ok_or(ReadFault::Bad)
 }
 
-#[tactic(auto, unfolding(crate::specs::Reading::room_in))]
+#[tactic(auto, unfolding(crate::specs::steps::Reading::room_in))]
 pub(crate) fn room_of(alloc: Global, value: &Value) -> Result<RoomName, ReadFault>
     ensures { Gives (λ room. room) result (room_in (view value.now)) }
 {
@@ -123,7 +136,7 @@ pub(crate) fn read_text<P: Part>(alloc: Global, bytes: &[u8]) -> Result<P, ReadF
 }
 
 /// The parts of a list.
-#[tactic(auto, unfolding(crate::specs::Reading::list_in, crate::specs::Reading::all_in))]
+#[tactic(auto, unfolding(crate::specs::steps::Reading::list_in, crate::specs::steps::Reading::all_in))]
 pub(crate) fn list_of<P: Part>(alloc: Global, value: &Value) -> Result<Vec<P>, ReadFault>
     ensures { Gives (λ parts. map P.seen parts.items) result (list_in P.read_in (view value.now)) }
 {
@@ -136,7 +149,7 @@ pub(crate) fn list_of<P: Part>(alloc: Global, value: &Value) -> Result<Vec<P>, R
 }
 
 /// Pairs of a site and a count.
-#[tactic(auto, unfolding(crate::specs::Reading::list_in, crate::specs::Reading::all_in))]
+#[tactic(auto, unfolding(crate::specs::steps::Reading::list_in, crate::specs::steps::Reading::all_in))]
 fn site_pairs_of(alloc: Global, value: &Value) -> Result<SitePairs, ReadFault>
     ensures { Gives (λ pairs. pairs.items) result (list_in pair_in (view value.now)) }
 {
@@ -148,7 +161,7 @@ fn site_pairs_of(alloc: Global, value: &Value) -> Result<SitePairs, ReadFault>
     Ok(pairs)
 }
 
-#[tactic(auto, unfolding(crate::specs::Reading::seen_in))]
+#[tactic(auto, unfolding(crate::specs::steps::Reading::seen_in))]
 pub(crate) fn seen_of(alloc: Global, value: &Value) -> Result<StateVector, ReadFault>
     ensures { Gives (λ seen. seen) result (seen_in (view value.now)) }
 {
@@ -168,7 +181,7 @@ impl Part for OpName {
     }
 }
 
-#[tactic(auto, using(crate::proofs::Maps::map_same), unfolding(crate::specs::Reading::id_in))]
+#[tactic(auto, using(crate::proofs::Maps::map_same), unfolding(crate::specs::steps::Reading::id_in))]
 pub(crate) fn id_of(alloc: Global, value: &Value) -> Result<VersionId, ReadFault>
     ensures { Gives (λ id. id) result (id_in (view value.now)) }
 {
@@ -176,7 +189,7 @@ pub(crate) fn id_of(alloc: Global, value: &Value) -> Result<VersionId, ReadFault
     Ok(VersionId::from_vec(names)?)
 }
 
-#[tactic(auto, unfolding(crate::specs::Reading::key_in))]
+#[tactic(auto, unfolding(crate::specs::steps::Reading::key_in))]
 pub(crate) fn key_of(alloc: Global, value: &Value) -> Result<Key, ReadFault>
     ensures { Gives (λ key. key) result (key_in (view value.now)) }
 {
@@ -184,7 +197,7 @@ pub(crate) fn key_of(alloc: Global, value: &Value) -> Result<Key, ReadFault>
     Ok(Key::parse(alloc, text.as_bytes())?)
 }
 
-#[tactic(auto, unfolding(crate::specs::Reading::kind_in))]
+#[tactic(auto, unfolding(crate::specs::steps::Reading::kind_in))]
 pub(crate) fn kind_of(alloc: Global, value: &Value) -> Result<Kind, ReadFault>
     ensures { Gives (λ kind. kind) result (kind_in (view value.now)) }
 {
@@ -192,26 +205,26 @@ pub(crate) fn kind_of(alloc: Global, value: &Value) -> Result<Kind, ReadFault>
     Ok(Kind::parse(alloc, text.as_bytes())?)
 }
 
-#[tactic(auto, unfolding(crate::specs::Reading::value_in))]
-pub(crate) fn value_of(alloc: Global, value: &Value) -> Result<op_names::Value, ReadFault>
+#[tactic(auto, unfolding(crate::specs::steps::Reading::value_in))]
+pub(crate) fn value_of(alloc: Global, value: &Value) -> Result<base_types::Value, ReadFault>
     ensures { Gives (λ held. held) result (value_in (view value.now)) }
 {
     match value.as_str() {
-        Some(text) => Ok(op_names::Value::text(alloc, text)?),
-        None => Ok(op_names::Value::Number(integer_of(value)?)),
+        Some(text) => Ok(base_types::Value::text(alloc, text)?),
+        None => Ok(base_types::Value::Number(integer_of(value)?)),
     }
 }
 
 /// A key with its value.
-impl Part for (Key, op_names::Value) {
+impl Part for (Key, base_types::Value) {
     ghost Seen = { Attr };
 
     ghost seen = { λ attr. attr };
 
     ghost read_in = { attr_in };
 
-    #[tactic(auto, unfolding(crate::specs::Reading::attr_in, crate::specs::Reading::two_in, crate::specs::Reading::two_at))]
-    fn read(alloc: Global, value: &Value) -> Result<(Key, op_names::Value), ReadFault> {
+    #[tactic(auto, unfolding(crate::specs::steps::Reading::attr_in, crate::specs::steps::Reading::two_in, crate::specs::steps::Reading::two_at))]
+    fn read(alloc: Global, value: &Value) -> Result<(Key, base_types::Value), ReadFault> {
         let [key, held] = items_of(value)? else {
             return Err(ReadFault::Bad);
         };
@@ -221,15 +234,15 @@ impl Part for (Key, op_names::Value) {
     }
 }
 
-#[tactic(auto, using(crate::proofs::Maps::map_same), unfolding(crate::specs::Reading::attrs_in))]
+#[tactic(auto, using(crate::proofs::Maps::map_same), unfolding(crate::specs::steps::Reading::attrs_in))]
 pub(crate) fn attrs_of(alloc: Global, value: &Value) -> Result<Attrs, ReadFault>
     ensures { Gives (λ attrs. attrs) result (attrs_in (view value.now)) }
 {
-    let pairs: Vec<(Key, op_names::Value)> = list_of(alloc, value)?;
+    let pairs: Vec<(Key, base_types::Value)> = list_of(alloc, value)?;
     Attrs::from_pairs(pairs).map_err(|_| ReadFault::Bad)
 }
 
-#[tactic(auto, using(crate::proofs::Maps::map_same), unfolding(crate::specs::Reading::pairs_in))]
+#[tactic(auto, using(crate::proofs::Maps::map_same), unfolding(crate::specs::steps::Reading::pairs_in))]
 pub(crate) fn pairs_of(alloc: Global, value: &Value) -> Result<Pairs, ReadFault>
     ensures { Gives (λ pairs. pairs) result (pairs_in (view value.now)) }
 {
@@ -237,6 +250,6 @@ pub(crate) fn pairs_of(alloc: Global, value: &Value) -> Result<Pairs, ReadFault>
         let (key, held) = Part::read(alloc, pair)?;
         return Ok(Pairs::one(key, held));
     }
-    let pairs: Vec<(Key, op_names::Value)> = list_of(alloc, value)?;
+    let pairs: Vec<(Key, base_types::Value)> = list_of(alloc, value)?;
     Pairs::from_pairs(pairs).map_err(|_| ReadFault::Bad)
 }

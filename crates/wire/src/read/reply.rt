@@ -5,9 +5,9 @@ ghost use Rattle.serde_json.specs.View.{view};
 ghost use Rattle.rules.specs.declared.version.Version.{Version as AnyVersion};
 ghost use Rattle.wire.specs.declared.reply.Reply.{Reply as AnyReply};
 ghost use Rattle.wire.specs.Form.{IsReplyText, IsReplyValue};
-ghost use Rattle.wire.specs.Reading.{Gives, whole_in, id_in};
-ghost use Rattle.wire.specs.Replies.{at_in, ids_in, shown_attrs_in, shown_in, version_in, versions_in, object_in, joined_at, returned_at, made_at, taken_at, versions_at, objects_at, entries_at, left_at, refusal_with, refusal_fields, no_at, reply_of};
-ghost use Rattle.wire.specs.Texts.{reply_read};
+ghost use Rattle.wire.specs.steps.Reading.{Gives, whole_in, id_in};
+ghost use Rattle.wire.specs.steps.Replies.{at_in, ids_in, shown_attrs_in, shown_in, version_in, versions_in, object_in, joined_at, returned_at, made_at, taken_at, versions_at, objects_at, entries_at, left_at, refusal_with, refusal_fields, no_at, reply_of};
+ghost use Rattle.wire.specs.steps.Reads.{reply_read};
 
 use super::part::{
     Part, id_of, items_of, kind_of, list_of, name_of, read_text, text_of, whole_of, worded_of,
@@ -17,21 +17,21 @@ use crate::fault::ReadFault;
 use crate::lists::{EntryList, IdList, ObjectList, VersionList};
 use crate::reply::Reply;
 use crate::request::MAX_FROM;
-use op_names::{Key, Kind, MAX_SITE, OpName, VersionId};
-use rules::{AttrList, Entry, Limits, Refusal, Shown, Version};
+use base_types::{Key, Kind, MAX_SITE, OpName, VersionId};
+use rules::{AttrList, Entry, Limits, MAX_REFUSAL_CODE, Refusal, Shown, Version};
 use serde_json::Value;
 use std::alloc::Global;
 use std::sync::Arc;
 
-/// A place in the record, or a number of entries or objects.
-#[tactic(auto, unfolding(crate::specs::Replies::at_in))]
+/// A number of entries, objects or operations, or a place in the record.
+#[tactic(auto, unfolding(crate::specs::steps::Replies::at_in))]
 fn at_of(value: &Value) -> Result<u32, ReadFault>
     ensures { Gives (λ at. at) result (at_in (view value.now)) }
 {
     whole_of(value, 0, Limits::MAX_ENTRIES)
 }
 
-/// The place that a page begins at.
+/// The place at which a page starts.
 fn from_of(value: &Value) -> Result<u32, ReadFault>
     ensures { Gives (λ from. from) result (whole_in 0 MAX_FROM (view value.now)) }
 {
@@ -50,7 +50,7 @@ impl Part for VersionId {
     }
 }
 
-#[tactic(auto, using(crate::proofs::Maps::map_same), unfolding(crate::specs::Replies::ids_in))]
+#[tactic(auto, using(crate::proofs::Maps::map_same), unfolding(crate::specs::steps::Replies::ids_in))]
 fn ids_of(alloc: Global, value: &Value) -> Result<IdList, ReadFault>
     ensures { Gives (λ ids. ids) result (ids_in (view value.now)) }
 {
@@ -59,16 +59,16 @@ fn ids_of(alloc: Global, value: &Value) -> Result<IdList, ReadFault>
     Ok(IdList::from_vec(ids))
 }
 
-#[tactic(auto, using(crate::proofs::Maps::map_same), unfolding(crate::specs::Replies::shown_attrs_in))]
+#[tactic(auto, using(crate::proofs::Maps::map_same), unfolding(crate::specs::steps::Replies::shown_attrs_in))]
 fn shown_attrs_of(alloc: Global, value: &Value) -> Result<AttrList, ReadFault>
     ensures { Gives (λ attrs. attrs) result (shown_attrs_in (view value.now)) }
 {
-    let attrs: Vec<(Key, op_names::Value)> = list_of(alloc, value)?;
+    let attrs: Vec<(Key, base_types::Value)> = list_of(alloc, value)?;
     let attrs = rising(attrs)?;
     Ok(AttrList::from_vec(attrs))
 }
 
-#[tactic(auto, unfolding(crate::specs::Replies::shown_in))]
+#[tactic(auto, unfolding(crate::specs::steps::Replies::shown_in))]
 fn shown_of(alloc: Global, value: &Value) -> Result<Shown, ReadFault>
     ensures { Gives (λ shown. shown) result (shown_in (view value.now)) }
 {
@@ -86,7 +86,7 @@ impl Part for Version {
 
     ghost read_in = { version_in };
 
-    #[tactic(auto, unfolding(crate::specs::Replies::version_in, crate::specs::Reading::two_in, crate::specs::Reading::two_at))]
+    #[tactic(auto, unfolding(crate::specs::steps::Replies::version_in, crate::specs::steps::Reading::two_in, crate::specs::steps::Reading::two_at))]
     fn read(alloc: Global, value: &Value) -> Result<Version, ReadFault> {
         let [id, shown] = items_of(value)? else {
             return Err(ReadFault::Bad);
@@ -97,7 +97,7 @@ impl Part for Version {
     }
 }
 
-#[tactic(auto, using(crate::proofs::Maps::map_same), unfolding(crate::specs::Replies::versions_in))]
+#[tactic(auto, using(crate::proofs::Maps::map_same), unfolding(crate::specs::steps::Replies::versions_in))]
 fn versions_list_of(alloc: Global, value: &Value) -> Result<VersionList, ReadFault>
     ensures { Gives (λ versions. versions) result (versions_in (view value.now)) }
 {
@@ -114,7 +114,7 @@ impl Part for (OpName, Kind) {
 
     ghost read_in = { object_in };
 
-    #[tactic(auto, unfolding(crate::specs::Replies::object_in, crate::specs::Reading::two_in, crate::specs::Reading::two_at))]
+    #[tactic(auto, unfolding(crate::specs::steps::Replies::object_in, crate::specs::steps::Reading::two_in, crate::specs::steps::Reading::two_at))]
     fn read(alloc: Global, value: &Value) -> Result<(OpName, Kind), ReadFault> {
         let [name, kind] = items_of(value)? else {
             return Err(ReadFault::Bad);
@@ -125,7 +125,7 @@ impl Part for (OpName, Kind) {
     }
 }
 
-#[tactic(auto, unfolding(crate::specs::Replies::joined_at))]
+#[tactic(auto, unfolding(crate::specs::steps::Replies::joined_at))]
 fn joined_of(fields: &[Value]) -> Result<Reply, ReadFault>
     ensures { Gives (λ reply. reply) result (joined_at (map view fields.now)) }
 {
@@ -137,7 +137,7 @@ fn joined_of(fields: &[Value]) -> Result<Reply, ReadFault>
     Ok(Reply::Joined { at, site })
 }
 
-#[tactic(auto, unfolding(crate::specs::Replies::returned_at))]
+#[tactic(auto, unfolding(crate::specs::steps::Replies::returned_at))]
 fn returned_of(fields: &[Value]) -> Result<Reply, ReadFault>
     ensures { Gives (λ reply. reply) result (returned_at (map view fields.now)) }
 {
@@ -150,7 +150,7 @@ fn returned_of(fields: &[Value]) -> Result<Reply, ReadFault>
     Ok(Reply::Returned { at, site, seq })
 }
 
-#[tactic(auto, unfolding(crate::specs::Replies::made_at))]
+#[tactic(auto, unfolding(crate::specs::steps::Replies::made_at))]
 fn made_of(fields: &[Value]) -> Result<Reply, ReadFault>
     ensures { Gives (λ reply. reply) result (made_at (map view fields.now)) }
 {
@@ -162,7 +162,7 @@ fn made_of(fields: &[Value]) -> Result<Reply, ReadFault>
     Ok(Reply::Made { at, name })
 }
 
-#[tactic(auto, unfolding(crate::specs::Replies::taken_at))]
+#[tactic(auto, unfolding(crate::specs::steps::Replies::taken_at))]
 fn taken_of(alloc: Global, fields: &[Value]) -> Result<Reply, ReadFault>
     ensures { Gives (λ reply. reply) result (taken_at (map view fields.now)) }
 {
@@ -174,7 +174,7 @@ fn taken_of(alloc: Global, fields: &[Value]) -> Result<Reply, ReadFault>
     Ok(Reply::Taken { at, ids })
 }
 
-#[tactic(auto, unfolding(crate::specs::Replies::versions_at))]
+#[tactic(auto, unfolding(crate::specs::steps::Replies::versions_at))]
 fn versions_of(alloc: Global, fields: &[Value]) -> Result<Reply, ReadFault>
     ensures { Gives (λ reply. reply) result (versions_at (map view fields.now)) }
 {
@@ -193,7 +193,7 @@ fn versions_of(alloc: Global, fields: &[Value]) -> Result<Reply, ReadFault>
     })
 }
 
-#[tactic(auto, using(crate::proofs::Maps::map_same), unfolding(crate::specs::Replies::objects_at))]
+#[tactic(auto, using(crate::proofs::Maps::map_same), unfolding(crate::specs::steps::Replies::objects_at))]
 fn objects_of(alloc: Global, fields: &[Value]) -> Result<Reply, ReadFault>
     ensures { Gives (λ reply. reply) result (objects_at (map view fields.now)) }
 {
@@ -212,7 +212,7 @@ fn objects_of(alloc: Global, fields: &[Value]) -> Result<Reply, ReadFault>
     })
 }
 
-#[tactic(auto, unfolding(crate::specs::Replies::entries_at))]
+#[tactic(auto, unfolding(crate::specs::steps::Replies::entries_at))]
 fn entries_of(alloc: Global, fields: &[Value]) -> Result<Reply, ReadFault>
     ensures { Gives (λ reply. reply) result (entries_at (map view fields.now)) }
 {
@@ -226,7 +226,7 @@ fn entries_of(alloc: Global, fields: &[Value]) -> Result<Reply, ReadFault>
     Ok(Reply::Entries { at, from, entries })
 }
 
-#[tactic(auto, unfolding(crate::specs::Replies::left_at))]
+#[tactic(auto, unfolding(crate::specs::steps::Replies::left_at))]
 fn left_of(fields: &[Value]) -> Result<Reply, ReadFault>
     ensures { Gives (λ reply. reply) result (left_at (map view fields.now)) }
 {
@@ -238,7 +238,7 @@ fn left_of(fields: &[Value]) -> Result<Reply, ReadFault>
 }
 
 /// The refusal of this number and word.
-#[tactic(auto, unfolding(crate::specs::Replies::refusal_with))]
+#[tactic(auto, unfolding(crate::specs::steps::Replies::refusal_with))]
 fn refusal_with(code: u32, word: &str) -> Result<Refusal, ReadFault>
     ensures { Gives (λ refusal. refusal) result (refusal_with code word.now) }
 {
@@ -250,7 +250,7 @@ fn refusal_with(code: u32, word: &str) -> Result<Refusal, ReadFault>
     }
 }
 
-#[tactic(auto, unfolding(crate::specs::Replies::no_at, crate::specs::Replies::refusal_fields))]
+#[tactic(auto, unfolding(crate::specs::steps::Replies::no_at, crate::specs::steps::Replies::refusal_fields))]
 fn no_of(fields: &[Value]) -> Result<Reply, ReadFault>
     ensures { Gives (λ reply. reply) result (no_at (map view fields.now)) }
 {
@@ -258,7 +258,7 @@ fn no_of(fields: &[Value]) -> Result<Reply, ReadFault>
         return Err(ReadFault::Bad);
     };
     let at = at_of(at)?;
-    let code = whole_of(code, 1, 20)?;
+    let code = whole_of(code, 1, MAX_REFUSAL_CODE)?;
     let word = text_of(word)?;
     let refusal = refusal_with(code, word)?;
     Ok(Reply::No { at, refusal })
@@ -271,7 +271,7 @@ impl Part for Reply {
 
     ghost read_in = { reply_of };
 
-    #[tactic(auto, unfolding(crate::specs::Replies::reply_of))]
+    #[tactic(auto, unfolding(crate::specs::steps::Replies::reply_of))]
     fn read(alloc: Global, value: &Value) -> Result<Reply, ReadFault> {
         let (word, fields) = worded_of(value)?;
         match word {
@@ -289,7 +289,12 @@ impl Part for Reply {
     }
 }
 
-/// The reply that a JSON value is a form of. Otherwise `Bad`, or `NoMemory`.
+/// Reads a reply from a JSON value.
+///
+/// # Errors
+///
+/// - `Bad` if the value is not a form of a reply in range.
+/// - `NoMemory` if an allocation failed.
 pub fn reply_of(alloc: Global, value: &Value) -> Result<Reply, ReadFault>
     ensures ok { IfOk result (IsReplyValue (view value.now)) }
     ensures bad { IsErrOf result ReadFault.Bad
@@ -300,8 +305,13 @@ pub fn reply_of(alloc: Global, value: &Value) -> Result<Reply, ReadFault>
     Reply::read(alloc, value)
 }
 
-/// The reply that the bytes are a text of: UTF-8 that holds one JSON value, a form of the reply.
-/// Otherwise `Bad`, or `NoMemory`.
+/// Reads a reply from bytes: UTF-8 that is one JSON value, a form of the reply. Linear in the
+/// bytes.
+///
+/// # Errors
+///
+/// - `Bad` if they are not such a text.
+/// - `NoMemory` if an allocation failed.
 pub fn read_reply(alloc: Global, bytes: &[u8]) -> Result<Reply, ReadFault>
     ensures ok { IfOk result (IsReplyText bytes.now) }
     ensures bad { IsErrOf result ReadFault.Bad → (r : AnyReply) → ¬ IsReplyText bytes.now r }

@@ -4,19 +4,19 @@ ghost use Rattle.std.specs.Prelude.{◌≡◌, map, IfOk, IsErrOf, Some, None};
 ghost use Rattle.serde_json.specs.View.{view};
 ghost use Rattle.wire.specs.declared.request.Request.{Request as AnyRequest};
 ghost use Rattle.wire.specs.Form.{IsRequestText, IsRequestValue};
-ghost use Rattle.wire.specs.Reading.{Gives};
-ghost use Rattle.wire.specs.Requests.{join_at, back_at, change_at, show_at, list_at, pull_at, leave_at, request_of};
-ghost use Rattle.wire.specs.Texts.{request_read};
+ghost use Rattle.wire.specs.steps.Reading.{Gives};
+ghost use Rattle.wire.specs.steps.Requests.{join_at, back_at, change_at, show_at, list_at, pull_at, leave_at, request_of};
+ghost use Rattle.wire.specs.steps.Reads.{request_read};
 
 use super::body::body_of;
 use super::part::{Part, name_of, read_text, room_of, seen_of, whole_of, worded_of};
 use crate::fault::ReadFault;
 use crate::request::{MAX_FROM, MAX_REQUEST_LEN, Request};
-use op_names::{MAX_SEQ, MAX_SITE};
+use base_types::{MAX_SEQ, MAX_SITE};
 use serde_json::Value;
 use std::alloc::Global;
 
-#[tactic(auto, unfolding(crate::specs::Requests::join_at))]
+#[tactic(auto, unfolding(crate::specs::steps::Requests::join_at))]
 fn join_of(alloc: Global, fields: &[Value]) -> Result<Request, ReadFault>
     ensures { Gives (λ request. request) result (join_at (map view fields.now)) }
 {
@@ -27,7 +27,7 @@ fn join_of(alloc: Global, fields: &[Value]) -> Result<Request, ReadFault>
     Ok(Request::Join { room })
 }
 
-#[tactic(auto, unfolding(crate::specs::Requests::back_at))]
+#[tactic(auto, unfolding(crate::specs::steps::Requests::back_at))]
 fn back_of(alloc: Global, fields: &[Value]) -> Result<Request, ReadFault>
     ensures { Gives (λ request. request) result (back_at (map view fields.now)) }
 {
@@ -39,7 +39,7 @@ fn back_of(alloc: Global, fields: &[Value]) -> Result<Request, ReadFault>
     Ok(Request::Back { room, site })
 }
 
-#[tactic(auto, unfolding(crate::specs::Requests::change_at))]
+#[tactic(auto, unfolding(crate::specs::steps::Requests::change_at))]
 fn change_of(alloc: Global, word: &str, fields: &[Value]) -> Result<Request, ReadFault>
     ensures { Gives (λ request. request) result (change_at word.now (map view fields.now)) }
 {
@@ -52,7 +52,7 @@ fn change_of(alloc: Global, word: &str, fields: &[Value]) -> Result<Request, Rea
     Ok(Request::Change { seq, seen, body })
 }
 
-#[tactic(auto, unfolding(crate::specs::Requests::show_at))]
+#[tactic(auto, unfolding(crate::specs::steps::Requests::show_at))]
 fn show_of(fields: &[Value]) -> Result<Request, ReadFault>
     ensures { Gives (λ request. request) result (show_at (map view fields.now)) }
 {
@@ -63,7 +63,7 @@ fn show_of(fields: &[Value]) -> Result<Request, ReadFault>
     Ok(Request::Show { object })
 }
 
-#[tactic(auto, unfolding(crate::specs::Requests::list_at))]
+#[tactic(auto, unfolding(crate::specs::steps::Requests::list_at))]
 fn list_of(fields: &[Value]) -> Result<Request, ReadFault>
     ensures { Gives (λ request. request) result (list_at (map view fields.now)) }
 {
@@ -74,7 +74,7 @@ fn list_of(fields: &[Value]) -> Result<Request, ReadFault>
     Ok(Request::List { from })
 }
 
-#[tactic(auto, unfolding(crate::specs::Requests::pull_at))]
+#[tactic(auto, unfolding(crate::specs::steps::Requests::pull_at))]
 fn pull_of(fields: &[Value]) -> Result<Request, ReadFault>
     ensures { Gives (λ request. request) result (pull_at (map view fields.now)) }
 {
@@ -85,7 +85,7 @@ fn pull_of(fields: &[Value]) -> Result<Request, ReadFault>
     Ok(Request::Pull { from })
 }
 
-#[tactic(auto, unfolding(crate::specs::Requests::leave_at))]
+#[tactic(auto, unfolding(crate::specs::steps::Requests::leave_at))]
 fn leave_of(fields: &[Value]) -> Result<Request, ReadFault>
     ensures { Gives (λ request. request) result (leave_at (map view fields.now)) }
 {
@@ -102,7 +102,7 @@ impl Part for Request {
 
     ghost read_in = { request_of };
 
-    #[tactic(auto, unfolding(crate::specs::Requests::request_of))]
+    #[tactic(auto, unfolding(crate::specs::steps::Requests::request_of))]
     fn read(alloc: Global, value: &Value) -> Result<Request, ReadFault> {
         let (word, fields) = worded_of(value)?;
         match word {
@@ -117,7 +117,12 @@ impl Part for Request {
     }
 }
 
-/// The request that a JSON value is a form of. Otherwise `Bad`, or `NoMemory`.
+/// Reads a request from a JSON value.
+///
+/// # Errors
+///
+/// - `Bad` if the value is not a form of a request in range.
+/// - `NoMemory` if an allocation failed.
 pub fn request_of(alloc: Global, value: &Value) -> Result<Request, ReadFault>
     ensures ok { IfOk result (IsRequestValue (view value.now)) }
     ensures bad { IsErrOf result ReadFault.Bad
@@ -128,7 +133,7 @@ pub fn request_of(alloc: Global, value: &Value) -> Result<Request, ReadFault>
     Request::read(alloc, value)
 }
 
-#[tactic(auto, unfolding(crate::specs::Texts::request_read))]
+#[tactic(auto, unfolding(crate::specs::steps::Reads::request_read))]
 fn request_in_bytes(alloc: Global, bytes: &[u8]) -> Result<Request, ReadFault>
     ensures { Gives (λ request. request) result (request_read bytes.now) }
 {
@@ -138,8 +143,13 @@ fn request_in_bytes(alloc: Global, bytes: &[u8]) -> Result<Request, ReadFault>
     read_text(alloc, bytes)
 }
 
-/// The request that the bytes are a text of: at most 16,384 bytes of UTF-8 that hold one JSON
-/// value, a form of the request. Otherwise `Bad`, or `NoMemory`.
+/// Reads a request from bytes: at most 16,384 bytes of UTF-8 that are one JSON value, a form of the
+/// request. Linear in the bytes.
+///
+/// # Errors
+///
+/// - `Bad` if they are not such a text.
+/// - `NoMemory` if an allocation failed.
 pub fn read_request(alloc: Global, bytes: &[u8]) -> Result<Request, ReadFault>
     ensures ok { IfOk result (IsRequestText bytes.now) }
     ensures bad { IsErrOf result ReadFault.Bad → (q : AnyRequest) → ¬ IsRequestText bytes.now q }

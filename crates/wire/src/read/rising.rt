@@ -1,14 +1,14 @@
-//! Lists in strictly rising order.
+//! Lists in strictly increasing order.
 
 ghost use Rattle.std.specs.Prelude.{◌≡◌, Bool, Some, None, if◌then◌else◌};
-ghost use Rattle.wire.specs.Reading.{Gives};
+ghost use Rattle.wire.specs.steps.Reading.{Gives};
 ghost use Rattle.wire.specs.Rising.{rise, id_before, attr_before, version_before};
 
 use crate::fault::ReadFault;
-use op_names::{Key, Value, VersionId};
+use base_types::{Key, Value, VersionId};
 use rules::Version;
 
-/// What a list can hold in rising order.
+/// A value with an order in which a list may have to increase.
 pub(crate) trait Ranked {
     ghost before: { Self → Self → Bool };
 

@@ -7,7 +7,7 @@ ghost use Rattle.wire.specs.Form.{entry_form, IsEntry, IsEntryText};
 
 use super::operation::send_operation;
 use super::part::{Written, compact};
-use op_names::NoMemory;
+use base_types::NoMemory;
 use rules::Entry;
 use serde::Serializer;
 use std::alloc::Global;
@@ -33,8 +33,12 @@ impl Written for Arc<Entry> {
     }
 }
 
-/// The compact text of an entry: its form without white space. That of an entry in range is read as
-/// it.
+/// The compact text of an entry: its form without white space. `read_entry` reads it back if the
+/// entry is in range. Linear in the text.
+///
+/// # Errors
+///
+/// `NoMemory` if an allocation failed.
 pub fn write_entry(alloc: Global, entry: &Entry) -> Result<String, NoMemory>
     ensures text { IfOk result (λ text. string_bytes text ≡ compact_text (entry_form entry.now)) }
     ensures is_read { IfOk result (λ text. IsEntry entry.now

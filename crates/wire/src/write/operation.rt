@@ -2,7 +2,7 @@
 
 ghost use Rattle.std.specs.Prelude.{OnOk};
 ghost use Rattle.wire.specs.Form.{body_form, operation_form};
-ghost use Rattle.wire.specs.Sending.{Sends};
+ghost use Rattle.wire.specs.steps.Sending.{Sends};
 
 use super::part::Written;
 use rules::Body;

@@ -1,20 +1,20 @@
-//! What has a form, and its text.
+//! Values that have a JSON form, and their texts.
 
 ghost use Rattle.std.specs.Prelude.{◌≡◌, ◌≤◌, ◌∷◌, [], map, Some, IfOk, OnOk, string_bytes};
 ghost use Rattle.serde_json.specs.Data.{Data, string, depth};
 ghost use Rattle.serde_json.specs.Read.{read, max_depth};
 ghost use Rattle.serde_json.specs.Written.{compact_text};
 ghost use Rattle.wire.specs.Form.{list_form, whole_form, name_form, value_form, names_form, shown_form, version_form};
-ghost use Rattle.wire.specs.Sending.{Sends};
+ghost use Rattle.wire.specs.steps.Sending.{Sends};
 
-use op_names::{Key, Kind, NoMemory, OpName, VersionId};
+use base_types::{Key, Kind, NoMemory, OpName, VersionId};
 use rules::{Shown, Version};
 use serde::{Described, Serialize, Serializer};
 use serde_json::Number;
 use std::alloc::Global;
 
-/// What has a form. It isn't serde's `Serialize`, since that can't say the form of a tuple or of a
-/// type of another crate.
+/// A value with a JSON form. This is not serde's `Serialize`, which can't state the form of a tuple
+/// or of another crate's type.
 pub(crate) trait Written {
     ghost form: { Self → Data };
 
@@ -42,7 +42,7 @@ pub(crate) fn compact<W: Written>(alloc: Global, part: &W) -> Result<String, NoM
     ensures reads_back { IfOk result (λ text. depth (W.form part.now) ≤ max_depth
         → read (string_bytes text) ≡ Some (W.form part.now)) }
 {
-    // No form has what JSON can't hold, so a fault is want of memory.
+    // Every form is valid JSON, so only an allocation can fail.
     serde_json::to_string(alloc, &Form(part)).map_err(|_| NoMemory)
 }
 
@@ -192,14 +192,14 @@ impl Written for Kind {
     }
 }
 
-impl Written for op_names::Value {
+impl Written for base_types::Value {
     ghost form = { value_form };
 
     #[tactic(auto, using(crate::proofs::Sent::held_integer))]
     fn send<S: Serializer>(&self, out: &mut S) -> Result<(), S::Error> {
         match self {
-            op_names::Value::Number(number) => Number::from(*number).serialize(out),
-            op_names::Value::Text(text) => text.text().send(out),
+            base_types::Value::Number(number) => Number::from(*number).serialize(out),
+            base_types::Value::Text(text) => text.text().send(out),
         }
     }
 }

@@ -7,7 +7,7 @@ ghost use Rattle.wire.specs.Texts.{reply_text};
 use super::part::{Written, compact};
 use crate::lists::EntryList;
 use crate::reply::Reply;
-use op_names::NoMemory;
+use base_types::NoMemory;
 use serde::Serializer;
 use std::alloc::Global;
 
@@ -47,8 +47,12 @@ impl Written for Reply {
     }
 }
 
-/// The compact text of a reply: its form without white space. That of a reply in range is read as
-/// it.
+/// The compact text of a reply: its form without white space. `read_reply` reads it back if the
+/// reply is in range. Linear in the text.
+///
+/// # Errors
+///
+/// `NoMemory` if an allocation failed.
 #[tactic(auto, unfolding(crate::specs::Texts::reply_text))]
 pub fn write_reply(alloc: Global, reply: &Reply) -> Result<String, NoMemory>
     ensures text { IfOk result (λ text. string_bytes text ≡ reply_text reply.now) }

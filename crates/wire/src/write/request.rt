@@ -8,7 +8,7 @@ ghost use Rattle.wire.specs.Form.{request_form, IsRequest, IsRequestText};
 use super::operation::send_operation;
 use super::part::{Written, compact};
 use crate::request::Request;
-use op_names::NoMemory;
+use base_types::NoMemory;
 use serde::Serializer;
 use std::alloc::Global;
 
@@ -28,8 +28,12 @@ impl Written for Request {
     }
 }
 
-/// The compact text of a request: its form without white space. Where the request can be read at
-/// all and its text has at most 16,384 bytes, the text is read as it.
+/// The compact text of a request: its form without white space. `read_request` reads it back if the
+/// request's parts are in range and the text has at most 16,384 bytes. Linear in the text.
+///
+/// # Errors
+///
+/// `NoMemory` if an allocation failed.
 pub fn write_request(alloc: Global, request: &Request) -> Result<String, NoMemory>
     ensures text { IfOk result (λ text. string_bytes text
         ≡ compact_text (request_form request.now)) }

@@ -1,4 +1,5 @@
-//! What scripts are answered in rooms of small limits: a line, and below it the line that answers it.
+//! What scripts are answered in rooms of small limits: a line, and below it the line that answers
+//! it.
 
 use super::Example;
 use rules::LimitValues;

@@ -1,6 +1,6 @@
 use Rattle.std.proofs.Common.{◌≡◌, take, true}
 use Rattle.std.specs.List.{list_all}
-use Rattle.op_names.specs.Texts.{is_room_name}
+use Rattle.base_types.specs.Texts.{is_room_name}
 use Rattle.commands.specs.Names.{texts_of}
 use Rattle.commands.proofs.script.room_names.Given as goal
 

@@ -2,7 +2,7 @@ use Rattle.std.proofs.Common.{◌∙◌, sym, ap, List}
 use Rattle.std.specs.Prelude.{bytes_eq}
 use Rattle.std.specs.List.{list_any}
 use Rattle.rules.specs.AttrLists.{Attr}
-use Rattle.conflict.specs.Indexes.{gives}
+use Rattle.conflict.specs.steps.Indexes.{gives}
 use Rattle.conflict.proofs.Keyed.{any_key}
 use Rattle.conflict.proofs.by_key.gives.Goals as goal
 

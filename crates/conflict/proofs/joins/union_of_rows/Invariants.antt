@@ -1,5 +1,5 @@
 use Rattle.std.proofs.Common.{◌≡◌, drop, []}
-use Rattle.conflict.specs.Rows.{with_rows}
+use Rattle.conflict.specs.steps.Rows.{with_rows}
 use Rattle.conflict.proofs.joins.union_of_rows.Given as goal
 
 -- what is joined so far with the rows to come is what all rows make

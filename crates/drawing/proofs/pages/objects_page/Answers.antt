@@ -1,10 +1,10 @@
 use Rattle.std.proofs.Common.{◌≡◌, [], ◌∷◌, ◌++◌, take, drop, sym, ap, ◌∙◌, arith, min}
 use Rattle.std.proofs.lemmas.List.{drop-map}
-use Rattle.op_names.specs.Names.{Name}
-use Rattle.op_names.specs.Texts.{Bytes}
+use Rattle.base_types.specs.Names.{Name}
+use Rattle.base_types.specs.Texts.{Bytes}
 use Rattle.rules.specs.Bodies.{kind_in}
-use Rattle.shape.specs.Objects.{Stored}
-use Rattle.drawing.specs.State.{kinds_of}
+use Rattle.shape.specs.steps.Objects.{Stored}
+use Rattle.drawing.specs.steps.State.{kinds_of}
 use Rattle.drawing.proofs.Fronts.{found_more, page_counted}
 use Rattle.drawing.proofs.pages.objects_page.Goals as goal
 

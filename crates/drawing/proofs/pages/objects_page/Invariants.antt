@@ -1,5 +1,5 @@
 use Rattle.std.proofs.Common.{◌≡◌, take}
-use Rattle.drawing.specs.State.{kinds_of}
+use Rattle.drawing.specs.steps.State.{kinds_of}
 use Rattle.drawing.proofs.pages.objects_page.Given as goal
 
 abbrev pub invariant-loop-place : goal.invariant-loop-place

@@ -1,6 +1,6 @@
 use Rattle.std.proofs.Common.{map}
 use Rattle.std.specs.Arc.{arc_value}
-use Rattle.history_check.specs.Replays.{AreByTime}
+use Rattle.history_check.specs.steps.Replays.{AreByTime}
 use Rattle.history_check.proofs.Judged.{HasJudged}
 use Rattle.history_check.proofs.findings.find_all.Given as goal
 

@@ -1,6 +1,6 @@
 use Rattle.std.proofs.Common.{map, subst, sym, ap, ◌∙◌}
 use Rattle.std.specs.Arc.{arc_value}
-use Rattle.history_check.specs.Findings.{IsFirstFault, first_in}
+use Rattle.history_check.specs.steps.Findings.{IsFirstFault, first_in}
 use Rattle.history_check.proofs.FirstFault.{first_fault}
 use Rattle.history_check.proofs.findings.first_fault.Goals as goal
 

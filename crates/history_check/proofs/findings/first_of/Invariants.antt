@@ -1,5 +1,5 @@
 use Rattle.std.proofs.Common.{◌≡◌, drop}
-use Rattle.history_check.specs.Findings.{first_in, first_from}
+use Rattle.history_check.specs.steps.Findings.{first_in, first_from}
 use Rattle.history_check.proofs.findings.first_of.Given as goal
 
 abbrev pub invariant-loop-place : goal.invariant-loop-place

@@ -3,7 +3,7 @@ use Rattle.std.specs.Prelude.{option_map}
 use Rattle.std.specs.Arc.{arc_value}
 use Rattle.std.proofs.lemmas.List.{length-map}
 use Rattle.std.proofs.lemmas.Option.{slice_get_past}
-use Rattle.rules.specs.Equality.{same_entry}
+use Rattle.rules.specs.steps.Equality.{same_entry}
 use Rattle.room_core.proofs.Seen.{at_map}
 use Rattle.history_check.proofs.Told.{same_if_there, not_there, none_there}
 use Rattle.history_check.proofs.line_fault.has_at.Goals as goal

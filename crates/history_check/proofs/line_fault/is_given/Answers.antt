@@ -1,8 +1,8 @@
 use Rattle.std.proofs.Common.{◌≡◌, ◌∙◌, sym, ap, not, map, true, false, subst}
 use Rattle.std.specs.Arc.{arc_value}
-use Rattle.wire.specs.Equality.{same_reply}
+use Rattle.wire.specs.steps.Equality.{same_reply}
 use Rattle.std.specs.Prelude.{IsTrue, slice_get, ◌↔◌}
-use Rattle.room_core.specs.Plans.{outcome, entry_added}
+use Rattle.room_core.specs.steps.Plans.{outcome, entry_added}
 use Rattle.transcript.specs.Lines.{at_of}
 use Rattle.history_check.proofs.Told.{compared, not_given, given_alone, given_with}
 use Rattle.history_check.proofs.line_fault.is_given.Goals as goal

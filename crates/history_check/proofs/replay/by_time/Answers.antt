@@ -3,7 +3,7 @@ use Rattle.std.proofs.lemmas.List.{take_all}
 use Rattle.std.specs.List.Sorted.{IsPermutation}
 use Rattle.transcript.specs.declared.line.TranscriptLine.{TranscriptLine}
 use Rattle.transcript.specs.Lines.{at_of}
-use Rattle.history_check.specs.Replays.{timed_from}
+use Rattle.history_check.specs.steps.Replays.{timed_from}
 use Rattle.history_check.proofs.Timed.{at_place, timed_more, rises_if_sorted}
 use Rattle.history_check.proofs.replay.by_time.Goals as goal
 

@@ -1,5 +1,5 @@
 use Rattle.std.proofs.Common.{◌≡◌, take}
-use Rattle.history_check.specs.Replays.{timed_from}
+use Rattle.history_check.specs.steps.Replays.{timed_from}
 use Rattle.history_check.proofs.replay.by_time.Given as goal
 
 abbrev pub invariant-loop-place : goal.invariant-loop-place

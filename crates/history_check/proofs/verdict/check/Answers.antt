@@ -1,7 +1,7 @@
 use Rattle.std.proofs.Common.{subst}
 use Rattle.wire.specs.Lines.{lines_of}
 use Rattle.history_check.specs.declared.verdict.Verdict.TheVariants.{BadRecord}
-use Rattle.restore.specs.Readings.{IsReading}
+use Rattle.restore.specs.steps.Readings.{IsReading}
 use Rattle.restore.specs.Records.{AreRecord, IsBadRecord}
 use Rattle.history_check.proofs.OnlyOne.{holds_exactly, holds_on}
 use Rattle.history_check.proofs.verdict.check.Goals as goal

@@ -1,7 +1,7 @@
 use Rattle.std.proofs.Common.{◌≡◌, ◌*◌, ◌≤◌, length}
 use Rattle.std.specs.Prelude.{filter}
-use Rattle.places.specs.Members.{places}
-use Rattle.places.specs.Words.{has_bit}
+use Rattle.places.specs.steps.PlaceSet.{places}
+use Rattle.places.specs.steps.Words.{has_bit}
 use Rattle.places.proofs.words.count_bits.Given as goal
 
 abbrev pub invariant-loop-word : goal.invariant-loop-word

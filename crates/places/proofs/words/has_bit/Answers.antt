@@ -2,7 +2,7 @@ use Rattle.std.proofs.Common.{◌∙◌, sym, ap, eqb, ◌%◌}
 use Rattle.std.proofs.lemmas.Nat.Bits.{shr_and_one}
 use Rattle.std.specs.Int.{bit_at}
 use Rattle.places.proofs.WordPlaces.{has-places_in}
-use Rattle.places.specs.Words.{has_bit}
+use Rattle.places.specs.steps.Words.{has_bit}
 use Rattle.places.proofs.words.has_bit.Goals as goal
 
 pub returns : goal.returns

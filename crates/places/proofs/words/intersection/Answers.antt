@@ -1,7 +1,7 @@
 use Rattle.std.proofs.Common.{◌≡◌, ℕ, ◌∙◌, ap, get_or, arith, length, map, ◌++◌, ◌∷◌, []}
 use Rattle.std.specs.Prelude.{bit_and}
 use Rattle.std.proofs.lemmas.List.FromFn.{length-map-range_with_len}
-use Rattle.places.specs.Members.{places}
+use Rattle.places.specs.steps.PlaceSet.{places}
 use Rattle.places.proofs.WordPlaces.{places_in_both, one_more}
 use Rattle.places.proofs.words.intersection.Goals as goal
 

@@ -1,6 +1,6 @@
 use Rattle.std.proofs.Common.{◌≡◌, get_or, map}
 use Rattle.std.specs.Prelude.{bit_and}
-use Rattle.places.specs.Members.{places}
+use Rattle.places.specs.steps.PlaceSet.{places}
 use Rattle.places.proofs.words.intersection.Given as goal
 
 abbrev pub invariant-loop-at : goal.invariant-loop-at

@@ -1,7 +1,7 @@
 use Rattle.std.proofs.Common.{◌≡◌, ◌+◌, ◌*◌, ◌++◌, map}
 use Rattle.std.specs.Prelude.{filter}
-use Rattle.places.specs.Members.{places}
-use Rattle.places.specs.Words.{has_bit}
+use Rattle.places.specs.steps.PlaceSet.{places}
+use Rattle.places.specs.steps.Words.{has_bit}
 use Rattle.places.proofs.Counted.{bits_of}
 use Rattle.places.proofs.words.list.Given as goal
 

@@ -1,5 +1,5 @@
 use Rattle.std.proofs.Common.{◌≡◌, true}
-use Rattle.op_names.specs.Names.{is_op_name}
+use Rattle.base_types.specs.Names.{is_op_name}
 use Rattle.record_file.proofs.Ranges.{all_more, all_of_them}
 use Rattle.record_file.proofs.range.names_in_range.Goals as goal
 

@@ -2,8 +2,8 @@ use Rattle.std.proofs.Common.{◌≡◌, ◌+◌, ◌<◌, ◌≤◌, ◌++◌, 
 use Rattle.std.specs.Prelude.{option_map}
 use Rattle.std.proofs.lemmas.List.{length-map, map-append, take_more}
 use Rattle.std.proofs.lemmas.Option.{get_or_from_slice_get, slice_get-map}
-use Rattle.op_names.specs.Repeats.{repeat_from}
-use Rattle.room_lock.specs.Planned.{NewRoomView, book_of, prefixes_from, record_of}
+use Rattle.base_types.specs.Repeats.{repeat_from}
+use Rattle.room_lock.specs.steps.Planned.{NewRoomView, book_of, prefixes_from, record_of}
 use Rattle.room_lock.proofs.Begins.{prefix_at, prefixes_more}
 use Rattle.room_lock.proofs.Names.{name_is_new, place_of_next}
 use Rattle.room_lock.proofs.making.make.Goals as goal

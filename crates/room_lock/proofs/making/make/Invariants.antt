@@ -1,8 +1,8 @@
 use Rattle.std.proofs.Common.{◌≡◌, ◌+◌, ◌*◌, ◌++◌, ◌^◌, bytes_eq, drop, length, map, take, None}
 use Rattle.indexmap.specs.IndexMap.{keys}
-use Rattle.op_names.specs.Repeats.{repeat_from}
+use Rattle.base_types.specs.Repeats.{repeat_from}
 use Rattle.rules.specs.declared.limits.TheConstants.Limits.{MAX_ENTRIES}
-use Rattle.room_lock.specs.Planned.{prefixes_from, record_of}
+use Rattle.room_lock.specs.steps.Planned.{prefixes_from, record_of}
 use Rattle.room_lock.specs.declared.room.TheConstants.{SPARE_PARTS}
 use Rattle.room_lock.proofs.making.make.Given as goal
 

@@ -5,7 +5,7 @@ use Rattle.std.specs.List.{range_with_len}
 use Rattle.std.proofs.lemmas.List.{length-map}
 use Rattle.std.proofs.lemmas.List.FromFn.{map-range_with_len_more}
 use Rattle.rules.specs.Records.{sites}
-use Rattle.room_core.specs.Logs.{is_of_site}
+use Rattle.room_core.specs.Sites.{is_of_site}
 use Rattle.room_lock.specs.Kept.{count_of_site}
 use Rattle.room_lock.specs.Shelves.{whole_part}
 use Rattle.room_lock.proofs.Shares.{counts_within, shares_of_legal, sum_more}

@@ -27,9 +27,9 @@ const EARLIER: [&[usize]; 8] = [
     &[0, 1, 3, 4, 6],
 ];
 
-/// The orders that there are, and those in which each entry stands after those that it comes after:
-/// the entries of places 0, 1, 3, 6 and 7 in a row, that of place 4 after two, three or four of
-/// them, and then place 2 before it and place 5 after it; 3 * 4 + 4 * 3 + 5 * 2.
+/// The number of orders, and of those in which each entry stands after all that it depends on. In
+/// the latter the entries of places 0, 1, 3, 6 and 7 come in this order. That of place 4 comes
+/// after two, three or four of them. Then there is place 2 before it, and place 5 after it.
 const ORDERS: usize = 40_320;
 
 const CAUSAL: usize = 34;

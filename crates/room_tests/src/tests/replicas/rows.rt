@@ -105,7 +105,8 @@ pub const EXAMPLES: &[Example] = &[
     },
 ];
 
-/// Pages of a record that a replica is fed with. Where a page stands is for who asked for it to see.
+/// Pages of a record that a replica is fed with. Where a page stands is for who asked for it to
+/// see.
 pub const PAGES: &[Example] = &[
     Example {
         name: "a page is taken once",
@@ -189,6 +190,19 @@ pub const LIMITED: &[Example] = &[
             CREATED,
             r#"["join",3] => record-full
 ["put",[2,1],[[1,1]],[1,1],[],[["x",9]]] => record-full"#,
+        ],
+    },
+    Example {
+        name: "one join and one entry: a join meets both limits",
+        limits: LimitValues {
+            joins: 1,
+            entries: 1,
+            ..LimitValues::FULL
+        },
+        parts: &[
+            r#"["join",1] => taken
+["join",2] => room-full
+["new",[1,1],[],"rect",[]] => record-full"#,
         ],
     },
     Example {

@@ -1,6 +1,6 @@
 use Rattle.std.proofs.Common.{sym, ◌∙◌, arith}
 use Rattle.std.proofs.lemmas.Bool.{cond-true, cond-false}
-use Rattle.op_names.proofs.Repeats.{repeat_at}
+use Rattle.base_types.proofs.Repeats.{repeat_at}
 use Rattle.rules.specs.AttrLists.{same_key}
 use Rattle.rules.proofs.attrs.repeated_key.Goals as goal
 

@@ -1,5 +1,5 @@
 use Rattle.std.proofs.Common.{◌≡◌, take, drop}
-use Rattle.op_names.specs.Repeats.{repeat_from, first_repeat}
+use Rattle.base_types.specs.Repeats.{repeat_from, first_repeat}
 use Rattle.rules.specs.AttrLists.{same_key}
 use Rattle.rules.proofs.attrs.repeated_key.Given as goal
 

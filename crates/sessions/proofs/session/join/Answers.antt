@@ -4,7 +4,7 @@ use Rattle.rules.specs.declared.history.Entry.{Entry}
 use Rattle.wire.specs.declared.reply.Reply.{Reply}
 use Rattle.room_lock.specs.Passes.{PassView}
 use Rattle.room_lock.specs.Told.{IsJoin, IsRefusalOver}
-use Rattle.sessions.specs.Entrances.{IsAfter}
+use Rattle.sessions.specs.steps.Entrances.{IsAfter}
 use Rattle.sessions.specs.Turns.{IsLetIn, IsTurnedAway}
 use Rattle.sessions.proofs.Entering.{entered_or_not}
 use Rattle.sessions.proofs.session.join.Goals as goal
@@ -19,5 +19,5 @@ returns-clause-ok g c =
     let Refuses : List Entry → Reply → Type 0 = IsRefusalOver g.P.RoomLedger.limits in
     IfOk-weaker c.enter.result.1 (λ answer. (went : _) × (entrance ≡ Ok went) × IsAfter went new answer.told answer.reply)
     (λ answer. IsLetIn Enters name new answer.told answer.reply ⊎ IsTurnedAway Refuses rooms name new answer.told answer.reply)
-    (λ answer after. entered_or_not rooms name Enters Refuses entrance new answer.told answer.reply c.join-joined.ensures.entered c.join-joined.ensures.refused c.join-joined.ensures.no_room after)
+    (λ answer after. entered_or_not rooms name Enters Refuses entrance new answer.told answer.reply c.join-joined.ensures.entered c.join-joined.ensures.entrance_refused c.join-joined.ensures.no_room after)
     c.enter.ensures.ok

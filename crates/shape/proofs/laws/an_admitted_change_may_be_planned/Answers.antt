@@ -1,5 +1,5 @@
 use Rattle.std.proofs.Common.{◌∷◌, ◌++◌, [], subst}
-use Rattle.places.specs.Changes.{AreChangesOf}
+use Rattle.places.specs.steps.Changes.{AreChangesOf}
 use Rattle.shape.proofs.Next.{next_change}
 use Rattle.shape.proofs.laws.an_admitted_change_may_be_planned.Goals as goal
 

@@ -6,7 +6,7 @@ use Rattle.rules.specs.Conflicts.{conflict}
 use Rattle.rules.specs.Groups.{is_compatible}
 use Rattle.rules.specs.Versions.{attributes}
 use Rattle.rules.proofs.Drops.{attributes_if, gone_if}
-use Rattle.places.specs.Changes.{at, clash_of}
+use Rattle.places.specs.steps.Changes.{at, is_conflict_of}
 use Rattle.shape.proofs.Listing.{compatible_changes, drop_at_places, group_below}
 use Rattle.shape.proofs.versions.shown_of.Goals as goal
 
@@ -19,7 +19,7 @@ returns-then-has_drop_at c =
 pub attributes_of-requires-clause-within : goal.attributes_of-requires-clause-within
 attributes_of-requires-clause-within c =
     let k = c.args.changes.now.ops in
-    subst (λ l. All (λ p. p < length l) c.args.group.now) (sym c.ops.ensures.changes) (group_below (clash_of k) (length k) c.args.group.now c.requires.group)
+    subst (λ l. All (λ p. p < length l) c.args.group.now) (sym c.ops.ensures.changes) (group_below (is_conflict_of k) (length k) c.args.group.now c.requires.group)
 
 pub attributes_of-requires-clause-compatible : goal.attributes_of-requires-clause-compatible
 attributes_of-requires-clause-compatible c =

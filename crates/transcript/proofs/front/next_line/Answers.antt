@@ -1,7 +1,7 @@
 use Rattle.std.proofs.Common.{◌≡◌, Ok, subst}
 use Rattle.std.specs.Prelude.{IfSome}
-use Rattle.wire.specs.Reading.{Gives}
-use Rattle.transcript.specs.Lines.{line_read}
+use Rattle.wire.specs.steps.Reading.{Gives}
+use Rattle.transcript.specs.steps.Reads.{line_read}
 use Rattle.transcript.proofs.LineTexts.{line_fits}
 use Rattle.transcript.proofs.front.next_line.Goals as goal
 

@@ -1,7 +1,7 @@
 use Rattle.std.proofs.Common.{sym, refl, ◌∙◌, subst}
 use Rattle.std.proofs.lemmas.List.Elements.{All-get_or}
-use Rattle.places.specs.Members.{has}
-use Rattle.version_groups.specs.Steps.{AreBelow, group_after, candidate}
+use Rattle.places.specs.steps.PlaceSet.{has}
+use Rattle.version_groups.specs.steps.Steps.{AreBelow, group_after, candidate}
 use Rattle.version_groups.proofs.Pieces.{map_more, candidates_more, candidates_stay, group_with_place, group_without_place}
 use Rattle.version_groups.proofs.step.groups_and_candidates.Goals.{then-is_subset+in_ok-with_place+in_ok-push, else-is_subset+in_ok-copy+in_ok-push-2+in_ok-candidate_of+in_ok-push_back}
 use Rattle.version_groups.proofs.step.groups_and_candidates.Goals as goal

@@ -1,6 +1,6 @@
 use Rattle.std.proofs.Common.{◌≡◌, map, take}
-use Rattle.places.specs.Members.{has}
-use Rattle.version_groups.specs.Steps.{group_after, candidate, incompatible_groups}
+use Rattle.places.specs.steps.PlaceSet.{has}
+use Rattle.version_groups.specs.steps.Steps.{group_after, candidate, incompatible_groups}
 use Rattle.version_groups.proofs.step.groups_and_candidates.Given as goal
 
 abbrev pub invariant-loop-group : goal.invariant-loop-group

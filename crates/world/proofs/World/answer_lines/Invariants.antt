@@ -1,5 +1,5 @@
 use Rattle.std.proofs.Common.{◌++◌, length}
-use Rattle.world.specs.Answered.{IsHeld, Wrote}
+use Rattle.world.specs.steps.Answered.{IsHeld, Wrote}
 use Rattle.world.proofs.World.answer_lines.Given as goal
 
 abbrev pub invariant-loop-first : goal.invariant-loop-first

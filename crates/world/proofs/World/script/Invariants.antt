@@ -1,6 +1,6 @@
 use Rattle.std.proofs.Common.{◌≡◌, [], length}
 use Rattle.byte_streams.specs.declared.whole.TheConstants.{PIECE_LEN}
-use Rattle.world.specs.Answered.{IsHeld}
+use Rattle.world.specs.steps.Answered.{IsHeld}
 use Rattle.world.proofs.Transcript.{ReadSoFar}
 use Rattle.world.proofs.World.script.Given as goal
 

@@ -1,9 +1,9 @@
 use Rattle.std.proofs.Common.{◌≡◌, Some, None, sym, refl, ◌∙◌, string_bytes}
 use Rattle.std.proofs.lemmas.Result.{on_err_weaker, IfOk-weaker}
-use Rattle.wire.specs.Texts.{request_read}
+use Rattle.wire.specs.steps.Reads.{request_read}
 use Rattle.world.specs.Alone.{message_of}
 use Rattle.world.specs.State.{names_of, seat_of}
-use Rattle.world.specs.Steps.{asker_of}
+use Rattle.world.specs.steps.Steps.{asker_of}
 use Rattle.world.proofs.Places.{same_length}
 use Rattle.world.proofs.SeatMaps.{seats_within, state_of, moves_of}
 use Rattle.world.proofs.Changed.{asker_within}

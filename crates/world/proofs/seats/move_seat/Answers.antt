@@ -1,6 +1,6 @@
 use Rattle.std.proofs.Common.{◌≡◌, None, Some}
 use Rattle.world.specs.Alone.{move_of}
-use Rattle.world.specs.Steps.{seat_in}
+use Rattle.world.specs.steps.Steps.{seat_in}
 use Rattle.world.proofs.SeatMaps.{seat_of-changed}
 use Rattle.world.proofs.seats.move_seat.Goals as goal
 

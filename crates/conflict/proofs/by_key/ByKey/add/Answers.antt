@@ -1,7 +1,7 @@
 use Rattle.std.proofs.Common.{◌+◌, ◌∙◌, sym, ap, subst}
 use Rattle.rules.specs.declared.history.Op.{Op}
 use Rattle.rules.specs.Bodies.{is_drop_body, pairs_in}
-use Rattle.conflict.specs.Indexes.{KeyIndex, AreByKey}
+use Rattle.conflict.specs.steps.Indexes.{KeyIndex, AreByKey}
 use Rattle.conflict.proofs.Indexed.{by_result}
 use Rattle.conflict.proofs.Keyed.{by_key_drop, by_key_new}
 use Rattle.conflict.proofs.by_key.ByKey.add.Goals as goal

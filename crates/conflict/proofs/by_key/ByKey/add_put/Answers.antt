@@ -1,5 +1,5 @@
 use Rattle.std.proofs.Common.{◌≡◌, ◌∙◌, ◌+◌, ◌<◌, ap, sym, subst, arith, length}
-use Rattle.conflict.specs.Indexes.{KeyIndex, AreByKey, IsUnder, is_drop_at, of_key}
+use Rattle.conflict.specs.steps.Indexes.{KeyIndex, AreByKey, IsUnder, is_drop_at, of_key}
 use Rattle.conflict.proofs.Keyed.{by_key_put}
 use Rattle.conflict.proofs.by_key.ByKey.add_put.Goals as goal
 

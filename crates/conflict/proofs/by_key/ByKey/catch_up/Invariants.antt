@@ -1,5 +1,5 @@
 use Rattle.std.proofs.Common.{◌-◌, length}
-use Rattle.conflict.specs.Indexes.{AreByKey}
+use Rattle.conflict.specs.steps.Indexes.{AreByKey}
 use Rattle.conflict.proofs.by_key.ByKey.catch_up.Given as goal
 
 abbrev pub invariant-loop-self : goal.invariant-loop-self

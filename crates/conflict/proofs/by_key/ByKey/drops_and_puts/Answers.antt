@@ -1,7 +1,7 @@
 use Rattle.std.proofs.Common.{◌∙◌, ◌||◌, ap, List, ℕ}
 use Rattle.std.specs.List.{list_any}
-use Rattle.places.specs.Members.{has}
-use Rattle.conflict.specs.Indexes.{KeyIndex, of_key}
+use Rattle.places.specs.steps.PlaceSet.{has}
+use Rattle.conflict.specs.steps.Indexes.{KeyIndex, of_key}
 use Rattle.conflict.proofs.Keyed.{drops_there}
 use Rattle.conflict.proofs.by_key.ByKey.drops_and_puts.Goals as goal
 

@@ -1,8 +1,8 @@
 use Rattle.std.proofs.Common.{◌≡◌, ℕ, ◌<◌, ◌||◌, List, drop}
 use Rattle.std.specs.List.{list_any}
 use Rattle.rules.specs.declared.history.Op.{Op}
-use Rattle.places.specs.Members.{has}
-use Rattle.conflict.specs.Indexes.{AreByKey, is_drop_or_gives, of_key}
+use Rattle.places.specs.steps.PlaceSet.{has}
+use Rattle.conflict.specs.steps.Indexes.{AreByKey, is_drop_or_gives, of_key}
 use Rattle.conflict.proofs.by_key.ByKey.drops_and_puts.Given as goal
 
 -- what is found so far with the puts of the keys to come is all

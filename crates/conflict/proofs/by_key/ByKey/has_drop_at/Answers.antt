@@ -1,7 +1,7 @@
 use Rattle.std.proofs.Common.{◌∙◌, sym, ap}
 use Rattle.std.specs.List.{list_any}
-use Rattle.places.specs.Members.{has}
-use Rattle.conflict.specs.Indexes.{KeyIndex}
+use Rattle.places.specs.steps.PlaceSet.{has}
+use Rattle.conflict.specs.steps.Indexes.{KeyIndex}
 use Rattle.conflict.proofs.Keyed.{drop_found, drop_by_last}
 use Rattle.conflict.proofs.by_key.ByKey.has_drop_at.Goals as goal
 

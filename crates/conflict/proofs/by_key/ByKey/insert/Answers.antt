@@ -1,7 +1,7 @@
 use Rattle.std.proofs.Common.{◌≡◌, ◌∙◌, sym, ap, subst, ℕ, true}
 use Rattle.std.proofs.lemmas.Result.{on_ok_weaker}
-use Rattle.op_names.specs.Texts.{Bytes}
-use Rattle.conflict.specs.Indexes.{KeyIndex, AreByKey, IsUnder, key_at, of_key, with_key_at}
+use Rattle.base_types.specs.Texts.{Bytes}
+use Rattle.conflict.specs.steps.Indexes.{KeyIndex, AreByKey, IsUnder, key_at, of_key, with_key_at}
 use Rattle.conflict.proofs.Indexed.{by_result}
 use Rattle.conflict.proofs.Keyed.{by_key_grown, kept_grown, own_grown, by_key_begun, kept_begun, own_begun}
 use Rattle.conflict.proofs.by_key.ByKey.insert.Goals as goal

@@ -2,7 +2,7 @@ use Rattle.std.proofs.Common.{◌∙◌, ◌+◌, sym, ap, subst, List, map}
 use Rattle.std.specs.Prelude.{bytes_eq}
 use Rattle.std.specs.List.{list_any}
 use Rattle.rules.specs.AttrLists.{Attr}
-use Rattle.conflict.specs.Indexes.{of_key}
+use Rattle.conflict.specs.steps.Indexes.{of_key}
 use Rattle.conflict.proofs.Keyed.{IsLeftOrUnder, given_at, one_key_more}
 use Rattle.conflict.proofs.by_key.ByKey.insert_all.Goals as goal
 

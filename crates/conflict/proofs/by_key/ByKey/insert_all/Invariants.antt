@@ -1,8 +1,8 @@
 use Rattle.std.proofs.Common.{◌≡◌, true, map}
 use Rattle.std.specs.Prelude.{bytes_eq}
 use Rattle.std.specs.List.{list_any}
-use Rattle.op_names.specs.Texts.{Bytes}
-use Rattle.conflict.specs.Indexes.{AreByKey}
+use Rattle.base_types.specs.Texts.{Bytes}
+use Rattle.conflict.specs.steps.Indexes.{AreByKey}
 use Rattle.conflict.proofs.Keyed.{IsLeftOrUnder}
 use Rattle.conflict.proofs.by_key.ByKey.insert_all.Given as goal
 

@@ -1,6 +1,6 @@
 use Rattle.std.proofs.Common.{◌≡◌, ℕ, ◌∙◌, ◌||◌, ap, arith, eqb, inl, inr}
 use Rattle.std.proofs.lemmas.Bool.{cases_lt, eq-eqb, or_left, or_right}
-use Rattle.places.specs.Members.{has}
+use Rattle.places.specs.steps.PlaceSet.{has}
 use Rattle.places.proofs.WordPlaces.{has-with_place}
 use Rattle.conflict.proofs.by_key.ByKey.insert_last.Goals as goal
 

@@ -1,5 +1,5 @@
 use Rattle.std.proofs.Common.{◌≡◌, ℕ, ◌<◌, ◌≤◌, true}
-use Rattle.places.specs.Members.{has}
+use Rattle.places.specs.steps.PlaceSet.{has}
 use Rattle.conflict.proofs.by_key.ByKey.insert_last.Given as goal
 
 -- the places of before are there, and those from the first one on that were put in so far

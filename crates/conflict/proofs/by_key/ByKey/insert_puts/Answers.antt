@@ -1,8 +1,8 @@
 use Rattle.std.proofs.Common.{◌≡◌, ◌∙◌, ◌||◌, ap, get_or, [], List, ℕ}
 use Rattle.std.proofs.lemmas.Result.{on_ok_weaker}
 use Rattle.std.proofs.lemmas.List.{get_or_default}
-use Rattle.places.specs.Members.{has}
-use Rattle.conflict.specs.Indexes.{OfKey, KeyIndex, key_at}
+use Rattle.places.specs.steps.PlaceSet.{has}
+use Rattle.conflict.specs.steps.Indexes.{OfKey, KeyIndex, key_at}
 use Rattle.places.proofs.WordPlaces.{has-with_all}
 use Rattle.conflict.proofs.Keyed.{puts_with}
 use Rattle.conflict.proofs.by_key.ByKey.insert_puts.Goals as goal

@@ -1,6 +1,6 @@
 use Rattle.std.proofs.Common.{◌≡◌, ℕ, ◌<◌, ◌≤◌, false}
-use Rattle.conflict.specs.Indexes.{gives}
-use Rattle.places.specs.Changes.{at}
+use Rattle.conflict.specs.steps.Indexes.{gives}
+use Rattle.places.specs.steps.Changes.{at}
 use Rattle.conflict.proofs.by_key.ByKey.is_key_of_last.Given as goal
 
 abbrev pub invariant-loop-place : goal.invariant-loop-place

@@ -1,6 +1,6 @@
 use Rattle.std.proofs.Common.{◌≡◌, ℕ, ◌<◌, ◌≤◌, true, false}
-use Rattle.places.specs.Members.{has}
-use Rattle.conflict.specs.Indexes.{is_drop_at}
+use Rattle.places.specs.steps.PlaceSet.{has}
+use Rattle.conflict.specs.steps.Indexes.{is_drop_at}
 use Rattle.conflict.proofs.by_key.ByKey.is_last_drop_at.Given as goal
 
 abbrev pub invariant-loop-place : goal.invariant-loop-place

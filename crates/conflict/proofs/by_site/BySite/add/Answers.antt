@@ -1,8 +1,8 @@
 use Rattle.std.proofs.Common.{◌≡◌, ◌∙◌, sym, ap, get_or}
 use Rattle.std.proofs.lemmas.List.{get_or_default}
 use Rattle.rules.specs.declared.history.Op.{Op}
-use Rattle.places.specs.Changes.{at, nothing}
-use Rattle.conflict.specs.Indexes.{SiteIndex, AreBySite}
+use Rattle.places.specs.steps.Changes.{at, nothing}
+use Rattle.conflict.specs.steps.Indexes.{SiteIndex, AreBySite}
 use Rattle.conflict.proofs.Indexed.{by_result}
 use Rattle.conflict.proofs.Sited.{by_site_grown, by_site_begun}
 use Rattle.conflict.proofs.by_site.BySite.add.Goals as goal

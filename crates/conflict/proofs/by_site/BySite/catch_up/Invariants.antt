@@ -1,5 +1,5 @@
 use Rattle.std.proofs.Common.{◌-◌, length}
-use Rattle.conflict.specs.Indexes.{AreBySite}
+use Rattle.conflict.specs.steps.Indexes.{AreBySite}
 use Rattle.conflict.proofs.by_site.BySite.catch_up.Given as goal
 
 abbrev pub invariant-loop-self : goal.invariant-loop-self

@@ -1,5 +1,5 @@
 use Rattle.std.proofs.Common.{◌≡◌, drop, []}
-use Rattle.conflict.specs.Indexes.{with_counted}
+use Rattle.conflict.specs.steps.Indexes.{with_counted}
 use Rattle.conflict.proofs.by_site.BySite.counted_places.Given as goal
 
 -- what is counted so far with the sites to come is what all sites make

@@ -3,9 +3,9 @@ use Rattle.std.proofs.lemmas.List.{get_or_default}
 use Rattle.state_vector.specs.Vectors.{counts}
 use Rattle.rules.specs.declared.history.Op.{Op}
 use Rattle.std.specs.Prelude.{filter}
-use Rattle.places.specs.Members.{places}
-use Rattle.conflict.specs.Indexes.{SiteIndex}
-use Rattle.places.specs.Changes.{at, nothing}
+use Rattle.places.specs.steps.PlaceSet.{places}
+use Rattle.conflict.specs.steps.Indexes.{SiteIndex}
+use Rattle.places.specs.steps.Changes.{at, nothing}
 use Rattle.places.proofs.Places.{put_next, skip_next}
 use Rattle.conflict.proofs.Sited.{rising, all_counted}
 use Rattle.conflict.proofs.by_site.BySite.known_places.Goals as goal

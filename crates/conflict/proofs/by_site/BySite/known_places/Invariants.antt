@@ -1,8 +1,8 @@
 use Rattle.std.proofs.Common.{◌≡◌}
 use Rattle.std.specs.Prelude.{filter}
 use Rattle.state_vector.specs.Vectors.{counts}
-use Rattle.places.specs.Members.{places}
-use Rattle.places.specs.Changes.{at}
+use Rattle.places.specs.steps.PlaceSet.{places}
+use Rattle.places.specs.steps.Changes.{at}
 use Rattle.conflict.proofs.by_site.BySite.known_places.Given as goal
 
 abbrev pub invariant-loop-place : goal.invariant-loop-place

@@ -4,8 +4,8 @@ use Rattle.std.specs.Fn.{Called, ComputesKey}
 use Rattle.std.specs.List.Sorted.{IsNonDecreasingBy, IsPartitionedBy, IsPartitionPoint}
 use Rattle.std.proofs.lemmas.List.Sorted.{IsPartitionedBy-leb, IsPartitionPoint-from_clause}
 use Rattle.state_vector.specs.Vectors.{count_of}
-use Rattle.places.specs.Members.{has, with_all}
-use Rattle.conflict.specs.Indexes.{OfSite, IsRising, counted_of}
+use Rattle.places.specs.steps.PlaceSet.{has, with_places}
+use Rattle.conflict.specs.steps.Indexes.{OfSite, IsRising, counted_of}
 use Rattle.conflict.proofs.Sited.{counted_whole, counted_cut}
 use Rattle.conflict.proofs.by_site.SiteChanges.insert_counted.Goals as goal
 use denote.Param.Members.{Mut}
@@ -32,7 +32,7 @@ returns-then-counted-len c =
     ap (λ (o : OfSite). o.places) c.self.view_is
     ∙ counted_whole of c.requires c.count-number.result i (point of c.count-number.result i c.deref.result.now changes c.requires c.partition_point-counted.ensures.partitioned (λ a r f k. search (rules, of_calls))) size
     ∙ ap (λ n. map (λ (s : ℕ × ℕ). s.1) (filter (λ (s : ℕ × ℕ). nat_le s.0 n) of.changes)) number in
-    subst (λ (l : List ℕ). OnOk c.insert_all.result (c.insert_all.new.self ≡ with_all c.args.known.now l)) all c.insert_all.ensures.ok
+    subst (λ (l : List ℕ). OnOk c.insert_all.result (c.insert_all.new.self ≡ with_places c.args.known.now l)) all c.insert_all.ensures.ok
 
 pub returns : goal.returns
 returns c =
@@ -49,4 +49,4 @@ returns c =
     ∙ counted_cut of c.requires c.count-number.result i (point of c.count-number.result i c.deref.result.now changes c.requires c.partition_point-counted.ensures.partitioned (λ a r f k. search (rules, of_calls)))
     c.index.result.now c.index.result.now.1 within (ap (λ (s : ℕ × ℕ). s.1) first)
     ∙ ap (λ n. map (λ (s : ℕ × ℕ). s.1) (filter (λ (s : ℕ × ℕ). nat_le s.0 n) of.changes)) number in
-    subst (λ (l : List ℕ). OnOk c.insert_all-2.result (c.insert_all-2.new.self ≡ with_all c.args.known.now l)) some c.insert_all-2.ensures.ok
+    subst (λ (l : List ℕ). OnOk c.insert_all-2.result (c.insert_all-2.new.self ≡ with_places c.args.known.now l)) some c.insert_all-2.ensures.ok

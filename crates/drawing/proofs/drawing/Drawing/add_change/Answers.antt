@@ -1,12 +1,12 @@
 use Rattle.std.proofs.Common.{◌≡◌, sym, subst, ap, ◌∙◌, Some}
 use Rattle.std.specs.Arc.{arc_value}
-use Rattle.op_names.specs.Names.{same_name}
+use Rattle.base_types.specs.Names.{same_name}
 use Rattle.rules.specs.declared.history.Op.{Op}
 use Rattle.rules.specs.declared.history.Entry.TheVariants.{Operation}
 use Rattle.rules.specs.Operations.{object_of}
-use Rattle.shape.specs.Objects.{with_change}
-use Rattle.shape.specs.Planned.{IsPlanned}
-use Rattle.drawing.specs.Additions.{CanAdd, CanChange}
+use Rattle.shape.specs.steps.Objects.{with_change}
+use Rattle.shape.specs.steps.Planned.{IsPlanned}
+use Rattle.drawing.specs.steps.Additions.{CanAdd, CanChange}
 use Rattle.drawing.proofs.AtPlace.{value_at, set_at}
 use Rattle.drawing.proofs.Replay.{pushed, replay_change}
 use Rattle.drawing.proofs.drawing.Drawing.add_change.Goals as goal

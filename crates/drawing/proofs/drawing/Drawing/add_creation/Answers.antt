@@ -1,10 +1,10 @@
 use Rattle.std.proofs.Common.{sym, subst, ap, ◌∙◌}
 use Rattle.std.specs.Arc.{arc_value}
 use Rattle.std.specs.Map.{lookup}
-use Rattle.op_names.specs.Names.{same_name}
+use Rattle.base_types.specs.Names.{same_name}
 use Rattle.rules.specs.declared.history.Op.{Op}
 use Rattle.rules.specs.declared.history.Entry.TheVariants.{Operation}
-use Rattle.drawing.specs.Additions.{CanAdd, CanCreate}
+use Rattle.drawing.specs.steps.Additions.{CanAdd, CanCreate}
 use Rattle.drawing.proofs.Replay.{new_name, pushed, replay_creation}
 use Rattle.drawing.proofs.drawing.Drawing.add_creation.Goals as goal
 

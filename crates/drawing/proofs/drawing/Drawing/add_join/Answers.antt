@@ -1,6 +1,6 @@
 use Rattle.std.proofs.Common.{sym, subst}
 use Rattle.std.specs.Arc.{arc_value}
-use Rattle.drawing.specs.Additions.{CanJoin}
+use Rattle.drawing.specs.steps.Additions.{CanJoin}
 use Rattle.drawing.proofs.Replay.{pushed, replay_join}
 use Rattle.drawing.proofs.drawing.Drawing.add_join.Goals as goal
 

@@ -1,6 +1,6 @@
 use Rattle.std.proofs.Common.{◌≡◌, map, take}
-use Rattle.op_names.specs.Names.{Name}
-use Rattle.shape.specs.Objects.{Stored}
+use Rattle.base_types.specs.Names.{Name}
+use Rattle.shape.specs.steps.Objects.{Stored}
 use Rattle.drawing.proofs.drawing.Drawing.names.Given as goal
 
 abbrev pub invariant-loop-place : goal.invariant-loop-place

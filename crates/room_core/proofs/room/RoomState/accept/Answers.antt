@@ -3,7 +3,7 @@ use Rattle.std.specs.Prelude.{is_some}
 use Rattle.rules.specs.Records.{is_placed}
 use Rattle.room_core.specs.Room.{with_entry}
 use Rattle.room_core.specs.Answers.{Outcome, admitted}
-use Rattle.room_core.specs.Plans.{entry_added}
+use Rattle.room_core.specs.steps.Plans.{entry_added}
 use Rattle.room_core.proofs.Accepted.{answer_adds, mapped_some, some_if_admitted}
 use Rattle.room_core.proofs.room.RoomState.accept.Goals as goal
 

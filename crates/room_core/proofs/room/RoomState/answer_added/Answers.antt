@@ -1,5 +1,5 @@
 use Rattle.std.proofs.Common.{sym, subst}
-use Rattle.room_core.specs.Plans.{IsAdmitted}
+use Rattle.room_core.specs.steps.Plans.{IsAdmitted}
 use Rattle.room_core.proofs.room.RoomState.answer_added.Goals as goal
 
 pub returns-clause-ready : goal.returns-clause-ready

@@ -5,7 +5,7 @@ use Rattle.rules.specs.Records.{objects}
 use Rattle.wire.specs.declared.reply.Reply.{Reply}
 use Rattle.wire.specs.declared.reply.Reply.TheVariants.{No, Objects}
 use Rattle.drawing.specs.Room.{all_objects}
-use Rattle.drawing.specs.State.{State}
+use Rattle.drawing.specs.steps.State.{DrawingState}
 use Rattle.room_core.specs.Answers.{list_reply, page}
 use Rattle.room_core.proofs.room.RoomState.plan_list.Goals as goal
 
@@ -18,4 +18,4 @@ returns-clause-reply c =
     c.of_reply.ensures.reply
     ∙ (λ i. Objects (c.len.ensures.len i) c.args.from (c.count_objects-total.ensures i) (c.in_ok-page.ensures i))
     ∙ sym (ap (λ b. cond b (No (length room.entries) TooFar) reply) (le-ltb total c.args.from within))
-    ∙ ap (λ (s : State). list_reply s.room c.args.from) c.self.view_is
+    ∙ ap (λ (s : DrawingState). list_reply s.room c.args.from) c.self.view_is

@@ -1,19 +1,19 @@
 use Rattle.std.proofs.Common.{◌≤◌, leb, length, sym, ap, subst, ◌∙◌}
-use Rattle.drawing.specs.State.{State}
-use Rattle.room_core.specs.Plans.{entry_added}
+use Rattle.drawing.specs.steps.State.{DrawingState}
+use Rattle.room_core.specs.steps.Plans.{entry_added}
 use Rattle.room_core.proofs.OutOfRange.{full, not_full}
 use Rattle.room_core.proofs.room.RoomState.refuse_out_of_range.Goals as goal
 
 pub returns-then-is_full-clause-planned : goal.returns-then-is_full-clause-planned
 returns-then-is_full-clause-planned c op reply named =
-    let small = subst (λ (s : State). s.room.limits.entries ≤ 16384) c.self.view_is c.is_full.ensures.range in
-    let is = ap (λ (s : State). leb s.room.limits.entries (length s.room.entries)) (sym c.self.view_is) ∙ sym c.is_full.ensures.full ∙ c.if-is_full.true in
+    let small = subst (λ (s : DrawingState). s.room.limits.entries ≤ 16384) c.self.view_is c.is_full.ensures.range in
+    let is = ap (λ (s : DrawingState). leb s.room.limits.entries (length s.room.entries)) (sym c.self.view_is) ∙ sym c.is_full.ensures.full ∙ c.if-is_full.true in
     (λ i. (c.refuse.ensures.reply i, entry_added (c.refuse.ensures.addition i)))
     ∙ sym (full c.args.self.now.room c.args.site c.args.seq c.requires.joined c.sites-sites.ensures.range small c.requires.out_of_range op named reply is)
 
 pub returns-else-is_full-clause-planned : goal.returns-else-is_full-clause-planned
 returns-else-is_full-clause-planned c op reply named =
-    let small = subst (λ (s : State). s.room.limits.entries ≤ 16384) c.self.view_is c.is_full.ensures.range in
-    let is = ap (λ (s : State). leb s.room.limits.entries (length s.room.entries)) (sym c.self.view_is) ∙ sym c.is_full.ensures.full ∙ c.if-is_full.false in
+    let small = subst (λ (s : DrawingState). s.room.limits.entries ≤ 16384) c.self.view_is c.is_full.ensures.range in
+    let is = ap (λ (s : DrawingState). leb s.room.limits.entries (length s.room.entries)) (sym c.self.view_is) ∙ sym c.is_full.ensures.full ∙ c.if-is_full.false in
     (λ i. (c.refuse-else-is_full.ensures.reply i, entry_added (c.refuse-else-is_full.ensures.addition i)))
     ∙ sym (not_full c.args.self.now.room c.args.site c.args.seq c.requires.joined c.sites-sites.ensures.range small c.requires.out_of_range op named reply is)

@@ -4,7 +4,7 @@ use Rattle.std.proofs.lemmas.List.{length-map}
 use Rattle.std.proofs.lemmas.List.Elements.{All-map}
 use Rattle.rules.specs.declared.limits.LimitValues.{LimitValues}
 use Rattle.room_core.specs.declared.room.RoomState.{RoomState}
-use Rattle.room_lock.specs.Planned.{NewRoomView, book_of}
+use Rattle.room_lock.specs.steps.Planned.{NewRoomView, book_of}
 use Rattle.room_lock.proofs.Begins.{all_of_mapped}
 use Rattle.room_lock.proofs.making.NewRooms.apart.Goals as goal
 

@@ -3,7 +3,7 @@ use Rattle.std.specs.Prelude.{All}
 use Rattle.std.proofs.lemmas.List.Elements.{All-map}
 use Rattle.rules.specs.declared.history.Entry.{Entry}
 use Rattle.room_core.specs.declared.room.RoomState.{RoomState}
-use Rattle.room_lock.specs.Planned.{Planned}
+use Rattle.room_lock.specs.steps.Planned.{Planned}
 use Rattle.room_lock.proofs.Begins.{if_ok_so}
 use Rattle.room_lock.proofs.making.NewRooms.plan.Goals as goal
 

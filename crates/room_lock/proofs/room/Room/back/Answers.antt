@@ -6,7 +6,7 @@ use Rattle.rules.specs.declared.history.Entry.{Entry}
 use Rattle.rules.specs.declared.limits.LimitValues.{LimitValues}
 use Rattle.rules.specs.Records.{IsLegal}
 use Rattle.room_core.specs.Answers.{back_reply}
-use Rattle.room_lock.specs.Entrances.{IfEntered}
+use Rattle.room_lock.specs.steps.Entrances.{IfEntered}
 use Rattle.room_lock.specs.Passes.{PartView, PassView}
 use Rattle.room_lock.specs.Shelves.{Shelf, part_of}
 use Rattle.room_lock.specs.Kept.{IsRoomKept, Placed}

@@ -1,7 +1,7 @@
 use Rattle.std.proofs.Common.{◌≡◌, ◌≤◌, ◌<◌, Some, length, arith, ap, sym, ◌∙◌, refl}
 use Rattle.std.specs.Arc.{arc_value}
 use Rattle.std.proofs.lemmas.List.{length-map}
-use Rattle.room_core.specs.Logs.{first_difference}
+use Rattle.room_core.specs.steps.Differences.{first_difference}
 use Rattle.room_lock.proofs.Fronts.{nothing_torn, torn_at_end}
 use Rattle.room_lock.proofs.room.Room.first_torn.Goals as goal
 

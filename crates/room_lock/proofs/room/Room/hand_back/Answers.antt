@@ -12,7 +12,7 @@ use Rattle.wire.specs.declared.reply.Reply.TheVariants.{Left, No}
 use Rattle.rules.specs.declared.refusal.Refusal.TheVariants.{NotJoined}
 use Rattle.room_core.specs.Room.{Room}
 use Rattle.room_core.specs.Answers.{answer, has_site, site_answer, reply_alone}
-use Rattle.room_core.specs.Logs.{first_difference}
+use Rattle.room_core.specs.steps.Differences.{first_difference}
 use Rattle.room_core.proofs.Seen.{front_if}
 use Rattle.room_lock.specs.Passes.{PartView}
 use Rattle.room_lock.specs.Kept.{IsRoomKept, Placed}

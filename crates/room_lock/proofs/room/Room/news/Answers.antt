@@ -2,7 +2,7 @@ use Rattle.std.proofs.Common.{◌≡◌, ◌++◌, None, length, take, drop, map
 use Rattle.std.specs.Arc.{arc_value}
 use Rattle.std.proofs.lemmas.List.{length-map, take-append-drop}
 use Rattle.shared_history.proofs.Beginnings.{prefix_length}
-use Rattle.room_core.specs.Logs.{first_difference}
+use Rattle.room_core.specs.steps.Differences.{first_difference}
 use Rattle.room_core.proofs.Seen.{front_if}
 use Rattle.room_lock.proofs.Fronts.{prefix_if_front}
 use Rattle.room_lock.proofs.room.Room.news.Goals as goal

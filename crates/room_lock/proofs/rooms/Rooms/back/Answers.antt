@@ -6,12 +6,12 @@ use Rattle.room_lock.specs.Told.{IsBackRefusalOver}
 use Rattle.room_lock.proofs.Replies.{if_refused_weaker}
 use Rattle.room_lock.proofs.rooms.Rooms.back.Goals as goal
 
-pub returns-clause-refused : goal.returns-clause-refused
-returns-clause-refused g c = if_refused_weaker c.back.result _ _
-    (λ prefix reply both. subst (λ (p : PrefixView). IsBackRefusalOver g.P.RoomLedger.limits p.entries c.args.site reply) (sym both.1) both.0) c.back.ensures.refused
+pub returns-clause-entrance_refused : goal.returns-clause-entrance_refused
+returns-clause-entrance_refused g c = if_refused_weaker c.back.result _ _
+    (λ prefix reply both. subst (λ (p : PrefixView). IsBackRefusalOver g.P.RoomLedger.limits p.entries c.args.site reply) (sym both.1) both.0) c.back.ensures.entrance_refused
 
 pub returns-clause-no_room : goal.returns-clause-no_room
 returns-clause-no_room g c = (
   (λ none there. c.back.ensures.known none),
-  (λ absent. absurd (true≢false (subst IsNone c.in-Some.is (c.room.ensures.1 absent)))),
+  (λ absent. absurd (true≢false (subst IsNone c.in-Some.is (c.find.ensures.known.1 absent)))),
 )

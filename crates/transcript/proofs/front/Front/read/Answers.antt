@@ -1,7 +1,7 @@
 use Rattle.std.proofs.Common.{Option, subst}
 use Rattle.wire.specs.Lines.{lines_of}
 use Rattle.transcript.specs.declared.line.TranscriptLine.{TranscriptLine}
-use Rattle.transcript.specs.Tables.{IsNextIn}
+use Rattle.transcript.specs.steps.Tables.{IsNextIn}
 use Rattle.transcript.proofs.LineTexts.{line_fits}
 use Rattle.transcript.proofs.SoFar.{so_far_more}
 use Rattle.transcript.proofs.front.Front.read.Goals as goal

@@ -1,6 +1,6 @@
 use Rattle.std.proofs.Common.{◌∙◌, sym, subst}
 use Rattle.transcript.specs.Order.{IsNext}
-use Rattle.transcript.specs.Tables.{OrderedLines}
+use Rattle.transcript.specs.steps.Tables.{OrderedLines}
 use Rattle.transcript.proofs.Tables.{tables_claimed, tables_unclaimed}
 use Rattle.transcript.proofs.order.Order.take.Goals as goal
 

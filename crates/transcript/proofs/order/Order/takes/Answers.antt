@@ -1,9 +1,9 @@
 use Rattle.std.proofs.Common.{◌≡◌, ℕ, ◌+◌, ◌≤◌, ◌∙◌, Bool, true, false, leb, length, sym, ap, subst, arith, get_or}
 use Rattle.std.proofs.lemmas.Bool.Decides.{nat_tests}
 use Rattle.std.proofs.lemmas.List.{get_or_read}
-use Rattle.op_names.specs.declared.op_name.TheConstants.{MAX_SITE}
+use Rattle.base_types.specs.declared.op_name.TheConstants.{MAX_SITE}
 use Rattle.transcript.specs.Lines.{at_of}
-use Rattle.transcript.specs.Tables.{OrderedLines, AreTables}
+use Rattle.transcript.specs.steps.Tables.{OrderedLines, AreTables}
 use Rattle.transcript.proofs.Tables.{site_fits, next_reaches, line_tells}
 use Rattle.transcript.proofs.order.Order.takes.Goals as goal
 use Rattle.transcript.proofs.order.Order.takes.Goals.{then-at-self, else-at-self, then-adds, else-adds}

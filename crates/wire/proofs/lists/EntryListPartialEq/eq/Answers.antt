@@ -2,7 +2,7 @@
 use Rattle.std.proofs.Common.{◌≡◌, List, [], ◌∷◌, map, Bool, refl, ap, ◌&&◌, rules}
 use Rattle.std.specs.Arc.{arc_value}
 use Rattle.std.specs.Cmp.Lexicographic.{pointwise}
-use Rattle.rules.specs.Equality.{same_entry}
+use Rattle.rules.specs.steps.Equality.{same_entry}
 use Rattle.wire.proofs.lists.EntryListPartialEq.eq.Goals as goal
 
 pointwise-map : {X Y : Type 0} (E : Y → Y → Bool) (f : X → Y) (xs ys : List X) → pointwise (λ x y. E (f x) (f y)) xs ys ≡ pointwise E (map f xs) (map f ys)

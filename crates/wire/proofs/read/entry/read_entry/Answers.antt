@@ -1,5 +1,5 @@
 use Rattle.wire.specs.Form.{IsEntryText}
-use Rattle.wire.specs.Texts.{entry_read}
+use Rattle.wire.specs.steps.Reads.{entry_read}
 use Rattle.wire.proofs.ByForm.{given_value, given_none, given_ok, given_bad, text_takes, text_again}
 use Rattle.wire.proofs.Entries.{reads_entries}
 use Rattle.wire.proofs.read.entry.read_entry.Goals as goal

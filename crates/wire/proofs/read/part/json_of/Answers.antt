@@ -9,9 +9,9 @@ use Rattle.serde_json.specs.Read.{read}
 use Rattle.serde_json.specs.View.{view}
 use Rattle.serde_json.specs.declared.error.Error.{Error}
 use Rattle.serde_json.specs.declared.value.Value.{Value}
-use Rattle.wire.specs.Faults.{IsOfText}
-use Rattle.wire.specs.Reading.{Gives}
-use Rattle.wire.specs.Texts.{json_of}
+use Rattle.wire.specs.steps.Faults.{IsOfText}
+use Rattle.wire.specs.steps.Reading.{Gives}
+use Rattle.wire.specs.steps.Reads.{json_of}
 use Rattle.wire.specs.declared.fault.ReadFault.{ReadFault}
 use Rattle.wire.specs.declared.fault.ReadFault.TheVariants.{Bad, NoMemory}
 use Rattle.wire.proofs.read.part.json_of.Goals as goal

@@ -1,7 +1,7 @@
 use Rattle.std.proofs.Common.{refl}
 use Rattle.serde_json.specs.View.{view}
 use Rattle.rules.specs.AttrLists.{pairs_fault}
-use Rattle.wire.specs.Reading.{pairs_in, list_in, all_in}
+use Rattle.wire.specs.steps.Reading.{pairs_in, list_in, all_in}
 use Rattle.wire.proofs.Fields.{refused, one_item}
 use Rattle.wire.proofs.read.part.pairs_of.Goals as goal
 

@@ -1,6 +1,6 @@
 use Rattle.std.proofs.Common.{◌≡◌, map, drop}
 use Rattle.serde_json.specs.View.{view}
-use Rattle.wire.specs.Reading.{all_in, pair_in}
+use Rattle.wire.specs.steps.Reading.{all_in, pair_in}
 use Rattle.wire.proofs.Maps.{with_front}
 use Rattle.wire.proofs.read.part.site_pairs_of.Given as goal
 

@@ -1,4 +1,4 @@
-use Rattle.wire.specs.Replies.{at_in}
+use Rattle.wire.specs.steps.Replies.{at_in}
 use Rattle.wire.proofs.read.reply.at_of.Goals as goal
 
 pub returns : goal.returns

@@ -1,5 +1,5 @@
 use Rattle.wire.specs.Form.{IsReplyText}
-use Rattle.wire.specs.Texts.{reply_read}
+use Rattle.wire.specs.steps.Reads.{reply_read}
 use Rattle.wire.proofs.ByForm.{given_value, given_none, given_ok, given_bad, text_takes, text_again}
 use Rattle.wire.proofs.Replies.{reads_replies}
 use Rattle.wire.proofs.read.reply.read_reply.Goals as goal

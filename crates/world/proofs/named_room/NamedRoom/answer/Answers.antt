@@ -2,11 +2,11 @@ use Rattle.std.proofs.Common.{ℕ, Option, string_bytes, sym, ap, subst, ◌∙�
 use Rattle.std.proofs.lemmas.Result.{on_err_weaker}
 use Rattle.room_core.specs.Room.{Room, with_entry}
 use Rattle.room_core.specs.Answers.{Outcome}
-use Rattle.room_core.specs.Plans.{outcome, entry_added}
-use Rattle.room_core.specs.State.{State}
+use Rattle.room_core.specs.steps.Plans.{outcome, entry_added}
+use Rattle.room_core.specs.State.{DrawingState}
 use Rattle.world.specs.Alone.{move_of, use_after, use_after_move}
 use Rattle.world.specs.State.{is_used}
-use Rattle.world.specs.Steps.{RepliesTo}
+use Rattle.world.specs.steps.Steps.{RepliesTo}
 use Rattle.world.proofs.AnswerRanges.{InRange, sound_room, answer_in_range, in_range_after, moved_in_range}
 use Rattle.world.proofs.named_room.NamedRoom.answer.Goals as goal
 
@@ -22,7 +22,7 @@ invariant_of-self-2 c =
     let sound = sound_room room c.limits-limits.result c.limits-limits.ensures c.joins-joins.ensures.range c.entries-entries.ensures.range c.entries-record.ensures.legal c.self.invariant in
     let range : InRange (outcome c.in_ok-planned.planned) = subst InRange (sym c.in_ok-planned.ensures.0.0) (answer_in_range room sound (is_used c.self.inside.in_use) c.args.asker.site c.args.request c.requires) in
     in_range_after c.put_in_place.result room c.plan.new.room.room c.put_in_place.new.room.room (entry_added c.in_ok-planned.planned.addition) sound range.added c.plan.ensures.1 c.put_in_place.ensures.room
-    (on_err_weaker c.put_in_place.result (λ kept. ap (λ (state : State). state.room) kept.0) c.put_in_place.ensures.err)
+    (on_err_weaker c.put_in_place.result (λ kept. ap (λ (state : DrawingState). state.room) kept.0) c.put_in_place.ensures.err)
 
 pub follow-requires : goal.follow-requires
 follow-requires c = λ site e.

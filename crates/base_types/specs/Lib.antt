@@ -1,0 +1,6 @@
+pub mod Names
+pub mod Texts
+pub mod Values
+pub mod VersionIds
+pub mod Repeats
+pub mod steps

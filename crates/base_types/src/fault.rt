@@ -1,0 +1,53 @@
+//! Faults: failed allocations, and texts and lists that are out of range.
+
+ghost use Rattle.std.specs.Prelude.{◌≡◌};
+ghost use Rattle.base_types.specs.declared.fault.NameFault.TheVariants as name_fault;
+
+use std::alloc::{AllocError, AllocFailed};
+use thiserror::Error;
+
+/// An allocation failed. The call that returns it changed nothing, unless its docstring says more.
+#[derive(Clone, Copy, Debug, PartialEq, Eq, Error)]
+#[error("out of memory")]
+pub struct NoMemory;
+
+impl From<AllocError> for NoMemory {
+    fn from(_fault: AllocError) -> NoMemory {
+        NoMemory
+    }
+}
+
+impl<T: Drop> From<AllocFailed<T>> for NoMemory {
+    fn from(_fault: AllocFailed<T>) -> NoMemory {
+        NoMemory
+    }
+}
+
+/// Why a text is not in range: the first variant that applies, in this order.
+#[derive(Clone, Copy, Debug, PartialEq, Eq, Error)]
+pub enum NameFault {
+    #[error("the text is empty")]
+    Empty,
+    #[error("the text is too long")]
+    TooLong,
+    /// The place, from 0, of the first byte that is not one of a-z, 0-9 and `-`.
+    #[error("byte {0} is none of a-z, 0-9 and -")]
+    BadByte(usize),
+    #[error("out of memory")]
+    NoMemory,
+}
+
+impl From<AllocError> for NameFault {
+    ghost from_gives = { λ _ fault. fault ≡ name_fault.NoMemory };
+
+    fn from(_fault: AllocError) -> NameFault {
+        NameFault::NoMemory
+    }
+}
+
+/// Why a list of names is not a version identifier.
+#[derive(Clone, Copy, Debug, PartialEq, Eq, Error)]
+pub enum ListFault {
+    #[error("the names do not increase strictly")]
+    NotRising,
+}

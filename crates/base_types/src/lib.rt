@@ -1,0 +1,17 @@
+//! Names of operations, labels, values and version identifiers: the data types of all crates above.
+#![tactic(auto)]
+
+mod fault;
+mod label;
+mod op_name;
+mod room_name;
+mod text;
+mod value;
+mod version_id;
+
+pub use fault::{ListFault, NameFault, NoMemory};
+pub use label::{Key, Kind, Label, RoomName};
+pub use op_name::{MAX_SEQ, MAX_SITE, OpName};
+pub use room_name::repeated_name;
+pub use value::{MAX_VALUE_LEN, Value, ValueText};
+pub use version_id::VersionId;

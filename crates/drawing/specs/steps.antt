@@ -1,0 +1,5 @@
+pub mod Objects
+pub mod State
+pub mod Drawing
+pub mod Additions
+pub mod Faults

@@ -1,0 +1,4 @@
+pub mod Faults
+pub mod Failures
+pub mod Memories
+pub mod Counts

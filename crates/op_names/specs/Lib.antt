@@ -1,6 +1,0 @@
-pub mod Faults
-pub mod Names
-pub mod Texts
-pub mod Values
-pub mod VersionIds
-pub mod Repeats

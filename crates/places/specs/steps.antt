@@ -1,0 +1,4 @@
+pub mod PlaceSet
+pub mod Words
+pub mod Relations
+pub mod Changes

@@ -1,0 +1,18 @@
+-- The entries of one site.
+use Rattle.std.specs.Prelude.{ℕ, ◌==◌, Bool, List, [], ◌∷◌, Option, Some, None, filter}
+use Rattle.rules.specs.declared.history.Entry.{Entry}
+use Rattle.rules.specs.declared.history.Entry.TheVariants.{Join, Operation}
+
+-- what an answer adds, as a list
+abbrev pub none_or_one : {X : Type 0} → Option X → List X
+none_or_one None = []
+none_or_one (Some x) = x ∷ []
+
+-- the site's own entry: its join, or an operation of it
+abbrev pub is_of_site : ℕ → Entry → Bool
+is_of_site site (Join joined) = joined == site
+is_of_site site (Operation op) = op.name.0 == site
+
+-- a site's entries of a record, in order
+abbrev pub entries_of : ℕ → List Entry → List Entry
+entries_of site r = filter (is_of_site site) r

@@ -1,0 +1,17 @@
+-- How what was seen of a record differs from it.
+use Rattle.std.specs.Prelude.{ℕ, ◌≡◌, ◌+◌, List, [], ◌∷◌, Option, Some, None, length, option_map}
+use Rattle.std.specs.Prelude.{take, if◌then◌else◌}
+use Rattle.rules.specs.declared.history.Entry.{Entry}
+use Rattle.rules.specs.steps.Equality.{same_entry}
+
+-- the seen entries are the record's first
+abbrev pub IsFrontOf : List Entry → List Entry → Type 0
+IsFrontOf r seen = take (length seen) r ≡ seen
+
+-- the first place, if there is one, at which the seen entry is not the record's or the record has
+-- none
+abbrev pub first_difference : List Entry → List Entry → Option ℕ
+first_difference r [] = None
+first_difference [] (e ∷ seen) = Some 0
+first_difference (f ∷ r) (e ∷ seen) =
+    if same_entry e f then option_map (λ place. place + 1) (first_difference r seen) else Some 0

@@ -1,0 +1,18 @@
+-- The result of a join or a coming back.
+use Rattle.wire.specs.declared.reply.Reply.{Reply}
+use Rattle.room_lock.specs.declared.entrance.Entrance.{Entrance}
+use Rattle.room_lock.specs.declared.entrance.Entrance.TheVariants.{Entered, Refused, NoRoom}
+use Rattle.room_lock.specs.Passes.{PassView, PrefixView}
+
+module _ {P : Type 0} where
+  -- if a site was let in, this holds of its pass and the reply
+  abbrev pub IfEntered : (PassView → Reply → Type 0) → Entrance P → Type 0
+  IfEntered Holds (Entered pass reply) = Holds pass reply
+  IfEntered Holds (Refused prefix reply) = Unit {0}
+  IfEntered Holds NoRoom = Unit {0}
+
+  -- if the room refused, this holds of the record and the reply
+  abbrev pub IfRefused : (PrefixView → Reply → Type 0) → Entrance P → Type 0
+  IfRefused Holds (Entered pass reply) = Unit {0}
+  IfRefused Holds (Refused prefix reply) = Holds prefix reply
+  IfRefused Holds NoRoom = Unit {0}

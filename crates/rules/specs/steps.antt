@@ -1,0 +1,4 @@
+pub mod HeldPairs
+pub mod Shared
+pub mod Equality
+pub mod Examples

@@ -1,0 +1,4 @@
+pub mod Entrances
+pub mod Causes
+pub mod Growth
+pub mod Ends

@@ -1,0 +1,17 @@
+-- The effect of an entrance on a session.
+use Rattle.std.specs.Prelude.{◌≡◌, Option, Some, None}
+use Rattle.rules.specs.declared.refusal.Refusal.TheVariants.{NoSuchRoom}
+use Rattle.wire.specs.declared.reply.Reply.{Reply}
+use Rattle.wire.specs.declared.reply.Reply.TheVariants.{No}
+use Rattle.room_lock.specs.declared.entrance.Entrance.{Entrance}
+use Rattle.room_lock.specs.declared.entrance.Entrance.TheVariants.{Entered, Refused, NoRoom}
+use Rattle.room_lock.specs.Passes.{PrefixView, prefix_of}
+use Rattle.sessions.specs.Sessions.{SessionView}
+
+module _ {P : Type 0} where
+  -- the session afterwards, the prefix of a record that is reported, and the reply
+  abbrev pub IsAfter : Entrance P → SessionView → Option PrefixView → Reply → Type 0
+  IsAfter (Entered pass it) new told reply =
+      (reply ≡ it) × (told ≡ Some (prefix_of pass.part)) × (new ≡ Some pass)
+  IsAfter (Refused prefix it) new told reply = (reply ≡ it) × (told ≡ Some prefix) × (new ≡ None)
+  IsAfter NoRoom new told reply = (reply ≡ No 0 NoSuchRoom) × (told ≡ None) × (new ≡ None)

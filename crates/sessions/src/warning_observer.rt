@@ -1,0 +1,58 @@
+//! Warnings of sessions.
+
+use crate::cause::Cause;
+use crate::client::Client;
+use crate::observer::{Addition, Observer};
+use base_types::RoomName;
+use log::{Log, warn};
+
+/// An observer that logs a warning for each session that did not end `Closed`. It hands all events
+/// on to another observer.
+#[derive(Drop)]
+pub(crate) struct WarningObserver<'a, R, O> {
+    pub(crate) rt: &'a R,
+    pub(crate) observer: &'a O,
+}
+
+impl<R: Log, O: Observer> Observer for WarningObserver<'_, R, O> {
+    fn before_call(&self, session: u32) {
+        self.observer.before_call(session);
+    }
+
+    fn after_call(&self, session: u32) {
+        self.observer.after_call(session);
+    }
+
+    fn after_entry(&self, place: usize, addition: Addition) {
+        self.observer.after_entry(place, addition);
+    }
+
+    fn worker_taken(&self) {
+        self.observer.worker_taken();
+    }
+
+    fn worker_free(&self) {
+        self.observer.worker_free();
+    }
+
+    fn before_session(&self) {
+        self.observer.before_session();
+    }
+
+    fn after_probe(&self) {
+        self.observer.after_probe();
+    }
+
+    fn after_session(&self, client: &Client, room: Option<&RoomName>, cause: Cause) {
+        if cause != Cause::Closed {
+            match room {
+                Some(room) => {
+                    let room = room.text();
+                    warn!(self.rt; "{client} room {room}: {cause}");
+                }
+                None => warn!(self.rt; "{client}: {cause}"),
+            }
+        }
+        self.observer.after_session(client, room, cause);
+    }
+}

@@ -1,0 +1,4 @@
+pub mod Objects
+pub mod Faults
+pub mod Kept
+pub mod Planned

@@ -1,0 +1,3 @@
+pub mod Fronts
+pub mod Tables
+pub mod Reads

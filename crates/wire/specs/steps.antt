@@ -1,0 +1,9 @@
+pub mod Reading
+pub mod Bodies
+pub mod Requests
+pub mod Entries
+pub mod Replies
+pub mod Equality
+pub mod Faults
+pub mod Sending
+pub mod Reads

@@ -1,0 +1,4 @@
+pub mod Steps
+pub mod Endings
+pub mod Answered
+pub mod Seated

@@ -1,0 +1,52 @@
+-- Helpers of proofs: what a step gives, in its parts.
+use Rattle.std.specs.Prelude.{ℕ, ◌≡◌, Bool, List, Option, Some, None, option_map}
+use Rattle.wire.specs.declared.request.Request.{Request}
+use Rattle.wire.specs.declared.reply.Reply.{Reply}
+use Rattle.wire.specs.Texts.{reply_text}
+use Rattle.wire.specs.steps.Reads.{reply_read}
+use Rattle.room_core.specs.Room.{Room}
+use Rattle.room_core.specs.Answers.{Outcome, answer}
+use Rattle.world.specs.declared.seats.Seat.{Seat}
+use Rattle.world.specs.declared.seats.Asker.{Asker}
+use Rattle.world.specs.Alone.{after_reply, outside_answer}
+use Rattle.world.specs.Rooms.{named_place}
+use Rattle.world.specs.State.{Named, room_at, use_at, seat_of}
+
+-- the answer of a room to a request of a site, or to one of a session that is in no room
+abbrev pub asker_answer : Room → (ℕ → Bool) → Option ℕ → Request → Outcome
+asker_answer room in_use None request = outside_answer room in_use request
+asker_answer room in_use (Some site) request = answer room site request
+
+-- and of the room at a place
+abbrev pub place_answer : List Named → ℕ → Option ℕ → Request → Outcome
+place_answer rooms place who request =
+    asker_answer (room_at rooms place) (use_at rooms place) who request
+
+-- who asks, and which room: a session that has a seat, or one that asks to be let into a room
+abbrev pub asker_of : List (List ℕ) → ℕ → Option Seat → Request → Option Asker
+asker_of names session (Some seat) request =
+    Some (record { session = session; place = seat.place; site = Some seat.site })
+asker_of names session None request =
+    option_map (λ place. record { session = session; place = place; site = None })
+    (named_place names (Some request))
+
+abbrev pub seat_in : ℕ → ℕ → Seat
+seat_in place site = record { place = place; site = site }
+
+-- the room at this place replied so to a session: each session then has the seat that it had, or is
+-- moved
+abbrev pub IsMoved : List (ℕ × Seat) → List (ℕ × Seat) → Reply → ℕ → ℕ → Type 0
+IsMoved old new reply session place = (other : ℕ)
+    → seat_of new other ≡ after_reply reply (seat_in place) session (seat_of old) other
+
+-- the text is written for a reply and is read as it
+pub record IsTextFor (text : List ℕ) (reply : Reply) : Type 0 where
+  pub is_text : text ≡ reply_text reply
+  pub is_read : reply_read text ≡ Some reply
+
+-- such a text is the reply to whoever asks, whose session is moved by it
+pub record RepliesTo (asker : Asker) (reply : Reply) (text : List ℕ)
+    (old new : List (ℕ × Seat)) : Type 0 where
+  pub is_text : text ≡ reply_text reply
+  pub is_read : reply_read text ≡ Some reply
+  pub moves : IsMoved old new reply asker.session asker.place

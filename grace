@@ -1,11 +1,11 @@
 #!/usr/bin/env bash
-# Runs the proved program with these words. Where it isn't built, or what it is made from has changed
-# since, it is proved and built first: standard error tells how far that is.
+# Runs the proved program with these arguments. If it is not built, or a source has changed since, this first proves
+# and builds it. Standard error shows the progress.
 set -u
 root=$(dirname "$(realpath "${BASH_SOURCE[0]}")") || exit 1
 program=$root/crates/grace/out/grace
 
-# The lines of the program's crates, each after those that it stands on, as crates.txt has them.
+# Prints the lines of crates.txt for the program's crates, each after the crates that it uses.
 crates() {
     tac "$root/crates.txt" | awk -F: '
         BEGIN { needed["grace"] = 1 }
@@ -14,7 +14,7 @@ crates() {
     ' | tac
 }
 
-# A sum of all that the program is made from, which no test, edit or document is part of.
+# Prints a checksum of all sources of the program. Tests, edits and documents are not among them.
 sum_of_sources() {
     {
         crates
@@ -25,17 +25,17 @@ sum_of_sources() {
     } | sha256sum
 }
 
-# Does this program stand, made from what the sources are now? Its sum is kept beside it.
+# Returns whether this program exists and was built from the current sources. Its checksum is in a file beside it.
 is_current() {
     [ -x "$1" ] && [ "$(cat "$1.sources" 2>/dev/null)" = "$(sum_of_sources)" ]
 }
 
-# Others read this file for what it says of sources and programs.
+# ./try and ./test source this file for its functions.
 [ "${BASH_SOURCE[0]}" = "$0" ] || return 0
 
 if ! is_current "$program"; then
-    echo "grace: the program is proved and built first, from nothing in about half an hour on 4 cores;" \
-        "./try runs it unproved in two" >&2
+    echo "grace: proving and building the program first, from scratch in about half an hour on 4 cores;" \
+        "./try runs it unproved in two minutes" >&2
     sum=$(sum_of_sources)
     "$root/build" || exit
     printf '%s\n' "$sum" >"$program.sources"

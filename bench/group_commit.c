@@ -1,6 +1,6 @@
-// What a disk and its system allow: clients put lines into rooms, and each waits until its line is on the disk. One of
-// those who wait writes and syncs for all. In place of the rules each line has some microseconds of work under the
-// room's lock. Prints how many lines a second were told.
+// Measures what a disk and its system allow. Clients add lines to rooms, and each waits until its line is on the disk.
+// One of the waiting clients writes and syncs for all. In place of the room's rules, each line costs some microseconds
+// under the room's lock. Prints the completed lines a second.
 // usage: group_commit DIR CLIENTS ROOMS SECONDS LINE_LENGTH WORK_MICROSECONDS
 #define _GNU_SOURCE
 #include <fcntl.h>
@@ -15,11 +15,11 @@
 enum { MOST_ROOMS = 64, MOST_CLIENTS = 64, MOST_LINE = 4096 };
 
 struct room {
-  pthread_mutex_t record; // over what is not yet written
+  pthread_mutex_t record; // guards the unwritten lines
   char *pending;
   size_t len, capacity;
   long count;
-  pthread_mutex_t desk; // over who writes, and how much is kept
+  pthread_mutex_t desk; // guards `is_writing` and `kept`
   pthread_cond_t put_back;
   int is_writing;
   long kept;
@@ -37,7 +37,7 @@ static double seconds(void) {
   return time.tv_sec + time.tv_nsec * 1e-9;
 }
 
-// Adds a line to the room, and tells its number.
+// Adds a line to the room. Returns its number.
 static long add(struct room *room, const char *line) {
   pthread_mutex_lock(&room->record);
   for (double end = seconds() + work * 1e-6; seconds() < end;) {
@@ -53,7 +53,7 @@ static long add(struct room *room, const char *line) {
   return number;
 }
 
-// Writes and syncs all that the room has, and tells how much that is.
+// Writes and syncs all lines of the room. Returns their number.
 static long write_all(struct room *room) {
   pthread_mutex_lock(&room->record);
   char *bytes = room->pending;
@@ -94,12 +94,12 @@ static void *client(void *number) {
   char line[MOST_LINE];
   memset(line, 'x', line_len);
   line[line_len - 1] = '\n';
-  long told = 0;
+  long completed = 0;
   while (!is_over) {
     keep(room, add(room, line));
-    told++;
+    completed++;
   }
-  return (void *)told;
+  return (void *)completed;
 }
 
 int main(int argc, char **words) {
@@ -130,12 +130,12 @@ int main(int argc, char **words) {
   for (long number = 0; number < clients; number++) pthread_create(&threads[number], 0, client, (void *)number);
   while (seconds() - start < length) usleep(1000);
   is_over = 1;
-  long told = 0;
+  long completed = 0;
   for (int number = 0; number < clients; number++) {
     void *one;
     pthread_join(threads[number], &one);
-    told += (long)one;
+    completed += (long)one;
   }
-  printf("%.0f\n", told / (seconds() - start));
+  printf("%.0f\n", completed / (seconds() - start));
   return 0;
 }

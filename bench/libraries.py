@@ -1,10 +1,16 @@
 #!/usr/bin/env python3
-"""Measures libraries by themselves, and prints tables in Markdown. `threads`: how many calls a second threads
-make of rooms behind locks, all in one room and each in rooms of its own, and how many as many programs of one
-thread make at once, which is what the machine can do. `sites`: what a join, a coming back and a call cost in
-rooms of few and of many entries, in nanoseconds, the median of 9 rounds. `replicas`: what a page costs a replica, at the start and
-at the end of a record of 16,000 entries. The programs in bench/ are proved and built over a copy of the tree.
-With threads each figure is the median of the 20 rounds that the program makes, with replicas the best of five."""
+"""Measures libraries by themselves, and prints Markdown tables.
+
+    threads   calls a second on rooms behind locks: threads in one room, threads in
+              rooms of their own, and as many programs of one thread each, which
+              shows what the machine can do
+    sites     nanoseconds for a join, a coming back and a call, in rooms with few
+              and with many entries
+    replicas  what a page costs a replica, at the start and at the end of a record
+              of 16,000 entries
+
+It proves and builds the programs in bench/ over a copy of the tree. The figures are the median of 20 rounds for
+`threads`, the median of 9 for `sites`, and the best of 5 for `replicas`."""
 
 import collections
 import contextlib
@@ -17,20 +23,20 @@ import tempfile
 sys.dont_write_bytecode = True
 sys.path.append(str(pathlib.Path(__file__).resolve().parent.parent / "tests"))
 
-from tree_copy import copy_of_tree
+from lib.tree_copy import copy_tree
 
 PROGRAMS = {
-    "threads": ("lock_bench", "op_names state_vector rules wire room_core room_lock"),
-    "sites": ("site_bench", "op_names state_vector rules wire room_lock"),
-    "replicas": ("replica_bench", "op_names state_vector rules wire room_core late_join"),
+    "threads": ("lock_bench", "base_types state_vector rules wire room_core room_lock"),
+    "sites": ("site_bench", "base_types state_vector rules wire room_lock"),
+    "replicas": ("replica_bench", "base_types state_vector rules wire room_core late_join"),
 }
 
 
 @contextlib.contextmanager
 def program(crate, libraries):
-    """The built program."""
+    """Proves and builds the program. Yields its path."""
     with tempfile.TemporaryDirectory() as name:
-        folder = copy_of_tree(pathlib.Path(name), crate, f"bench/{crate}", libraries)
+        folder = copy_tree(pathlib.Path(name), crate, f"bench/{crate}", libraries)
         built = subprocess.run(["rt", "run"], cwd=folder, capture_output=True, text=True)
         if not (folder / "out" / crate).is_file():
             sys.exit(built.stderr)
@@ -38,13 +44,13 @@ def program(crate, libraries):
 
 
 def lines_of(path, *words, times=1):
-    """The words of each line that the program prints, run so many times at once, run by run."""
+    """Runs the program this many times in parallel. Returns, for each run, the words of each line of output."""
     runs = [subprocess.Popen([path, *words], stdout=subprocess.PIPE, text=True) for _ in range(times)]
     return [[line.split() for line in run.communicate()[0].splitlines()] for run in runs]
 
 
 def medians(lines):
-    """The calls a second of each case, the median of the run's rounds."""
+    """Returns the calls a second of each case, the median of the run's rounds."""
     rates = collections.defaultdict(list)
     for kind, threads, calls, micros in lines:
         rates[kind, int(threads)].append(int(calls) * 1_000_000 / int(micros))
@@ -52,6 +58,7 @@ def medians(lines):
 
 
 def threads():
+    """Prints the table of `threads`."""
     with program(*PROGRAMS["threads"]) as path:
         rates = medians(*lines_of(path))
         print("| Threads | All in one room | Each in rooms of its own | As many programs |")
@@ -62,6 +69,7 @@ def threads():
 
 
 def sites():
+    """Prints the table of `sites`."""
     times = collections.defaultdict(list)
     with program(*PROGRAMS["sites"]) as path:
         [lines] = lines_of(path)
@@ -75,6 +83,7 @@ def sites():
 
 
 def replicas():
+    """Prints the table of `replicas`."""
     least = {}
     with program(*PROGRAMS["replicas"]) as path:
         [lines] = lines_of(path)

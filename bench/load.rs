@@ -1,11 +1,11 @@
-//! Clients that put and put again, over WebSocket: bench/serve.py compiles this and runs it.
+//! Clients that send puts over WebSocket. bench/serve.py compiles and runs this.
 //!
-//!     load ADDRESS CLIENTS SETS IN_FLIGHT ROOM..
+//!     load ADDRESS CLIENTS PUTS IN_FLIGHT ROOM..
 //!
-//! Each client joins a room, the rooms in turn, and makes an object for each 1,000 of its puts. Then `ready`
-//! is printed and a line of input awaited. Each client sends its puts, on its own objects by a key of its
-//! own, with so many in flight. Then nanoseconds are printed (of all, the median and the 99th percentile of
-//! a reply's time), and a line of input awaited before the clients close.
+//! Each client joins a room, the rooms in turn, and creates an object for each 1,000 of its puts. Then it prints
+//! `ready` and waits for a line of input. Each client sends its puts on its own objects by a key of its own, with
+//! IN_FLIGHT requests in flight. Then it prints `done` with the nanoseconds of all puts, and waits for another line.
+//! The clients close, and it prints the median and 99th percentile of the time to a reply, in nanoseconds.
 
 use std::collections::VecDeque;
 use std::io::{self, BufRead, Read, Write};
@@ -18,7 +18,7 @@ const PUTS_AN_OBJECT: usize = 1000;
 const WAIT: Duration = Duration::from_secs(60);
 const HEAD_END: &[u8] = b"\r\n\r\n";
 
-/// What the command line asks for.
+/// The command line.
 struct Load {
     address: String,
     clients: usize,
@@ -27,7 +27,7 @@ struct Load {
     rooms: Vec<String>,
 }
 
-/// A WebSocket, with the bytes that were read and not yet taken.
+/// A WebSocket, with the received bytes and how many of them are consumed.
 struct Socket {
     stream: TcpStream,
     input: Vec<u8>,
@@ -56,7 +56,7 @@ fn load_of(words: &[String]) -> Option<Load> {
 }
 
 impl Socket {
-    /// Connects and does the handshake.
+    /// Connects and performs the handshake.
     fn open(address: &str, number: usize) -> io::Result<Socket> {
         let stream = TcpStream::connect(address)?;
         stream.set_nodelay(true)?;
@@ -124,7 +124,7 @@ impl Socket {
         self.stream.write_all(&frame)
     }
 
-    /// The payload of the next frame.
+    /// Reads the payload of the next frame.
     fn receive(&mut self) -> io::Result<String> {
         loop {
             if let Some((start, end)) = frame_in(&self.input[self.taken..]) {
@@ -137,14 +137,14 @@ impl Socket {
         }
     }
 
-    /// The reply to a request.
+    /// Sends a request and returns the reply.
     fn ask(&mut self, request: &str) -> io::Result<String> {
         self.send(1, request.as_bytes())?;
         self.receive()
     }
 }
 
-/// Where the payload of the first frame begins and ends, if all of it is there.
+/// Returns where the payload of the first frame begins and ends, if the frame is complete.
 fn frame_in(input: &[u8]) -> Option<(usize, usize)> {
     let (start, length) = match *input.get(1)? {
         126 => (
@@ -160,7 +160,7 @@ fn frame_in(input: &[u8]) -> Option<(usize, usize)> {
     (input.len() >= start + length).then_some((start, start + length))
 }
 
-/// A client in its room, with its objects made.
+/// A client in its room, with its objects created.
 struct Client {
     socket: Socket,
     site: usize,
@@ -199,7 +199,7 @@ impl Client {
         })
     }
 
-    fn send_set(&mut self, turn: usize) -> io::Result<()> {
+    fn send_put(&mut self, turn: usize) -> io::Result<()> {
         let (site, seq) = (self.site, self.objects + turn + 1);
         let object = turn / PUTS_AN_OBJECT + 1;
         let request = format!(
@@ -209,7 +209,7 @@ impl Client {
         self.socket.send(1, request.as_bytes())
     }
 
-    /// Sends all puts, so many in flight: how long each reply took.
+    /// Sends all puts. Returns the time to each reply.
     fn put_all(&mut self, puts: usize, in_flight: usize) -> io::Result<Vec<u64>> {
         let mut times = Vec::with_capacity(puts);
         let mut waiting = VecDeque::with_capacity(in_flight);
@@ -217,7 +217,7 @@ impl Client {
         while times.len() < puts {
             while sent < puts && waiting.len() < in_flight {
                 waiting.push_back(Instant::now());
-                self.send_set(sent)?;
+                self.send_put(sent)?;
                 sent += 1;
             }
             let reply = self.socket.receive()?;
@@ -233,8 +233,8 @@ impl Client {
     }
 }
 
-/// One client from its join to its close. All clients and the main thread meet before the puts, after them
-/// and before the close.
+/// Runs one client from its join to its close. All clients and the main thread meet before the puts, after them and
+/// before the close.
 fn run_client(load: &Load, number: usize, meeting: &Barrier) -> io::Result<Vec<u64>> {
     let mut client = Client::enter(load, number)?;
     meeting.wait();
@@ -256,7 +256,7 @@ fn await_line() {
 fn main() {
     let words: Vec<String> = env::args().collect();
     let Some(load) = load_of(&words) else {
-        fail("wanted: ADDRESS CLIENTS SETS IN_FLIGHT ROOM..");
+        fail("usage: load ADDRESS CLIENTS PUTS IN_FLIGHT ROOM..");
     };
     let load = Arc::new(load);
     let meeting = Arc::new(Barrier::new(load.clients + 1));

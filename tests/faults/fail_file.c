@@ -1,8 +1,8 @@
-/* Fails calls on rooms' files, for tests: a library to be loaded before C's. Writes, cuts and syncs of files whose
-   names end in `.record`, and syncs of folders, are counted. The variable FAILED is the number of the one that fails,
-   from 1, and FAILURE the number of its error. With LASTS all after it fail too. A write that fails may leave a front
-   of its bytes: with SHORT the first half is written before. With the error 0 a write takes the first half alone, and
-   tells so. The line `failed` on standard error tells that it came to it. */
+/* Makes calls on rooms' files fail, for tests: a library for LD_PRELOAD. It counts writes, truncations and syncs of files
+   whose names end in `.record`, and syncs of folders. The variable FAILED is the number of the call that fails, from 1.
+   FAILURE is its error number. With LASTS all later calls fail too. With SHORT a failing write first writes half of its
+   bytes. With the error 0 a write writes only the first half and reports that. The library prints the line `failed` on
+   standard error when it reaches the call. */
 
 #include <errno.h>
 #include <stdatomic.h>

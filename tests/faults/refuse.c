@@ -1,7 +1,6 @@
-/* Refuses one allocation of a program, for tests: a library to be loaded before C's. The variable REFUSED is
-   the number of the allocation, from 1. With COUNTED=calls those alone are counted that come after a line
-   `call NAME` was written to standard output and before the next line is; otherwise all of them. The line
-   `refused` on standard error tells that it came to it. */
+/* Refuses one allocation of a program, for tests: a library for LD_PRELOAD. The variable REFUSED is the number of the
+   allocation, from 1. With COUNTED=calls it counts only allocations after a line `call NAME` on standard output and
+   before the next line; otherwise all. It prints the line `refused` on standard error when it reaches the allocation. */
 
 #include <errno.h>
 #include <stdatomic.h>

@@ -1,0 +1,205 @@
+"""Full disks, and files whose writes and syncs fail."""
+
+import errno
+import os
+import pathlib
+import shutil
+import subprocess
+import tempfile
+
+from lib import serving
+from lib.keeping import KeepingServer, room_folder, expect_not_kept, mounted, expect_kept, path_of, whole_lines
+from lib.records import compact
+from lib.running import cases
+from lib.serving import ROOT, CheckFailed, Skipped, expect_equal
+from lib.websocket_client import SECONDS, Fault
+
+# The time limit of a test, in seconds.
+BOUND = 600
+NOT_KEPT = "record not kept"
+JOIN = '["join","r"]'
+# The attributes of a large put, and the number of such puts that fill the small disk at the latest.
+LARGE, MOST = [[f"key-{number}", "x" * 256] for number in range(16)], 40
+
+
+# ---- a full disk
+
+
+def put(seq):
+    """Returns a large put of a site that is alone."""
+    return compact(["put", seq, [[1, seq - 1]], [1, 1], [], LARGE])
+
+
+def test_full_disk():
+    """When the disk is full, the server closes the sessions that would add entries. Requests that add none still get
+    replies. Once there is space, the same server continues, with all entries."""
+    with mounted("size=64k") as folder:
+        ballast = pathlib.Path(folder) / "ballast"
+        ballast.write_bytes(b"x" * 16384)
+        with KeepingServer(folder, ["r", "s"], sessions=4, workers=4) as server:
+            other = server.client()
+            other.expect_reply('["join","s"]', '["joined",0,1]')
+            made = fill_disk(server)
+            other.expect_reply('["pull",0]', '["entries",1,0,[["join",1]]]')
+            expect_not_kept(server.client(), '["back","r",1]')
+            other.expect_reply('["list",0]', '["objects",1,0,0,[]]')
+            ballast.unlink()
+            client = server.client()
+            client.expect_reply('["back","r",1]', compact(["back", made + 1, 1, made]))
+            client.expect_reply(put(made + 1), compact(["taken", made + 1, [[]]]))
+            records = server.finish({2: NOT_KEPT, 3: NOT_KEPT})
+            expect_equal("the file", whole_lines(folder, "r"), records["r"])
+
+
+def fill_disk(server):
+    """A client sends puts until the disk is full. Returns the number of accepted operations."""
+    client = server.client()
+    client.expect_reply(JOIN, '["joined",0,1]')
+    client.expect_reply('["new",1,[],"rect",[]]', '["made",1,[1,1]]')
+    for seq in range(2, MOST):
+        try:
+            client.ask(put(seq))
+        except Fault:
+            client.transcript.hung_up = True
+            client.expect_end()
+            return seq
+    raise CheckFailed("the disk is not full")
+
+
+def test_full_to_the_end():
+    """A server whose disk stays full reports that at its end. The file has all confirmed entries."""
+    with mounted("size=64k") as folder:
+        with KeepingServer(folder, sessions=1) as server:
+            fill_disk(server)
+            server.expect_exit(3, "grace: room not kept")
+            expect_equal("the warnings", server.error_lines()[:-1], server.error_lines()[:1])
+            transcripts = server.transcripts()
+        expect_kept(folder, ["r"], transcripts)
+
+
+def test_full_at_the_start():
+    """A server starts even if the disk has no space to complete a line, and serves the stored entries."""
+    with mounted("size=64k") as folder:
+        with KeepingServer(folder, sessions=1) as server:
+            made = fill_disk(server)
+            server.kill()
+        torn = path_of(folder, "r").stat().st_size
+        with KeepingServer(folder) as server:
+            client = server.client()
+            reply = client.reply_to('["back","r",1]')
+            if reply[3] not in (made - 1, made):
+                raise CheckFailed(f"{made} operations were accepted, but the reply is {reply}")
+            if path_of(folder, "r").stat().st_size > torn:
+                raise CheckFailed("the file grew")
+
+
+# ---- each call
+
+
+class FailingLibrary:
+    """A library that makes file calls fail, and the environment that selects the failing call by its number."""
+
+    def __init__(self, failure, *words):
+        if not shutil.which("cc"):
+            raise Skipped("there is no C compiler")
+        self.folder = tempfile.TemporaryDirectory()
+        self.library = f"{self.folder.name}/fail_file.so"
+        source = ROOT / "tests/faults/fail_file.c"
+        subprocess.run(["cc", "-O2", "-shared", "-fPIC", "-o", self.library, source], check=True)
+        self.settings = {"FAILURE": str(failure), **{word: "1" for word in words}}
+        self.room_recovers = failure == errno.ENOSPC and not words
+
+    def at(self, number):
+        """Returns the environment in which the call of this number fails."""
+        return {"LD_PRELOAD": self.library, "FAILED": str(number), **self.settings}
+
+
+def operations(site):
+    """Returns the operations of a site that is alone."""
+    return [
+        ["new", 1, [], "rect", [["x", 0]]],
+        ["put", 2, [[site, 1]], [site, 1], [], [["x", 5]]],
+        ["put", 3, [[site, 2]], [site, 1], [], [["y", 7]]],
+    ]
+
+
+def draw_all(client, site=None):
+    """A client joins, or comes back as a site, and sends the operations that the site has not made yet. Returns whether
+    it got all replies."""
+    try:
+        reply = client.reply_to(["join", "r"] if site is None else ["back", "r", site])
+        for operation in operations(reply[2])[reply[3] if reply[0] == "back" else 0 :]:
+            client.reply_to(operation)
+            client.reply_to(["show", [reply[2], 1]])
+        return True
+    except Fault:
+        client.transcript.hung_up = True
+        client.expect_end()
+        return False
+
+
+@cases([
+    ("permanently", errno.EIO, "LASTS"),
+    ("once", errno.EIO),
+    ("once, after half of its bytes", errno.EIO, "SHORT"),
+    ("with a full disk, once", errno.ENOSPC),
+    ("with a full disk, permanently, after half of its bytes", errno.ENOSPC, "LASTS", "SHORT"),
+])
+def test_each_call_fails(failure, *words):
+    """Each call on a file fails in a run of its own. After a restart the room has every entry that a reply confirmed.
+    If only the disk was full for a moment, the room continues; otherwise it has stopped."""
+    failer = FailingLibrary(failure, *words)
+    number = 1
+    while reaches_call(failer, number):
+        number += 1
+    # The start makes two calls, and each of four entries two.
+    expect_equal("the calls", number - 1, 10)
+
+
+def reaches_call(failer, number):
+    """Runs a server with this call failing. Returns whether the run reached the call."""
+    with room_folder() as folder:
+        if number <= 2:
+            expect_failed_start(failer, number, folder)
+            return True
+        with KeepingServer(folder, sessions=2, variables=failer.at(number)) as server:
+            if draw_all(server.client()):
+                return False
+            site = server.clients[0].transcript.site
+            if failer.room_recovers:
+                expect_equal("whether the room continues", draw_all(server.client(), site), True)
+                server.clients[1].close()
+                server.output()
+                expect_equal("the status", server.process.returncode, 0)
+            else:
+                expect_not_kept(server.client(), compact(["join", "r"] if site is None else ["back", "r", site]))
+                server.expect_exit(3, "grace: room not kept")
+            transcripts = server.transcripts()
+        expect_kept(folder, ["r"], transcripts)
+        with KeepingServer(folder, before=transcripts) as server:
+            draw_all(server.client(), site)
+        return True
+
+
+def expect_failed_start(failer, number, folder):
+    """Expects that the server does not start if the room's file cannot be synced, and that the next start succeeds."""
+    words = [serving.program(), "serve", "--keep", folder, "127.0.0.1:0", "1", "1", "r"]
+    done = subprocess.run(
+        words, env={**os.environ, **failer.at(number)}, capture_output=True, text=True, timeout=SECONDS,
+    )
+    last = done.stderr.splitlines()[-1:]
+    expect_equal("the end", (done.returncode, done.stdout, last), (3, "", [f"grace: cannot keep: {folder}"]))
+    with KeepingServer(folder) as server:
+        server.client().expect_reply(JOIN, '["joined",0,1]')
+
+
+def test_short_writes():
+    """After a partial write the server writes the rest."""
+    failer = FailingLibrary(0)
+    for number in range(1, 11):
+        with room_folder() as folder, KeepingServer(folder, sessions=1, variables=failer.at(number)) as server:
+            expect_equal("whether there are all replies", draw_all(server.client()), True)
+            server.clients[0].close()
+            server.output()
+            expect_equal("the status", server.process.returncode, 0)
+            expect_kept(folder, ["r"], server.transcripts())

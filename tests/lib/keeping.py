@@ -1,0 +1,111 @@
+"""Servers that keep their rooms in a folder, and the files in it."""
+
+import contextlib
+import os
+import pathlib
+import signal
+import subprocess
+import tempfile
+
+from lib.records import compare_record, transcript_lines
+from lib.serving import Server, Skipped, expect_equal, run, verdict
+from lib.websocket_client import CLOSE, SECONDS, closing
+
+# The notice of the library that makes file calls fail.
+NOTICE = "failed"
+
+
+class KeepingServer(Server):
+    """`grace serve --keep` over this folder. `before` has the transcripts of clients of earlier runs over it."""
+
+    def __init__(self, folder, rooms=("r",), sessions=4, workers=4, before=(), variables=None, **options):
+        super().__init__(sessions, workers, rooms, keep=folder, before=before, **options)
+        self.variables = variables or {}
+
+    def kill(self, by=signal.SIGKILL):
+        """Ends the program by a signal. Later calls of its clients find the connection closed."""
+        self.process.send_signal(by)
+        expect_equal("the status", self.process.wait(SECONDS), -by)
+        for client in self.clients:
+            client.is_over = client.transcript.hung_up = True
+
+    def error_lines(self):
+        """Returns the lines on standard error."""
+        return [line for line in self.error_text().splitlines() if line != NOTICE]
+
+    def expect_exit(self, status, line):
+        """Expects that the program exits with this status and this last line on standard error."""
+        self.output()
+        expect_equal("the end", (self.process.returncode, self.error_lines()[-1:]), (status, [line]))
+
+
+def path_of(folder, room):
+    """Returns the path of a room's file."""
+    return pathlib.Path(folder) / f"{room}.record"
+
+
+def bytes_of(folder, room):
+    """Returns the bytes of a room's file."""
+    return path_of(folder, room).read_bytes()
+
+
+def whole_lines(folder, room):
+    """Returns the complete lines of a room's file."""
+    data = bytes_of(folder, room)
+    return data[: data.rfind(b"\n") + 1].decode().split("\n")[:-1]
+
+
+def expect_kept(folder, rooms, transcripts):
+    """Expects that each room's file has all entries that the transcripts report. The checker must accept it with the
+    transcripts."""
+    for room in rooms:
+        record = whole_lines(folder, room)
+        compare_record(room, record, transcripts)
+        result = verdict(record, transcript_lines(room, transcripts))
+        expect_equal(f"the verdict of room {room}", result, (0, "holds\n"))
+
+
+def expect_not_kept(client, request):
+    """Expects that the server closes the session in place of a reply, because it cannot keep the entry."""
+    client.send_request(request)
+    opcode, payload = client.read_frame()
+    expect_equal("the frame", (opcode, payload[:2]), (CLOSE, closing(1011)))
+    client.transcript.hung_up = True
+    client.expect_end()
+
+
+def expect_no_start(line, folder, *rooms, address="127.0.0.1:0", status=3):
+    """Expects that a server over this folder exits with this last line and prints nothing. Returns the other lines on
+    standard error."""
+    ended, output, errors = run("serve", "--keep", folder, address, 1, 1, *rooms)
+    expect_equal("the end", (ended, output, errors.splitlines()[-1:]), (status, "", [line]))
+    return errors.splitlines()[:-1]
+
+
+@contextlib.contextmanager
+def room_folder(files=()):
+    """Creates a folder with these files, given as bytes by room."""
+    with tempfile.TemporaryDirectory() as name:
+        for room, data in dict(files).items():
+            path_of(name, room).write_bytes(data)
+        yield name
+
+
+@contextlib.contextmanager
+def mounted(options):
+    """Mounts a file system in memory with these options. Yields its folder."""
+    with tempfile.TemporaryDirectory() as name:
+        mount = ["mount", "-t", "tmpfs", "-o", options, "tmpfs", name]
+        done = subprocess.run(mount, capture_output=True, text=True)
+        if done.returncode:
+            raise Skipped("mounting a file system is not permitted")
+        try:
+            yield name
+        finally:
+            subprocess.run(["umount", name], check=True)
+
+
+def needs_root():
+    """Skips the test unless it runs as root."""
+    if os.geteuid():
+        raise Skipped("only root can run this test")

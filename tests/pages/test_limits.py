@@ -1,0 +1,134 @@
+"""Limits and statuses: the tables of docs/PROTOCOL.md, the server's source and the clients agree."""
+
+import re
+import sys
+
+from lib.pages import expect_same_rows, source_with, table_of
+from lib.running import cases
+from lib.serving import ROOT, CheckFailed, expect_equal
+
+PROTOCOL = ROOT / "docs/PROTOCOL.md"
+# A constant of the sources, a word in its row of the table, and a word that is not in it.
+CONSTANTS = [
+    ("MAX_JOINS", "join", "page"),
+    ("MAX_ENTRIES", "entries", "page"),
+    ("MAX_OBJECTS", "objects", "page"),
+    ("MAX_CHANGES", "changes of", "keys"),
+    ("MAX_KEYS", "keys", "page"),
+    ("MAX_VERSIONS", "versions", "page"),
+    ("MAX_PAGE", "page", "message"),
+    ("MAX_REQUEST_LEN", "a message", "page"),
+]
+# The clients' names of the limits, and the constant or type of the sources for each. Creations and puts have the same
+# limit of attributes, which only the table has.
+SOURCE_NAMES = {
+    "sites": "MAX_JOINS", "entries": "MAX_ENTRIES", "objects": "MAX_OBJECTS", "changes": "MAX_CHANGES",
+    "keys": "MAX_KEYS", "versions": "MAX_VERSIONS", "messageBytes": "MAX_REQUEST_LEN", "textBytes": "MAX_VALUE_LEN",
+    "wordBytes": "Key", "roomBytes": "RoomName",
+}
+
+
+def number_of(text):
+    """Returns the number at the start of a text, with commas or underscores between its digits."""
+    found = re.match(r"[\d,_]+", text)
+    if not found:
+        raise CheckFailed(f"{text!r} begins with no number")
+    return int(re.sub(r"[,_]", "", found[0]))
+
+
+def constant(name):
+    """Returns the value of a constant of the sources."""
+    return number_of(re.search(rf"pub const {name}: \w+ = ([\d_]+);", source_with(f"pub const {name}: "))[1])
+
+
+def longest(name):
+    """Returns the most bytes of a text of this type."""
+    return int(re.search(rf"pub type {name} = Label<(\d+),", source_with(f"pub type {name} = Label<"))[1])
+
+
+def row_with(word, other):
+    """Returns the number in the only row of the table of limits that has the first word and not the other."""
+    rows = table_of(PROTOCOL, "What", "At most")
+    found = [number_of(most) for what, most in rows if word in what and other not in what]
+    if len(found) != 1:
+        raise CheckFailed(f"{len(found)} rows of the table of limits match {word}")
+    return found[0]
+
+
+@cases((name, name, word, other) for name, word, other in CONSTANTS)
+def test_limit(name, word, other):
+    """The row of the table agrees with the source."""
+    expect_equal(f"the row of {name}", row_with(word, other), constant(name))
+
+
+def javascript_limits():
+    """Returns the limits of the JavaScript client."""
+    text = (ROOT / "clients/js/forms.js").read_text()
+    inside = re.search(r"export const LIMITS = Object\.freeze\(\{(.*?)\}\)", text, re.DOTALL)[1]
+    return {name: int(number) for name, number in re.findall(r"(\w+): (\d+)", inside)}
+
+
+def python_limits():
+    """Returns the limits of the Python client, by the names of the JavaScript one."""
+    sys.path.insert(0, str(ROOT / "clients/python"))
+    try:
+        from grace.forms import LIMITS
+    finally:
+        sys.path.pop(0)
+    return {re.sub(r"_(\w)", lambda it: it[1].upper(), name): number for name, number in vars(LIMITS).items()}
+
+
+@cases([("in JavaScript", javascript_limits), ("in Python", python_limits)])
+def test_client(limits):
+    """A client's limits agree with the sources, and its limit of attributes with the table."""
+    known = {name: constant(name) for name in [*(name for name, *_ in CONSTANTS), "MAX_VALUE_LEN"]}
+    known |= {name: longest(name) for name in ("Key", "Kind", "RoomName")}
+    expect_equal("the longest kind", known["Kind"], known["Key"])
+    expected = {name: known[source] for name, source in SOURCE_NAMES.items()}
+    expected["attributes"] = row_with("attributes", "page")
+    expect_equal("the limits", dict(sorted(limits().items())), dict(sorted(expected.items())))
+
+
+# ---- the program's lines and statuses
+
+
+def statuses_of_commands():
+    """Returns the message of each fault of a command, with its status."""
+    text = source_with("    RoomNamedTwice,\n")
+    texts = {name: message for message, name in re.findall(r'#\[error\("(.*?)"\)\]\n\s+(\w+)', text)}
+    body = re.search(r"pub fn status\(self\) -> u8.*?\n    \}\n", text, re.DOTALL)[0]
+    arms = re.findall(r"((?:Fault::\w+(?:\(_\))?\s*\|?\s*)+)=> (\d+),", body)
+    codes = {name: int(status) for names, status in arms for name in re.findall(r"Fault::(\w+)", names)}
+    expect_equal("the faults that have a status", sorted(codes), sorted(texts))
+    return {texts[name]: status for name, status in codes.items()}
+
+
+def lines_of_page():
+    """Returns the lines of the table of messages on standard error, with their statuses."""
+    rows = table_of(PROTOCOL, "Line on standard error", "Status")
+    return {line: int(status) for cell, status in rows for line in re.findall(r"`grace: ([^`]*)`", cell)}
+
+
+def test_statuses():
+    """The page has the messages on standard error and their statuses: those of all commands, and those of `grace serve`
+    alone, which are 3."""
+    own = re.findall(r'#\[error\("(.*?)"\)\]', source_with("kept by another: {0}"))
+    expected = statuses_of_commands() | {text: 3 for text in own if text != "{0}"}
+    documented = lines_of_page()
+    filled = {"dir": "DIR", "room": "ROOM", "line": "N"}
+    fill = lambda text: re.sub(r"\{(\w+)\}", lambda it: filled.get(it[1], "{0}"), text)
+    shorten = lambda line: re.sub(r"^((?:cannot|kept) [a-z ]+): [A-Z]+$", r"\1: {0}", line)
+    expect_same_rows("the lines", sorted((shorten(line), status) for line, status in documented.items()),
+                     sorted((fill(text), status) for text, status in expected.items()))
+
+
+# The starts of messages of other commands than `grace serve`.
+LINES_OF_OTHER_COMMANDS = "input failed", "session failed", "cannot connect"
+
+
+def test_operations_has_each_line():
+    """The table of docs/OPERATIONS.md has each message that ends `grace serve`."""
+    listed = " ".join(line for line, *_ in table_of(ROOT / "docs/OPERATIONS.md", "Line", "Means", "What to do"))
+    for line in lines_of_page():
+        if not line.startswith(LINES_OF_OTHER_COMMANDS) and f"grace: {line.partition(' line N;')[0]}" not in listed:
+            raise CheckFailed(f"docs/OPERATIONS.md lacks {line}")

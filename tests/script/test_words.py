@@ -1,0 +1,67 @@
+"""The command line."""
+
+
+from lib.running import cases
+from lib.serving import expect_equal, run
+
+# Arguments, and the first line on standard error.
+MISTAKES = [
+    ([], "error: 'grace' requires a subcommand but one was not provided"),
+    (["draw"], "error: unrecognized subcommand 'draw'"),
+    (["script"], "error: the following required arguments were not provided:"),
+    (["script", "r", "--x"], "error: unexpected argument '--x' found"),
+    (["script", "R"], "grace: bad room name"),
+    (["script", "r", "r"], "grace: room named twice"),
+    (["script", "r", "r", ""], "grace: bad room name"),
+    (["serve"], "error: the following required arguments were not provided:"),
+    (["serve", "127.0.0.1:0", "0", "1", "r"], "error: invalid value '0' for '<SESSIONS>': 0 is not in 1..=100000"),
+    (["serve", "127.0.0.1:0", "100001", "1", "r"],
+     "error: invalid value '100001' for '<SESSIONS>': 100001 is not in 1..=100000"),
+    (["serve", "127.0.0.1:0", "1", "0", "r"], "error: invalid value '0' for '<WORKERS>': 0 is not in 1..=64"),
+    (["serve", "127.0.0.1:0", "1", "65", "r"], "error: invalid value '65' for '<WORKERS>': 65 is not in 1..=64"),
+    (["serve", "--idle", "x", "127.0.0.1:0", "1", "1", "r"],
+     "error: invalid value 'x' for '--idle <SECONDS>': invalid digit found in string"),
+    (["serve", "127.0.0.1:0", "1", "1", "R"], "grace: bad room name"),
+    (["serve", "127.0.0.1:0", "1", "1", "r", "r"], "grace: room named twice"),
+    (["check", "record"], "error: the following required arguments were not provided:"),
+    (["migrate"], "error: the following required arguments were not provided:"),
+    (["watch", "127.0.0.1:0"], "error: the following required arguments were not provided:"),
+    (["watch", "127.0.0.1:1", "R"], "grace: bad room name"),
+]
+
+# Arguments, and the start of the output.
+OUTPUTS = [
+    (["--help"], "A group drawing server with object versions\n\nUsage: grace <COMMAND>\n"),
+    (["script", "--help"],
+     "Answers a script: lines SESSION MESSAGE from standard input\n\nUsage: grace script <ROOM>...\n"),
+    (["check", "--help"],
+     "Checks a room's record and a transcript of it\n\nUsage: grace check <RECORD> <TRANSCRIPT>\n\nArguments:\n"
+     "  <RECORD>      A file of the record's entries, one a line\n"
+     "  <TRANSCRIPT>  A file of requests and replies, one a line\n"),
+    (["migrate", "--help"],
+     "Prints a room's record in today's forms\n\nUsage: grace migrate <RECORD>\n\nArguments:\n"
+     "  <RECORD>  A file of the record's entries, one a line\n"),
+    (["--version"], "grace 0.2.0\n"),
+]
+
+
+@cases((f"grace {' '.join(words)}", words, line) for words, line in MISTAKES)
+def test_mistake(words, line):
+    """The program exits with status 2 and this line. It reads and prints nothing."""
+    status, output, errors = run(*words, stdin=b'0 ["leave"]\n')
+    expect_equal("the end", (status, output, errors.split("\n")[0]), (2, "", line))
+
+
+@cases((f"grace {' '.join(words)}", words, start) for words, start in OUTPUTS)
+def test_output(words, start):
+    """The program prints text that begins like this, and succeeds."""
+    status, output, errors = run(*words)
+    expect_equal("the end", (status, output[: len(start)], errors), (0, start, ""))
+
+
+@cases([("help", "--help"), ("a script's answers", "script", "r")])
+def test_full_output(*words):
+    """If the program cannot write its output, it reports that and exits with 3."""
+    with open("/dev/full", "wb") as full:
+        status, _, errors = run(*words, stdin=b'0 ["leave"]\n', stdout=full)
+    expect_equal("the end", (status, errors), (3, "grace: output failed\n"))

@@ -1,51 +1,64 @@
-/** A change of this client, from its making to its answer. */
+/** A change that this client made, from the call to the server's reply. */
 
 import { codeOf, idOf } from "./forms.js"
 
 /** @typedef {import("./forms.js").Name} Name */
 /** @typedef {import("./forms.js").Operation} Operation */
 
-/** A change of this client: a new object, a put, or a drop. */
+/** A change that this client made: a creation, a put or a drop. */
 export class Change {
   #operation
   #version = null
 
   constructor(operation) {
     this.#operation = operation
-    /** Whether it was sent. After a lost connection it is looked up, and sent again where it wasn't taken. */
+    /** Whether the client has sent it. After a reconnect the client sends it again if the record lacks it. */
     this.isSent = false
-    /** When it was made, by `performance.now()`. */
+    /** When the change was made, in milliseconds of `performance.now()`. */
     this.made = performance.now()
     /**
-     * Fulfilled once the server took it. Rejected with `Refused` where it was refused, or withdrawn with one that it
-     * was built on, or the room was closed or begun anew before. Nobody needs to look at it: `refusal` tells it too.
+     * Resolves when the server has accepted the change. You may ignore this promise: the event `refusal` reports the
+     * same, and a rejection is never unhandled. The promise rejects with `Refused`:
+     * - with the server's word if the server refused the change;
+     * - `withdrawn` if the server refused an earlier pending change of the same object;
+     * - `closed` if the room was closed first;
+     * - `another-room` if the server now has a different room of this name.
      * @type {Promise<void>}
      */
     this.done = new Promise((resolve, reject) => Object.assign(this, { resolve, reject }))
     this.done.catch(() => {})
   }
 
-  /** The operation as it is to be sent, or was. As another site's it gets another name. @type {Operation} */
+  /**
+   * The operation that was sent or will be sent. Its name changes if the client has to join as a new site.
+   * @type {Operation}
+   */
   get operation() {
     return this.#operation
   }
 
-  /** Its name; that of an object that it makes, too. @type {Name} */
+  /**
+   * The name of the operation. For a creation it is also the object's name.
+   * @type {Name}
+   */
   get name() {
     return this.#operation.name
   }
 
-  /** The object that it makes or changes. @type {Name} */
+  /**
+   * The object that the change creates or modifies.
+   * @type {Name}
+   */
   get object() {
     return this.#operation.object
   }
 
-  /** Of a put or a drop: the version that has it, as it was at once after it. Of a new object: its only version. */
+  /** The version that contains this change, as it was directly after it. A new object has one version. */
   get version() {
     return this.#version
   }
 
-  /** For the room alone. */
+  /** Internal: only `Room` calls it. */
   become(operation, version) {
     this.#operation = operation
     this.#version = version
@@ -53,18 +66,20 @@ export class Change {
 }
 
 /**
- * An own operation that nobody has seen, under its new name. Of its old site it has seen no more than was taken, and
- * of its new one all that is before it.
- * @param {Operation} operation @param {Map<number, Name>} names the new names of own operations, by the old ones' code
- * @param {number} site the old site @param {number} taken how many operations of it the record has
+ * Renames an operation that no other site has seen, because this client is now another site. The result's state vector
+ * counts only the accepted operations of the old site, and all earlier operations of the new site.
+ * @param {Operation} operation
+ * @param {Map<number, Name>} names new names of this client's operations, by the code of the old name
+ * @param {number} site the old site
+ * @param {number} taken how many operations of the old site the record contains
  * @returns {Operation}
  */
-export function renamed(operation, names, site, taken) {
-  const anew = (name) => names.get(codeOf(name)) ?? name
-  const name = anew(operation.name)
+export function renameOperation(operation, names, site, taken) {
+  const newName = (name) => names.get(codeOf(name)) ?? name
+  const name = newName(operation.name)
   const counts = new Map(operation.seen).set(site, taken)
   counts.set(name[0], name[1] - 1)
   const seen = [...counts].filter(([, count]) => count > 0).sort(([one], [other]) => one - other)
-  const version = operation.version && idOf(operation.version.map((old) => codeOf(anew(old))))
-  return { ...operation, name, seen, object: anew(operation.object), version }
+  const version = operation.version && idOf(operation.version.map((old) => codeOf(newName(old))))
+  return { ...operation, name, seen, object: newName(operation.object), version }
 }

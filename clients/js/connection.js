@@ -1,113 +1,118 @@
-/** One connection to a server, on which one message is asked at a time. */
+/** One WebSocket connection to a server. It carries one request at a time. */
 
 import { ProtocolFault } from "./forms.js"
 import { readText } from "./json_text.js"
 
-/** The connection is gone: it was never made, it broke, or a reply took too long. */
+/** The connection failed: it could not be opened, it broke, or a reply took too long. */
 export class Lost extends Error {
   name = "Lost"
 }
 
-/** @typedef {{ send(text: string): void, close(code?: number): void, onopen: any, onmessage: any, onclose: any,
- *   onerror: any }} Socket what a browser's `WebSocket` is */
+/**
+ * @typedef {{ send(text: string): void, close(code?: number): void, onopen: any, onmessage: any, onclose: any, onerror:
+ *   any }} Socket the part of `WebSocket` that the library uses
+ */
 
-/** A connection. `ended` is fulfilled once it is gone, whoever ended it. */
+/** A connection. The promise `ended` resolves when the connection has ended, for any reason. */
 export class Connection {
   #socket
   #replyMilliseconds
-  #waiting = null
-  #asked = 0
-  #isGone = false
-  #tellEnded
+  #outstanding = null
+  #requestedAt = 0
+  #hasEnded = false
+  #resolveEnded
 
-  /** @param {Socket} socket @param {number} replyMilliseconds how long a reply, or the opening, may take */
+  /**
+   * @param {Socket} socket
+   * @param {number} replyMilliseconds how long the handshake, or one reply, may take
+   */
   constructor(socket, replyMilliseconds) {
     this.#socket = socket
     this.#replyMilliseconds = replyMilliseconds
-    this.ended = new Promise((tell) => (this.#tellEnded = tell))
-    socket.onmessage = ({ data }) => this.#hear(data)
+    this.ended = new Promise((resolve) => (this.#resolveEnded = resolve))
+    socket.onmessage = ({ data }) => this.#receive(data)
     socket.onclose = () => this.#end("The connection ended.")
     socket.onerror = () => this.#end("The connection failed.")
   }
 
   /**
-   * Awaits that the connection stands.
-   * @throws {Lost} it doesn't come about
+   * Resolves when the connection is open.
+   * @throws {Lost} the connection could not be opened in time
    */
   opened() {
-    const opened = this.#await()
-    this.#socket.onopen = () => this.#answer(null)
+    const opened = this.#startWaiting()
+    this.#socket.onopen = () => this.#settle(null)
     return opened
   }
 
   /**
-   * Asks, and awaits the reply. No other question may be under way.
-   * @param {string} text the message
+   * Sends a request and waits for the reply. Call it only when no other request is outstanding.
+   * @param {string} text the request
    * @returns {Promise<any[]>} the reply
-   * @throws {Lost} the connection went before the reply came: the message may have been carried out or not
-   * @throws {ProtocolFault} the reply is no message
+   * @throws {Lost} the connection ended before the reply: the server may or may not have carried out the request
+   * @throws {ProtocolFault} the reply is not a valid message
    */
-  async ask(text) {
-    if (this.#isGone) throw new Lost("The connection has ended.")
-    const answer = this.#await()
+  async request(text) {
+    if (this.#hasEnded) throw new Lost("The connection has ended.")
+    const replyText = this.#startWaiting()
     try {
       this.#socket.send(text)
     } catch {
       this.#end("The connection failed.")
     }
-    const reply = await answer
+    const reply = await replyText
     try {
       return readText(reply)
     } catch (fault) {
-      throw new ProtocolFault(`The server's reply is none: ${fault.message}`)
+      throw new ProtocolFault(`The server sent an invalid message: ${fault.message}`)
     }
   }
 
-  /** For how many milliseconds the server has owed an answer. */
+  /** How long the current request has waited for its reply, in milliseconds; 0 if there is none. */
   get silentMilliseconds() {
-    return this.#waiting === null ? 0 : performance.now() - this.#asked
+    return this.#outstanding === null ? 0 : performance.now() - this.#requestedAt
   }
 
-  /** Ends the connection. What is awaited on it is lost. */
+  /** Closes the connection with close code 1000. An outstanding request fails with `Lost`. */
   close() {
     this.#end("The connection was closed.")
   }
 
-  #await() {
-    this.#asked = performance.now()
+  #startWaiting() {
+    this.#requestedAt = performance.now()
     return new Promise((resolve, reject) => {
-      const timer = setTimeout(() => this.#end("The server didn't answer in time."), this.#replyMilliseconds)
-      this.#waiting = { resolve, reject, timer }
+      const timer = setTimeout(() => this.#end("The server did not answer in time."), this.#replyMilliseconds)
+      this.#outstanding = { resolve, reject, timer }
     })
   }
 
-  #answer(value) {
-    if (this.#waiting === null) return
-    const { resolve, timer } = this.#waiting
-    this.#waiting = null
+  #settle(value) {
+    if (this.#outstanding === null) return
+    const { resolve, timer } = this.#outstanding
+    this.#outstanding = null
     clearTimeout(timer)
     resolve(value)
   }
 
-  #hear(data) {
-    if (typeof data === "string") this.#answer(data)
-    else this.#end("The server sent what is no text.")
+  #receive(data) {
+    if (typeof data === "string") this.#settle(data)
+    else this.#end("The server sent a message that is not text.")
   }
 
   #end(words) {
-    if (this.#isGone) return
-    this.#isGone = true
-    if (this.#waiting !== null) {
-      const { reject, timer } = this.#waiting
-      this.#waiting = null
+    if (this.#hasEnded) return
+    this.#hasEnded = true
+    if (this.#outstanding !== null) {
+      const { reject, timer } = this.#outstanding
+      this.#outstanding = null
       clearTimeout(timer)
       reject(new Lost(words))
     }
-    this.#tellEnded()
+    this.#resolveEnded()
     try {
       this.#socket.close(1000)
     } catch {
-      // It is gone already.
+      // The socket is closed already.
     }
   }
 }

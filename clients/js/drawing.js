@@ -1,100 +1,117 @@
 /**
- * What a record shows: objects, and the versions of each, worked out from the operations alone. Operations are added
- * one by one in any order in which none stands before one that it counts; the versions are the same in all of them.
+ * The objects of a record and their versions, computed from the operations alone. Operations are added one at a time,
+ * in any causal order: each after all operations that its state vector counts. The versions do not depend on which
+ * causal order it was.
  */
 
 import { ProtocolFault, Refused, codeOf, compareIds, idOf, nameOf } from "./forms.js"
-import { Members } from "./members.js"
+import { BitSet } from "./bit_set.js"
 
 /** @typedef {import("./forms.js").Name} Name */
 /** @typedef {import("./forms.js").VersionId} VersionId */
 /** @typedef {import("./forms.js").Value} Value */
 /** @typedef {import("./forms.js").Operation} Operation */
 
-/** One version of an object, as it was when it was asked for. It never changes. */
+/** One version of an object, as it was when you read it. It is immutable. */
 export class Version {
   #codes
 
-  /** For a drawing alone. */
+  /** Internal: only `Drawing` creates versions. */
   constructor(id, attributes, codes, outlived) {
-    /** What a change names to build on this version. @type {VersionId} */
+    /**
+     * The identifier that a put or a drop names as its base.
+     * @type {VersionId}
+     */
     this.id = id
-    /** Whether a drop deleted it. Who has seen the drop can't build on it. @type {boolean} */
+    /**
+     * Whether a drop deleted this version. A site that has seen the drop cannot change the version any more. @type
+     * {boolean}
+     */
     this.isGone = attributes === null
-    /** The keys in order, each with its value; none where the version is gone. @type {Map<string, Value>} */
+    /**
+     * Key and value of each attribute, sorted by key. Empty if the version is gone.
+     * @type {Map<string, Value>}
+     */
     this.attributes = attributes ?? new Map()
     /**
-     * The drops that it outlived: who made them deleted it as far as he had seen it, and others had changed it in the
-     * meantime. A drop whose author chose another version to delete isn't one of them. None where the version is gone.
+     * The drops that this version survived. The author of such a drop deleted all that they had seen of this version,
+     * while others changed it concurrently. A drop of another version does not count. Empty if the version is gone.
      * @type {Name[]}
      */
     this.outlived = outlived.map(nameOf)
     this.#codes = new Set(codes)
   }
 
-  /** The names of all changes in it, in the order in which they were added. @returns {Name[]} */
+  /**
+   * The names of all changes in this version, in the order in which the drawing received them.
+   * @returns {Name[]}
+   */
   get members() {
     return [...this.#codes].map(nameOf)
   }
 
-  /** @param {Name} name @returns {boolean} whether it has this change in it */
+  /** @param {Name} name @returns {boolean} whether this version contains the change */
   has(name) {
     return this.#codes.has(codeOf(name))
   }
 }
 
-/** An object and the changes of it. The places of changes are their order of being added. */
+/** An object and its changes. An index of a change is its position in `changes`. */
 class DrawnObject {
-  #places = new Map()
+  #indexes = new Map()
   #codes = []
-  // By place: the base with the change itself, the direct conflicts, and the conflicts.
-  #built = []
+  // By index: the base together with the change itself, the direct conflicts, and all conflicts.
+  #basesWithSelf = []
   #direct = []
   #conflicts = []
-  #disputed = new Members()
-  #drops = new Members()
-  // What the author of each drop knew, by the drop's place.
+  #disputed = new BitSet()
+  #drops = new BitSet()
+  // By a drop's index: the set of changes that its author had seen.
   #knownByDrops = new Map()
-  #groups = [new Members()]
+  #groups = [new BitSet()]
   #versions = null
 
   /** @param {Operation} creation */
   constructor(creation) {
     this.creation = creation
-    /** @type {Operation[]} in the order of being added */
+    /**
+     * In the order of arrival.
+     * @type {Operation[]}
+     */
     this.changes = []
     this.keys = new Set()
   }
 
   /**
-   * Adds a change whose known changes are all here.
+   * Adds a change. The object must have received all changes that the change's state vector counts.
    * @param {Operation} change
-   * @throws {Refused} `no-such-object`: it doesn't know the object. `no-such-version`: what it knows has no version
-   *   that it names. `gone`: there is a drop in that version. Nothing was added.
+   * @throws {Refused} `no-such-object`: the author had not seen the object. `no-such-version`: the author had seen no
+   *   version with this identifier. `gone`: the base contains a drop. The object is unchanged.
    */
   add(change) {
     const { known, unknown, base } = this.check(change)
-    const place = this.changes.length
+    const index = this.changes.length
     this.changes.push(change)
     if (change.word === "drop") {
-      this.#drops.insert(place)
-      this.#knownByDrops.set(place, known)
+      this.#drops.insert(index)
+      this.#knownByDrops.set(index, known)
     } else for (const [key] of change.attributes) this.keys.add(key)
-    this.#places.set(codeOf(change.name), place)
+    this.#indexes.set(codeOf(change.name), index)
     this.#codes.push(codeOf(change.name))
-    this.#built.push(base.with(place))
-    this.#direct.push(this.#meet(this.#direct, place, this.#directWith(change, known, unknown, base)))
-    const conflicts = this.#conflictsWith(place, known, unknown, base)
-    this.#conflicts.push(this.#meet(this.#conflicts, place, conflicts))
+    this.#basesWithSelf.push(base.with(index))
+    this.#direct.push(this.#relate(this.#direct, index, this.#directWith(change, known, unknown, base)))
+    const conflicts = this.#conflictsWith(index, known, unknown, base)
+    this.#conflicts.push(this.#relate(this.#conflicts, index, conflicts))
     this.#disputed.insertAll(conflicts)
-    if (conflicts.places().length > 0) this.#disputed.insert(place)
-    this.#groups = grown(this.#groups, place, conflicts)
+    if (conflicts.values().length > 0) this.#disputed.insert(index)
+    this.#groups = withChange(this.#groups, index, conflicts)
     this.#versions = null
   }
 
   /**
-   * The places of the changes that a change knows, of the others, and of its base.
+   * Checks a change without adding it.
    * @param {Operation} change
+   * @returns the indexes of the changes that its author had seen, those of the others, and the base
    * @throws {Refused} as `add`
    */
   check(change) {
@@ -104,139 +121,143 @@ class DrawnObject {
     const { known, unknown } = this.#known(change.seen)
     const base = this.#groupNamed(known, change.version)
     if (base === null) throw new Refused("no-such-version")
-    if (base.meets(this.#drops)) throw new Refused("gone")
+    if (base.intersects(this.#drops)) throw new Refused("gone")
     return { known, unknown, base }
   }
 
-  /** @returns {Version[]} in order of identifier */
+  /** @returns {Version[]} sorted by identifier */
   versions() {
     this.#versions ??= this.#groups
-      .map((group) => this.#shown(group))
+      .map((group) => this.#versionOf(group))
       .sort((one, other) => compareIds(one.id, other.id))
     return this.#versions
   }
 
-  /** The places of the changes that a vector counts, and of the others. */
+  /** Splits the changes into those that a state vector counts and the others, as indexes. */
   #known(seen) {
     const counts = new Map(seen)
-    const known = new Members()
+    const known = new BitSet()
     const unknown = []
-    this.changes.forEach(({ name: [site, number] }, place) => {
-      if (number <= (counts.get(site) ?? 0)) known.insert(place)
-      else unknown.push(place)
+    this.changes.forEach(({ name: [site, number] }, index) => {
+      if (number <= (counts.get(site) ?? 0)) known.insert(index)
+      else unknown.push(index)
     })
     return { known, unknown }
   }
 
   /**
-   * The group of the known changes that has the identifier, or null. All that is in dispute with nothing is in every
-   * group; of the rest a group has just what it names, and each other one conflicts with something named.
+   * Finds the group among the known changes that has this identifier; null if there is none. A group contains every
+   * undisputed change. Of the disputed changes it contains exactly those that the identifier names, and each other one
+   * conflicts with one of them.
    */
   #groupNamed(known, id) {
-    if (!this.#disputed.meets(known)) return id.length === 0 ? known : null
-    const named = new Members()
+    if (!this.#disputed.intersects(known)) return id.length === 0 ? known : null
+    const named = new BitSet()
     for (const name of id) {
-      const place = this.#places.get(codeOf(name))
-      if (place === undefined || !known.has(place)) return null
-      named.insert(place)
+      const index = this.#indexes.get(codeOf(name))
+      if (index === undefined || !known.has(index)) return null
+      named.insert(index)
     }
     const group = named.copy()
-    for (const place of known.places()) {
-      const conflicts = this.#conflicts[place]
-      if (conflicts.meets(known)) {
-        if (conflicts.meets(named) === named.has(place)) return null
-      } else if (named.has(place)) return null
-      else group.insert(place)
+    for (const index of known.values()) {
+      const conflicts = this.#conflicts[index]
+      if (conflicts.intersects(known)) {
+        if (conflicts.intersects(named) === named.has(index)) return null
+      } else if (named.has(index)) return null
+      else group.insert(index)
     }
     return group
   }
 
-  /** The earlier places that a change conflicts directly with. */
+  /** The earlier changes that conflict directly with this one, as indexes. */
   #directWith(change, known, unknown, base) {
     const direct = known.without(base)
-    for (const place of unknown) if (areAtOdds(change, this.changes[place])) direct.insert(place)
+    for (const index of unknown) if (conflictDirectly(change, this.changes[index])) direct.insert(index)
     return direct
   }
 
-  /** The earlier places that the change at this place, whose direct conflicts are entered, conflicts with. */
-  #conflictsWith(place, known, unknown, base) {
+  /** The earlier changes that conflict with the one at this index. Its direct conflicts must be stored already. */
+  #conflictsWith(index, known, unknown, base) {
     const conflicts = known.without(base)
     if (unknown.length === 0) return conflicts
-    const opposed = this.#direct[place].copy()
-    for (const member of base.places()) opposed.insertAll(this.#direct[member])
-    for (const other of unknown) if (opposed.meets(this.#built[other])) conflicts.insert(other)
+    const opposed = this.#direct[index].copy()
+    for (const member of base.values()) opposed.insertAll(this.#direct[member])
+    for (const other of unknown) if (opposed.intersects(this.#basesWithSelf[other])) conflicts.insert(other)
     return conflicts
   }
 
-  /** Enters a place with those that it conflicts with, both ways, and gives them. */
-  #meet(relation, place, others) {
-    for (const other of others.places()) relation[other].insert(place)
+  /** Stores in a symmetric relation that an index is related to these others. Returns the others. */
+  #relate(relation, index, others) {
+    for (const other of others.values()) relation[other].insert(index)
     return others
   }
 
-  #shown(group) {
-    const places = group.places()
-    const codes = (some) => some.map((place) => this.#codes[place])
-    const id = idOf(codes(places.filter((place) => this.#disputed.has(place))))
-    const isGone = group.meets(this.#drops)
-    const outlived = isGone ? [] : this.#drops.places().filter((drop) => this.#outlives(group, drop))
-    return new Version(id, isGone ? null : this.#attributes(places), codes(places), codes(outlived))
+  #versionOf(group) {
+    const indexes = group.values()
+    const codes = (some) => some.map((index) => this.#codes[index])
+    const id = idOf(codes(indexes.filter((index) => this.#disputed.has(index))))
+    const isGone = group.intersects(this.#drops)
+    const outlived = isGone ? [] : this.#drops.values().filter((drop) => this.#outlives(group, drop))
+    return new Version(id, isGone ? null : this.#attributes(indexes), codes(indexes), codes(outlived))
   }
 
-  /** Whether all that a drop's author knew of a group is in the drop's base: he had set nothing of the group apart. */
+  /** Whether a version survives a drop: the drop's base contains all of the group that the drop's author had seen. */
   #outlives(group, drop) {
-    return !group.without(this.#built[drop]).meets(this.#knownByDrops.get(drop))
+    return !group.without(this.#basesWithSelf[drop]).intersects(this.#knownByDrops.get(drop))
   }
 
-  #attributes(places) {
+  #attributes(indexes) {
     const values = new Map(this.creation.attributes)
-    for (const place of places) for (const [key, value] of this.changes[place].attributes) values.set(key, value)
+    for (const index of indexes) for (const [key, value] of this.changes[index].attributes) values.set(key, value)
     return new Map([...values].sort(([one], [other]) => (one < other ? -1 : 1)))
   }
 }
 
-/** Are two changes puts that give some key different values, or is exactly one of them a drop? */
-function areAtOdds(one, other) {
+/** Whether two concurrent changes conflict directly: exactly one is a drop, or two puts give a key different values. */
+function conflictDirectly(one, other) {
   if (one.word === "drop" || other.word === "drop") return one.word !== other.word
   return one.attributes.some(([key, value]) =>
     other.attributes.some(([otherKey, otherValue]) => otherKey === key && otherValue !== value))
 }
 
-/** The groups with one more place, which conflicts with these. */
-function grown(groups, place, conflicts) {
-  const kept = groups.map((group) => (group.meets(conflicts) ? group : group.with(place)))
+/** The maximal compatible groups after a change is added that conflicts with these. */
+function withChange(groups, index, conflicts) {
+  const groupsAfter = groups.map((group) => (group.intersects(conflicts) ? group : group.with(index)))
   for (const group of groups) {
-    if (!group.meets(conflicts)) continue
-    const candidate = group.without(conflicts).with(place)
-    if (kept.some((other) => candidate.isIn(other))) continue
-    // An earlier candidate may lie in this one; what the old groups left never does.
-    const larger = kept.filter((other) => !other.isIn(candidate))
-    kept.splice(0, kept.length, ...larger, candidate)
+    if (!group.intersects(conflicts)) continue
+    const candidate = group.without(conflicts).with(index)
+    if (groupsAfter.some((other) => candidate.isSubsetOf(other))) continue
+    // A new candidate may contain an earlier candidate, but never one of the old groups.
+    const larger = groupsAfter.filter((other) => !other.isSubsetOf(candidate))
+    groupsAfter.splice(0, groupsAfter.length, ...larger, candidate)
   }
-  return kept
+  return groupsAfter
 }
 
-/** The objects that some operations make, with their versions. */
+/** Objects and their versions, computed from the operations added so far. */
 export class Drawing {
   #counts = new Map()
   /** @type {Map<number, DrawnObject>} */
   #objects = new Map()
 
-  /** @param {number} site @returns {number} how many operations of the site it has */
+  /** @param {number} site @returns {number} how many operations of the site were added */
   count(site) {
     return this.#counts.get(site) ?? 0
   }
 
-  /** The state vector of what it has: what the author of a next operation has seen. @returns {[number, number][]} */
+  /**
+   * The state vector of all operations added so far, sorted by site.
+   * @returns {[number, number][]}
+   */
   seen() {
     return [...this.#counts].sort(([one], [other]) => one - other)
   }
 
   /**
-   * Adds an operation.
-   * @param {Operation} operation it may be one of another record: then what comes is of no meaning
-   * @throws {ProtocolFault} its number isn't the next of its site, or it counts something that isn't here
-   * @throws {Refused} `no-such-object`, `no-such-version`, `gone`. Nothing was added.
+   * Adds an operation. All operations must come from the same record; otherwise the result is meaningless.
+   * @param {Operation} operation
+   * @throws {ProtocolFault} it is not the next operation of its site, or it counts an operation that is missing here
+   * @throws {Refused} `no-such-object`, `no-such-version`, `gone`. The drawing is unchanged.
    */
   add(operation) {
     const [site, number] = operation.name
@@ -247,7 +268,7 @@ export class Drawing {
   }
 
   /**
-   * Would `add` take this change? Adds nothing.
+   * Checks whether `add` would accept a change. The drawing stays unchanged.
    * @param {Operation} change a put or a drop
    * @throws {ProtocolFault | Refused} as `add`
    */
@@ -257,21 +278,23 @@ export class Drawing {
   }
 
   #admit({ seen }, site, number) {
-    if (number !== this.count(site) + 1) throw new ProtocolFault(`operation ${site},${number} isn't the next`)
+    const name = `operation ${site},${number}`
+    if (number !== this.count(site) + 1) throw new ProtocolFault(`${name} is not the next of its site`)
     for (const [other, count] of seen) {
-      if (count > this.count(other)) throw new ProtocolFault(`operation ${site},${number} counts what isn't here`)
+      if (count > this.count(other)) throw new ProtocolFault(`${name} counts an operation that is missing here`)
     }
   }
 
   /**
-   * Takes the last operations of a site out again, which no other site's here counts.
-   * @param {number} site @param {number} first the number of the first of them
+   * Removes the last operations of a site. No operation of another site may count them.
+   * @param {number} site
+   * @param {number} first the number of the first operation to remove
    */
   remove(site, first) {
-    const isOut = ({ name }) => name[0] === site && name[1] >= first
+    const isRemoved = ({ name }) => name[0] === site && name[1] >= first
     for (const [code, object] of this.#objects) {
-      if (isOut(object.creation)) this.#objects.delete(code)
-      else if (object.changes.some(isOut)) this.#objects.set(code, rebuilt(object, isOut))
+      if (isRemoved(object.creation)) this.#objects.delete(code)
+      else if (object.changes.some(isRemoved)) this.#objects.set(code, rebuild(object, isRemoved))
     }
     if (first > 1) this.#counts.set(site, first - 1)
     else this.#counts.delete(site)
@@ -282,27 +305,29 @@ export class Drawing {
     return [...this.#objects.keys()].map(nameOf)
   }
 
-  /** @param {Name} name @returns {boolean} */
+  /** @param {Name} name @returns {boolean} whether the object exists */
   has(name) {
     return this.#objects.has(codeOf(name))
   }
 
-  /** @param {Name} name @returns {string} @throws {Refused} `no-such-object` */
+  /** @param {Name} name @returns {string} the object's kind @throws {Refused} `no-such-object` */
   kind(name) {
     return this.#find(name).creation.kind
   }
 
   /**
-   * The versions of an object, in order of identifier.
-   * @param {Name} name @returns {Version[]} @throws {Refused} `no-such-object`
+   * The versions of an object, sorted by identifier.
+   * @param {Name} name @returns {Version[]}
+   * @throws {Refused} `no-such-object`
    */
   versions(name) {
     return this.#find(name).versions()
   }
 
   /**
-   * How much of its limits an object has used.
-   * @param {Name} name @returns {{ changes: number, keys: Set<string> }} @throws {Refused} `no-such-object`
+   * How many changes an object has, and which keys they use. Both count towards `LIMITS`.
+   * @param {Name} name @returns {{ changes: number, keys: Set<string> }}
+   * @throws {Refused} `no-such-object`
    */
   used(name) {
     const { changes, keys } = this.#find(name)
@@ -316,8 +341,8 @@ export class Drawing {
   }
 }
 
-function rebuilt(object, isOut) {
-  const anew = new DrawnObject(object.creation)
-  for (const change of object.changes) if (!isOut(change)) anew.add(change)
-  return anew
+function rebuild(object, isRemoved) {
+  const rebuilt = new DrawnObject(object.creation)
+  for (const change of object.changes) if (!isRemoved(change)) rebuilt.add(change)
+  return rebuilt
 }

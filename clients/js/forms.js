@@ -1,17 +1,18 @@
-/** The parts of GRACE's messages: names, values, operations, the words of refusals, and the limits. */
+/** The parts of the messages: names, values, operations, refusal words, and the limits. */
 
 import { writeText } from "./json_text.js"
 
 /**
- * @typedef {[number, number]} Name of an operation, or of the object that it made: site and number
- * @typedef {Name[]} VersionId rising
- * @typedef {number | bigint | string} Value a whole number of 64 bits, a `Number` where that is exact; or a text
+ * @typedef {[number, number]} Name site and number of an operation; an object has the name of its creation
+ * @typedef {Name[]} VersionId sorted in ascending order
+ * @typedef {number | bigint | string} Value a string, or a 64-bit integer: a `Number` if that is exact, otherwise a
+ *   `BigInt`
  * @typedef {{ word: "new" | "put" | "drop", name: Name, seen: [number, number][], object: Name, kind?: string,
- *   version?: VersionId, attributes?: [string, Value][] }} Operation `kind` is of a creation, `version` of a put or a
- *   drop, `attributes` of a creation or a put
+ *   version?: VersionId, attributes?: [string, Value][] }} Operation `seen` is the state vector. A creation has `kind`,
+ *   a put or a drop has `version`, a creation or a put has `attributes`
  */
 
-/** What a room or an object takes at most. */
+/** The largest number or size of each, as the server enforces it. */
 export const LIMITS = Object.freeze({
   sites: 256, entries: 16384, objects: 512, changes: 1024, keys: 64, versions: 32, attributes: 16, messageBytes: 16384,
   textBytes: 256, wordBytes: 32, roomBytes: 64,
@@ -19,60 +20,73 @@ export const LIMITS = Object.freeze({
 
 const ENCODER = new TextEncoder()
 
-/** What each refusal tells a person. */
+/** One sentence for people for each refusal. The server's words come first, in the order of their codes from 1. */
 const WORDS = {
-  "bad-message": "The server did not understand a message.",
-  "not-joined": "You are in no room yet.",
-  "already-joined": "You are in a room already.",
-  "no-such-room": "The server has no room of this name.",
-  "room-full": "The room has let in as many as it ever will. Nobody can join it any more.",
-  "record-full": "The room's record is full. It can be looked at, and changes no more.",
-  "wrong-seq": "The server counts the changes otherwise than this client does.",
-  "own-count": "The server counts the changes otherwise than this client does.",
-  "ahead": "The server doesn't have what this client has seen.",
-  "not-closed": "The server has seen more of the changes than this client has.",
-  "no-such-object": "There is no such object.",
-  "no-such-version": "The object has no such version any more. Choose one again.",
-  "object-full": "This object has been changed as often as an object may be.",
-  "too-many-keys": "This object has as many kinds of attribute as it may have.",
-  "too-many-versions": "With this change the object would have more versions than it may have.",
-  "too-many-objects": "The room has as many objects as it may have.",
-  "too-far": "The room has less in it than this client has seen. It is a new one.",
-  "gone": "Somebody deleted this version. Choose another one.",
-  "no-such-site": "The room doesn't know the site that this client was. It is a new one.",
-  "site-in-use": "Somebody is in the room as the site that this client was.",
-  "closed": "The room was closed before the server had the change.",
-  "withdrawn": "The change was built on one that the server refused.",
-  "another-room": "The room was begun anew, and the change isn't in it.",
+  "bad-message": "The server could not read a message.",
+  "not-joined": "You are not in a room yet.",
+  "already-joined": "You are already in a room.",
+  "no-such-room": "The server has no room with this name.",
+  "room-full": "The room is full, so nobody new can join it.",
+  "record-full": "The room's record is full, so nothing can be changed any more.",
+  "wrong-seq": "The change has the wrong number.",
+  "own-count": "The change miscounts your own earlier changes.",
+  "ahead": "The change builds on changes that the server does not have.",
+  "not-closed": "The change leaves out changes that it depends on.",
+  "no-such-object": "This object does not exist.",
+  "no-such-version": "This version does not exist any more, so please choose again.",
+  "object-full": "This object has reached its limit of changes.",
+  "too-many-keys": "This object has reached its limit of attributes.",
+  "too-many-versions": "This object has reached its limit of versions.",
+  "too-many-objects": "The room has reached its limit of objects.",
+  "too-far": "The room has fewer entries than you asked for.",
+  "gone": "Somebody deleted this version, so please choose another one.",
+  "no-such-site": "The room does not know your site.",
+  "site-in-use": "Another connection is using your site.",
+  "closed": "The room was closed before the server accepted the change.",
+  "withdrawn": "The server refused an earlier change to this object.",
+  "another-room": "The room was started again without this change.",
   "too-long": "The change is too long for one message.",
 }
 const CODES = Object.keys(WORDS).slice(0, 20)
 
-/** A change or a join that the server or this library refused. It changed nothing. */
+/**
+ * The server or this library refused a change or a join, which then has no effect. `message` is a sentence for people.
+ */
 export class Refused extends Error {
-  /** @param {string} word the server's word for it, or `closed`, `withdrawn`, `another-room`, `too-long` */
+  /** @param {string} word the server's word, or the library's own: `closed`, `withdrawn`, `another-room`, `too-long` */
   constructor(word) {
-    super(WORDS[word] ?? `The server refused it: ${word}.`)
+    super(WORDS[word] ?? `The server refused the request: ${word}.`)
     this.name = "Refused"
-    /** The server's word, or one of the library's own. */
+    /** The word of the refusal, as the parameter. */
     this.word = word
-    /** The server's number of it, 0 for the library's own words. */
+    /** The server's code, from 1 to 20; 0 for the library's own words. */
     this.code = CODES.indexOf(word) + 1
   }
 }
 
-/** What came isn't what a GRACE server sends, or no room can have had it. */
+/** The server sent something that the protocol does not allow. */
 export class ProtocolFault extends Error {
   name = "ProtocolFault"
 }
 
-/** A name as one number, in the order of names. @param {Name} name */
+/**
+ * A name as one number. Numbers sort like names.
+ * @param {Name} name
+ */
 export const codeOf = ([site, number]) => site * 65536 + number
 
-/** @param {number} code @returns {Name} */
+/**
+ * The inverse of `codeOf`.
+ * @param {number} code
+ * @returns {Name}
+ */
 export const nameOf = (code) => [Math.floor(code / 65536), code % 65536]
 
-/** The order of identifiers: as lists of names, a prefix first. @param {VersionId} one @param {VersionId} other */
+/**
+ * Compares identifiers as lists of names; a prefix sorts first.
+ * @param {VersionId} one
+ * @param {VersionId} other
+ */
 export function compareIds(one, other) {
   for (let place = 0; place < one.length && place < other.length; place++) {
     const difference = codeOf(one[place]) - codeOf(other[place])
@@ -81,17 +95,25 @@ export function compareIds(one, other) {
   return one.length - other.length
 }
 
-/** @param {VersionId} one @param {VersionId} other */
+/**
+ * Whether two identifiers are equal.
+ * @param {VersionId} one
+ * @param {VersionId} other
+ */
 export const isSameId = (one, other) => compareIds(one, other) === 0
 
-/** Names in rising order. @param {Iterable<number>} codes @returns {VersionId} */
+/**
+ * The names with these codes, sorted in ascending order.
+ * @param {Iterable<number>} codes
+ * @returns {VersionId}
+ */
 export const idOf = (codes) => [...codes].sort((one, other) => one - other).map(nameOf)
 
 /**
- * The operation of an entry of a record, or null where the entry is a join. The old form of one attribute, whose word
- * is `set`, is a put.
- * @param {any[]} entry @returns {Operation | null}
- * @throws {ProtocolFault} it is no entry
+ * Reads the operation from an entry of a record. The old word `set`, for one attribute, gives a put.
+ * @param {any[]} entry
+ * @returns {Operation | null} null if the entry is a join
+ * @throws {ProtocolFault} the entry is malformed
  */
 export function operationOf(entry) {
   const [word, name, seen] = entry
@@ -103,19 +125,22 @@ export function operationOf(entry) {
   if (word === "put" && rest.length === 1) return { word, name, seen, object, version, attributes: rest[0] }
   if (word === "set" && rest.length === 2) return { word: "put", name, seen, object, version, attributes: [rest] }
   if (word === "drop" && entry.length === 5) return { word, name, seen, object, version }
-  throw new ProtocolFault(`no entry: ${writeText(entry).slice(0, 200)}`)
+  throw new ProtocolFault(`invalid entry: ${writeText(entry).slice(0, 200)}`)
 }
 
-/** The entry that an operation adds to a record. @param {Operation} operation */
+/**
+ * The entry that the server appends to the record for this operation.
+ * @param {Operation} operation
+ */
 export function entryOf({ word, name, seen, object, kind, version, attributes }) {
   if (word === "new") return [word, name, seen, kind, attributes]
   return word === "put" ? [word, name, seen, object, version, attributes] : [word, name, seen, object, version]
 }
 
 /**
- * The text that asks for an operation.
+ * The request that asks the server for this operation.
  * @param {Operation} operation @returns {string}
- * @throws {Refused} `too-long`: no server takes it
+ * @throws {Refused} `too-long`: the request exceeds `LIMITS.messageBytes`
  */
 export function requestOf(operation) {
   const [word, [, number], ...rest] = entryOf(operation)

@@ -1,18 +1,21 @@
-/** Types of the client library of GRACE rooms. `grace.js` and the files beside it say what each part does. */
+/** Types of the client library. `grace.js` and the files beside it document the behaviour in full. */
 
-/** Site and number of an operation, or of the object that it made. */
+/** Site and number of an operation. An object has the name of its creation. */
 export type Name = [site: number, number: number]
-/** What a change names to build on a version: names, rising. */
+/** The identifier of a version: names in ascending order. A put or a drop names its base by it. */
 export type VersionId = Name[]
-/** A whole number of 64 bits, a `number` where that is exact, else a `bigint`; or a text of at most 256 bytes. */
+/**
+ * A 64-bit integer, or a string of at most 256 bytes in UTF-8. An integer is a `number` if that is exact, otherwise a
+ * `bigint`.
+ */
 export type Value = number | bigint | string
 export type Attribute = [key: string, value: Value]
-/** What a program hands in as attributes: `{ x: 5 }`, a `Map`, or pairs. */
+/** Attributes as arguments: `{ x: 5 }`, a `Map`, or pairs of a key and a value. */
 export type Attributes =
   | Readonly<Record<string, Value>>
   | readonly (readonly [string, Value])[]
   | Iterable<readonly [string, Value]>
-/** How many operations of each site were seen. */
+/** A state vector: for each site how many of its operations the author had seen. */
 export type Seen = [site: number, count: number][]
 
 export interface Creation {
@@ -44,7 +47,9 @@ export interface Drop {
 
 export type Operation = Creation | Put | Drop
 
-/** An entry of a record. `set` is the old form of a put of one attribute: it is read, and never written. */
+/**
+ * An entry of the record. `set` is an old form of a put with one attribute; the library reads it but never writes it.
+ */
 export type Entry =
   | ["join", number]
   | ["new", Name, Seen, string, Attribute[]]
@@ -52,10 +57,10 @@ export type Entry =
   | ["drop", Name, Seen, Name, VersionId]
   | ["set", Name, Seen, Name, VersionId, string, Value]
 
-/** A value that `readText` gives and `writeText` takes: what messages are made of. */
+/** A value that `readText` returns and `writeText` accepts. All messages have this form. */
 export type Json = Value | Json[]
 
-/** What a room or an object takes at most. */
+/** The largest number or size of each, as the server enforces it. */
 export const LIMITS: {
   readonly sites: 256
   readonly entries: 16384
@@ -70,59 +75,64 @@ export const LIMITS: {
   readonly roomBytes: 64
 }
 
-/** The server's words of refusals. */
+/** The server's words for refusals. */
 export type ServerWord =
   | "bad-message" | "not-joined" | "already-joined" | "no-such-room" | "room-full" | "record-full" | "wrong-seq"
   | "own-count" | "ahead" | "not-closed" | "no-such-object" | "no-such-version" | "object-full" | "too-many-keys"
   | "too-many-versions" | "too-many-objects" | "too-far" | "gone" | "no-such-site" | "site-in-use"
-/** The library's own words of refusals. */
+/** The library's own words for refusals. */
 export type OwnWord = "closed" | "withdrawn" | "another-room" | "too-long"
 
-/** A change or a join that the server or this library refused. It changed nothing. `message` has words for a person. */
+/**
+ * The server or this library refused a change or a join, which then has no effect. `message` is a sentence for people.
+ */
 export class Refused extends Error {
   constructor(word: ServerWord | OwnWord)
   readonly name: "Refused"
   readonly word: ServerWord | OwnWord
-  /** The server's number of the refusal, 0 for the library's own words. */
+  /** The server's code, from 1 to 20; 0 for the library's own words. */
   readonly code: number
 }
 
-/** What came isn't what a GRACE server sends, or no room can have had it. */
+/** The server sent something that the protocol does not allow. */
 export class ProtocolFault extends Error {
   readonly name: "ProtocolFault"
 }
 
-/** The connection is gone: it was never made, it broke, or a reply took too long. */
+/** The connection failed: it could not be opened, it broke, or a reply took too long. */
 export class Lost extends Error {
   readonly name: "Lost"
 }
 
-/** One version of an object, as it was when it was asked for. It never changes. */
+/** One version of an object, as it was when you read it. It is immutable. */
 export class Version {
   private constructor()
   readonly id: VersionId
-  /** Whether a drop deleted it. */
+  /** Whether a drop deleted this version. */
   readonly isGone: boolean
-  /** The keys in order, each with its value; none where the version is gone. */
+  /** Key and value of each attribute, sorted by key. Empty if the version is gone. */
   readonly attributes: ReadonlyMap<string, Value>
-  /** The drops that it outlived. */
+  /** The drops that this version survived: others changed it concurrently. */
   readonly outlived: Name[]
-  /** The names of all changes in it. */
+  /** The names of all changes in this version. */
   get members(): Name[]
   has(name: Name): boolean
 }
 
-/** The objects that some operations make, with their versions, worked out from the operations alone. */
+/** Objects and their versions, computed from the operations added so far. */
 export class Drawing {
   constructor()
-  /** How many operations of a site it has. */
+  /** How many operations of a site were added. */
   count(site: number): number
   seen(): Seen
-  /** @throws {ProtocolFault | Refused} nothing was added */
+  /** @throws {ProtocolFault | Refused} the drawing is unchanged */
   add(operation: Operation): void
-  /** Would `add` take this change? @throws {ProtocolFault | Refused} */
+  /**
+   * Checks whether `add` would accept a change.
+   * @throws {ProtocolFault | Refused}
+   */
   check(change: Put | Drop): void
-  /** Takes the last operations of a site out again, from this number on. */
+  /** Removes the operations of a site from this number on. No other site's operation may count them. */
   remove(site: number, first: number): void
   names(): Name[]
   has(name: Name): boolean
@@ -130,34 +140,37 @@ export class Drawing {
   kind(name: Name): string
   /** @throws {Refused} `no-such-object` */
   versions(name: Name): Version[]
-  /** How much of its limits an object has used. @throws {Refused} `no-such-object` */
+  /**
+   * How many changes an object has, and which keys they use.
+   * @throws {Refused} `no-such-object`
+   */
   used(name: Name): { changes: number; keys: Set<string> }
 }
 
-/** A change of this client: a new object, a put, or a drop. */
+/** A change that this client made: a creation, a put or a drop. */
 export class Change {
   private constructor()
-  /** The operation as it is to be sent, or was. */
+  /** The operation that was sent or will be sent. */
   get operation(): Operation
   get name(): Name
-  /** The object that it makes or changes. */
+  /** The object that the change creates or modifies. */
   get object(): Name
-  /** The version that has it, as it was at once after it. */
+  /** The version that contains this change, as it was directly after it. */
   get version(): Version
   readonly isSent: boolean
-  /** When it was made, by `performance.now()`. */
+  /** When the change was made, in milliseconds of `performance.now()`. */
   readonly made: number
-  /** Fulfilled once the server took it, rejected with `Refused`. Nobody needs to look at it. */
+  /** Resolves when the server has accepted the change. Rejects with `Refused`. You may ignore it. */
   readonly done: Promise<void>
 }
 
 /**
- * `saving`: the connection stands, and a change has gone unanswered for a second or more.
- * `waiting`: between a lost connection and the next try.
+ * `saving`: connected, and a change has been pending for a second or more.
+ * - `waiting`: disconnected, until the next attempt to reconnect.
  */
 export type State = "connecting" | "open" | "saving" | "waiting" | "closed"
 
-/** As much of a `WebSocket` as the library asks for. */
+/** The part of `WebSocket` that the library uses. */
 export interface Socket {
   send(text: string): void
   close(code?: number): void
@@ -167,7 +180,7 @@ export interface Socket {
   onerror: ((event: any) => any) | null
 }
 
-/** As much of a browser's `sessionStorage` as the library asks for. */
+/** The part of the browser's `sessionStorage` that the library uses. */
 export interface Storage {
   getItem(key: string): string | null
   setItem(key: string, text: string): void
@@ -175,96 +188,119 @@ export interface Storage {
 }
 
 export interface Options {
-  /** Opens a socket. The global `WebSocket` where it isn't given. */
+  /** Opens a socket. The default is the global `WebSocket`. */
   connect?: ((address: string) => Socket) | undefined
-  /** The wait from a reply to the next question for news, while there is some: 20. */
+  /** The time from a reply to the next poll, while the room is busy: 20. */
   pollMilliseconds?: number | undefined
-  /** For how long after the last change in the room it is asked so often: 5,000. Then the waits grow by a quarter. */
+  /** How long the room counts as busy after a change: 5,000. After that each wait is 1.25 times the one before. */
   busyMilliseconds?: number | undefined
-  /** The longest of these waits: 1,000. */
+  /** The longest wait between polls: 1,000. */
   idleMilliseconds?: number | undefined
-  /** The wait while the page is hidden, where there is a `document`: 5,000. */
+  /** The least wait between polls while the page is hidden, if there is a `document`: 5,000. */
   hiddenMilliseconds?: number | undefined
-  /** After how long without a reply a connection counts as lost: 15,000. */
+  /** The client drops a connection if a reply takes longer than this: 15,000. */
   replyMilliseconds?: number | undefined
-  /** How long to try to come back as the old site where its old session isn't over yet: 5,000. */
+  /** How long the client tries to rejoin as its old site while the server still has its old session: 5,000. */
   backMilliseconds?: number | undefined
-  /** The waits before the first, second, .. try to connect again; the last stands for all others. */
+  /** The backoff: the waits before the first, second and later attempts to reconnect. The last one repeats. */
   retryMilliseconds?: readonly number[] | undefined
-  /** Where a page keeps what it goes on from when it is loaded anew: true for `sessionStorage`. */
+  /**
+   * Where the client saves its state, so that a reloaded page continues as the same site. `true` is `sessionStorage`.
+   */
   storage?: boolean | Storage | undefined
 }
 
-/** What the listeners of each event are told. */
+/** What the listeners of each event receive. */
 export interface RoomEvents {
-  /** These objects are other than they were, or new, or gone; and what got another name, each old and new. */
+  /**
+   * These objects were created, changed or deleted. `renamed` lists own operations and objects that have a new name.
+   */
   change: { objects: Name[]; renamed: [old: Name, now: Name][] }
-  /** The connection. `milliseconds` is how long the oldest change has waited while it is `saving`, else 0. */
+  /**
+   * The connection state. `milliseconds` is how long the oldest change has been pending if it is `saving`, otherwise 0.
+   */
   state: { state: State; words: string; milliseconds: number }
-  /** How far the room is loaded; for the last time once it is. */
+  /** Entries of the room that are loaded. The last event has `isLoaded` true. */
   progress: { have: number; of: number; isLoaded: boolean }
-  /** A change was refused, and what it did is taken back. */
+  /** A change failed, and its effect was removed. */
   refusal: { refusal: Refused; change: Change }
-  /** The server has another room of this name: what this client had of the old one stands in `text`. */
+  /** The server now has a different room of this name. `text` has the entries of the old one, one a line. */
   renewed: { words: string; text: string }
 }
 
-/** A room that a client is in. */
+/** A client in a room. */
 export class Room {
-  /** @throws {TypeError} the name is none, or there is neither `options.connect` nor a global `WebSocket` */
+  /** @throws {TypeError} the name is invalid, or there is neither `options.connect` nor a global `WebSocket` */
   constructor(address: string, name: string, options?: Options)
 
   get state(): State
-  /** The state in words. */
+  /** The connection state as a sentence for people. */
   get words(): string
-  /** The site that this client is in the room, null before it is in. */
+  /** The number of this client's site, from 1 to 256; null before the client has joined. */
   get site(): number | null
-  /** The entries of the record that were pulled. */
+  /** The entries that were pulled so far. */
   get record(): readonly Entry[]
-  /** The state vector that a next change would carry. */
+  /** The state vector that the next change carries. */
   get seen(): Seen
-  /** The changes that the server hasn't answered yet. */
+  /** The changes that the server has not answered yet, oldest first. */
   get pending(): readonly Change[]
-  /** How many entries of the record this client has pulled, and how many the server has at least. */
+  /** How many entries of the record were pulled, and how many the server has at least. */
   get progress(): { have: number; of: number }
-  /** Whether this client has had all that the room had when it came in. */
+  /** Whether the client has loaded all entries that the room had when the client joined. */
   get isLoaded(): boolean
-  /** Whether there is news that a hold keeps back. */
+  /** Whether a hold keeps new entries from being shown. */
   get hasNews(): boolean
 
   objects(): Name[]
   has(object: Name): boolean
   /** @throws {Refused} `no-such-object` */
   kind(object: Name): string
-  /** In order of identifier. @throws {Refused} `no-such-object` */
+  /**
+   * Sorted by identifier.
+   * @throws {Refused} `no-such-object`
+   */
   versions(object: Name): Version[]
-  /** The versions that now have all changes that a version had. */
+  /** The current versions that contain all changes of an earlier version. */
   successors(object: Name, version: Version): Version[]
-  /** Calls a listener from now on. What it gives ends that. @throws {TypeError} there is no such event */
+  /**
+   * Adds a listener. The function that it returns removes the listener.
+   * @throws {TypeError} there is no such event
+   */
   on<Event extends keyof RoomEvents>(event: Event, listener: (news: RoomEvents[Event]) => void): () => void
 
-  /** @throws {Refused | TypeError | RangeError} nothing was changed */
+  /** @throws {Refused | TypeError | RangeError} nothing has changed */
   create(kind: string, attributes?: Attributes): Change
-  /** Gives a version 1 to 16 attributes in one step. @throws {Refused | TypeError | RangeError} nothing was changed */
+  /**
+   * Sets 1 to 16 attributes of a version in one change. @throws {Refused | TypeError | RangeError} nothing has changed
+   */
   put(object: Name, version: VersionId | Version, attributes: Attributes): Change
-  /** Gives a version one attribute. @throws {Refused | TypeError | RangeError} nothing was changed */
+  /**
+   * Sets one attribute of a version.
+   * @throws {Refused | TypeError | RangeError} nothing has changed
+   */
   set(object: Name, version: VersionId | Version, key: string, value: Value): Change
-  /** Deletes a version. @throws {Refused | TypeError} nothing was changed */
+  /**
+   * Deletes a version.
+   * @throws {Refused | TypeError} nothing has changed
+   */
   drop(object: Name, version: VersionId | Version): Change
-  /** Keeps news from being shown until what it gives is called. */
+  /** Stops showing other people's changes until you call the function that it returns. */
   hold(): () => void
 
-  /** Awaits that the server has answered all changes, or the room is closed. */
+  /** Resolves when no change is pending, or the room is closed. */
   settled(): Promise<void>
-  /** Closes the connection for good. */
+  /** Closes the room and its connection for good. Pending changes reject with `closed`. */
   close(): void
 }
 
-/** @throws {ProtocolFault} it is no entry */
+/** @throws {ProtocolFault} the entry is malformed */
 export function operationOf(entry: Entry | Json[]): Operation | null
 export function entryOf(operation: Operation): Entry
 export function isSameId(one: VersionId, other: VersionId): boolean
-/** Whole numbers beyond 2^53 - 1 either way are `bigint`. @throws {SyntaxError} */
+/**
+ * Integers beyond 2^53 - 1 in either direction become `bigint`.
+ * @throws {SyntaxError}
+ */
 export function readText(text: string): Json
-/** @throws {TypeError | RangeError} there is something else in the value */
+/** @throws {TypeError | RangeError} the value contains something else */
 export function writeText(value: Json | readonly Json[] | Entry): string

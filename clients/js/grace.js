@@ -1,6 +1,6 @@
 /**
- * A client of GRACE rooms, for browsers and node. `Room` joins a room, keeps its record and what it shows, changes
- * objects, and comes back after a lost connection. `Drawing` works out the versions of objects from operations alone.
+ * A client of GRACE drawing rooms, for browsers and node. `Room` joins a room, shows its objects, changes them, and
+ * reconnects. `Drawing` computes the versions of objects from operations alone.
  *
  *     import { Room } from "./grace.js"
  *     const room = new Room("ws://localhost:7000/", "r")
@@ -13,10 +13,11 @@
  *       room.put(object, version, { x: 5, y: 7 })
  *     })
  *
- * Values are texts, and whole numbers of 64 bits: a `Number` where that is exact (up to 2^53 - 1 either way), else a
- * `BigInt`. An object takes 1,024 changes with 64 keys, and has at most 32 versions; `LIMITS` has these and the others.
- * Who joins a room uses up one of its 256 sites for good. After a lost connection the library comes back as the site
- * that it was, and with the option `storage` a page that is loaded anew does.
+ * A value is a string or a 64-bit integer. An integer from -(2^53 - 1) to 2^53 - 1 is a `Number`; beyond that it is a
+ * `BigInt`. An object takes 1,024 changes and 64 keys, and has at most 32 versions; `LIMITS` has all limits.
+ *
+ * Each join uses up one of the room's 256 sites for good. After a lost connection the client rejoins as the same site.
+ * With the option `storage` a reloaded page does so too.
  */
 
 import { Lost } from "./connection.js"

@@ -1,12 +1,12 @@
 /**
- * JSON texts of arrays, texts and whole numbers, which is all that GRACE's messages are made of. A whole number
- * that a `Number` doesn't hold exactly is a `BigInt`, so none is ever rounded.
+ * JSON texts of lists, strings and integers: the messages contain nothing else. An integer that a `Number` cannot hold
+ * exactly becomes a `BigInt`, so that no value is rounded.
  */
 
 const SPACES = /[ \t\n\r]*/
 const MARK = /[[\],]/
 const DIGITS = /0|-?[1-9][0-9]*/
-// A text up to its end, with whatever escapes: `JSON.parse` reads it.
+// A string with any escape sequence. `JSON.parse` checks the escapes.
 const QUOTED = /"[^"\\\u0000-\u001f]*(?:\\[^\u0000-\u001f][^"\\\u0000-\u001f]*)*"/
 const TOKEN = new RegExp(
   `${SPACES.source}(?:(${MARK.source})|(${DIGITS.source})(?![0-9.eE])|(${QUOTED.source}))`, "y",
@@ -15,9 +15,8 @@ const SPACE = new RegExp(SPACES.source, "y")
 const DEEPEST = 127
 
 /**
- * A whole number in the form that this library keeps it in: a `Number` where that is exact, else a `BigInt`.
- * So equal numbers are equal by `===`.
- * @param {number | bigint | string} number a whole number, or its digits
+ * Converts an integer to a `Number` if that is exact, otherwise to a `BigInt`. So equal integers are equal by `===`.
+ * @param {number | bigint | string} number an integer, or its digits
  * @returns {number | bigint}
  */
 export function exact(number) {
@@ -25,7 +24,7 @@ export function exact(number) {
   return Number.isSafeInteger(rounded) ? rounded + 0 : BigInt(number)
 }
 
-/** Reads one text from its start to its end. */
+/** Reads one JSON text from start to end. */
 class Reader {
   constructor(text) {
     this.text = text
@@ -35,20 +34,20 @@ class Reader {
   token() {
     TOKEN.lastIndex = this.place
     const found = TOKEN.exec(this.text)
-    if (found === null) throw new SyntaxError(`no message of whole numbers, texts and lists at ${this.place}`)
+    if (found === null) throw new SyntaxError(`no integer, string or list at ${this.place}`)
     this.place = TOKEN.lastIndex
     return found
   }
 
-  /** The value that begins with this token, `depth` lists deep. */
+  /** The value that starts with this token, inside `depth` lists. */
   value([, mark, digits, quoted], depth) {
     if (digits !== undefined) return exact(digits)
     if (quoted !== undefined) return JSON.parse(quoted)
-    if (mark !== "[" || depth === DEEPEST) throw new SyntaxError(`no value before ${this.place}`)
+    if (mark !== "[" || depth === DEEPEST) throw new SyntaxError(`invalid value before ${this.place}`)
     return this.list(depth + 1)
   }
 
-  /** The elements up to the list's end. */
+  /** The elements of a list whose opening bracket has been read. */
   list(depth) {
     const elements = []
     let token = this.token()
@@ -57,7 +56,7 @@ class Reader {
       elements.push(this.value(token, depth))
       const [, mark] = this.token()
       if (mark === "]") return elements
-      if (mark !== ",") throw new SyntaxError(`no comma before ${this.place}`)
+      if (mark !== ",") throw new SyntaxError(`missing comma before ${this.place}`)
       token = this.token()
     }
   }
@@ -70,10 +69,10 @@ class Reader {
 }
 
 /**
- * The value of a JSON text: lists, texts and whole numbers alone.
+ * Parses a JSON text that consists of lists, strings and integers.
  * @param {string} text
- * @returns {any} a `Number` for a whole number up to 2^53 - 1 either way, a `BigInt` for one beyond
- * @throws {SyntaxError} the text is another one: it has an object, a fraction, a truth value, nothing, or is no JSON
+ * @returns {any} an integer is a `Number` from -(2^53 - 1) to 2^53 - 1, and a `BigInt` beyond
+ * @throws {SyntaxError} the text is not JSON, or has an object, a fraction, an exponent, a boolean or null
  */
 export function readText(text) {
   const reader = new Reader(text)
@@ -83,17 +82,17 @@ export function readText(text) {
 }
 
 /**
- * The JSON text of a value, without white space.
- * @param {any} value lists of lists, texts, and whole numbers as `Number` or `BigInt`
+ * Writes a value as JSON text without white space.
+ * @param {any} value a string, an integer (`Number` or `BigInt`), or a list of such values
  * @returns {string}
- * @throws {TypeError} there is something else in the value
- * @throws {RangeError} there is a `Number` in it that isn't whole or isn't exact
+ * @throws {TypeError} the value contains something else
+ * @throws {RangeError} the value contains a `Number` that is not an exact integer
  */
 export function writeText(value) {
   if (typeof value === "string") return JSON.stringify(value)
   if (typeof value === "bigint") return value.toString()
   if (Array.isArray(value)) return `[${value.map(writeText).join(",")}]`
-  if (typeof value !== "number") throw new TypeError(`a ${typeof value} in a message`)
-  if (!Number.isSafeInteger(value)) throw new RangeError(`${value} isn't a whole number that is exact: use a BigInt`)
+  if (typeof value !== "number") throw new TypeError(`a message cannot contain a ${typeof value}`)
+  if (!Number.isSafeInteger(value)) throw new RangeError(`${value} is not an exact integer; use a BigInt`)
   return (value + 0).toString()
 }

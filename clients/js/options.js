@@ -1,24 +1,24 @@
-/** What one says of a room when it is made. */
+/** The options of a `Room`. */
 
 /**
  * @typedef {object} Options
- * @property {(address: string) => import("./connection.js").Socket} [connect] opens a socket that does as a `WebSocket`
- *   does. Where it isn't given, the global `WebSocket` is taken, which browsers have, and node from version 22 on
- * @property {number} [pollMilliseconds] the wait from a reply to the next question for news, while there is some: 20
- * @property {number} [busyMilliseconds] for how long after the last change in the room, own or another's, it is asked
- *   so often: 5,000. From then on each wait is a quarter longer than the one before
- * @property {number} [idleMilliseconds] the longest of these waits: 1,000
- * @property {number} [hiddenMilliseconds] the wait while the page is hidden, where there is a `document`: 5,000. It is
- *   asked at once when the page is visible again
- * @property {number} [replyMilliseconds] after how long without a reply a connection counts as lost: 15,000
- * @property {number} [backMilliseconds] how long to try to come back as the old site where its old session isn't over
- *   yet: 5,000. Then the client joins as a new one
- * @property {number[]} [retryMilliseconds] the waits before the first, second, .. try to connect again; the last
- *   stands for all others
- * @property {boolean | import("./kept.js").Storage} [storage] where to keep the site, the record and the changes that
- *   aren't answered, by server and room, so that a page that is loaded anew goes on as its old site: true for the
- *   browser's `sessionStorage`, which each tab has of its own, or another storage that does as that does. No two
- *   clients may use one at a time for the same room. Otherwise nothing is kept
+ * @property {(address: string) => import("./connection.js").Socket} [connect] opens a socket that behaves like a
+ *   `WebSocket`. The default is the global `WebSocket` of browsers, and of node from version 22
+ * @property {number} [pollMilliseconds] the time from a reply to the next poll, while the room is busy: 20
+ * @property {number} [busyMilliseconds] how long the room counts as busy after a change by anyone: 5,000. After that
+ *   each wait is 1.25 times the one before
+ * @property {number} [idleMilliseconds] the longest wait between polls: 1,000
+ * @property {number} [hiddenMilliseconds] the least wait while the page is hidden, if there is a `document`: 5,000. The
+ *   client polls at once when the page becomes visible
+ * @property {number} [replyMilliseconds] the client drops a connection if a reply takes longer than this: 15,000
+ * @property {number} [backMilliseconds] how long the client tries to rejoin as its old site while the server still has
+ *   its old session: 5,000. Then it joins as a new site
+ * @property {number[]} [retryMilliseconds] the backoff: the waits before the first, second and later attempts to
+ *   reconnect. The last one repeats
+ * @property {boolean | import("./storage.js").Storage} [storage] where the client saves its site, the record and its
+ *   pending changes, so that a reloaded page continues as the same site. `true` means the browser's `sessionStorage`,
+ *   which each tab has for itself. Two clients must not use one storage for the same room at the same time. The default
+ *   saves nothing
  */
 
 const DEFAULTS = {
@@ -33,22 +33,29 @@ const DEFAULTS = {
   storage: false,
 }
 
-export const NO_WEB_SOCKET = "There is no global WebSocket here. Hand in the option connect, as in " +
+export const NO_WEB_SOCKET = "There is no global WebSocket. Pass the option connect, such as " +
   "new Room(address, name, { connect: (address) => new WebSocket(address) }) with the WebSocket of a library."
 
-/** The options with what stands where nothing is said. @param {Options} options @returns {Required<Options>} */
+/**
+ * Fills in the defaults.
+ * @param {Options} options
+ * @returns {Required<Options>}
+ */
 export function withDefaults(options) {
   const said = Object.entries(options).filter(([, value]) => value !== undefined)
   return { ...DEFAULTS, ...Object.fromEntries(said) }
 }
 
-/** The storage that the option names, or null. @param {Options["storage"]} option */
+/**
+ * The storage that the option selects, or null.
+ * @param {Options["storage"]} option
+ */
 export function storageOf(option) {
   if (option !== true) return option || null
   try {
     return globalThis.sessionStorage ?? null
   } catch {
-    // The browser lets the page have none.
+    // The browser denies this page a storage.
     return null
   }
 }

@@ -1,18 +1,20 @@
 #!/usr/bin/env python3
-"""Draws in a room from a terminal: grace_client.py ADDRESS ROOM [--site SITE]. Lines of standard input:
+"""Draws in a room from a terminal: grace_client.py ADDRESS ROOM [--site SITE]. It reads commands from standard input,
+one a line:
 
-    show                             looks at the room, and prints each version of each object
-    site                             prints the site that this client is
+    show                             loads the room, and prints each version of each object
+    site                             prints the number of this client's site
     new KIND [KEY VALUE]..           creates an object
-    put OBJECT VERSION KEY VALUE..   gives a version of an object these attributes, in one step
+    put OBJECT VERSION KEY VALUE..   sets attributes of a version in one change
     drop OBJECT VERSION              deletes a version of an object
 
-ADDRESS is as 127.0.0.1:7000, or wss://draw.example.org/studio. OBJECT and VERSION count from 1, as the last show did;
-what others do isn't seen before the next one. A VALUE is a whole number where it reads as one, otherwise a text. With
---site it comes back as a site that it was before, otherwise it joins as a new one. A lost connection is told on
-standard error, and made anew. At the end of its input it closes the session; it ends with status 1 where the server,
-the room or the site can't be had. The module `grace` beside it is for programs. Needs Python's standard library
-alone."""
+ADDRESS is such as 127.0.0.1:7000 or wss://draw.example.org/studio. OBJECT and VERSION are numbers from 1, as the last
+show printed them. Other people's changes count as seen only after the next show. A VALUE is an integer if it reads as
+one, otherwise a string.
+
+With --site the client rejoins as that site, otherwise it joins as a new one. It reports a lost connection on standard
+error, and reconnects. At the end of its input it closes the session. The exit status is 1 if the server, the room or
+the site is not available. Programs can use the module `grace` beside it. It needs only Python's standard library."""
 
 import argparse
 import queue
@@ -20,15 +22,15 @@ import sys
 
 from grace import Refused, Room
 
-# What two refusals tell who asked for a site.
+# Explanations of two refusals of --site.
 WORDS = {
-    19: "the room has let in no such site; if you were it, the room was begun anew",
-    20: "somebody is in the room as this site, perhaps your own old session; try again once that is over",
+    19: "the room has let in no such site; it may have been started again",
+    20: "somebody is in the room as this site, perhaps your own old session; try again later",
 }
 
 
 class Mistake(Exception):
-    """What was asked for isn't there. Nothing was sent."""
+    """A command names something that does not exist. Nothing was sent."""
 
 
 class Terminal:
@@ -40,15 +42,15 @@ class Terminal:
         self.release = room.hold()
 
     def look(self):
-        """Looks at all objects. What the record has then counts as seen; it does not change while a person chooses a
-        version."""
+        """Loads all objects. The record's entries so far then count as seen, and the view stays as it is until the next
+        look."""
         self.room.refresh()
         self.release()
         self.release = self.room.hold()
         self.objects = [(name, self.room.kind(name), self.room.versions(name)) for name in self.room.objects()]
 
     def show(self):
-        """Looks, and prints each version of each object."""
+        """Loads the room, and prints each version of each object."""
         self.look()
         for number, (_, kind, versions) in enumerate(self.objects, 1):
             for place, version in enumerate(versions, 1):
@@ -60,15 +62,15 @@ class Terminal:
         self.room.create(kind, attributes).done.result()
 
     def put(self, number, place, attributes):
-        """Gives a version these attributes, by the numbers of the object and the version in the last look."""
+        """Sets attributes of a version. The numbers are those of the last look."""
         self.change(number, place, lambda name, version: self.room.put(name, version, attributes))
 
     def drop(self, number, place):
-        """Deletes a version, by the numbers of the object and the version in the last look."""
+        """Deletes a version. The numbers are those of the last look."""
         self.change(number, place, self.room.drop)
 
     def change(self, number, place, make):
-        """Changes a version, awaits the answer, and goes on with what the version is then."""
+        """Changes a version, waits for the reply, and stores the new version for the next command."""
         name, _, versions = member(self.objects, number, "object")
         change = make(name, member(versions, place, "version"))
         change.done.result()
@@ -76,14 +78,14 @@ class Terminal:
 
 
 def member(members, number, what):
-    """The member of this number, from 1."""
+    """The element with this number, from 1."""
     if not 1 <= number <= len(members):
         raise Mistake(f"there is no {what} {number}")
     return members[number - 1]
 
 
 def number_of(word):
-    """The whole number that a word says."""
+    """Parses an integer."""
     value = value_of(word)
     if isinstance(value, str):
         raise Mistake(f"{word} is no number")
@@ -91,12 +93,12 @@ def number_of(word):
 
 
 def value_of(word):
-    """A whole number where the word reads as one, otherwise the word."""
+    """An integer if the word reads as one, otherwise the word."""
     return int(word) if word.removeprefix("-").isdecimal() else word
 
 
 def attributes_of(words):
-    """The attributes that words say: keys, each with its value."""
+    """The attributes of a command: keys, each followed by its value."""
     keys = words[::2]
     if len(words) % 2 != 0:
         raise Mistake(f"{keys[-1]} has no value")
@@ -106,7 +108,7 @@ def attributes_of(words):
 
 
 def carry_out(terminal, words):
-    """Carries out a line of the input."""
+    """Executes a command."""
     match words:
         case ["show"]:
             terminal.show()
@@ -124,7 +126,7 @@ def carry_out(terminal, words):
 
 
 def words_of(refusal):
-    """A refusal as a line tells it."""
+    """The line that reports a refusal."""
     if refusal.code == 0:
         return f"refused: {refusal.word}: {refusal}"
     words = f": {WORDS[refusal.code]}" if refusal.code in WORDS else ""
@@ -132,7 +134,7 @@ def words_of(refusal):
 
 
 def draw(terminal):
-    """Carries out the lines of standard input."""
+    """Executes the commands from standard input."""
     for line in filter(str.strip, sys.stdin):
         try:
             carry_out(terminal, line.split())
@@ -143,19 +145,19 @@ def draw(terminal):
         sys.stdout.flush()
 
 
-def tell(words):
-    """Tells of the connection."""
+def report(words):
+    """Reports the connection on standard error."""
     print(f"grace_client.py: {words}", file=sys.stderr, flush=True)
 
 
 def enter(room, states):
-    """Awaits that the client is in the room: None, or why the room can't be had."""
+    """Waits until the client has joined. Returns None, or why it could not."""
     words = None
     for news in iter(states.get, None):
         if news.state != "connecting":
             break
         if words not in (None, news.words):
-            tell(news.words)
+            report(news.words)
         words = news.words
     try:
         return None if room.entered(0) else news.words
@@ -164,39 +166,39 @@ def enter(room, states):
 
 
 def run(address, name, site):
-    """Draws in the room of this name, as a new site or as this one, and closes the session: None, or why the room can't
-    be had."""
+    """Draws in the room, as a new site or as this one, and closes the session. Returns None, or why the client could
+    not join."""
     states = queue.SimpleQueue()
     with Room(address, name, site=site, listeners={"state": states.put}) as room:
         fault = enter(room, states)
         if fault is not None:
             return fault
-        told = [room.words]
+        reported = [room.words]
 
-        def tell_once(news):
-            if news.state != "closed" and news.words != told[-1]:
-                told.append(news.words)
-                tell(news.words)
+        def report_once(news):
+            if news.state != "closed" and news.words != reported[-1]:
+                reported.append(news.words)
+                report(news.words)
 
-        room.on("state", tell_once)
-        room.on("renewed", lambda news: tell(news.words))
+        room.on("state", report_once)
+        room.on("renewed", lambda news: report(news.words))
         draw(Terminal(room))
         return None
 
 
 def address_of(word):
-    """An address of a server: one that is no URL has a port."""
+    """Checks the address of a server: one that is not a URL needs a port."""
     port = word.rpartition(":")[2]
     if "://" not in word and not (port.isdecimal() and int(port) <= 65535):
-        raise argparse.ArgumentTypeError(f"{word} has no port: an address is as 127.0.0.1:7000")
+        raise argparse.ArgumentTypeError(f"{word} has no port: an address is such as 127.0.0.1:7000")
     return word
 
 
 def main():
-    parser = argparse.ArgumentParser(description="Draws in a room from a terminal, by lines of standard input.")
-    parser.add_argument("address", metavar="ADDRESS", type=address_of, help="of the server, as 127.0.0.1:7000")
+    parser = argparse.ArgumentParser(description="Draws in a room from a terminal. Reads commands from standard input.")
+    parser.add_argument("address", metavar="ADDRESS", type=address_of, help="address of the server, such as 127.0.0.1:7000")
     parser.add_argument("room", metavar="ROOM", help="the name of the room")
-    parser.add_argument("--site", type=int, help="the site to come back as, from 1 to 256; otherwise a new one")
+    parser.add_argument("--site", type=int, help="the site to rejoin as, from 1 to 256 (default: a new site)")
     words = parser.parse_args()
     try:
         fault = run(words.address, words.room, words.site)

@@ -1,4 +1,4 @@
-/** What this page shows of the room, and which versions its person has picked. */
+/** What this page shows of the room, and which versions the user has selected for editing. */
 
 import { isSameId } from "../../clients/js/grace.js"
 import { shapeOf } from "./shapes.js"
@@ -8,35 +8,35 @@ export const nameOf = (key) => key.split(",").map(Number)
 
 export class Board {
   #picks = new Map()
-  // By object: versions that somebody deleted while others changed them, and that this page's person keeps.
-  #kept = new Map()
-  // By object: the versions that were shown before the last news.
-  #before = new Map()
+  // By object: versions that survived a deletion and that the user has decided to keep.
+  #keptSurvivors = new Map()
+  // By object: the versions that were shown before the last event.
+  #shownBefore = new Map()
   #objects = null
-  // By version, which never changes: the shape that its attributes make.
+  // By version: its shape. Versions are immutable.
   #shapes = new WeakMap()
 
   /** @param {import("../../clients/js/grace.js").Room} room */
   constructor(room) {
     this.room = room
-    /** The selected object's name, or null. */
+    /** The name of the selected object, or null. */
     this.selected = null
-    /** What a version would become that is being dragged: its object, itself, and the attributes. */
+    /** The version that is being dragged: its object, itself, and the attributes it would get. */
     this.preview = null
   }
 
-  /** The versions of an object that are shown: those that aren't gone. */
+  /** The versions of an object that are shown: those that are not gone. */
   shown(name) {
     return this.room.has(name) ? this.room.versions(name).filter(isThere) : []
   }
 
-  /** The objects that are shown, those that have a version to show, in the order of the record. */
+  /** The objects with at least one shown version, in the order of the record. */
   objects() {
     this.#objects ??= this.room.objects().filter((name) => this.shown(name).length > 0)
     return this.#objects
   }
 
-  /** The version to go on with: the only shown one, or the picked one; null where one has to be picked first. */
+  /** The version that edits apply to: the only one, or the picked one. Null if the user must pick one first. */
   picked(name) {
     const versions = this.shown(name)
     if (versions.length === 1) return versions[0]
@@ -44,7 +44,7 @@ export class Board {
     return versions.find(({ id }) => pick !== undefined && isSameId(id, pick.id)) ?? null
   }
 
-  /** Picks a version to go on with. */
+  /** Picks a version for editing. */
   pick(name, version) {
     this.#picks.set(keyOf(name), version)
   }
@@ -53,34 +53,34 @@ export class Board {
     return this.selected !== null && keyOf(this.selected) === keyOf(name)
   }
 
-  /** The shapes of an object's shown versions, as far as one is dragged that which it would become. */
+  /** The shapes of an object's shown versions, with a drag in progress applied. */
   shapes(name) {
     return this.shown(name).map((version) => this.#previewOf(name, version) ?? this.#shapeOf(name, version))
   }
 
-  /** The shown versions that somebody deleted while others changed them, without those that are kept. */
+  /** The versions that survived a deletion, except those that the user keeps. */
   survivors(name) {
-    const kept = this.#kept.get(keyOf(name)) ?? []
-    const isKept = (version) => kept.some((one) =>
+    const keptVersions = this.#keptSurvivors.get(keyOf(name)) ?? []
+    const isKept = (version) => keptVersions.some((one) =>
       one.outlived.length >= version.outlived.length && this.successors(name, one).includes(version))
     return this.shown(name).filter((version) => version.outlived.length > 0 && !isKept(version))
   }
 
-  /** Keeps versions that somebody deleted while others changed them: nothing more is said of it. */
+  /** Keeps versions that survived a deletion: the page stops mentioning the deletion. */
   keep(name, versions) {
-    this.#kept.set(keyOf(name), [...(this.#kept.get(keyOf(name)) ?? []), ...versions])
+    this.#keptSurvivors.set(keyOf(name), [...(this.#keptSurvivors.get(keyOf(name)) ?? []), ...versions])
   }
 
-  /** What became of a version, as far as it isn't gone. */
+  /** The current versions that contain an earlier one, except those that are gone. */
   successors(name, version) {
     return this.room.successors(name, version).filter(isThere)
   }
 
   /**
-   * Takes what has changed in the room: picks are followed.
-   * @returns {{ name: any, versions: any[] }[]} the objects that aren't shown any more, with what was shown of them
+   * Updates picks and names after a change in the room.
+   * @returns {{ name: any, versions: any[] }[]} the objects that are no longer shown, with the versions they had
    */
-  take({ objects, renamed }) {
+  update({ objects, renamed }) {
     this.#objects = null
     for (const [old, name] of renamed) this.#rename(keyOf(old), name)
     for (const name of objects) this.#follow(name)
@@ -102,13 +102,13 @@ export class Board {
 
   #rename(key, name) {
     if (this.selected !== null && keyOf(this.selected) === key) this.selected = name
-    for (const byKey of [this.#picks, this.#kept, this.#before]) {
+    for (const byKey of [this.#picks, this.#keptSurvivors, this.#shownBefore]) {
       if (byKey.has(key)) byKey.set(keyOf(name), byKey.get(key))
       byKey.delete(key)
     }
   }
 
-  /** A pick goes on as what became of its version; where that is several or gone, its person has to pick again. */
+  /** Replaces a pick by its successor. If there are several, or none, the user must pick again. */
   #follow(name) {
     const pick = this.#picks.get(keyOf(name))
     if (pick === undefined) return
@@ -117,10 +117,10 @@ export class Board {
     else this.#picks.delete(keyOf(name))
   }
 
-  /** What was shown of an object, where that is no more; it is null where the object is shown, or never was. */
+  /** The versions that were shown of an object that is no longer shown, otherwise null. */
   #lost(name) {
-    const [before, versions] = [this.#before.get(keyOf(name)) ?? [], this.shown(name)]
-    this.#before.set(keyOf(name), versions)
+    const [before, versions] = [this.#shownBefore.get(keyOf(name)) ?? [], this.shown(name)]
+    this.#shownBefore.set(keyOf(name), versions)
     return before.length > 0 && versions.length === 0 ? { name, versions: before } : null
   }
 }

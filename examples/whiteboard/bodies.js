@@ -1,4 +1,4 @@
-/** The elements that draw shapes, and the text on them. */
+/** SVG elements of shapes and of the text on them. */
 
 import { boundsOf, middleOf } from "./boxes.js"
 import { svg } from "./elements.js"
@@ -10,11 +10,11 @@ const LINE = 1.25
 const LEAST_WIDTH = 90
 const INK = "#1d2733"
 const PAPER_COLOUR = "#ffffff"
-// On what is darker than this, of 255, letters are light.
+// On a colour darker than this (0 to 255) the text is light.
 const DARK = 140
 const SCRATCH = document.createElement("canvas").getContext("2d")
 
-/** The element that draws a shape. */
+/** The element of a shape. */
 export function bodyOf(shape, name = "body") {
   const { kind, x, y, width, height, fill } = shape
   if (kind === "line") {
@@ -32,17 +32,17 @@ export function bodyOf(shape, name = "body") {
   return svg("rect", { class: name, ...box, rx: 6, fill })
 }
 
-/** The element that draws a shape without its colour. */
+/** The element of a shape without its colour. */
 export function outlineOf(shape, name) {
   const outline = bodyOf({ ...shape, fill: "none" }, name)
   outline.removeAttribute("style")
   return outline
 }
 
-/** Whether a shape is drawn by a line alone, which is thin, and hard to hit. */
+/** Whether a shape is only a line, which is hard to hit with the pointer. */
 export const isThin = ({ kind }) => kind === "line" || kind === "pen"
 
-/** The points of a stroke where they stand on the drawing: they fill its box. */
+/** The points of a pen stroke on the drawing, scaled to fill its box. */
 function pointsIn({ points }, { x, y, width, height }) {
   if (points.length === 0) return [[x, y]]
   const most = (side) => points.reduce((largest, point) => Math.max(largest, point[side]), 0)
@@ -50,7 +50,7 @@ function pointsIn({ points }, { x, y, width, height }) {
   return points.map((point) => [x + point[0] * wide, y + point[1] * high])
 }
 
-/** The element of the text on a shape: in lines that fit its width, and as large as fits its height. */
+/** The text on a shape: broken to its width, in the largest size that fits its height. */
 export function textOf(shape) {
   const box = boundsOf(shape)
   const [middle, centre] = middleOf(box)
@@ -66,20 +66,20 @@ export function textOf(shape) {
   return svg("text", { class: "name", "font-size": size, style: `fill: ${ink}; stroke: ${ground}` }, ...spans)
 }
 
-/** The colours of letters on a shape, and of what is round them: a thin shape has the paper's. */
+/** The colours of the text and its outline. A thin shape uses the paper's colour. */
 function inksOf(shape) {
   if (isThin(shape)) return [INK, PAPER_COLOUR]
   const [red, green, blue] = [1, 3, 5].map((place) => parseInt(shape.fill.slice(place, place + 2), 16))
   return [0.3 * red + 0.59 * green + 0.11 * blue < DARK ? PAPER_COLOUR : INK, shape.fill]
 }
 
-/** The first size of the letters by which all lines fit the height, or else the smallest. */
+/** The largest size of which all lines fit the height, or the smallest size. */
 function lettering(text, width, height) {
   const tries = SIZES.map((size) => ({ size, lines: linesOf(text, width, size) }))
   return tries.find(({ size, lines }) => lines.length * size * LINE <= height) ?? tries.at(-1)
 }
 
-/** The text in lines of this width, broken between words, or within those that are longer than a line. */
+/** Breaks the text into lines of this width: between words, or inside words that are too long. */
 function linesOf(text, width, size) {
   SCRATCH.font = `${size}px ${FONT}`
   const isTooLong = (words) => SCRATCH.measureText(words.trimEnd()).width > width

@@ -1,4 +1,4 @@
-/** The versions of an object side by side: a card for each, or where they are many a row. */
+/** The versions of an object side by side: as cards, or as rows if there are many. */
 
 import { bodyOf, outlineOf } from "./bodies.js"
 import { boundsOfAll } from "./boxes.js"
@@ -6,12 +6,14 @@ import { button, html, svg } from "./elements.js"
 import { isColour } from "./shapes.js"
 import { differingKeys, keysOf, letterOf, linesOf } from "./words.js"
 
-// More versions than these have a row each.
+// More versions than these are shown as rows.
 const CARDS = 6
 
 /**
- * @param {any[]} versions @param {any[]} shapes of the versions @param {any} picked the version that is picked, or null
- * @param {(version: any) => void} pick
+ * @param {any[]} versions
+ * @param {any[]} shapes of the versions
+ * @param {any} picked the picked version, or null
+ * @param {(version: any) => void} pick called when the user picks a version
  */
 export function cardsOf(versions, shapes, picked, pick) {
   const isMany = versions.length > CARDS
@@ -19,10 +21,10 @@ export function cardsOf(versions, shapes, picked, pick) {
   const cards = versions.map((version, place) => {
     const letter = letterOf(place)
     const isPicked = version === picked
-    const words = isMany ? (isPicked ? "Picked" : "Go on") : `${isPicked ? "Going on" : "Go on"} with ${letter}`
+    const words = isMany ? (isPicked ? "Picked" : "Pick") : `${isPicked ? "Working" : "Work"} on ${letter}`
     const choose = button(words, `pick-${letter}`, () => pick(version))
     choose.setAttribute("aria-pressed", isPicked)
-    choose.setAttribute("aria-label", `Go on with ${letter}`)
+    choose.setAttribute("aria-label", `Work on version ${letter}`)
     const card = cardOf({ versions, shapes, place, letter, choose })
     if (isPicked) card.classList.add("picked")
     card.setAttribute("aria-label", `Version ${letter}`)
@@ -40,7 +42,7 @@ function wholeCardOf({ versions, shapes, place, letter, choose }) {
     html("strong", { textContent: `Version ${letter}` }), pictureOf(shapes, place), html("dl", {}, ...lines), choose)
 }
 
-/** A row has only what isn't the same in all versions. */
+/** A row shows only the attributes that differ between versions. */
 function rowOf({ versions, shapes, place, letter, choose }) {
   const { attributes } = versions[place]
   const differing = differingKeys(versions)
@@ -53,7 +55,7 @@ function rowOf({ versions, shapes, place, letter, choose }) {
 
 const isDiffering = ({ keys }, differing) => keys.some((key) => differing.has(key))
 
-/** A value in words; what differs between versions is marked. */
+/** The text of a value. Values that differ between versions are highlighted. */
 function valueOf({ word, words, keys }, isMarked, attributes) {
   const shown = html(isMarked ? "mark" : "span", { title: word })
   const fill = keys.includes("fill") ? attributes.get("fill") : undefined
@@ -66,7 +68,11 @@ function valueOf({ word, words, keys }, isMarked, attributes) {
   return shown
 }
 
-/** A shape with the others' outlines, all at the same scale. @param {any[]} shapes @param {number} place */
+/**
+ * A shape with the outlines of the others, all in one scale.
+ * @param {any[]} shapes
+ * @param {number} place
+ */
 export function pictureOf(shapes, place) {
   const { x, y, width, height } = boundsOfAll(shapes)
   const edge = 0.08 * Math.max(width, height) + 8

@@ -1,7 +1,7 @@
 /**
- * What this page's person does to objects: each call is a step, which she can undo. A put is undone by a put of what
- * was there, and a creation by a drop. What was dropped comes back as a new object, since nothing goes on with a
- * version that is gone. Where others have gone on from a change it stays, and she is told so.
+ * What the user does to objects. Each call is one step, which the user can undo. Undoing a put sets the old values
+ * again, and undoing a creation drops the object. Nothing can continue a version that is gone, so undoing a drop
+ * creates a new object. A change that other people have built on cannot be undone, and the page says so.
  */
 
 import { LIMITS, Refused } from "../../clients/js/grace.js"
@@ -10,18 +10,18 @@ import { Entries } from "./entries.js"
 import { USUAL } from "./shapes.js"
 import { Undo } from "./undo.js"
 
-/** A step that can't be undone or done again, in words. */
-class Stands extends Error {}
+/** A step that cannot be undone or redone, with the reason. */
+class Irreversible extends Error {}
 
 export class Changes {
-  /** Whether what changes in the room just now is this page's own doing. */
+  /** Whether the room's current change comes from this page. */
   isActing = false
   #undo = new Undo()
   #acts = null
-  // The sites that this page has been.
+  // All sites that this page has been.
   #sites = new Set()
-  // By object that was deleted: the creation by which it came back.
-  #again = new Map()
+  // By deleted object: the creation that brought it back.
+  #restored = new Map()
 
   /** @param {import("./whiteboard.js").Page} page */
   constructor(page) {
@@ -38,7 +38,7 @@ export class Changes {
     return this.#undo.hasUndone
   }
 
-  /** All that the call changes is one step. */
+  /** Makes one step of all changes in the call. */
   step(call) {
     if (this.#acts !== null) return call()
     this.#acts = []
@@ -52,12 +52,15 @@ export class Changes {
     }
   }
 
-  /** Makes an object: the change, or null where it was refused. @param {Iterable<[string, any]> | object} attributes */
+  /**
+   * Creates an object. Returns the change, or null if it was refused. @param {Iterable<[string, any]> | object}
+   * attributes
+   */
   create(kind, attributes) {
     return this.step(() => this.#note(this.#create(kind, attributes)))?.change ?? null
   }
 
-  /** Makes an object, and selects it. */
+  /** Creates an object and selects it. */
   draw(kind, attributes) {
     const change = this.create(kind, attributes)
     if (change === null) return
@@ -66,41 +69,41 @@ export class Changes {
     this.page.view.reach(change.object)
   }
 
-  /** Gives a version attributes, all in one step, and goes on with what that makes of it. */
+  /** Sets attributes of a version in one change, and picks the new version. */
   put(name, version, attributes) {
     this.step(() => this.#note(this.#put(name, version, attributes)))
   }
 
-  /** Deletes versions, one after the other, as long as none is refused. The others keep their identifiers. */
+  /** Deletes versions in turn, and stops at a refusal. The other versions keep their identifiers. */
   drop(name, versions) {
     this.step(() => versions.every((version) => this.#note(this.#drop(name, version)) !== null))
   }
 
-  /** Gives the version that is picked other attributes than it has. */
+  /** Sets attributes of the picked version, if they differ from the present ones. */
   change(attributes) {
     const { board, say } = this.page
     if (board.selected === null) return
     const picked = board.picked(board.selected)
-    if (picked === null) return say("Pick a version of this object first: your change goes to one of them.")
+    if (picked === null) return say("Pick a version of this object first. Your change applies to that one.")
     const isOther = ([key, value]) => picked.attributes.get(key) !== value
     if (Object.entries(attributes).some(isOther)) this.put(board.selected, picked, attributes)
   }
 
   undo() {
     this.page.nudges.end()
-    this.#undo.undo((act) => this.#turn(act, "can't be undone"))
+    this.#undo.undo((act) => this.#reverse(act, "can't be undone"))
     this.page.view.change([])
   }
 
   redo() {
     this.page.nudges.end()
-    this.#undo.redo((act) => this.#turn(act, "can't be done again"))
+    this.#undo.redo((act) => this.#reverse(act, "can't be redone"))
     this.page.view.change([])
   }
 
-  // ---- acts: each is done at once, and tells how it is undone
+  // ---- actions: each takes effect at once, and returns how to reverse it
 
-  /** What the call does, or null where it is refused, which is told in words. */
+  /** Makes a change. If it is refused, tells the user and returns null. */
   #attempt(call) {
     this.isActing = true
     try {
@@ -122,7 +125,7 @@ export class Changes {
     return act
   }
 
-  /** A creation takes some attributes: puts give it those that are more. */
+  /** A creation takes a limited number of attributes. Puts add the rest. */
   #create(kind, attributes) {
     const { room } = this.page
     const pairs = Symbol.iterator in attributes ? [...attributes] : Object.entries(attributes)
@@ -152,52 +155,55 @@ export class Changes {
     return change && { word: "drop", change, kind, attributes: version.attributes }
   }
 
-  // ---- the contrary of an act
+  // ---- reversing an action
 
-  /** Does the contrary of an act: that act, or null where it can't be done, which is told. */
-  #turn(act, words) {
+  /** Reverses an action. Returns the reverse action, or null if it is impossible, and tells the user why. */
+  #reverse(act, words) {
     try {
-      const turned = act.word === "drop" ? this.#createAgain(act) : this.#turnStanding(act)
-      if (turned !== null && turned.word !== "drop") {
-        this.page.select(turned.change.object)
-        this.page.view.reach(turned.change.object)
+      const reversed = act.word === "drop" ? this.#restore(act) : this.#reversePut(act)
+      if (reversed !== null && reversed.word !== "drop") {
+        this.page.select(reversed.change.object)
+        this.page.view.reach(reversed.change.object)
       }
-      return turned
+      return reversed
     } catch (fault) {
-      if (!(fault instanceof Stands)) throw fault
+      if (!(fault instanceof Irreversible)) throw fault
       this.page.say(`This ${words}: ${fault.message}`)
       return null
     }
   }
 
-  #createAgain({ change, kind, attributes }) {
+  #restore({ change, kind, attributes }) {
     const act = this.#create(kind, attributes)
-    if (act !== null) this.#again.set(keyOf(change.object), act.change)
+    if (act !== null) this.#restored.set(keyOf(change.object), act.change)
     return act
   }
 
-  #turnStanding(act) {
-    const { name, version } = this.#standing(act.change)
+  #reversePut(act) {
+    const { name, version } = this.#latestVersion(act.change)
     return act.word === "create" ? this.#drop(name, version) : this.#put(name, version, act.before)
   }
 
-  /** The version that a change made, where nobody else has gone on from it; of an object that came back, its own. */
-  #standing(change) {
+  /**
+   * The version that a change made, if nobody else has built on it. For an object that came back, the new object's
+   * version.
+   */
+  #latestVersion(change) {
     const { board } = this.page
     const found = board.successors(change.object, change.version)
     if (found.length === 0) {
-      const again = this.#again.get(keyOf(change.object))
-      if (again === undefined) throw new Stands("somebody deleted it.")
-      return this.#standing(again)
+      const again = this.#restored.get(keyOf(change.object))
+      if (again === undefined) throw new Irreversible("somebody deleted it.")
+      return this.#latestVersion(again)
     }
-    if (found.length > 1) throw new Stands("others changed it at the same time, and it has several versions.")
+    if (found.length > 1) throw new Irreversible("others changed it at the same time, so it has several versions.")
     const [version] = found
-    if (this.#isGoneOn(version, change.name)) throw new Stands("somebody has gone on from it.")
+    if (this.#isBuiltOn(version, change.name)) throw new Irreversible("somebody has changed it since.")
     return { name: change.object, version }
   }
 
-  /** Whether somebody else has changed what a change made, and had seen that. */
-  #isGoneOn(version, name) {
+  /** Whether somebody else has seen a change and then changed the same version. */
+  #isBuiltOn(version, name) {
     const others = version.members.filter(([site]) => !this.#sites.has(site))
     return others.some((other) => {
       const operation = this.entries.find(other)

@@ -1,4 +1,4 @@
-/** Copies of objects: their kind and attributes. All windows of a browser on this whiteboard share one copy. */
+/** Copies of objects: kind and attributes. All windows of a browser on this whiteboard share one copy. */
 
 import { readText, writeText } from "../../clients/js/grace.js"
 import { boundsOf } from "./boxes.js"
@@ -22,7 +22,7 @@ export class Clipboard {
     return this.#read() !== null
   }
 
-  /** Copies the version of the selected object that is picked: whether there is one. */
+  /** Copies the picked version of the selected object. Returns whether there is one. */
   copy() {
     const { board, room, view } = this.page
     const version = board.selected === null ? null : board.picked(board.selected)
@@ -32,13 +32,13 @@ export class Clipboard {
     try {
       localStorage.setItem(KEY, this.#copy.text)
     } catch {
-      // The browser keeps nothing: then this window alone has the copy.
+      // The browser stores nothing, so only this window has the copy.
     }
     view.change([])
     return true
   }
 
-  /** Makes an object of the copy, beside where the last one stands, or in the middle where that isn't seen. */
+  /** Creates an object from the copy: next to the last one, or in the centre if that place is not visible. */
   paste() {
     const copy = this.#read()
     if (copy === null) return
@@ -58,13 +58,13 @@ export class Clipboard {
     return placeOf({ x: x - shape.width / 2, y: y - shape.height / 2 })
   }
 
-  /** What was copied last, in whichever window. */
+  /** The latest copy of any window. */
   #read() {
     let text = this.#copy?.text ?? null
     try {
       text = localStorage.getItem(KEY) ?? text
     } catch {
-      // This window's own copy stands.
+      // Only this window's copy is available.
     }
     try {
       return text && readText(text)

@@ -1,16 +1,16 @@
-/** What a pointer does from where it is pressed to where it is released. Each drag is one change, sent at its end. */
+/** What the pointer does between press and release. Each drag is one change, sent at its end. */
 
 import { bodyOf } from "./bodies.js"
 import { boundsOf } from "./boxes.js"
-import { simplified, strokesOf } from "./pen.js"
-import { LEAST, attributesOf, placeAnew, shapeOf, sizeAnew } from "./shapes.js"
+import { simplify, strokesOf } from "./pen.js"
+import { LEAST, attributesOf, moveAttributes, shapeOf, resizeAttributes } from "./shapes.js"
 
-// So many pixels of the window a pointer may tremble in a press that is no drag.
-const TREMBLE = 2
-// So far from the pointer's way a stroke may pass, in pixels of the window.
-const NEAR = 0.3
+// A movement of fewer pixels counts as a click.
+const CLICK_PIXELS = 2
+// How far, in pixels, a simplify stroke may be from the pointer's path.
+const SIMPLIFY_PIXELS = 0.3
 
-/** Moves the drawing in the window. A press that goes nowhere selects nothing. */
+/** Moves the view. A click on empty paper clears the selection. */
 export class Pan {
   #moved = 0
 
@@ -22,21 +22,23 @@ export class Pan {
   move(event) {
     const [x, y] = this.page.camera.inWindow(event)
     this.#moved = Math.max(this.#moved, Math.hypot(x - this.last[0], y - this.last[1]))
-    if (this.#moved < TREMBLE) return
+    if (this.#moved < CLICK_PIXELS) return
     this.page.camera.pan(x - this.last[0], y - this.last[1])
     this.last = [x, y]
   }
 
   end(isWhole) {
-    if (isWhole && this.#moved < TREMBLE) this.page.select(null)
+    if (isWhole && this.#moved < CLICK_PIXELS) this.page.select(null)
   }
 }
 
-/** Two fingers move the drawing, and make it larger or smaller. */
+/** Two fingers move the view and zoom. */
 export class Pinch {
   #places
 
-  /** @param {Map<number, [number, number]>} places of the fingers in the window, which the caller keeps up to date */
+  /**
+   * @param {Map<number, [number, number]>} places the fingers' positions in the window, kept up to date by the caller
+   */
   constructor(page, places) {
     this.camera = page.camera
     this.#places = places
@@ -59,10 +61,10 @@ export class Pinch {
 }
 
 /**
- * A version that is moved or made larger. Meanwhile the room keeps others' news back: so the change says that its
- * person had seen what she had, and what others did at once conflicts.
+ * Moves or resizes a version. A hold keeps other people's changes back meanwhile. So the change says that its author
+ * had not seen them, and they conflict.
  */
-class Carry {
+class VersionDrag {
   constructor(page, { name, version }, event) {
     this.release = page.room.hold()
     page.select(name, version)
@@ -75,14 +77,14 @@ class Carry {
   move(event) {
     const { board, camera, view } = this.page
     const [x, y] = camera.placeOf(event).map((place, side) => place - this.start[side])
-    const isMoved = this.attributes !== null || Math.hypot(x, y) * camera.scale >= TREMBLE
+    const isMoved = this.attributes !== null || Math.hypot(x, y) * camera.scale >= CLICK_PIXELS
     if (!isMoved) return
-    this.attributes = this.anew(x, y)
+    this.attributes = this.attributesAfter(x, y)
     board.preview = { name: this.name, version: this.version, attributes: this.attributes }
     view.redraw([this.name])
   }
 
-  /** What was selected at the start still is, and its version picked, though both may have other names by now. */
+  /** The selection and the pick follow the version, even if its object was renamed meanwhile. */
   end(isWhole) {
     const { board, changes, view } = this.page
     board.preview = null
@@ -92,25 +94,25 @@ class Carry {
     view.change([this.name])
   }
 
-  /** Whether the drag ends elsewhere than it began. */
+  /** Whether the drag changed anything. */
   #isOther() {
     return Object.entries(this.attributes ?? {}).some(([key, value]) => this.version.attributes.get(key) !== value)
   }
 }
 
-export class Move extends Carry {
-  anew(x, y) {
-    return placeAnew(this.shape, x, y)
+export class Move extends VersionDrag {
+  attributesAfter(x, y) {
+    return moveAttributes(this.shape, x, y)
   }
 }
 
-export class Resize extends Carry {
-  anew(x, y) {
-    return sizeAnew(this.shape, x, y)
+export class Resize extends VersionDrag {
+  attributesAfter(x, y) {
+    return resizeAttributes(this.shape, x, y)
   }
 }
 
-/** A new shape from one corner to the other. */
+/** Draws a new shape from one corner to the opposite one. */
 export class Sketch {
   constructor(page, kind, event) {
     Object.assign(this, { page, kind, start: page.camera.placeOf(event) })
@@ -138,7 +140,7 @@ export class Sketch {
   }
 }
 
-/** A stroke of the pen, which is one or more objects. */
+/** Draws a pen stroke, which becomes one or more objects. */
 export class Stroke {
   constructor(page, event) {
     this.page = page
@@ -149,21 +151,21 @@ export class Stroke {
     const { camera, view, tools } = this.page
     const events = event.getCoalescedEvents?.() ?? []
     this.points.push(...(events.length > 0 ? events : [event]).map((one) => camera.placeOf(one)))
-    view.sheet.sketch(bodyOf(sketched(this.points, tools.colour), "body sketch"))
+    view.sheet.sketch(bodyOf(unfinishedStroke(this.points, tools.colour), "body sketch"))
   }
 
   end(isWhole) {
     const { camera, changes, view, tools } = this.page
     view.sheet.sketch(null)
     if (!isWhole) return
-    const strokes = strokesOf(simplified(this.points, NEAR / camera.scale))
+    const strokes = strokesOf(simplify(this.points, SIMPLIFY_PIXELS / camera.scale))
     const parts = strokes.map(({ texts, ...box }) => ({ ...box, fill: tools.colour, ...texts }))
     changes.step(() => parts.forEach((attributes) => changes.create("pen", attributes)))
   }
 }
 
-/** The shape of a stroke that isn't ended yet. */
-function sketched(points, fill) {
+/** The shape of an unfinished stroke. */
+function unfinishedStroke(points, fill) {
   const [x, y] = [0, 1].map((side) => points.reduce((least, point) => Math.min(least, point[side]), Infinity))
   const own = points.map((point) => [point[0] - x, point[1] - y])
   const [width, height] = [0, 1].map((side) => own.reduce((most, point) => Math.max(most, point[side]), 0))

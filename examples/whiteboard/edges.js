@@ -1,4 +1,4 @@
-/** Marks at the edges of the window for what stands outside it. A click shows the nearest of that. */
+/** Buttons at the edges of the window for objects outside it. A click shows the nearest one. */
 
 import { between, boundsOf, meet, middleOf } from "./boxes.js"
 import { html } from "./elements.js"
@@ -33,7 +33,7 @@ export class Edges {
     for (const side of Object.keys(SIDES)) this.#tell(side, outside[side])
   }
 
-  /** Enters those versions of an object that stand outside by their sides. */
+  /** Sorts the versions of an object that are outside the window by side. */
   #sort(name, outside) {
     for (const shape of this.board.shapes(name)) {
       const box = this.camera.boxOf(boundsOf(shape))

@@ -1,8 +1,8 @@
-/** Elements of the page, each made in one call. */
+/** Helpers that create or find elements of the page. */
 
 const SVG = "http://www.w3.org/2000/svg"
 
-/** An element of SVG, with attributes and children. */
+/** Creates an SVG element with attributes and children. */
 export function svg(word, attributes = {}, ...children) {
   const element = document.createElementNS(SVG, word)
   for (const [key, value] of Object.entries(attributes)) element.setAttribute(key, value)
@@ -10,7 +10,7 @@ export function svg(word, attributes = {}, ...children) {
   return element
 }
 
-/** An element of HTML, with properties and children. */
+/** Creates an HTML element with properties and children. */
 export function html(word, properties = {}, ...children) {
   const { dataset = {}, ...rest } = properties
   const element = Object.assign(document.createElement(word), rest)
@@ -19,9 +19,9 @@ export function html(word, properties = {}, ...children) {
   return element
 }
 
-/** The element of the page that has this identifier. */
+/** The element of the page with this id. */
 export const part = (id) => document.getElementById(id)
 
-/** A button that is drawn anew now and then: by its word it keeps the focus. */
+/** Creates a button. The word `focus` identifies it, so that it keeps the focus when it is drawn again. */
 export const button = (textContent, focus, onclick) =>
   html("button", { type: "button", textContent, onclick, dataset: { focus } })

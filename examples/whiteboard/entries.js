@@ -1,4 +1,4 @@
-/** The operations of a room's record by their names, and what a version had that is gone. */
+/** The operations of the room's record by name, and the attributes of deleted versions. */
 
 import { operationOf } from "../../clients/js/grace.js"
 import { keyOf } from "./board.js"
@@ -13,27 +13,27 @@ export class Entries {
     this.room = room
   }
 
-  /** The operation of this name, or null where neither the record has it nor a change that waits. */
+  /** The operation with this name, from the record or the pending changes; null if there is none. */
   find(name) {
-    this.#readOn()
+    this.#readNew()
     const isIt = (change) => keyOf(change.name) === keyOf(name)
     return this.#byKey.get(keyOf(name)) ?? this.room.pending.find(isIt)?.operation ?? null
   }
 
-  /** The attributes that a version had before it was deleted: what its puts gave, over what its creation gave. */
+  /** The attributes that a version had before it was deleted: those of the creation, then those of its puts. */
   attributesOf(name, version) {
     const operations = [name, ...version.members].map((member) => this.find(member))
     const pairs = operations.flatMap((operation) => operation?.attributes ?? [])
     return new Map(pairs)
   }
 
-  /** Whether the author of an operation had seen another one. */
+  /** Whether the author of an operation had seen another operation. */
   hadSeen(operation, [site, number]) {
     return operation.seen.some(([other, count]) => other === site && count >= number)
   }
 
-  /** Reads what the record has more than it had; a room that was begun anew has another record. */
-  #readOn() {
+  /** Reads the new entries of the record. After a restart of the room it starts again. */
+  #readNew() {
     const { record } = this.room
     if (record !== this.#record) {
       this.#byKey.clear()

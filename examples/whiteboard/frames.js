@@ -1,4 +1,4 @@
-/** Draws once in a frame of the screen, however often it is asked for. */
+/** Draws at most once in each animation frame. */
 export class Frames {
   #draw
   #asked = 0
@@ -8,12 +8,12 @@ export class Frames {
     this.#draw = draw
   }
 
-  /** Asks for a drawing in the next frame. */
+  /** Requests a drawing in the next frame. */
   ask() {
     if (this.#asked === 0) this.#asked = requestAnimationFrame(() => this.now())
   }
 
-  /** Draws now what was asked for. */
+  /** Draws a requested frame now. */
   now() {
     if (this.#asked === 0) return
     cancelAnimationFrame(this.#asked)

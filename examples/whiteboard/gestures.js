@@ -1,13 +1,13 @@
-/** What a person does on the drawing with a pointer: a mouse, a pen or fingers. */
+/** Pointer input on the drawing: mouse, pen or fingers. */
 
 import { Move, Pan, Pinch, Resize, Sketch, Stroke } from "./drags.js"
 
 const [LEFT, MIDDLE] = [0, 1]
-// A notch of a wheel is some 100 pixels: so it makes the drawing a fifth larger.
+// One notch of a wheel is about 100 pixels, which zooms by about a fifth.
 const ZOOM_PER_PIXEL = 0.002
 const LINE_PIXELS = 16
-// Two presses within this time and this far from each other are a double one. Elements that are pressed are drawn anew,
-// so the browser's own double click has nothing to come from.
+// Two presses within this time and distance are a double click. The pressed elements are replaced in between, so the
+// browser's own `dblclick` never fires.
 const DOUBLE_MILLISECONDS = 500
 const DOUBLE_PIXELS = 5
 
@@ -22,7 +22,7 @@ export class Gestures {
     this.page = page
     const { element } = page.view.sheet
     element.addEventListener("pointerdown", (event) => this.#press(event))
-    // The version that is pressed has the focus already; the browser would give it to the whole drawing.
+    // The pressed version already has the focus. By default the browser would focus the whole drawing.
     element.addEventListener("mousedown", (event) => this.#drag !== null && event.preventDefault())
     element.addEventListener("pointermove", (event) => this.#move(event))
     for (const name of ["pointerup", "pointercancel"]) {
@@ -31,12 +31,12 @@ export class Gestures {
     element.addEventListener("wheel", (event) => this.#wheel(event), { passive: false })
   }
 
-  /** Whether the pointer is pressed. */
+  /** Whether a drag is in progress. */
   get isBusy() {
     return this.#drag !== null
   }
 
-  /** Ends a drag; where it is broken off it does nothing. Gives whether there was one. */
+  /** Ends a drag. It has no effect if `isWhole` is false. Returns whether there was one. */
   end(isWhole) {
     const drag = this.#drag
     this.#drag = null
@@ -52,7 +52,7 @@ export class Gestures {
     }
     if (this.#drag !== null || (event.button !== LEFT && event.button !== MIDDLE)) return
     this.page.nudges.end()
-    // What is written in a field is done first.
+    // Commits an open text field first.
     if (document.activeElement instanceof HTMLElement) document.activeElement.blur()
     this.page.view.now()
     this.#isDouble = this.#isPressedAgain(event)
@@ -86,7 +86,7 @@ export class Gestures {
     return time - before < DOUBLE_MILLISECONDS && Math.hypot(x - place[0], y - place[1]) < DOUBLE_PIXELS
   }
 
-  /** Of two fingers the first that is lifted ends what both do. */
+  /** The first finger that is lifted ends a pinch. */
   #lift(event, isWhole) {
     this.#fingers.delete(event.pointerId)
     this.end(isWhole)
@@ -94,11 +94,11 @@ export class Gestures {
     this.#isDouble = false
   }
 
-  /** The wheel moves the drawing, with Ctrl it makes it larger; a pinch on a touch pad comes as that, too. */
+  /** The wheel moves the view, and zooms with Ctrl. Browsers report a touch-pad pinch in the same way. */
   #wheel(event) {
     event.preventDefault()
-    const { camera, writing } = this.page
-    writing.end()
+    const { camera, textField } = this.page
+    textField.end()
     const unit = event.deltaMode === WheelEvent.DOM_DELTA_PIXEL ? 1 : LINE_PIXELS
     const [x, y] = [event.deltaX * unit, event.deltaY * unit]
     if (event.ctrlKey) camera.zoom(Math.exp(-y * ZOOM_PER_PIXEL), camera.inWindow(event))
@@ -106,13 +106,13 @@ export class Gestures {
     else camera.pan(-x, -y)
   }
 
-  /** A double press on a shape that moves nothing writes on it. */
+  /** A double click on a shape opens its text field. */
   #write(event) {
     const [x, y] = this.#pressed.place
     if (Math.hypot(event.clientX - x, event.clientY - y) >= DOUBLE_PIXELS) return
     this.page.view.now()
     const under = this.page.view.sheet.under(elementAt(event))
-    if (under !== null && this.page.tools.tool === "select") this.page.writing.open(under.name, under.version)
+    if (under !== null && this.page.tools.tool === "select") this.page.textField.open(under.name, under.version)
   }
 }
 

@@ -1,4 +1,4 @@
-/** What a person does by keys. */
+/** Keyboard input. */
 
 import { ARROWS } from "./nudges.js"
 
@@ -12,13 +12,13 @@ export class Keys {
   constructor(page) {
     this.page = page
     document.addEventListener("keydown", (event) => {
-      if (isWritten(event.target)) return
+      if (isInTextField(event.target)) return
       const isDone = event.ctrlKey || event.metaKey ? this.#command(event) : this.#key(event)
       if (isDone) event.preventDefault()
     })
   }
 
-  /** A key with Ctrl: whether it means something here. */
+  /** Handles a key with Ctrl. Returns whether it is a command. */
   #command({ key, shiftKey }) {
     const { changes, clipboard, gestures } = this.page
     if (gestures.isBusy) return false
@@ -41,7 +41,7 @@ export class Keys {
     return isOnDrawing && (this.#change(event) || this.#pan(event))
   }
 
-  /** What shows the drawing larger or smaller. */
+  /** Handles the keys that zoom. */
   #zoom({ key }) {
     const { camera, view } = this.page
     if (key === "+" || key === "=") camera.zoom(ZOOM)
@@ -52,28 +52,28 @@ export class Keys {
     return true
   }
 
-  /** An arrow where nothing is chosen shows what is farther that way. */
+  /** Arrow keys without a selection move the view. */
   #pan({ key }) {
     if (!(key in ARROWS)) return false
     this.page.camera.pan(...ARROWS[key].map((way) => -way * PAN))
     return true
   }
 
-  /** What changes an object, or makes one. */
+  /** Handles the keys that change or create an object. */
   #change({ key, target, shiftKey }) {
     const { page } = this
     const chosen = this.#chosen(target)
     if (key === "Enter" && target === page.view.sheet.element) return this.#create(page.tools.tool)
     if (chosen === null) return false
     if (key === "Enter" || key === " ") page.select(chosen.name, chosen.version)
-    else if (key === "F2") page.writing.open(chosen.name, chosen.version)
+    else if (key === "F2") page.textField.open(chosen.name, chosen.version)
     else if (DELETING.includes(key)) this.#delete(chosen)
     else if (key in ARROWS) page.nudges.push(chosen, ARROWS[key], shiftKey)
     else return false
     return true
   }
 
-  /** The version that has the focus, or else the one that is selected and picked; null where there is none. */
+  /** The version with the focus, otherwise the picked version of the selected object, otherwise null. */
   #chosen(target) {
     const { board, view } = this.page
     const under = view.sheet.under(target)
@@ -82,14 +82,14 @@ export class Keys {
     return version === null ? null : { name: board.selected, version }
   }
 
-  /** Deletes a version, and with it a move by keys that isn't done. The focus then goes to no other version. */
+  /** Deletes a version and discards an unfinished move by keys. The focus moves to no other version. */
   #delete({ name, version }) {
     const { changes, nudges } = this.page
     nudges.end(false)
     changes.drop(name, [version])
   }
 
-  /** New objects by keys stand in the middle of the window, and don't hide each other. */
+  /** Creates a shape in the centre of the window, shifted so that new shapes do not cover each other. */
   #create(kind) {
     if (!(kind in USUAL)) return false
     const { board, camera, changes, tools } = this.page
@@ -110,5 +110,5 @@ export class Keys {
   }
 }
 
-/** Whether what is pressed is written into a field. */
-const isWritten = (target) => target.matches?.("input:not([type=color]), textarea") ?? false
+/** Whether the key goes into a text field. */
+const isInTextField = (target) => target.matches?.("input:not([type=color]), textarea") ?? false

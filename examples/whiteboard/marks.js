@@ -1,6 +1,6 @@
 /**
- * What is drawn above all objects, in pixels of the window: rings and tags of versions, the handle of what is selected,
- * what waits for the server, and specks for what is too small to be seen.
+ * The layer above all objects, in pixels of the window: rings, tags, the resize handle and pending marks. Shapes that
+ * are too small to see get a speck.
  */
 
 import { isSameId } from "../../clients/js/grace.js"
@@ -8,33 +8,34 @@ import { keyOf } from "./board.js"
 import { boundsOf, boundsOfAll, cornerOf, grown, meet, middleOf } from "./boxes.js"
 import { svg } from "./elements.js"
 import { atOnePlace, stripeOf } from "./sheet.js"
-import { SIDE, placed, rowsAbove } from "./tags.js"
+import { SIDE, freePlaces, rowsAbove } from "./tags.js"
 import { letterOf } from "./words.js"
 
 const GAP = 5
 const STRIPE_GAP = -1
 const HANDLE = 14
 const SPECK = 7
-// With more tags than these the window shows one for each object that isn't selected, which tells how many it has.
+// With more tags than these, each unselected object has a single tag with its number of versions.
 const MANY_TAGS = 80
-// Of an object with more versions than these the tags stand in rows above all of it, and only what is picked or under
-// the pointer has a ring.
+// An object with more versions than these has its tags in rows above it. Only the picked version and the one under the
+// pointer have a ring.
 const FEW = 6
 
 export class Marks {
   /**
-   * @param {{ board: import("./board.js").Board, camera: import("./camera.js").Camera,
-   *   sheet: import("./sheet.js").Sheet, waiting: import("./waiting.js").Waiting }} parts
-   * @param {SVGElement} layer above all objects @param {SVGElement} links the layer below them
+   * @param {{ board: import("./board.js").Board, camera: import("./camera.js").Camera, sheet:
+   *   import("./sheet.js").Sheet, pending: import("./pending_changes.js").PendingChanges }} parts
+   * @param {SVGElement} layer above all objects
+   * @param {SVGElement} links the layer below all objects
    */
-  constructor({ board, camera, sheet, waiting }, layer, links) {
-    Object.assign(this, { board, camera, sheet, waiting, layer, links, hovered: null })
+  constructor({ board, camera, sheet, pending }, layer, links) {
+    Object.assign(this, { board, camera, sheet, pending, layer, links, hovered: null })
     for (const event of ["pointerover", "pointerout"]) {
       layer.addEventListener(event, ({ target }) => this.#hover(event === "pointerover" ? target : null))
     }
   }
 
-  /** Marks the version whose tag is under the pointer. */
+  /** Highlights the version whose tag is under the pointer. */
   #hover(target) {
     const { object, letter } = target?.closest(".tag")?.dataset ?? {}
     const hovered = object === undefined ? null : `${object} ${letter}`
@@ -58,14 +59,15 @@ export class Marks {
     const several = objects.filter(({ shapes }) => shapes.length > 1)
     const rings = objects.flatMap((object) => this.#ringsOf(object))
     const selected = objects.filter(({ isSelected, picked }) => isSelected && picked >= 0)
-    const waiting = objects.filter(({ name }) => this.waiting.has(name)).map(waitingOf)
+    const pendingMarks = objects.filter(({ name }) => this.pending.has(name)).map(pendingMarkOf)
     const handles = selected.map((object) => this.#handle(object))
     this.links.replaceChildren(...several.flatMap(linksOf))
-    this.layer.replaceChildren(...rings, ...objects.flatMap(specksOf), ...waiting, ...this.#tags(several), ...handles)
+    const specks = objects.flatMap(specksOf)
+    this.layer.replaceChildren(...rings, ...specks, ...pendingMarks, ...this.#tags(several), ...handles)
     this.layer.parentNode.style.setProperty("--scale", camera.scale)
   }
 
-  /** What is to be known of an object: its shapes, where they stand in the window, and which version is picked. */
+  /** Collects what the marks need of an object: its shapes, their boxes in the window, and the picked version. */
   #objectOf(name) {
     const { board, camera } = this
     const shapes = board.shapes(name)
@@ -89,14 +91,14 @@ export class Marks {
     return boxes.flatMap(ring)
   }
 
-  /** The place of the version of an object that has the focus by keys, or -1. */
+  /** The index of the version that has the keyboard focus, or -1. */
   #placeOfFocus(name) {
     const { focused } = this.sheet
     if (focused === null || keyOf(focused.name) !== keyOf(name)) return -1
     return document.activeElement.matches(":focus-visible") ? this.board.shown(name).indexOf(focused.version) : -1
   }
 
-  /** What changes the size when it is dragged. */
+  /** The handle that resizes the picked version. */
   #handle({ name, shapes, picked }) {
     const [x, y] = cornerOf(shapes[picked])
     const corner = this.camera.boxOf({ x, y, width: 0, height: 0 })
@@ -106,18 +108,18 @@ export class Marks {
     })
   }
 
-  /** The tags of all versions, or of those objects that aren't selected only how many they have. */
+  /** The tags of all versions, or one tag for each unselected object if there are many. */
   #tags(several) {
     const isMany = several.reduce((sum, { shapes }) => sum + shapes.length, 0) > MANY_TAGS
     const first = [...several].sort((one, other) => other.isSelected - one.isSelected)
     const tags = first.flatMap((object) => (isMany && !object.isSelected ? countTag(object) : letterTags(object)))
     const seen = tags.filter(({ box }) => meet(box, this.camera.window))
-    const places = placed(seen.map(({ wanted }) => wanted), this.camera.window)
+    const places = freePlaces(seen.map(({ wanted }) => wanted), this.camera.window)
     return seen.flatMap((tag, place) => (places[place] === null ? [] : [tagOf(tag, places[place])]))
   }
 }
 
-/** A tag for each version: at its corner, in its stripe, or where they are many in rows above all of them. */
+/** A tag for each version: at its corner, in its stripe, or in rows above the object if there are many. */
 function letterTags({ name, shapes, stripes, boxes, picked }) {
   const rows = rowsAbove(shapes.length, grown(boundsOfAll(boxes), GAP + 2))
   return boxes.map((box, place) => {
@@ -128,13 +130,13 @@ function letterTags({ name, shapes, stripes, boxes, picked }) {
   })
 }
 
-/** One tag for all versions of an object, at its first one: it tells how many they are. */
+/** A single tag for all versions of an object, at the first one, with their number. */
 function countTag({ name, shapes, boxes: [box] }) {
   const wanted = { x: box.x - GAP, y: box.y - GAP }
   return [{ text: `×${shapes.length}`, object: keyOf(name), letter: letterOf(0), isPicked: false, box, wanted }]
 }
 
-/** The element of a tag; one that stands elsewhere than it would has a line to its version. */
+/** The element of a tag. A line connects a displaced tag to its version. */
 function tagOf({ text, object, letter, isPicked, wanted }, { x, y }) {
   const element = svg("g", { class: isPicked ? "tag picked" : "tag", "data-object": object, "data-letter": letter })
   if (Math.hypot(wanted.x - x, wanted.y - y) > SIDE / 2) {
@@ -146,19 +148,19 @@ function tagOf({ text, object, letter, isPicked, wanted }, { x, y }) {
   return element
 }
 
-/** What tells a version apart, and that it is picked. */
+/** The ring around a version. A picked version has a stronger one. */
 function ringOf(box, isPicked, gap) {
   return svg("rect", { class: isPicked ? "ring picked" : "ring", ...grown(box, gap), rx: Math.max(0, gap + 1) })
 }
 
-/** Lines from the first version to the others, where they stand elsewhere. */
+/** Lines from the first version to those at other places. */
 function linksOf({ boxes, shapes }) {
   const near = atOnePlace(shapes, 0)
   const [[x1, y1], ...others] = boxes.filter((_, place) => place === 0 || !near.includes(place)).map(middleOf)
   return others.map(([x2, y2]) => svg("line", { class: "link", x1, y1, x2, y2 }))
 }
 
-/** What is too small to be seen. */
+/** Dots for shapes that are too small to see. */
 function specksOf({ name, shapes, boxes }) {
   return boxes.flatMap((box, place) => {
     if (Math.max(box.width, box.height) >= SPECK) return []
@@ -168,8 +170,8 @@ function specksOf({ name, shapes, boxes }) {
   })
 }
 
-/** That a change of the object isn't answered yet. */
-function waitingOf({ name, boxes, picked }) {
+/** The mark of an object that has a pending change. */
+function pendingMarkOf({ name, boxes, picked }) {
   const { x, y, width } = boxes[Math.max(0, picked)]
   const element = svg("g", { class: "waiting", "data-waiting": keyOf(name), transform: `translate(${x + width} ${y})` })
   element.append(svg("circle", { r: 10 }), ...[-4, 0, 4].map((cx) => svg("circle", { class: "dot", cx, r: 1.6 })))

@@ -1,10 +1,10 @@
-/** Moves by the arrow keys. What several arrows do in turn is one change, sent once no more come. */
+/** Moves by the arrow keys. Several key presses in a row are one change, sent after the last one. */
 
 import { keyOf } from "./board.js"
-import { placeAnew, shapeOf, sizeAnew } from "./shapes.js"
+import { moveAttributes, shapeOf, resizeAttributes } from "./shapes.js"
 
 const STEP = 10
-// So long after the last arrow a move by keys is done.
+// A move by keys is complete after this time without another key.
 const REST_MILLISECONDS = 500
 
 export const ARROWS = { ArrowLeft: [-1, 0], ArrowRight: [1, 0], ArrowUp: [0, -1], ArrowDown: [0, 1] }
@@ -19,7 +19,7 @@ export class Nudges {
     sheet.element.addEventListener("focusout", () => sheet.isDrawing || this.end())
   }
 
-  /** An arrow moves a version, or with the shift key changes its size. Others' news is kept back meanwhile. */
+  /** Moves a version by one step, or resizes it. A hold keeps other people's changes back meanwhile. */
   push({ name, version }, [x, y], isResize) {
     const { board, room, view } = this.page
     if (this.#nudge !== null && (this.#nudge.version !== version || this.#nudge.isResize !== isResize)) this.end()
@@ -32,7 +32,7 @@ export class Nudges {
     nudge.timer = setTimeout(() => this.end(), REST_MILLISECONDS)
   }
 
-  /** The end of a move by keys: what it did is done in the room, unless it was broken off. */
+  /** Sends the move as one change, unless it was cancelled. */
   end(isWhole = true) {
     if (this.#nudge === null) return
     const nudge = this.#nudge
@@ -57,4 +57,4 @@ export class Nudges {
   }
 }
 
-const attributesOf = ({ shape, isResize, sum }) => (isResize ? sizeAnew : placeAnew)(shape, ...sum)
+const attributesOf = ({ shape, isResize, sum }) => (isResize ? resizeAttributes : moveAttributes)(shape, ...sum)

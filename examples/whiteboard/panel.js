@@ -1,22 +1,22 @@
-/** The panel beside the drawing: the list of objects, or the selected one with its versions side by side. */
+/** The panel next to the drawing: the list of objects, or the selected object and its versions. */
 
 import { keyOf } from "./board.js"
 import { cardsOf, pictureOf } from "./cards.js"
 import { button, html } from "./elements.js"
-import { shapeOfForm } from "./gone.js"
-import { fitting } from "./shapes.js"
+import { shapeOfForm } from "./deleted_objects.js"
+import { truncate } from "./shapes.js"
 import { letterOf, versionWords, wordsOf } from "./words.js"
 
 const HELP =
-  "Drag it to move it, its corner to change its size; double-click it to write on it. " +
-  "Arrow keys move it, with Shift they change its size; the Delete key deletes it."
+  "Drag it to move it. Drag its corner to resize it. Double-click it to write on it. " +
+  "The arrow keys move it, or resize it with Shift. The Delete key deletes it."
 
 export class Panel {
-  // They give back what is held while someone writes in the panel, and while she presses on it.
+  // Release the holds: while the user types in the panel, and while a button is pressed.
   #release = null
   #pressed = null
-  #isGoneOpen = false
-  // How far the panel is scrolled. To ask it would have the browser lay the whole page out.
+  #isDeletedListOpen = false
+  // The scroll position. Reading it from the element would force a layout of the page.
   #top = 0
   #shown = ""
 
@@ -28,16 +28,16 @@ export class Panel {
     element.addEventListener("scroll", () => (this.#top = element.scrollTop))
     element.addEventListener("pointerdown", () => this.#press())
     addEventListener("click", () => this.#lift())
-    // Where no click comes of it.
+    // If the press leads to no click.
     for (const event of ["pointerup", "pointercancel"]) addEventListener(event, () => setTimeout(() => this.#lift()))
   }
 
-  /** What is pressed stays where it is until it is released, and others' news is kept back. */
+  /** A press keeps the panel as it is until the release, and holds other people's changes back. */
   #press() {
     this.#pressed ??= this.page.room.hold()
   }
 
-  /** What the click does comes before what is kept back. */
+  /** The click is handled before the changes that were held back. */
   #lift() {
     const release = this.#pressed
     if (release === null) return
@@ -46,7 +46,7 @@ export class Panel {
     this.page.view.change([])
   }
 
-  /** Draws the panel anew, unless someone is writing in it, or presses on it. */
+  /** Draws the panel again, unless the user is typing or pressing in it. */
   draw() {
     if (this.#release !== null || this.#pressed !== null) return
     const focused = document.activeElement?.dataset?.focus
@@ -58,7 +58,7 @@ export class Panel {
     if (focused !== undefined && document.activeElement === document.body) this.#focus(focused)
   }
 
-  /** What had the focus in the panel has it again, or where that is no more the panel. */
+  /** Restores the focus inside the panel, or moves it to the panel itself. */
   #focus(focused) {
     const next = this.element.querySelector(`[data-focus="${focused}"]`) ?? this.element
     next.focus({ preventScroll: true })
@@ -68,13 +68,13 @@ export class Panel {
 
   #objects() {
     const names = this.board.objects()
-    const gone = this.#goneObjects()
+    const gone = this.#deletedObjects()
     if (names.length > 0) {
       const list = html("ul", { className: "list" }, ...names.map((name) => html("li", {}, this.#item(name))))
       return [html("h2", { textContent: `Objects (${names.length})` }), list, ...gone]
     }
     if (!this.page.room.isLoaded) return [html("h2", { textContent: "Loading" })]
-    const help = "Choose a rectangle, an ellipse, a line or the pen above, and drag on the drawing."
+    const help = "Choose a tool above, then drag on the paper."
     return [html("h2", { textContent: "Nothing is drawn yet" }), html("p", { textContent: help }), ...gone]
   }
 
@@ -85,30 +85,30 @@ export class Panel {
       this.page.view.reach(name)
     })
     item.append(html("span", { textContent: wordsOf(shape) }))
-    const marks = this.board.survivors(name).length > 0 ? ["deleted, and changed"] : []
+    const marks = this.board.survivors(name).length > 0 ? ["deleted and changed"] : []
     if (others.length > 0) marks.push(`${others.length + 1} versions`)
     item.append(...marks.map((textContent) => html("span", { className: "count", textContent })))
     return item
   }
 
-  /** What was deleted, which is looked up once a person wants to see it. */
-  #goneObjects() {
-    const names = this.page.gone.objects()
+  /** The list of deleted objects. Its content is computed when the user opens it. */
+  #deletedObjects() {
+    const names = this.page.deletedObjects.objects()
     if (names.length === 0) return []
     const summary = html("summary", { textContent: `Deleted (${names.length})`, dataset: { focus: "gone" } })
     summary.addEventListener("click", (event) => {
       event.preventDefault()
-      this.#isGoneOpen = !this.#isGoneOpen
+      this.#isDeletedListOpen = !this.#isDeletedListOpen
       this.page.view.change([])
     })
-    const list = this.#isGoneOpen ? [this.#goneList(names)] : []
-    return [html("details", { className: "gone", open: this.#isGoneOpen }, summary, ...list)]
+    const list = this.#isDeletedListOpen ? [this.#deletedList(names)] : []
+    return [html("details", { className: "gone", open: this.#isDeletedListOpen }, summary, ...list)]
   }
 
-  #goneList(names) {
-    const items = names.flatMap((name) => this.page.gone.formsOf(name).map((form, place) => {
+  #deletedList(names) {
+    const items = names.flatMap((name) => this.page.deletedObjects.formsOf(name).map((form, place) => {
       const shape = shapeOfForm(form)
-      const back = button("Bring back", `back-${keyOf(name)}-${place}`, () => this.page.gone.bringBack(form))
+      const back = button("Bring back", `back-${keyOf(name)}-${place}`, () => this.page.deletedObjects.bringBack(form))
       back.setAttribute("aria-label", `Bring back ${wordsOf(shape)}`)
       return html("li", {}, pictureOf([shape], 0), html("span", { textContent: wordsOf(shape) }), back)
     }))
@@ -134,14 +134,14 @@ export class Panel {
     return html("header", {}, html("h2", { textContent: wordsOf(shape) }), all)
   }
 
-  /** That somebody deleted what others changed, with both ways on. */
+  /** The notice about a concurrent deletion, with a button for each decision. */
   #notice(name, versions) {
     const survivors = this.board.survivors(name)
     if (survivors.length === 0) return []
     const which = versions.length === 1 ? "it" : versionWords(survivors.map((one) => versions.indexOf(one)))
     const words = versions.length === 1
       ? "Somebody deleted this while others changed it. You see it as they changed it."
-      : `Somebody deleted a version while others changed it. What they made of it: ${which}.`
+      : `Somebody deleted a version while others changed it. Still here: ${which}.`
     const keep = button(`Keep ${which}`, "keep", () => this.page.keep(name, survivors))
     const drop = button(`Delete ${which} too`, "delete-too", () => this.page.changes.drop(name, survivors))
     drop.className = "delete"
@@ -149,7 +149,7 @@ export class Panel {
       html("div", { className: "actions" }, keep, drop))]
   }
 
-  /** Its place among the others, from back to front. */
+  /** The buttons that move an object to the front or to the back. */
   #order(name, picked) {
     const others = this.board.objects().filter((other) => keyOf(other) !== keyOf(name))
     const places = others.flatMap((other) => this.board.shapes(other)).map(({ z }) => z)
@@ -163,7 +163,10 @@ export class Panel {
       button("Copy", "copy", () => clipboard.copy()))
   }
 
-  /** What ends versions: the picked one, or all others. A key that is held down presses no other version's button. */
+  /**
+   * The buttons that delete the picked version or all others. Their focus words contain the letter, so a key that is
+   * held down cannot press the button of the next version.
+   */
   #ends(name, versions, picked) {
     const letter = letterOf(versions.indexOf(picked))
     const isOneOfSeveral = versions.length > 1
@@ -172,11 +175,11 @@ export class Panel {
     drop.className = "delete"
     const others = versions.filter((version) => version !== picked)
     const keep = button("Keep only this", "keep-only", () => this.page.changes.drop(name, others))
-    keep.title = `Keep version ${letter}, and delete the others`
+    keep.title = `Keep version ${letter} and delete the others`
     return isOneOfSeveral ? [keep, drop] : [drop]
   }
 
-  /** What is written in the field is done when it is left. What others do comes after that. */
+  /** The text field. Leaving it commits the text. Other people's changes are shown after that. */
   #textField(name, picked) {
     const before = String(picked?.attributes.get("name") ?? "")
     const input = html("input", { type: "text", value: before, disabled: picked === null, dataset: { focus: "text" } })
@@ -189,7 +192,7 @@ export class Panel {
       this.page.view.change([name])
     }
     input.addEventListener("input", () => {
-      input.value = fitting(input.value)
+      input.value = truncate(input.value)
       this.#release ??= this.page.room.hold()
     })
     input.addEventListener("blur", () => end(true))
@@ -202,8 +205,8 @@ export class Panel {
   #versions(name, versions, picked) {
     const letter = picked === null ? null : letterOf(versions.indexOf(picked))
     const words = letter === null
-      ? "People changed this at the same time. Pick the version to go on with; the others stay as they are."
-      : `You go on with version ${letter}. The others stay as they are.`
+      ? "People changed this at the same time. Pick the one to work on. The others stay as they are."
+      : `You are working on version ${letter}. The others stay as they are.`
     const pick = (version) => {
       this.page.select(name, version)
       this.page.view.reach(name, version)

@@ -1,7 +1,7 @@
 /**
- * Strokes of the pen. The points of a stroke stand in texts, as `0,12 5,20`: whole numbers, counted from the upper left
- * corner of the stroke. A value is a text of 256 bytes at most, and a new object takes 16 attributes: so a stroke has
- * eight such texts at most, and what is longer becomes several objects.
+ * Pen strokes. The points of a stroke are stored as strings such as `0,12 5,20`: integers relative to the stroke's
+ * upper left corner. A string has at most 256 bytes, and a new object at most 16 attributes. So a stroke uses at most
+ * eight such strings, and a longer stroke becomes several objects.
  */
 
 import { boundsOfAll } from "./boxes.js"
@@ -11,7 +11,10 @@ const TEXTS = 8
 const MOST = 99999
 export const POINT_KEYS = Array.from({ length: TEXTS }, (_, place) => `points-${place}`)
 
-/** The points that attributes have: what is no point is left out. @param {Map<string, unknown>} attributes */
+/**
+ * Reads the points from attributes, and ignores malformed ones.
+ * @param {Map<string, unknown>} attributes
+ */
 export function pointsOf(attributes) {
   const texts = POINT_KEYS.map((key) => attributes.get(key)).filter((text) => typeof text === "string")
   const words = texts.flatMap((text) => text.split(" ")).filter((word) => /^\d{1,5},\d{1,5}$/.test(word))
@@ -19,15 +22,14 @@ export function pointsOf(attributes) {
 }
 
 /**
- * What a stroke through these points makes: the place, the size and the texts of one or more objects. Each begins where
- * the one before it ends.
+ * Splits a stroke into one or more objects, with position, size and strings. Each starts where the one before ends.
  * @param {[number, number][]} points
  * @returns {{ x: number, y: number, width: number, height: number, texts: Record<string, string> }[]}
  */
 export function strokesOf(points) {
   const whole = points.map(([x, y]) => [Math.round(x), Math.round(y)])
   const { x, y } = boxOf(whole)
-  // From the corner of a part its points are no farther than from the whole stroke's: their words are no longer.
+  // Relative to the corner of a part the numbers are no larger than relative to the whole stroke's corner.
   const words = whole.map((point) => wordOf(point, x, y))
   const strokes = []
   let first = 0
@@ -39,8 +41,8 @@ export function strokesOf(points) {
   return strokes
 }
 
-/** The points that a line needs to go past each of the others by no more than so much. */
-export function simplified(points, distance) {
+/** Simplifies a line: each removed point is within this distance of the result. */
+export function simplify(points, distance) {
   const kept = new Set([0, points.length - 1])
   const parts = [[0, points.length - 1]]
   while (parts.length > 0) {
@@ -53,7 +55,7 @@ export function simplified(points, distance) {
   return points.filter((_, place) => kept.has(place))
 }
 
-/** What draws a line through points; one alone is a dot. */
+/** The SVG path through these points. A single point gives a dot. */
 export function pathOf(points) {
   const [first, ...rest] = points
   const ways = rest.length === 0 ? [first] : rest
@@ -70,7 +72,7 @@ function strokeOf(points) {
   return { ...box, texts: Object.fromEntries(texts.map((text, place) => [POINT_KEYS[place], text])) }
 }
 
-/** Where the part ends that begins at a place: so many words fit an object. */
+/** The end of the part that starts at this index: as many points as fit into one object. */
 function endOfPart(words, first) {
   let [texts, bytes, end] = [1, words[first].length, first + 1]
   for (; end < words.length; end++) {
@@ -83,7 +85,7 @@ function endOfPart(words, first) {
   return end
 }
 
-/** The words in as few texts as they fit. */
+/** Joins the words into as few strings as possible. */
 function textsOf(words) {
   const texts = [words[0]]
   for (const word of words.slice(1)) {
@@ -94,7 +96,7 @@ function textsOf(words) {
   return texts
 }
 
-/** The point between two others that is farthest from the line through these, or null where there is none. */
+/** The point between two others that is farthest from the line through them, or null if there is none. */
 function farthestFrom(points, first, last) {
   let farthest = null
   for (let place = first + 1; place < last; place++) {

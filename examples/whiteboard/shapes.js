@@ -1,8 +1,7 @@
 /**
- * What the whiteboard makes of an object's attributes. The server knows nothing of this: it is agreed among the pages
- * that `x` and `y` are the place and `width` and `height` the size, all whole numbers, `fill` the colour, `name` the
- * text on the shape, and `z`, a whole number, its place from back to front. What `points-0` and its like are stands in
- * pen.js.
+ * The meaning of attributes on the whiteboard. The server does not know it; all pages agree on it. `x` and `y` are the
+ * position, `width` and `height` the size, all integers. `fill` is the colour and `name` the text on the shape. `z`, an
+ * integer, is the order from back to front. For `points-0` and the like, see pen.js.
  */
 
 import { boundsOf } from "./boxes.js"
@@ -13,46 +12,46 @@ const PLAIN = "#c9d1d9"
 const TEXT_BYTES = 256
 const ENCODER = new TextEncoder()
 
-/** The least side of a shape that is drawn or made smaller. */
+/** The least width or height of a new or resized shape. */
 export const LEAST = 6
 
-/** The colours that can be chosen, with their names. */
+/** The colours of the palette, with their names. */
 export const COLOURS = new Map([
   ["#e4572e", "red"], ["#f2b134", "yellow"], ["#4c9f70", "green"], ["#3a86c8", "blue"], ["#8d6cab", "violet"],
   ["#c9d1d9", "grey"], ["#1d2733", "black"],
 ])
 
-/** What stands for an attribute that an object doesn't have. */
+/** The defaults for missing attributes. */
 export const USUAL = { x: 0, y: 0, width: 120, height: 80, fill: PLAIN, name: "", z: 0 }
 
-/** The place of a shape, as attributes have it. */
+/** The position of a shape as attributes. */
 export const placeOf = ({ x, y }) => ({ x: Math.round(x), y: Math.round(y) })
 
-/** The size of a shape, as attributes have it. */
+/** The size of a shape as attributes. */
 const sizeOf = ({ width, height }) => ({ width: Math.round(width), height: Math.round(height) })
 
-/** All attributes of a shape that is drawn by two corners: what a new object gets. */
+/** All attributes of a new shape. */
 export const attributesOf = (shape) => ({ ...placeOf(shape), ...sizeOf(shape), fill: shape.fill, name: shape.text })
 
-/** Whether a value is a colour that can be drawn. */
+/** Whether a value is a colour that the page can draw. */
 export const isColour = (value) => /^#[0-9a-f]{6}$/.test(value)
 
-/** As much of a text as a value takes. */
-export function fitting(text) {
-  // No letter takes less than a byte.
+/** Cuts a text so that it fits a value. */
+export function truncate(text) {
+  // Each character takes at least one byte.
   let fit = text.slice(0, TEXT_BYTES).toWellFormed()
   while (ENCODER.encode(fit).length > TEXT_BYTES) fit = [...fit].slice(0, -1).join("")
   return fit
 }
 
-/** The number that a value is, not farther off than can be drawn; of what is no number the usual one. */
+/** Clamps a number to the drawable range. Anything else gives the default. */
 function wholeOf(value, usual) {
   if (typeof value !== "number" && typeof value !== "bigint") return usual
   return Math.max(-FAR, Math.min(FAR, Number(value)))
 }
 
 /**
- * The shape that attributes make. What they don't have, or have in another form, is something that can be drawn.
+ * Makes a shape from attributes. Missing or malformed attributes get drawable defaults.
  * @param {string} kind @param {Map<string, unknown>} attributes
  */
 export function shapeOf(kind, attributes) {
@@ -66,20 +65,17 @@ export function shapeOf(kind, attributes) {
   }
 }
 
-/**
- * What a move puts: x and y in one step, also where one of them stays. So half of a move never stands alone in a
- * version, and no version has one half of each of two moves.
- */
-export const placeAnew = (shape, x, y) => placeOf({ x: shape.x + x, y: shape.y + y })
+/** The attributes that a move sets: always both x and y. So no version can combine x of one move with y of another. */
+export const moveAttributes = (shape, x, y) => placeOf({ x: shape.x + x, y: shape.y + y })
 
-/** What a change of the size puts in one step: both sides, and the place where it is another one then. */
-export function sizeAnew(shape, x, y) {
-  const anew = resized(shape, x, y)
-  const isMoved = anew.x !== shape.x || anew.y !== shape.y
-  return { ...(isMoved ? placeOf(anew) : {}), ...sizeOf(anew) }
+/** The attributes that a resize sets: always both width and height, and the position if it changes. */
+export function resizeAttributes(shape, x, y) {
+  const newShape = resized(shape, x, y)
+  const isMoved = newShape.x !== shape.x || newShape.y !== shape.y
+  return { ...(isMoved ? placeOf(newShape) : {}), ...sizeOf(newShape) }
 }
 
-/** The shape with its end or its lower right corner elsewhere; only a line may turn round. */
+/** The resized shape. Only a line may have a negative width or height. */
 function resized(shape, x, y) {
   if (shape.kind === "line") return { ...shape, width: shape.width + x, height: shape.height + y }
   const box = boundsOf(shape)

@@ -1,4 +1,4 @@
-/** The objects on the page: an element for each version that is shown, those farther in front after the others. */
+/** The objects on the page: an element for each shown version, sorted from back to front. */
 
 import { isSameId } from "../../clients/js/grace.js"
 import { bodyOf, isThin, outlineOf, textOf } from "./bodies.js"
@@ -7,26 +7,33 @@ import { boundsOf } from "./boxes.js"
 import { svg } from "./elements.js"
 import { letterOf, wordsOf } from "./words.js"
 
-// So many versions at one place share it, each drawn in a stripe; of more one is drawn.
+// Up to this many versions at the same place are drawn as stripes. If there are more, only one is visible.
 const STRIPES = 4
 const GAP = 7
 
 export class Sheet {
-  // By object: an entry for each of its versions, with the element and what it stands by.
+  // By object: for each of its versions the element and its sort keys.
   #entries = new Map()
   // By element: the object and the version that it draws.
   #drawn = new WeakMap()
 
-  /** @param {import("./board.js").Board} board @param {Element} element the whole drawing @param {Element} layer */
+  /**
+   * @param {import("./board.js").Board} board
+   * @param {Element} element the whole drawing
+   * @param {Element} layer the layer of the objects
+   */
   constructor(board, element, layer) {
     this.board = board
     this.element = element
     this.layer = layer
-    /** Whether elements are being replaced: then the focus that goes comes back. */
+    /** Whether elements are being replaced, so that a lost focus will be restored. */
     this.isDrawing = false
   }
 
-  /** Draws these objects anew, and all in their order. @param {Iterable<any>} names */
+  /**
+   * Draws these objects again and sorts all of them.
+   * @param {Iterable<any>} names
+   */
   draw(names) {
     this.isDrawing = true
     const focused = this.#drawn.get(document.activeElement)
@@ -41,19 +48,22 @@ export class Sheet {
     this.isDrawing = false
   }
 
-  /** Shows what is being drawn, or no more. @param {SVGElement | null} body */
+  /**
+   * Shows an unfinished shape, or removes it.
+   * @param {SVGElement | null} body
+   */
   sketch(body) {
     this.layer.querySelector(".sketch")?.remove()
     if (body !== null) this.layer.append(body)
   }
 
-  /** The element of a version. */
+  /** The element of a version, or null. */
   find(name, version) {
     const entries = this.#entries.get(keyOf(name)) ?? []
     return entries.find(({ element }) => this.#drawn.get(element).version === version)?.element ?? null
   }
 
-  /** The object and the version that an element of the drawing stands for, or null. */
+  /** The object and the version that an element of the drawing belongs to, or null. */
   under(target) {
     const { object, letter } = target?.closest("[data-object]")?.dataset ?? {}
     if (object === undefined) return null
@@ -62,12 +72,12 @@ export class Sheet {
     return version === undefined ? null : { name, version }
   }
 
-  /** Where a version has the focus: the object and the version, or null. */
+  /** The object and the version with the focus, or null. */
   get focused() {
     return this.#drawn.get(document.activeElement) ?? null
   }
 
-  /** The focus goes on to what became of a version, or where that is gone to the whole drawing. */
+  /** Moves the focus to the successor of a version, or to the whole drawing if the version is gone. */
   #focus({ name, version }) {
     const [next] = this.board.successors(name, version)
     const element = next && this.find(name, next)
@@ -75,7 +85,7 @@ export class Sheet {
     focused.focus({ preventScroll: true })
   }
 
-  /** Brings the elements in order: from back to front, then as the record has the objects, what is picked last. */
+  /** Sorts the elements from back to front: by `z`, then in the order of the record. The picked version comes last. */
   #order() {
     const places = new Map(this.board.objects().map((name, place) => [keyOf(name), place]))
     const placed = ([key, own]) => own.map((entry) => ({ ...entry, place: places.get(key) }))
@@ -120,20 +130,20 @@ export class Sheet {
 
 function bodiesOf(shape, stripe, id) {
   const body = bodyOf(shape)
-  // Round a thin line there is more that can't be seen.
+  // A thin line gets an invisible wider outline that is easier to hit.
   if (isThin(shape)) return [outlineOf(shape, "grip"), body]
   if (stripe === null) return [body]
   body.setAttribute("clip-path", `url(#stripe-${id})`)
   return [svg("clipPath", { id: `stripe-${id}` }, svg("rect", stripe)), body]
 }
 
-/** The places of the versions that stand where this one does, in the order of the versions. */
+/** The indexes of the versions that have the same position and size as this one. */
 export function atOnePlace(shapes, place) {
   const placeOf = ({ x, y, width, height }) => keyOf([x, y, width, height])
   return [...shapes.keys()].filter((other) => placeOf(shapes[other]) === placeOf(shapes[place]))
 }
 
-/** A few versions that stand at one place share it: each is drawn in a stripe. Null where a version has none. */
+/** The stripe of a version that shares its place with a few others, otherwise null. */
 export function stripeOf(shapes, place) {
   const there = atOnePlace(shapes, place)
   if (there.length === 1 || there.length > STRIPES || isThin(shapes[place])) return null

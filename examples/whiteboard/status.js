@@ -1,4 +1,4 @@
-/** What the page tells its person of the connection, of loading, and of what went wrong. */
+/** Messages to the user: the connection, loading, and problems. */
 
 import { LIMITS } from "../../clients/js/grace.js"
 import { button, html, part } from "./elements.js"
@@ -7,7 +7,7 @@ import { countOf, numberOf } from "./words.js"
 const WORDS_MILLISECONDS = 10000
 const ACTION_MILLISECONDS = 20000
 
-/** Tells something for some seconds, once, with a button where there is something to do about it: one at a time. */
+/** Shows a message for some seconds, once, with a button if the user can do something about it. */
 export function say(words, action = null) {
   const kind = action === null ? words : "action"
   const line = html("p", { dataset: { kind } }, words)
@@ -23,10 +23,10 @@ export function say(words, action = null) {
   setTimeout(() => line.remove(), action === null ? WORDS_MILLISECONDS : ACTION_MILLISECONDS)
 }
 
-/** Tells that the room was begun anew, and offers what the page had of it as a file, until the person closes that. */
-export function tellRenewed(roomName, { words, text }) {
+/** Says that the room was started again, and offers the old drawing as a file, until the user closes the message. */
+export function showRenewed(roomName, { words, text }) {
   const href = URL.createObjectURL(new Blob([text], { type: "text/plain" }))
-  const keep = html("a", { href, download: `${roomName}.record`, textContent: "Save the old drawing's record" })
+  const keep = html("a", { href, download: `${roomName}.record`, textContent: "Save the old drawing" })
   const notice = html("section", { className: "notice" }, html("p", { textContent: words }))
   const close = () => {
     notice.remove()
@@ -37,16 +37,16 @@ export function tellRenewed(roomName, { words, text }) {
 }
 
 /** How far the drawing is loaded. */
-export function tellProgress(room) {
+export function showProgress(room) {
   const { have, of } = room.progress
-  // A page that is loaded anew shows what it had meanwhile.
+  // A reloaded page shows its saved drawing at once.
   part("loading").hidden = room.isLoaded || room.objects().length > 0
   part("loading").querySelector("progress").value = of === 0 ? 0 : have / of
-  const words = `Loading the drawing: ${countOf(have, "entry", "entries")} of ${numberOf(of)}.`
+  const words = `Loading the drawing: ${numberOf(have)} of ${numberOf(of)}.`
   part("loading").querySelector("p").textContent = of === 0 ? "Waiting for the drawing." : words
 }
 
-/** The state of the connection in words, and what there is to know of the drawing. */
+/** The connection state, and a summary of the drawing. */
 export class StateLine {
   #milliseconds = 0
 
@@ -63,6 +63,7 @@ export class StateLine {
     const { room } = this.board
     const words = this.#words()
     const element = part("state")
+    element.title = room.words
     if (element.dataset.state === room.state && element.dataset.words === words) return
     Object.assign(element.dataset, { state: room.state, words })
     element.replaceChildren(words)
@@ -72,19 +73,20 @@ export class StateLine {
   #words() {
     const { room } = this.board
     const waiting = room.pending.length
-    const words = [room.words]
+    const words = [room.state === "open" ? "Connected." : room.words]
     const changes = countOf(waiting, "change")
     if (room.state === "saving") words.push(`Saving ${changes} for ${Math.round(this.#milliseconds / 1000)} s.`)
     else if (room.state === "open") words.push(...this.#several())
-    else if (waiting > 0) words.push(`${waiting} of your changes ${waiting > 1 ? "are" : "is"} still to be sent.`)
-    // Those that are gone count, too.
-    if (room.objects().length >= LIMITS.objects) words.push("The room takes no more objects.")
+    else if (waiting > 0) words.push(`${changes} ${waiting > 1 ? "are" : "is"} not saved yet.`)
+    // Deleted objects count too.
+    if (room.objects().length >= LIMITS.objects) words.push("The drawing is full: no more objects fit.")
     return words.join(" ")
   }
 
   #several() {
     const objects = this.board.objects()
     const several = objects.filter((name) => this.board.shown(name).length > 1).length
-    return several > 0 ? [`${several} of ${objects.length} objects in several versions.`] : []
+    if (several === 0) return []
+    return [`${several} of ${objects.length} objects ${several > 1 ? "have" : "has"} several versions.`]
   }
 }

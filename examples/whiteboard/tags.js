@@ -1,21 +1,21 @@
-/** Where the tags of versions stand, so that none hides under another. */
+/** Places the tags of versions so that none covers another. */
 
 import { between } from "./boxes.js"
 
-/** The side of the square that a tag takes, in pixels of the window. */
+/** The width and height of a tag, in pixels. */
 export const SIDE = 28
 const REACH = 9
-// The places round a tag's own that are tried, the nearest first.
+// Offsets that are tried around the wanted position, the nearest first.
 const STEPS = stepsWithin(REACH)
 const ROUND = stepsWithin(1)
 
 /**
- * Finds a place for each tag: its own, or the nearest one that is free, in the window. A tag that finds none is null.
- * @param {{ x: number, y: number }[]} wanted the middles of the tags, those that matter most first
+ * Finds a position for each tag: the wanted one, or the nearest free one inside the window. Null if there is none.
+ * @param {{ x: number, y: number }[]} wanted the centres of the tags, the most important first
  * @param {{ width: number, height: number }} window
  * @returns {({ x: number, y: number } | null)[]}
  */
-export function placed(wanted, window) {
+export function freePlaces(wanted, window) {
   const taken = new Map()
   return wanted.map((place) => {
     const free = freePlace(place, window, taken)
@@ -24,7 +24,7 @@ export function placed(wanted, window) {
   })
 }
 
-/** The middles of so many tags in rows above a box, which are read from left to right and from above. */
+/** The centres of so many tags in rows above a box, from left to right and from top to bottom. */
 export function rowsAbove(count, { x, y, width }) {
   const columns = Math.max(3, Math.ceil(Math.sqrt(count)), Math.floor(width / SIDE))
   const top = y - Math.ceil(count / columns) * SIDE
@@ -49,7 +49,7 @@ function freePlace({ x, y }, { width, height }, taken) {
   return null
 }
 
-// Taken places by squares of the window: only those of the squares round a place can be too near to it.
+// Taken positions by grid cell. Only the neighbouring cells can have a tag that overlaps.
 const squareOf = ({ x, y }) => [Math.floor(x / SIDE), Math.floor(y / SIDE)]
 
 function take(place, taken) {

@@ -1,21 +1,21 @@
-/** The tools above the drawing, and the buttons that change what is seen of it. */
+/** The tools above the drawing, and the zoom buttons. */
 
 import { html, part } from "./elements.js"
 import { COLOURS, isColour } from "./shapes.js"
 
 const ZOOM = 1.25
 const HINTS = {
-  select: "Drag an object to move it, the paper to move the view.",
-  rect: "Drag on the drawing, or press Enter on it, to draw a rectangle.",
-  ellipse: "Drag on the drawing, or press Enter on it, to draw an ellipse.",
-  line: "Drag on the drawing, or press Enter on it, to draw a line.",
-  pen: "Drag on the drawing to draw by hand. Escape puts the pen away.",
+  select: "Drag an object to move it. Drag the paper to move the view.",
+  rect: "Drag on the paper to draw a rectangle, or press Enter on it.",
+  ellipse: "Drag on the paper to draw an ellipse, or press Enter on it.",
+  line: "Drag on the paper to draw a line, or press Enter on it.",
+  pen: "Drag on the paper to draw by hand. Press Escape to stop.",
 }
 
 export class Toolbar {
-  /** What the pointer does on the drawing. */
+  /** The current tool. */
   tool = "select"
-  /** The colour of what is drawn next. */
+  /** The colour of the next shape. */
   colour = [...COLOURS.keys()][3]
 
   /** @param {import("./whiteboard.js").Page} page */
@@ -38,7 +38,7 @@ export class Toolbar {
     this.#useColour(this.colour)
   }
 
-  /** Takes another tool. What one draws next isn't what was selected. */
+  /** Switches to another tool. A drawing tool clears the selection. */
   use(tool) {
     if (tool !== "select" && this.page.board.selected !== null) this.page.select(null)
     this.tool = tool
@@ -49,7 +49,7 @@ export class Toolbar {
     }
   }
 
-  /** Which buttons can be pressed. */
+  /** Enables the buttons that have an effect. */
   draw() {
     const { board, changes, clipboard } = this.page
     part("undo").disabled = !changes.canUndo
@@ -67,7 +67,7 @@ export class Toolbar {
     part("own-colour").value = value
   }
 
-  /** Takes a colour for what is drawn next, and gives it to what is selected. */
+  /** Sets the colour of the next shape and of the selected one. */
   #choose(value) {
     if (!isColour(value)) return
     this.#useColour(value)

@@ -1,4 +1,4 @@
-/** The steps that can be undone, and those that can be done again. A step is a list of acts. */
+/** The steps that can be undone, and those that can be redone. A step is a list of actions. */
 export class Undo {
   #done = []
   #undone = []
@@ -11,7 +11,10 @@ export class Undo {
     return this.#undone.length > 0
   }
 
-  /** A step was done: what was undone before can't be done again. @param {any[]} acts */
+  /**
+   * Records a step. The undone steps can no longer be redone.
+   * @param {any[]} acts
+   */
   note(acts) {
     if (acts.length === 0) return
     this.#done.push(acts)
@@ -19,19 +22,19 @@ export class Undo {
   }
 
   /**
-   * Undoes the last step, its last act first.
-   * @param {(act: any) => any} turn does the contrary of an act, and gives that act, or null where it can't be done
+   * Undoes the last step, starting with its last action.
+   * @param {(act: any) => any} turn reverses an action, and returns the reverse action or null
    */
   undo(turn) {
     turnLast(this.#done, this.#undone, turn)
   }
 
-  /** Does again what was undone last. */
+  /** Redoes the step that was undone last. */
   redo(turn) {
     turnLast(this.#undone, this.#done, turn)
   }
 
-  /** Forgets an act, since the room has refused it. */
+  /** Removes an action that the room has refused. */
   forget(isIt) {
     for (const steps of [this.#done, this.#undone]) {
       const left = steps.map((acts) => acts.filter((act) => !isIt(act))).filter((acts) => acts.length > 0)
@@ -39,7 +42,7 @@ export class Undo {
     }
   }
 
-  /** Forgets all. */
+  /** Removes all steps. */
   clear() {
     this.#done = []
     this.#undone = []

@@ -1,4 +1,4 @@
-/** All that shows the room. It is drawn once in a frame of the screen, and only what changed. */
+/** Everything that shows the room. It draws at most once in each animation frame, and only what changed. */
 
 import { keyOf } from "./board.js"
 import { boundsOfAll } from "./boxes.js"
@@ -7,8 +7,8 @@ import { Edges } from "./edges.js"
 import { part } from "./elements.js"
 import { Frames } from "./frames.js"
 import { Marks } from "./marks.js"
+import { PendingChanges } from "./pending_changes.js"
 import { Sheet } from "./sheet.js"
-import { Waiting } from "./waiting.js"
 
 export class View {
   #changed = new Map()
@@ -23,55 +23,64 @@ export class View {
     this.layer = part("shapes")
     this.camera = new Camera(part("board"), look)
     this.sheet = new Sheet(board, part("board"), this.layer)
-    this.waiting = new Waiting(board.room, look)
+    this.pending = new PendingChanges(board.room, look)
     this.marks = new Marks(this, part("marks"), part("links"))
     this.edges = new Edges(this, part("edges"))
     for (const event of ["focusin", "focusout"]) part("board").addEventListener(event, look)
   }
 
-  /** What is drawn after the drawing, where objects changed. @param {{ draw: () => void }} panel */
+  /**
+   * What is drawn after the drawing, when objects have changed.
+   * @param {{ draw: () => void }} panel
+   */
   set panel(panel) {
     this.#panel = panel
     this.change([])
   }
 
-  /** These objects are to be drawn anew, and the panel. @param {any[]} names */
+  /**
+   * Requests a drawing of these objects and the panel.
+   * @param {any[]} names
+   */
   change(names) {
     this.#isPanelOld = true
     this.redraw(names)
   }
 
-  /** These objects are to be drawn anew. @param {any[]} names */
+  /**
+   * Requests a drawing of these objects.
+   * @param {any[]} names
+   */
   redraw(names) {
     for (const name of names) this.#changed.set(keyOf(name), name)
     this.#frames.ask()
   }
 
-  /** What is drawn above the objects is to be drawn anew, and where they stand. */
+  /** Requests a drawing of the marks and the camera. */
   look() {
     this.#frames.ask()
   }
 
-  /** Draws now what is to be drawn anew. */
+  /** Draws everything that was requested now. */
   now() {
     this.#frames.now()
   }
 
-  /** Shows all objects, or where there are none the page. */
+  /** Shows all objects, or the page if there are none. */
   fitAll() {
     const shapes = this.board.objects().flatMap((name) => this.board.shapes(name))
     if (shapes.length === 0) this.camera.home()
     else this.camera.fit(boundsOfAll(shapes))
   }
 
-  /** Shows the page, or where something stands outside it all objects. */
+  /** Shows the page, or all objects if some are outside it. */
   begin() {
     const shapes = this.board.objects().flatMap((name) => this.board.shapes(name))
     const { x, y, width, height } = boundsOfAll([PAGE, ...shapes])
     if (x < PAGE.x || y < PAGE.y || width > PAGE.width || height > PAGE.height) this.fitAll()
   }
 
-  /** Shows a version of an object, or all of them, where nothing of that is in the window. */
+  /** Shows a version of an object, or all its versions, unless one is visible already. */
   reach(name, version = null) {
     const versions = this.board.shown(name)
     const shapes = this.board.shapes(name).filter((_, place) => version === null || versions[place] === version)

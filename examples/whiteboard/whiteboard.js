@@ -1,31 +1,31 @@
 /**
- * A whiteboard for several people on a GRACE room. The page's address names the server and the room:
- * `?server=ws://localhost:7000/&room=drawing`. Without a server it is the page's own host: over TLS by the path that
- * is the room's name, as a proxy has it, and else at port 7000. A page that is loaded anew goes on as its old site.
+ * A shared whiteboard on a GRACE room. The page's address names the server and the room:
+ * `?server=ws://localhost:7000/&room=drawing`. Without `server` the page uses its own host: with TLS the path that is
+ * the room's name, as behind a proxy, otherwise port 7000. A reloaded page continues as the same site.
  */
 
 import { Room } from "../../clients/js/grace.js"
 import { Board } from "./board.js"
 import { Changes } from "./changes.js"
 import { Clipboard } from "./clipboard.js"
+import { DeletedObjects } from "./deleted_objects.js"
 import { part } from "./elements.js"
 import { Frames } from "./frames.js"
 import { Gestures } from "./gestures.js"
-import { Gone } from "./gone.js"
 import { Keys } from "./keys.js"
 import { Nudges } from "./nudges.js"
 import { Panel } from "./panel.js"
 import { shapeOf } from "./shapes.js"
-import { StateLine, say, tellProgress, tellRenewed } from "./status.js"
+import { StateLine, say, showProgress, showRenewed } from "./status.js"
+import { TextField } from "./text_field.js"
 import { Toolbar } from "./toolbar.js"
 import { View } from "./view.js"
 import { wordsOf } from "./words.js"
-import { Writing } from "./writing.js"
 
-/** The page: its parts, and what they ask of each other. */
+/** The page and its parts. */
 export class Page {
   say = say
-  #progress = new Frames(() => tellProgress(this.room))
+  #progress = new Frames(() => showProgress(this.room))
 
   constructor(address, roomName) {
     this.room = new Room(address, roomName, { storage: true })
@@ -33,11 +33,11 @@ export class Page {
     this.view = new View(this.board)
     this.camera = this.view.camera
     this.changes = new Changes(this)
-    this.gone = new Gone(this)
+    this.deletedObjects = new DeletedObjects(this)
     this.clipboard = new Clipboard(this)
     this.tools = new Toolbar(this)
     this.nudges = new Nudges(this)
-    this.writing = new Writing(this)
+    this.textField = new TextField(this)
     this.gestures = new Gestures(this)
     this.keys = new Keys(this)
     this.state = new StateLine(this.board)
@@ -47,14 +47,14 @@ export class Page {
     this.#listen(roomName)
   }
 
-  /** Draws what stands round the drawing. */
+  /** Draws the parts around the drawing. */
   draw() {
     this.panel.draw()
     this.tools.draw()
     this.state.draw()
   }
 
-  /** Selects an object, or none, and picks a version of it where one is given. */
+  /** Selects an object or none, and picks a version if one is given. */
   select(name, version) {
     const before = this.board.selected
     this.board.selected = name
@@ -62,7 +62,7 @@ export class Page {
     this.view.change([before, name].filter((one) => one !== null && this.room.has(one)))
   }
 
-  /** Keeps versions that somebody deleted while others changed them. */
+  /** Keeps versions that survived a deletion. */
   keep(name, versions) {
     this.board.keep(name, versions)
     this.view.change([name])
@@ -71,31 +71,31 @@ export class Page {
   #listen(roomName) {
     const { room, view } = this
     room.on("change", (news) => this.#take(news))
-    room.on("state", () => view.waiting.look())
+    room.on("state", () => view.pending.look())
     room.on("refusal", ({ refusal }) => say(refusal.message))
-    room.on("renewed", (news) => tellRenewed(roomName, news))
+    room.on("renewed", (news) => showRenewed(roomName, news))
     room.on("progress", () => this.#load())
     addEventListener("beforeunload", (event) => room.pending.length > 0 && event.preventDefault())
     addEventListener("pagehide", () => room.close())
-    tellProgress(room)
+    showProgress(room)
   }
 
   #take(news) {
     const selected = this.board.selected
-    const lost = this.board.take(news)
-    this.view.waiting.look()
+    const lost = this.board.update(news)
+    this.view.pending.look()
     this.view.change(news.objects)
-    // One's own deletion is no news.
+    // The user's own deletion needs no message.
     const others = lost.filter(({ name }) => !this.changes.isActing && String(name) === String(selected))
-    for (const one of others) this.#tellLost(one)
+    for (const one of others) this.#offerRestore(one)
   }
 
-  /** What was selected is gone, since others deleted it: it can come back. */
-  #tellLost({ name, versions }) {
+  /** Says that others deleted the selected object, and offers to bring it back. */
+  #offerRestore({ name, versions }) {
     if (!this.room.has(name)) return
     const kind = this.room.kind(name)
     const forms = versions.map(({ attributes }) => ({ kind, attributes }))
-    const act = () => forms.forEach((form) => this.gone.bringBack(form))
+    const act = () => forms.forEach((form) => this.deletedObjects.bringBack(form))
     say(`${wordsOf(shapeOf(kind, versions[0].attributes))} was deleted by others. `, { words: "Bring it back", act })
   }
 
@@ -107,7 +107,7 @@ export class Page {
   }
 }
 
-/** The server of a room where the page's address doesn't name one. */
+/** The server of a room if the page's address names none. */
 const usualServer = (roomName) =>
   location.protocol === "https:" ? `wss://${location.host}/${roomName}` : `ws://${location.hostname}:7000/`
 

@@ -1,4 +1,4 @@
-/** What people are told of objects and their versions, in words. */
+/** Texts about objects and their versions. */
 
 import { COLOURS } from "./shapes.js"
 import { POINT_KEYS } from "./pen.js"
@@ -6,23 +6,26 @@ import { POINT_KEYS } from "./pen.js"
 const KINDS = { rect: "Rectangle", ellipse: "Ellipse", line: "Line", pen: "Stroke" }
 const LONGEST = 40
 
-// What people are told of a version in one line: what it is called, its keys, and what stands between their values.
+// The lines that describe a version: label, keys, and the separator of their values.
 const LINES = [
-  ["place", ["x", "y"], ", "], ["size", ["width", "height"], " × "], ["colour", ["fill"], ""], ["text", ["name"], ""],
+  ["position", ["x", "y"], ", "], ["size", ["width", "height"], " × "], ["colour", ["fill"], ""], ["text", ["name"], ""],
 ]
 const TOLD = [...LINES.flatMap(([, keys]) => keys), ...POINT_KEYS]
 
-/** The letter by which people speak of a version: A to Z, then AA, AB, .. @param {number} place */
+/**
+ * The letter of a version: A to Z, then AA, AB and so on.
+ * @param {number} place
+ */
 export const letterOf = (place) =>
   place < 26 ? String.fromCharCode(65 + place) : letterOf(Math.floor(place / 26) - 1) + letterOf(place % 26)
 
-/** A whole number as people read it. The browser's own way to write it takes longer to load than a small room. */
+/** A number with thousands separators. `Intl` would take longer to load than a small room. */
 export const numberOf = (count) => String(count).replace(/\B(?=(\d{3})+$)/g, ",")
 
-/** A number of things. */
+/** A number with its noun, in singular or plural. */
 export const countOf = (count, one, several = `${one}s`) => `${numberOf(count)} ${count === 1 ? one : several}`
 
-/** What a shape is in a few words. */
+/** A short description of a shape. */
 export function wordsOf({ kind, text }) {
   const word = KINDS[kind] ?? kind
   if (text === "") return word
@@ -38,8 +41,9 @@ export function versionWords(places) {
 }
 
 /**
- * What people are told of a version, line by line: what it is called, its value in words, and the keys that it is of.
- * @param {Map<string, unknown>} attributes @param {Iterable<string>} keys those that any version of the object has
+ * The description of a version, line by line: label, text of the value, and keys.
+ * @param {Map<string, unknown>} attributes
+ * @param {Iterable<string>} keys all keys that some version of the object has
  * @returns {{ word: string, words: string, keys: string[] }[]}
  */
 export function linesOf(attributes, keys) {
@@ -53,10 +57,16 @@ function valueWords(key, value) {
   return (key === "fill" && COLOURS.get(value)) || String(value)
 }
 
-/** The keys that some version has. @param {{ attributes: Map<string, unknown> }[]} versions */
+/**
+ * The keys that some version has.
+ * @param {{ attributes: Map<string, unknown> }[]} versions
+ */
 export const keysOf = (versions) => new Set(versions.flatMap(({ attributes }) => [...attributes.keys()]))
 
-/** The keys that not all versions give the same value. @param {{ attributes: Map<string, unknown> }[]} versions */
+/**
+ * The keys whose values differ between versions.
+ * @param {{ attributes: Map<string, unknown> }[]} versions
+ */
 export function differingKeys(versions) {
   const [first] = versions
   const isOther = (key) => versions.some((one) => one.attributes.get(key) !== first.attributes.get(key))

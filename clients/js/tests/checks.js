@@ -1,49 +1,49 @@
-/** What tests are made of: a list of them, run one by one, and what each must find. */
+/** Helpers of the tests. */
 
 import { isDeepStrictEqual, inspect } from "node:util"
 
-/** Something isn't as it must be. */
-export class Wrong extends Error {}
+/** A check of a test failed. */
+export class CheckFailed extends Error {}
 
-/** The test can't be made here. */
-export class PassedOver extends Error {}
+/** The test cannot run here. The message says why. */
+export class Skipped extends Error {}
 
-/** Both are equal, or the test fails. */
-export function same(what, seen, wanted) {
-  if (isDeepStrictEqual(seen, wanted)) return
-  throw new Wrong(`${what}: ${inspect(seen, { depth: 9 })}, not ${inspect(wanted, { depth: 9 })}`)
+/** Fails the test unless both values are equal. */
+export function expectEqual(what, actual, expected) {
+  if (isDeepStrictEqual(actual, expected)) return
+  throw new CheckFailed(`${what}: ${inspect(actual, { depth: 9 })}, not ${inspect(expected, { depth: 9 })}`)
 }
 
-/** What is said holds, or the test fails. */
-export function holds(what, isSo) {
-  if (!isSo) throw new Wrong(what)
+/** Fails the test unless the condition holds. */
+export function expect(what, isTrue) {
+  if (!isTrue) throw new CheckFailed(what)
 }
 
-/** The call fails with an error of this name, and of this word where it is a refusal. Gives the error. */
-export function fails(what, call, name, word) {
+/** Expects that the call fails with an error of this name, and with this word if it is a refusal. Returns the error. */
+export function expectError(what, call, name, word) {
   try {
     call()
   } catch (fault) {
-    same(`${what}: the error`, fault.name, name)
-    if (word !== undefined) same(`${what}: its word`, fault.word, word)
+    expectEqual(`${what}: the error`, fault.name, name)
+    if (word !== undefined) expectEqual(`${what}: its word`, fault.word, word)
     return fault
   }
-  throw new Wrong(`${what}: it didn't fail`)
+  throw new CheckFailed(`${what}: it did not fail`)
 }
 
-/** A version as a reply has it. */
+/** Returns a version in the form of a reply. */
 export const shownVersion = ({ id, isGone, attributes }) => [id, isGone ? "gone" : [...attributes]]
 
-/** Awaits what comes to be so, for a minute. */
-export async function comes(what, isSo) {
+/** Waits until the condition holds, for at most a minute. */
+export async function waitUntil(what, isTrue) {
   for (const end = Date.now() + 60000; Date.now() < end; ) {
-    if (isSo()) return
+    if (isTrue()) return
     await new Promise((resolve) => setTimeout(resolve, 5))
   }
-  throw new Wrong(`not in a minute: ${what}`)
+  throw new CheckFailed(`not in a minute: ${what}`)
 }
 
-/** A source of numbers that gives the same ones for the same seed: whole, from 0 to below a bound. */
+/** Returns a random source of whole numbers from 0 to below a bound. The same seed gives the same numbers. */
 export function numbersFrom(seed) {
   let state = seed >>> 0
   return (bound) => {

@@ -1,6 +1,6 @@
-/** Runs the tests; with words those that have one of them in their names. */
+/** Runs the tests, or those whose names contain one of the arguments. */
 
-import { PassedOver } from "./checks.js"
+import { Skipped } from "./checks.js"
 import { build } from "./program.js"
 import { TESTS as numbers } from "./numbers.js"
 import { TESTS as rows } from "./rows.js"
@@ -11,13 +11,13 @@ import { TESTS as standing } from "./standing.js"
 import { TESTS as reconnecting } from "./reconnecting.js"
 import { TESTS as loading } from "./loading_anew.js"
 
-// No test may take longer, whatever it waits for. The histories may: a slow program has much to do there.
+// The time limit of a test. The histories have none: a slow program needs long for them.
 const SECONDS = 180
-const PATIENT = "random histories"
+const SLOW_TEST = "random histories"
 
-/** What the test tells, or a fault where it doesn't come to its end in time. */
+/** Returns the test's note. Fails if the test exceeds the time limit. */
 function inTime(name, test) {
-  if (name === PATIENT) return test()
+  if (name === SLOW_TEST) return test()
   let timer
   const late = new Promise((_, fail) => {
     timer = setTimeout(() => fail(new Error(`not done after ${SECONDS} s`)), SECONDS * 1000)
@@ -35,12 +35,12 @@ for (const [name, test] of groups.flat()) {
   const start = performance.now()
   const seconds = () => `${((performance.now() - start) / 1000).toFixed(1)} s`
   try {
-    const told = await inTime(name, test)
-    console.log(`passed: ${name}${told ? `: ${told}` : ""} (${seconds()})`)
+    const note = await inTime(name, test)
+    console.log(`passed: ${name}${note ? `: ${note}` : ""} (${seconds()})`)
     passed += 1
   } catch (fault) {
-    if (fault instanceof PassedOver) {
-      console.log(`passed over: ${name}: ${fault.message}`)
+    if (fault instanceof Skipped) {
+      console.log(`skipped: ${name}: ${fault.message}`)
       continue
     }
     console.log(`failed: ${name}: ${fault.stack} (${seconds()})`)

@@ -10,13 +10,13 @@ import { fileURLToPath } from "node:url"
 const ROOT = fileURLToPath(new URL("../../..", import.meta.url))
 const PROGRAM = process.env.GRACE ? resolve(process.env.GRACE) : resolve(ROOT, "grace")
 
-/** Builds the repository's own program where that is to be done: that takes long, and it tells how far it is. */
+/** Builds the repository's own program if it is not current. That takes long, and shows its progress. */
 export function build() {
   const { status, error } = spawnSync(PROGRAM, ["--version"], { stdio: ["ignore", "ignore", "inherit"] })
-  if (status !== 0) throw new Error(`${PROGRAM} doesn't run: ${error?.message ?? `status ${status}`}`)
+  if (status !== 0) throw new Error(`${PROGRAM} does not run: ${error?.message ?? `status ${status}`}`)
 }
 
-/** A port that nothing listens on. */
+/** Returns a port on which nothing listens. */
 export function freePort() {
   return new Promise((tell, fail) => {
     const probe = createServer()
@@ -28,7 +28,7 @@ export function freePort() {
   })
 }
 
-/** The lines that `grace script` answers to these. */
+/** Returns the answers of `grace script` to these lines. */
 export function script(rooms, lines) {
   const program = spawn(PROGRAM, ["script", ...rooms], { stdio: ["pipe", "pipe", "inherit"] })
   const pieces = []
@@ -37,14 +37,14 @@ export function script(rooms, lines) {
     program.on("error", fail)
     program.stdin.on("error", fail)
     program.on("close", (status) => {
-      if (status !== 0) return fail(new Error(`grace script ended with status ${status}`))
+      if (status !== 0) return fail(new Error(`grace script exited with status ${status}`))
       tell(Buffer.concat(pieces).toString().split("\n").slice(0, -1))
     })
     program.stdin.end(lines.map((line) => `${line}\n`).join(""))
   })
 }
 
-/** What `grace check` says of a record's text. */
+/** Returns the verdict of `grace check` on a record's text. */
 export function verdictOf(record) {
   const folder = mkdtempSync(join(tmpdir(), "record-"))
   try {
@@ -56,7 +56,7 @@ export function verdictOf(record) {
   }
 }
 
-/** `grace serve` on a free port, in the room `r`. It is ended by `end`. */
+/** `grace serve` on a free port, with the room `r`. `end` kills it. */
 export class Server {
   static async start(sessions = 1000) {
     const server = new Server()
@@ -73,12 +73,12 @@ export class Server {
     this.closed = new Promise((tell) => this.program.on("close", tell))
     return new Promise((tell, fail) => {
       this.program.on("error", fail)
-      this.closed.then(() => fail(new Error("grace serve doesn't listen")))
+      this.closed.then(() => fail(new Error("grace serve does not listen")))
       this.program.stdout.once("data", tell)
     })
   }
 
-  /** Ends the program without a word. */
+  /** Kills the program. */
   async end() {
     this.program.kill("SIGKILL")
     await this.closed

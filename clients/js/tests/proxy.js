@@ -1,22 +1,22 @@
 /**
- * A proxy between clients and `grace serve` that cuts connections between a request and its reply. It counts the
- * messages of clients; `cutAt` says of each what is to be done with it.
+ * A proxy between clients and `grace serve`. It can cut connections between a request and its reply. `whatToDo` decides
+ * about each message of a client.
  */
 
 import { connect, createServer } from "node:net"
 import { firstFrame } from "./websocket.js"
 
 export const PASS = "pass"
-/** The connection is cut, and the message never reaches the server. */
+/** The proxy cuts the connection; the message does not reach the server. */
 export const CUT_BEFORE = "cut before"
-/** The message reaches the server, which answers; the answer doesn't reach the client. */
+/** The message reaches the server, but its reply does not reach the client. */
 export const CUT_AFTER = "cut after"
-/** The connection is cut, and the message reaches the server a little later. */
+/** The proxy cuts the connection; the message reaches the server a little later. */
 export const CUT_LATE = "cut late"
 
 const LATE_MILLISECONDS = 100
 
-/** One client's connection and the server's. */
+/** The connections of one client and to the server. */
 class Pair {
   #bytes = Buffer.alloc(0)
   #isHandshake = true
@@ -64,15 +64,15 @@ class Pair {
   }
 }
 
-/** The text under a client's mask. */
+/** Returns the unmasked text of a client's frame. */
 function textOf(whole, { payload }) {
   const key = whole.subarray(whole.length - payload.length - 4, whole.length - payload.length)
   return Buffer.from(payload.map((byte, place) => byte ^ key[place % 4])).toString()
 }
 
-/** A proxy on a port of its own. New connections go to the server at `port`. */
+/** A proxy on its own port. New connections go to the server at `port`. */
 export class Proxy {
-  /** What is to be done with a message, by its text: one of the words above. */
+  /** Decides about a message, by its text: returns one of the constants above. */
   whatToDo = () => PASS
   cuts = 0
   #pairs = new Set()
@@ -95,7 +95,7 @@ export class Proxy {
     for (const pair of this.#pairs) pair.cut()
   }
 
-  /** Cuts once, in this way, at the first message that begins so. */
+  /** Cuts once, in this way, at the first message that begins with `start`. */
   cutOnce(start, what) {
     this.whatToDo = (text) => {
       if (!text.startsWith(start)) return PASS

@@ -1,20 +1,20 @@
 /**
- * Random histories of up to five sites: after each step the library's versions of each object are the program's.
- * Each site knows a part of the history, and names a version that the library works out from that part alone; a
- * version that the program doesn't find would be refused, and so be seen.
+ * Random histories of up to five sites. After each step the library's versions of each object must be those of the
+ * program. Each site knows a part of the history, and names a version that the library computes from that part alone.
+ * If the program did not find it, the refusal would show.
  */
 
 import { Drawing, LIMITS, entryOf, operationOf, writeText } from "../grace.js"
-import { holds, numbersFrom, same, shownVersion } from "./checks.js"
+import { expect, expectEqual, numbersFrom, shownVersion } from "./checks.js"
 import { script } from "./program.js"
 
 const HISTORIES = Number(process.env.HISTORIES ?? 2000)
-// So many rooms in one process of the program.
+// The number of rooms in one process of the program.
 const ROOMS = 50
 const KEYS = ["x", "y", "fill"]
 const VALUES = [1, 2, "1"]
 
-/** One room, with what each of its sites knows. */
+/** One room, with the knowledge of each of its sites. */
 class History {
   constructor(room, draw) {
     this.room = room
@@ -22,7 +22,7 @@ class History {
     this.whole = new Drawing()
     this.operations = []
     this.lines = []
-    // The reply to each line, where the rules say it.
+    // The expected reply to each line.
     this.replies = []
     this.sites = Array.from({ length: 1 + draw(5) }, () => new Drawing())
     this.knowsPrefixes = draw(2) === 0
@@ -36,7 +36,7 @@ class History {
     this.replies.push(`${this.room * 5 + site} ${writeText(reply)}`)
   }
 
-  /** A site takes up some of what it doesn't know, in the record's order or in any other causal one. */
+  /** A site learns some of the operations that it lacks, in the record's order or in another causal one. */
   learn(site) {
     const known = this.sites[site]
     for (const operation of this.operations) {
@@ -47,7 +47,7 @@ class History {
     }
   }
 
-  /** The next operation of a site, by what it knows. */
+  /** Returns the next operation of a site, by its knowledge. */
   next(site) {
     const known = this.sites[site]
     const name = [site + 1, known.count(site + 1) + 1]
@@ -63,7 +63,7 @@ class History {
     return operationOf(["put", name, known.seen(), object, id, this.pairs()])
   }
 
-  /** Values of some of the keys, each once. */
+  /** Returns values of some of the keys, each once. */
   pairs() {
     const keys = this.keys.filter(() => this.draw(2) === 0)
     return (keys.length > 0 ? keys : [this.pick(this.keys)]).map((key) => [key, this.pick(VALUES)])
@@ -73,7 +73,7 @@ class History {
     return list[this.draw(list.length)]
   }
 
-  /** One operation, and a look at all objects after it. */
+  /** Adds one operation, and then reads of all objects. */
   step() {
     const site = this.draw(this.sites.length)
     this.learn(site)
@@ -92,12 +92,12 @@ class History {
     }
   }
 
-  /** Whether another step might meet the limit of versions, which a client can't foresee. */
+  /** Returns whether another step might reach the limit of versions, which a client cannot foresee. */
   isNearLimit() {
     return this.whole.names().some((object) => this.whole.versions(object).length > LIMITS.versions / 2)
   }
 
-  /** The operations in another causal order make the same versions. */
+  /** The operations in another causal order must produce the same versions. */
   checkOtherOrder() {
     const other = new Drawing()
     const rest = [...this.operations]
@@ -107,12 +107,12 @@ class History {
       rest.splice(rest.indexOf(operation), 1)
     }
     for (const object of this.whole.names()) {
-      same(`room ${this.room}, in another order`, shown(other, object), shown(this.whole, object))
+      expectEqual(`room ${this.room}, in another order`, shown(other, object), shown(this.whole, object))
     }
   }
 }
 
-/** Whether the operation is the next of its site, and the drawing has all that it counts. */
+/** Returns whether the operation is the next of its site, and the drawing has all operations of its state vector. */
 const isReady = (drawing, { name: [author, number], seen }) =>
   number === drawing.count(author) + 1 && seen.every(([site, count]) => count <= drawing.count(site))
 
@@ -127,13 +127,13 @@ function historyOf(room, draw) {
   return history
 }
 
-/** Runs histories by one process of the program, and compares all that it answers. */
+/** Runs histories in one process of the program, and compares all replies. */
 async function compare(histories) {
   const lines = histories.flatMap((history) => history.lines)
-  const wanted = histories.flatMap((history) => history.replies)
+  const expected = histories.flatMap((history) => history.replies)
   const replies = await script(histories.map(({ room }) => `r${room}`), lines)
-  wanted.forEach((reply, place) => same(`the reply to ${lines[place]}`, replies[place], reply))
-  same("the replies", replies.length, wanted.length)
+  expected.forEach((reply, place) => expectEqual(`the reply to ${lines[place]}`, replies[place], reply))
+  expectEqual("the replies", replies.length, expected.length)
 }
 
 async function histories() {
@@ -146,16 +146,17 @@ async function histories() {
   const several = counts.filter((count) => count > 1).length
   const isGone = ({ isGone }) => isGone
   const gone = all.filter(({ whole }) => whole.names().some((object) => whole.versions(object).some(isGone))).length
-  holds("too few histories have several versions", several > HISTORIES / 4)
-  holds("too few histories have a version that is gone", gone > HISTORIES / 8)
+  expect("too few histories have several versions", several > HISTORIES / 4)
+  expect("too few histories have a version that is gone", gone > HISTORIES / 8)
   const total = (numberOf) => all.reduce((sum, history) => sum + numberOf(history).length, 0)
   const sums = `${total(({ operations }) => operations)} operations, ${total(({ lines }) => lines)} replies`
-  return `${HISTORIES} histories, ${sums}, ${several} with several versions, up to ${Math.max(...counts)}, ${gone} with one that is gone`
+  const most = Math.max(...counts)
+  return `${HISTORIES} histories, ${sums}, ${several} with several versions, up to ${most}, ${gone} with one that is gone`
 }
 
-/** An object with as many changes as it may have, and what one more costs, in time of the processor. */
+/** An object with the most changes, and the processor time of one more. */
 function largeObjects() {
-  const told = []
+  const notes = []
   for (const sites of [1, 4]) {
     const drawing = new Drawing()
     drawing.add(operationOf(["new", [1, 1], [], "rect", []]))
@@ -165,14 +166,14 @@ function largeObjects() {
       const number = drawing.count(site) + 1
       const seen = site === 1 ? [[1, number - 1]] : [[1, 1], ...(number > 1 ? [[site, number - 1]] : [])]
       drawing.add(operationOf(["put", [site, number], seen, [1, 1], [], [["x", change]]]))
-      same("the versions", drawing.versions([1, 1]).length, Math.min(change + 1, sites))
+      expectEqual("the versions", drawing.versions([1, 1]).length, Math.min(change + 1, sites))
     }
     const { user, system } = process.cpuUsage(start)
     const mean = (user + system) / 1000 / LIMITS.changes
-    holds(`${mean} ms a put with ${sites} versions`, mean < 5)
-    told.push(`${mean.toFixed(2)} ms a put with ${sites} version${sites > 1 ? "s" : ""}`)
+    expect(`${mean} ms a put with ${sites} versions`, mean < 5)
+    notes.push(`${mean.toFixed(2)} ms a put with ${sites} version${sites > 1 ? "s" : ""}`)
   }
-  return `${LIMITS.changes} puts: ${told.join(", ")}`
+  return `${LIMITS.changes} puts: ${notes.join(", ")}`
 }
 
 export const TESTS = [

@@ -1,8 +1,8 @@
-/** Worked rows: changes of one object, and the versions that it then has, by the library and by the program. */
+/** Worked examples: changes of one object and its versions after them, by the library and by the program. */
 
 import { Drawing, entryOf, operationOf, writeText } from "../grace.js"
 import { requestOf } from "../forms.js"
-import { fails, same, shownVersion } from "./checks.js"
+import { expectEqual, expectError, shownVersion } from "./checks.js"
 import { script } from "./program.js"
 
 const MADE = [[1, 1]]
@@ -15,8 +15,8 @@ const FIVE = [
   [[5, 1], MADE, [], { x: 9 }],
 ]
 
-// A name; the attributes of object (1,1); the changes of it, each its name, what it has seen, the version, and what it
-// gives, or DROP; the versions after them, each an identifier and the attributes, or "gone".
+// A name; the attributes of object (1,1); the changes, each with its name, state vector, version, and attributes or
+// DROP; and the versions after them, each with its identifier and its attributes or "gone".
 const ROWS = [
   ["a new object", [["x", 0]], [], [[[], { x: 0 }]]],
   ["one put", [["x", 0]], [X5], [[[], { x: 5 }]]],
@@ -57,10 +57,10 @@ const ROWS = [
 ]
 
 const creationOf = (attributes) => operationOf(["new", [1, 1], [], "rect", attributes])
-const changeOf = ([name, seen, version, given]) =>
-  operationOf(given === DROP
+const changeOf = ([name, seen, version, attributes]) =>
+  operationOf(attributes === DROP
     ? ["drop", name, seen, [1, 1], version]
-    : ["put", name, seen, [1, 1], version, Object.entries(given)])
+    : ["put", name, seen, [1, 1], version, Object.entries(attributes)])
 const shownBy = (drawing) => drawing.versions([1, 1]).map(shownVersion)
 const shownOf = (versions) => versions.map(([id, shown]) => [id, shown === "gone" ? shown : Object.entries(shown)])
 
@@ -69,12 +69,12 @@ function byTheLibrary() {
     const drawing = new Drawing()
     drawing.add(creationOf(attributes))
     for (const change of changes) drawing.add(changeOf(change))
-    same(name, shownBy(drawing), shownOf(versions))
+    expectEqual(name, shownBy(drawing), shownOf(versions))
   }
   return `${ROWS.length} rows`
 }
 
-/** The lines of a row for sessions 1 to 5, and the reply to the last. */
+/** Returns the lines of an example for sessions 1 to 5, and the reply to the last. */
 function linesOf([, attributes, changes, versions], room) {
   const sites = [1, 2, 3, 4, 5].slice(0, Math.max(1, ...changes.map(([[site]]) => site)))
   const session = (site) => room * 5 + site
@@ -91,12 +91,12 @@ async function byTheProgram() {
   let end = 0
   rows.forEach(([lines, reply], row) => {
     end += lines.length
-    same(`${ROWS[row][0]}, by the program`, replies[end - 1], reply)
+    expectEqual(`${ROWS[row][0]}, by the program`, replies[end - 1], reply)
   })
   return `${rows.length} rows`
 }
 
-/** What is not admitted is refused, and changes nothing. */
+/** The library refuses changes that are not admissible. Refusals change nothing. */
 function refusals() {
   const drawing = new Drawing()
   drawing.add(creationOf([["x", 0]]))
@@ -104,31 +104,31 @@ function refusals() {
   drawing.add(changeOf(X9))
   const shown = shownBy(drawing)
   const add = (change) => () => drawing.add(changeOf(change))
-  fails("no version of this name", add([[2, 2], BOTH, [], { line: 3 }]), "Refused", "no-such-version")
-  fails("one that isn't in dispute", add([[3, 1], [[1, 2]], [[1, 2]], { x: 1 }]), "Refused", "no-such-version")
-  fails("both of two that conflict", add([[3, 1], BOTH, BOTH, { x: 1 }]), "Refused", "no-such-version")
-  fails("a change that isn't known", add([[3, 1], MADE, [[2, 1]], { x: 1 }]), "Refused", "no-such-version")
-  fails("one that doesn't know the object", add([[3, 1], [], [], { x: 1 }]), "Refused", "no-such-object")
-  fails("a wrong number", add([[1, 2], MADE, [], { x: 1 }]), "ProtocolFault")
-  fails("one that counts what isn't there", add([[3, 1], [[1, 3]], [], { x: 1 }]), "ProtocolFault")
-  fails("no such object", () => drawing.versions([3, 3]), "Refused", "no-such-object")
-  same("the versions afterwards", shownBy(drawing), shown)
+  expectError("no version of this name", add([[2, 2], BOTH, [], { line: 3 }]), "Refused", "no-such-version")
+  expectError("one that is not in dispute", add([[3, 1], [[1, 2]], [[1, 2]], { x: 1 }]), "Refused", "no-such-version")
+  expectError("both of two that conflict", add([[3, 1], BOTH, BOTH, { x: 1 }]), "Refused", "no-such-version")
+  expectError("an unknown change", add([[3, 1], MADE, [[2, 1]], { x: 1 }]), "Refused", "no-such-version")
+  expectError("one that has not seen the object", add([[3, 1], [], [], { x: 1 }]), "Refused", "no-such-object")
+  expectError("a wrong number", add([[1, 2], MADE, [], { x: 1 }]), "ProtocolFault")
+  expectError("one that counts a missing operation", add([[3, 1], [[1, 3]], [], { x: 1 }]), "ProtocolFault")
+  expectError("no such object", () => drawing.versions([3, 3]), "Refused", "no-such-object")
+  expectEqual("the versions afterwards", shownBy(drawing), shown)
   drawing.add(changeOf([[2, 2], BOTH, [[2, 1]], DROP]))
-  fails("one that is gone", add([[3, 1], [[1, 2], [2, 2]], [[2, 1], [2, 2]], { x: 1 }]), "Refused", "gone")
+  expectError("one that is gone", add([[3, 1], [[1, 2], [2, 2]], [[2, 1], [2, 2]], { x: 1 }]), "Refused", "gone")
 }
 
-/** In another order of the same operations there are the same versions. */
+/** The same operations in another order produce the same versions. */
 function otherOrders() {
   const [, attributes, changes, versions] = ROWS.find(([name]) => name === "five of five")
   for (const order of [[4, 3, 2, 1, 0], [2, 0, 4, 1, 3], [1, 3, 0, 2, 4]]) {
     const drawing = new Drawing()
     drawing.add(creationOf(attributes))
     for (const place of order) drawing.add(changeOf(changes[place]))
-    same(`in the order ${order}`, shownBy(drawing), shownOf(versions))
+    expectEqual(`in the order ${order}`, shownBy(drawing), shownOf(versions))
   }
 }
 
-/** A version outlives a drop whose author deleted it as far as he had seen it, and no other drop. */
+/** A version outlives a drop whose author deleted it in an earlier state, and no other drop. */
 function outlived() {
   const cases = [
     ["changed in the meantime", [X5, [[2, 1], [[1, 2]], [], DROP], [[1, 3], [[1, 2]], [], { x: 6 }]], [[[2, 1]], []]],
@@ -143,24 +143,24 @@ function outlived() {
       [[3, 1], [[1, 3], [2, 1]], [[1, 3]], { line: 3 }]], [[[2, 1]], []]],
     ["two drops of one version", [X5, [[1, 3], [[1, 2]], [], DROP], [[2, 1], [[1, 2]], [], DROP]], [[]]],
   ]
-  for (const [name, changes, wanted] of cases) {
+  for (const [name, changes, expected] of cases) {
     const drawing = new Drawing()
     drawing.add(creationOf([["x", 0]]))
     for (const change of changes) drawing.add(changeOf(change))
-    same(name, drawing.versions([1, 1]).map((version) => version.outlived), wanted)
+    expectEqual(name, drawing.versions([1, 1]).map((version) => version.outlived), expected)
   }
 }
 
-/** The old form of one attribute is read as a put, which is written in its own form. */
+/** The library reads the old form of one attribute as a put, and writes it in its own form. */
 function oldForm() {
   const put = operationOf(["set", [1, 2], MADE, [1, 1], [], "x", 5])
-  same("read", put, changeOf(X5))
-  same("written", entryOf(put), ["put", [1, 2], MADE, [1, 1], [], [["x", 5]]])
+  expectEqual("read", put, changeOf(X5))
+  expectEqual("written", entryOf(put), ["put", [1, 2], MADE, [1, 1], [], [["x", 5]]])
 }
 
 export const TESTS = [
-  ["worked rows", byTheLibrary],
-  ["worked rows by the program", byTheProgram],
+  ["worked examples", byTheLibrary],
+  ["worked examples by the program", byTheProgram],
   ["what is not admitted", refusals],
   ["another order", otherOrders],
   ["what outlived a drop", outlived],

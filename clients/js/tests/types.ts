@@ -89,7 +89,7 @@ room.put(made.object, made.version)
 room.drop([1], [])
 // @ts-expect-error no such event
 room.on("news", () => {})
-// @ts-expect-error what it is told has no such part
+// @ts-expect-error the news has no such field
 room.on("progress", ({ percent }) => percent)
 // @ts-expect-error no such option
 new Room("ws://localhost:7000/", "r", { poll: 20 })

@@ -18,7 +18,7 @@ function frameOf(opcode, payload) {
   return Buffer.concat([head, key, payload.map((byte, place) => byte ^ key[place % 4])])
 }
 
-/** The first frame of a server in these bytes, with how many bytes it takes; null where it isn't whole. */
+/** Returns the first frame in these bytes and its size, or null if it is incomplete. */
 export function firstFrame(bytes) {
   if (bytes.length < 2) return null
   const short = bytes[1] & 127

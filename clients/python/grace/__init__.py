@@ -1,6 +1,5 @@
-"""A client of GRACE rooms, over the standard library alone (Python 3.10 or later). `Room` joins a room, keeps its
-record and what it shows, changes objects, and comes back after a lost connection. `Drawing` works out the versions of
-objects from operations alone.
+"""A client of GRACE drawing rooms for Python 3.10 or later. It uses only the standard library. `Room` joins a room,
+shows its objects, changes them, and reconnects. `Drawing` computes the versions of objects from operations alone.
 
     from grace import Room
 
@@ -12,8 +11,8 @@ objects from operations alone.
         for name in room.objects():
             print(room.kind(name), [version.attributes for version in room.versions(name)])
 
-Values are texts, and whole numbers of 64 bits. A room lets in 256 sites for good, and who joins uses up one; after a
-lost connection a room comes back as the site that it was. `LIMITS` has what a room or an object takes at most."""
+A value is a string or a 64-bit integer. Each join uses up one of the room's 256 sites for good. After a lost connection
+the client rejoins as the same site. `LIMITS` has all limits."""
 
 from .change import Change, Changed, Progress, Refusal, Renewed, State
 from .drawing import Drawing, Version

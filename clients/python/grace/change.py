@@ -1,4 +1,4 @@
-"""A change of this client, from its making to its answer, and what a room tells its listeners."""
+"""Changes that this client made, and the news that a room passes to its listeners."""
 
 import time
 from concurrent.futures import Future
@@ -6,54 +6,61 @@ from dataclasses import dataclass, replace
 
 
 class Change:
-    """A new object, a put, or a drop.
+    """A change that this client made: a creation, a put or a drop.
 
-    `operation` is what is to be sent, or was. As another site's it gets another name. `version` is the version that has
-    the change, as it was at once after it. `done` is a `concurrent.futures.Future`: its `result()` awaits the answer.
-    It raises `Refused` where the change was refused, or withdrawn with one that it was built on, or the room was closed
-    or begun anew before. A listener must not await it, since it runs in the thread that takes the answers."""
+    `operation` is what was sent or will be sent. Its name changes if the client has to join as a new site. `version` is
+    the version that contains this change, as it was directly after it.
+
+    `done` is a `concurrent.futures.Future`. Its `result()` waits until the server has accepted the change, and raises
+    `Refused` if the change failed. The word is the server's, or:
+    - `withdrawn` if the server refused an earlier pending change of the same object;
+    - `closed` if the room was closed first;
+    - `another-room` if the server now has a different room of this name.
+
+    A listener must not wait for `done`, because listeners run in the thread that receives the replies."""
 
     def __init__(self, operation):
         self.operation = operation
         self.version = None
         self.done = Future()
-        # Nobody may cancel it.
+        # So that nobody can cancel it.
         self.done.set_running_or_notify_cancel()
-        # When it was made, by `time.monotonic()`.
+        # When the change was made, in seconds of `time.monotonic()`.
         self.made = time.monotonic()
 
     @property
     def name(self):
-        """Its name; that of an object that it makes, too."""
+        """The name of the operation. For a creation it is also the object's name."""
         return self.operation.name
 
     @property
     def object(self):
-        """The name of the object that it makes or changes."""
+        """The name of the object that the change creates or modifies."""
         return self.operation.object
 
 
-def renamed(operation, names, site, taken):
-    """An own operation that nobody has seen, under its new name; `names` has the new names of own operations. Of its
-    old site it has seen no more than was taken, and of its new one all that is before it."""
+def rename_operation(operation, names, site, taken):
+    """Renames an operation that no other site has seen, because this client is now another site. `names` has the new
+    names of this client's operations. The result's state vector counts the first `taken` operations of the old site,
+    and all earlier operations of the new one."""
 
-    def anew(name):
+    def new_name(name):
         return names.get(name, name)
 
-    name = anew(operation.name)
+    name = new_name(operation.name)
     counts = {**dict(operation.seen), site: taken}
     counts[name[0]] = name[1] - 1
     return replace(
-        operation, name=name, object=anew(operation.object),
+        operation, name=name, object=new_name(operation.object),
         seen=tuple(sorted((other, count) for other, count in counts.items() if count)),
-        version=operation.version and tuple(sorted(map(anew, operation.version))),
+        version=operation.version and tuple(sorted(map(new_name, operation.version))),
     )
 
 
 @dataclass(frozen=True)
 class Changed:
-    """Told by `change`: these objects are other than they were, or new, or gone. `renamed` has the objects and
-    operations of this client that got another name, each as a pair, the old name first."""
+    """News of the event `change`: these objects were created, changed or deleted. `renamed` lists the objects and
+    operations of this client that have a new name, each as a pair of old and new."""
 
     objects: list
     renamed: list
@@ -61,8 +68,8 @@ class Changed:
 
 @dataclass(frozen=True)
 class State:
-    """Told by `state`: `connecting`, `open`, `saving`, `waiting` or `closed`, and the same in words. `seconds` is how
-    long the oldest change without an answer has waited where it is `saving`, else 0."""
+    """News of the event `state`: `connecting`, `open`, `saving`, `waiting` or `closed`, and a sentence for people.
+    `seconds` is how long the oldest change has been pending if the state is `saving`, otherwise 0."""
 
     state: str
     words: str
@@ -71,8 +78,8 @@ class State:
 
 @dataclass(frozen=True)
 class Progress:
-    """Told by `progress` while a room is loaded, for the last time once it is: how many entries of the record this
-    client has, and how many the server has at least."""
+    """News of the event `progress`: how many entries of the record this client has, and how many the server has at
+    least. The last news has `is_loaded` true."""
 
     have: int
     of: int
@@ -81,7 +88,7 @@ class Progress:
 
 @dataclass(frozen=True)
 class Refusal:
-    """Told by `refusal`: a change was refused, and what it did is taken back."""
+    """News of the event `refusal`: a change failed, and its effect was removed."""
 
     refusal: Exception
     change: Change
@@ -89,8 +96,8 @@ class Refusal:
 
 @dataclass(frozen=True)
 class Renewed:
-    """Told by `renewed`: the server has another room of this name. What this client had of the old one is shown no
-    more; `text` has it, a line for each entry of its record and then for each change that wasn't answered."""
+    """News of the event `renewed`: the server now has a different room of this name, so the old objects are gone.
+    `text` has the entries of the old record, then the pending changes, one entry a line."""
 
     words: str
     text: str

@@ -1,27 +1,27 @@
-"""The room, for a program that draws in it."""
+"""The room as programs use it."""
 
 import threading
 from types import SimpleNamespace
 
+from .arguments import as_attributes, as_id, as_kind, as_name, as_pairs, as_room_name
 from .forms import Refused
-from .given import as_attributes, as_id, as_kind, as_name, as_pairs, as_room_name
-from .held import Held
-from .speaker import Speaker
+from .network_thread import NetworkThread
+from .room_state import RoomState
 from .websocket import Address
 
 EVENTS = ("change", "state", "progress", "refusal", "renewed")
 
 
 class Hold:
-    """Keeps what others do from being shown until it is called, or its `with` block ends. A second call does
+    """Stops showing other people's changes until you call it, or until its `with` block ends. A second call does
     nothing."""
 
-    def __init__(self, give_back):
-        self._give_back = give_back
+    def __init__(self, release):
+        self._release = release
 
     def __call__(self):
-        give_back, self._give_back = self._give_back, lambda: None
-        give_back()
+        release, self._release = self._release, lambda: None
+        release()
 
     def __enter__(self):
         return self
@@ -31,41 +31,40 @@ class Hold:
 
 
 class Room:
-    """A room that a client is in. What it shows are the first entries of the record, and its own changes at once.
+    """A client in a room. It shows a prefix of the record, and its own changes as soon as they are made.
 
-    A thread of the room speaks to the server, and calls all listeners: one after the other, in the order of what
-    happened, and never with the room's lock. So a listener may call whatever doesn't wait; while it runs nothing is
-    sent or asked. All methods may be called from any thread.
+    The room has a thread that talks to the server and calls all listeners. It calls them one at a time, in the order of
+    the events, without the room's lock. A listener may call any method that does not wait. While it runs, nothing is
+    sent. All methods may be called from any thread.
 
-    Listeners, by `on`, each called with an object of `grace.change`:
-    - `change` (`Changed`): objects are other than they were, or new, or gone; or have another name.
-    - `state` (`State`): the connection. `saving` is told again about once a second.
-    - `progress` (`Progress`): how far the room is loaded; for the last time once it is.
-    - `refusal` (`Refusal`): a change was refused, and what it did is taken back.
-    - `renewed` (`Renewed`): the server has another room of this name.
-    """
+    Events, for `on`. The listener receives an object of `grace.change`:
+    - `change` (`Changed`): objects were created, changed, deleted or renamed.
+    - `state` (`State`): the connection state changed. While it is `saving`, the event repeats about once a second.
+    - `progress` (`Progress`): entries of the room that are loaded. The last event has `is_loaded` true.
+    - `refusal` (`Refusal`): a change failed, and its effect was removed.
+    - `renewed` (`Renewed`): the server now has a different room of this name."""
 
     def __init__(
         self, address, name, *, site=None, context=None, poll_seconds=0.02, busy_seconds=5, idle_seconds=1,
         reply_seconds=15, back_seconds=5, retry_seconds=(0.1, 0.5, 1, 2, 5), listeners=None,
     ):
-        """Begins to connect to a room.
+        """Starts to connect to a room.
 
-        `address` is that of the server, as `ws://127.0.0.1:7000/`, or `wss://` for TLS with `context`, an
-        `ssl.SSLContext` (otherwise the system's default). `name` is the room's.
+        `address` is the server's, such as `ws://127.0.0.1:7000/`. `wss://` uses TLS with `context`, an
+        `ssl.SSLContext`; the default is the system's. `name` is the room's: 1 to 64 characters of a-z, 0-9 and `-`.
 
-        `site` is one to come back as, that this client was before. Where the room doesn't let it, the room is closed.
-        Otherwise the client joins as a new site. After a lost connection it comes back as its site. Where its old
-        session isn't over yet it tries that for `back_seconds`, and then joins as a new one.
+        `site` is the number of a site, from 1 to 256, to rejoin as. If the server refuses that, the room is closed.
+        Without it the client joins as a new site. After a lost connection the client rejoins as its old site. While the
+        server still has the old session, it keeps trying for `back_seconds`. Then it joins as a new site.
 
-        `poll_seconds` is the wait from a reply to the next question for news, up to `busy_seconds` after the last
-        change in the room. From then on each wait is a quarter longer than the one before, up to `idle_seconds`. After
-        `reply_seconds` without a reply a connection counts as lost. `retry_seconds` are the waits before the first,
-        second, .. try to connect again; the last stands for all others.
+        `poll_seconds` is the wait from a reply to the next poll, for `busy_seconds` after the last change in the room.
+        After that each wait is 1.25 times the one before, up to `idle_seconds`. A reply that takes longer than
+        `reply_seconds` ends the connection. `retry_seconds` is the backoff: the waits before the first, second and
+        later attempts to reconnect. The last one repeats.
 
-        `listeners` has a listener by each event's name: one that misses nothing from the beginning.
+        `listeners` maps names of events to listeners that receive all events from the start.
 
-        Raises `TypeError` or `ValueError` where the address or the name is none."""
+        Raises `TypeError` or `ValueError` if the address or the name is invalid."""
         as_room_name(name)
         options = SimpleNamespace(
             site=site, context=context, poll_seconds=poll_seconds, busy_seconds=busy_seconds,
@@ -76,9 +75,9 @@ class Room:
         self._listeners = {event: [] for event in EVENTS}
         for event, listener in (listeners or {}).items():
             self.on(event, listener)
-        self._speaker = Speaker(Address.read(address), name, options, self._lock, self._listeners)
-        self._held = self._speaker.held = Held(self._speaker.tell)
-        self._speaker.thread.start()
+        self._network = NetworkThread(Address.read(address), name, options, self._lock, self._listeners)
+        self._state = self._network.room_state = RoomState(self._network.emit)
+        self._network.thread.start()
 
     def __enter__(self):
         return self
@@ -86,87 +85,92 @@ class Room:
     def __exit__(self, *_):
         self.close()
 
-    # ---- looking
+    # ---- reading
 
     @property
     def state(self):
-        """`connecting`; `open`: in the room; `saving`: in the room, and a change has gone unanswered for a second or
-        more; `waiting`: between a lost connection and the next try; or `closed`."""
-        return self._speaker.standing.state
+        """The connection state:
+        - `connecting`: connects, joins and loads
+        - `open`: in the room
+        - `saving`: in the room, and a change has been pending for a second or more
+        - `waiting`: disconnected, until the next attempt to reconnect
+        - `closed`: ended for good"""
+        return self._network.connection_state.state
 
     @property
     def words(self):
-        """The state in words."""
-        return self._speaker.standing.words
+        """The connection state as a sentence for people."""
+        return self._network.connection_state.words
 
     @property
     def site(self):
-        """The site that this client is in the room, None before it is in."""
-        return self._held.site
+        """The number of this client's site, from 1 to 256; None before the client has joined."""
+        return self._state.site
 
     @property
     def record(self):
-        """The entries of the record that were pulled, those that aren't shown yet among them."""
+        """The entries that were pulled so far. A hold may keep the last ones from being shown."""
         with self._lock:
-            return list(self._held.record)
+            return list(self._state.record)
 
     @property
     def seen(self):
-        """What this client has seen: the state vector that a next change would carry."""
+        """The state vector of what this client shows, sorted by site. The next change carries it."""
         with self._lock:
-            return self._held.drawing.seen()
+            return self._state.drawing.seen()
 
     @property
     def pending(self):
-        """The changes that the server hasn't answered yet."""
+        """The pending changes: those that the server has not answered yet, oldest first."""
         with self._lock:
-            return list(self._held.pending)
+            return list(self._state.pending)
 
     @property
     def progress(self):
         """How many entries of the record this client has (`have`), and how many the server has at least (`of`)."""
         with self._lock:
-            return self._held.progress()
+            return self._state.progress()
 
     @property
     def is_loaded(self):
-        """Whether this client has had all that the room had when it came in."""
-        return self._held.is_loaded
+        """Whether the client has loaded all entries that the room had when the client joined."""
+        return self._state.is_loaded
 
     @property
     def has_news(self):
-        """Whether there is news that a hold keeps back."""
-        return self._held.has_news
+        """Whether a hold keeps new entries from being shown."""
+        return self._state.has_news
 
     def objects(self):
-        """The names of the objects, in the order of the record, those of this client that aren't in it yet last."""
+        """The shown objects in the order of the record. Own objects that the record lacks come last."""
         with self._lock:
-            return self._held.objects()
+            return self._state.objects()
 
     def has(self, name):
         """Whether an object is shown."""
         with self._lock:
-            return self._held.drawing.has(name)
+            return self._state.drawing.has(name)
 
     def kind(self, name):
-        """The kind of an object. Raises `Refused`: `no-such-object`."""
+        """The kind of an object. Raises `Refused` (`no-such-object`)."""
         with self._lock:
-            return self._held.drawing.kind(name)
+            return self._state.drawing.kind(name)
 
     def versions(self, name):
-        """The versions of an object, in order of identifier. Raises `Refused`: `no-such-object`."""
+        """The versions of an object, sorted by identifier. Raises `Refused` (`no-such-object`)."""
         with self._lock:
-            return self._held.drawing.versions(name)
+            return self._state.drawing.versions(name)
 
     def successors(self, name, version):
-        """What became of a version: the versions that now have all changes that it had."""
+        """The current versions that contain all changes of an earlier version."""
         with self._lock:
-            return self._held.successors(tuple(name), version)
+            return self._state.successors(tuple(name), version)
 
     def on(self, event, listener):
-        """Calls a listener from now on, in the thread of the room. What this gives ends that."""
+        """Adds a listener, which runs in the room's thread. Returns a function that removes it. Raises `ValueError` if
+        there is no such event."""
         if event not in self._listeners:
-            raise ValueError(f"there is no event {event!r}: there are {', '.join(EVENTS)}")
+            raise ValueError(f"there is no event {event!r}; the events are {', '.join(EVENTS)}")
         with self._lock:
             self._listeners[event].append(listener)
 
@@ -180,87 +184,86 @@ class Room:
     # ---- changing
 
     def create(self, kind, attributes=()):
-        """Makes an object, with at most 16 attributes: a dictionary, or pairs. It is shown at once, and sent as soon as
-        it can be. Gives the `Change`.
+        """Creates an object with at most 16 attributes: a dictionary, or pairs. It is shown at once, and sent as soon
+        as the connection allows. Returns the `Change`.
 
-        Raises `Refused` (`not-joined`, `closed`, `record-full`, `too-many-objects`, `too-long`), or `TypeError` or
-        `ValueError` where the kind or the attributes are none. Then nothing was changed."""
+        Raises `Refused` (`not-joined`, `closed`, `record-full`, `too-many-objects`, `too-long`). Raises `TypeError` or
+        `ValueError` if the kind or an attribute is invalid. Nothing has changed then."""
         kind, attributes = as_kind(kind), as_attributes(attributes)
-        return self._change(lambda: self._held.create(kind, attributes))
+        return self._change(lambda: self._state.create(kind, attributes))
 
     def put(self, name, version, attributes):
-        """Gives one version of an object 1 to 16 attributes, all in one step. The version is one as it is shown now, or
-        its identifier. Gives the `Change`.
+        """Sets 1 to 16 attributes of one version in a single change. `version` is a version that is shown now, or its
+        identifier. Returns the `Change`.
 
         Raises `Refused` (`not-joined`, `closed`, `record-full`, `no-such-object`, `no-such-version`, `gone`,
-        `object-full`, `too-many-keys`, `too-long`), or `TypeError` or `ValueError` where the attributes are none. Then
-        nothing was changed."""
+        `object-full`, `too-many-keys`, `too-long`). Raises `TypeError` or `ValueError` if an argument is invalid.
+        Nothing has changed then."""
         name, version, attributes = as_name(name), as_id(version), as_pairs(attributes)
-        return self._change(lambda: self._held.change_version("put", name, version, attributes))
+        return self._change(lambda: self._state.change_version("put", name, version, attributes))
 
     def set(self, name, version, key, value):
-        """Gives one version of an object one attribute: a put of one."""
+        """Sets one attribute of one version: a put with one attribute."""
         return self.put(name, version, [(key, value)])
 
     def drop(self, name, version):
-        """Deletes one version of an object. It is then shown as gone, and who has seen that can't build on it. Changes
-        of it that others made in the meantime stay, in a version of their own. Gives the `Change`, raises as `put`."""
+        """Deletes one version of an object. A site that has seen the drop cannot change that version any more.
+        Concurrent changes by others stay, in a version of their own. Returns the `Change`. Raises as `put`."""
         name, version = as_name(name), as_id(version)
-        return self._change(lambda: self._held.change_version("drop", name, version))
+        return self._change(lambda: self._state.change_version("drop", name, version))
 
     def _change(self, make):
         with self._lock:
             change = make()
-            self._speaker.changed()
+            self._network.changed()
             return change
 
     def hold(self):
-        """Keeps what others do from being shown until the hold is given back, so that a change says that its author had
-        seen what they had. Gives a `Hold`: call it, or use it in a `with` statement."""
+        """Stops showing other people's changes until you release the hold. The state vector of a change then counts
+        only what was shown. Returns a `Hold`: call it, or use it in a `with` statement."""
 
-        def give_back():
+        def release():
             with self._lock:
-                self._held.give_back()
+                self._state.release_hold()
 
         with self._lock:
-            self._held.hold()
-        return Hold(give_back)
+            self._state.hold()
+        return Hold(release)
 
     # ---- waiting
 
     def entered(self, seconds=None):
-        """Awaits that the client is in the room: whether it is, within so many seconds. Raises `Refused` where the
-        server let it not."""
-        self._await(lambda: self._speaker.standing.is_in or self.state == "closed", seconds)
-        if isinstance(self._speaker.fault, Refused):
-            raise self._speaker.fault
-        return self._speaker.standing.is_in
+        """Waits until the client has joined the room, for at most `seconds`. Returns whether it has. Raises `Refused`
+        if the server refused to let it in."""
+        self._wait_for(lambda: self._network.connection_state.is_in or self.state == "closed", seconds)
+        if isinstance(self._network.fault, Refused):
+            raise self._network.fault
+        return self._network.connection_state.is_in
 
     def refresh(self, seconds=None):
-        """Asks for news at once, and awaits it: whether all that the server had when this was called is here, within so
-        many seconds. A hold keeps it from being shown."""
+        """Polls at once and waits for the reply, for at most `seconds`. Returns whether this client has all entries
+        that the server had when you called this. A hold keeps them from being shown."""
         with self._lock:
-            self._speaker.looks_asked += 1
-            asked = self._speaker.looks_asked
-            self._speaker.wake()
-        self._await(lambda: self._speaker.looks_done >= asked or self.state == "closed", seconds)
-        return self._speaker.looks_done >= asked
+            self._network.refreshes_asked += 1
+            asked = self._network.refreshes_asked
+            self._network.wake()
+        self._wait_for(lambda: self._network.refreshes_done >= asked or self.state == "closed", seconds)
+        return self._network.refreshes_done >= asked
 
     def settled(self, seconds=None):
-        """Awaits that the server has answered all changes, or the room is closed: whether that is so, within so many
-        seconds."""
-        return self._await(lambda: not self._held.pending or self.state == "closed", seconds)
+        """Waits until no change is pending or the room is closed, for at most `seconds`. Returns whether that is so."""
+        return self._wait_for(lambda: not self._state.pending or self.state == "closed", seconds)
 
     def close(self):
-        """Closes the connection for good, and awaits that all listeners were told. Changes that the server hasn't
-        answered are given up: await `settled` before."""
+        """Closes the room and its connection for good, and waits until all listeners have run. Pending changes fail
+        with `closed`: call `settled` first to keep them."""
         with self._lock:
-            self._speaker.end()
-        if threading.current_thread() is not self._speaker.thread:
-            self._speaker.thread.join()
+            self._network.end()
+        if threading.current_thread() is not self._network.thread:
+            self._network.thread.join()
 
-    def _await(self, is_so, seconds):
-        if threading.current_thread() is self._speaker.thread:
-            raise RuntimeError("a listener can't await what its own thread is to do")
+    def _wait_for(self, is_so, seconds):
+        if threading.current_thread() is self._network.thread:
+            raise RuntimeError("a listener cannot wait for its own thread")
         with self._lock:
-            return self._speaker.news.wait_for(is_so, seconds)
+            return self._network.news.wait_for(is_so, seconds)

@@ -1,4 +1,4 @@
-"""A WebSocket to a server (RFC 6455), with TLS or without. It never waits by itself: `wait` does that for it."""
+"""A WebSocket client (RFC 6455), with TLS or without. It does not block by itself: `wait` does that for it."""
 
 import base64
 import errno
@@ -15,13 +15,13 @@ from .forms import Lost
 CONTINUATION, TEXT, CLOSE, PING, PONG = 0, 1, 8, 9, 10
 SUFFIX = b"258EAFA5-E914-47DA-95CA-C5AB0DC85B11"
 PORTS = {"ws": 80, "wss": 443}
-# No answer to a handshake has a longer head.
+# A longer reply to the handshake is refused.
 HEAD_BYTES = 65536
 
 
 @dataclass(frozen=True)
 class Address:
-    """Where a server is: `ws://HOST:PORT/PATH`, `wss://` for TLS, or `HOST:PORT` alone."""
+    """The address of a server: `ws://HOST:PORT/PATH`, `wss://` for TLS, or `HOST:PORT` alone."""
 
     scheme: str
     host: str
@@ -30,39 +30,39 @@ class Address:
 
     @classmethod
     def read(cls, text):
-        """The address that a text says. Raises `ValueError` where it says none."""
+        """Parses an address. Raises `ValueError` if it is invalid."""
         parts = urlsplit(text if "://" in text else f"ws://{text}")
         if parts.scheme not in PORTS or not parts.hostname:
-            raise ValueError(f"{text} is no address: one is as ws://127.0.0.1:7000/")
+            raise ValueError(f"{text} is not an address such as ws://127.0.0.1:7000/")
         path = (parts.path or "/") + (f"?{parts.query}" if parts.query else "")
         return cls(parts.scheme, parts.hostname, parts.port or PORTS[parts.scheme], path)
 
     @property
     def host_and_port(self):
-        """As a head has it."""
+        """The value of the header field `Host`."""
         return f"[{self.host}]:{self.port}" if ":" in self.host else f"{self.host}:{self.port}"
 
 
-def masked(payload, key):
-    """The payload under a mask of four bytes."""
+def mask(payload, key):
+    """The payload masked with a key of four bytes."""
     stream = (key * (len(payload) // 4 + 1))[: len(payload)]
     changed = int.from_bytes(payload, "big") ^ int.from_bytes(stream, "big")
     return changed.to_bytes(len(payload), "big")
 
 
 def frame_of(opcode, payload):
-    """A frame of a client."""
+    """A masked frame, as a client sends it."""
     size, key = len(payload), os.urandom(4)
     if size < 126:
         length = bytes([128 | size])
     else:
         length = struct.pack("!BH", 128 | 126, size) if size < 65536 else struct.pack("!BQ", 128 | 127, size)
-    return bytes([128 | opcode]) + length + key + masked(payload, key)
+    return bytes([128 | opcode]) + length + key + mask(payload, key)
 
 
 class WebSocket:
-    """One connection. `wait` is called with the socket and whether it is to be written, and gives once it is ready, or
-    raises `Lost`. So does each call here where the connection is gone."""
+    """One connection. `wait` is called with the socket and whether it must become writable. It returns when the socket
+    is ready, or raises `Lost`. All methods raise `Lost` if the connection has ended."""
 
     def __init__(self, wait):
         self.socket = None
@@ -72,27 +72,27 @@ class WebSocket:
         self._fragments = None
 
     def open(self, address, context):
-        """Opens it; for a `wss` address with this context of TLS."""
+        """Opens the connection. A `wss` address uses this TLS context."""
         self._connect(address)
         if address.scheme == "wss":
             self.socket = context.wrap_socket(
                 self.socket, server_hostname=address.host, do_handshake_on_connect=False,
             )
-            self._patiently(self.socket.do_handshake)
+            self._retry_until_ready(self.socket.do_handshake)
         key = base64.b64encode(os.urandom(16)).decode()
         self._send(
             f"GET {address.path} HTTP/1.1\r\nHost: {address.host_and_port}\r\nUpgrade: websocket\r\n"
             f"Connection: Upgrade\r\nSec-WebSocket-Version: 13\r\nSec-WebSocket-Key: {key}\r\n\r\n".encode()
         )
-        self._read_head(base64.b64encode(hashlib.sha1(key.encode() + SUFFIX).digest()))
+        self._read_handshake(base64.b64encode(hashlib.sha1(key.encode() + SUFFIX).digest()))
         self.is_open = True
 
     def send(self, text):
-        """Sends a message."""
+        """Sends a text message."""
         self._send(frame_of(TEXT, text.encode()))
 
     def read(self):
-        """Awaits the next message."""
+        """Waits for the next message."""
         while True:
             message = self.next_message()
             if message is not None:
@@ -100,34 +100,34 @@ class WebSocket:
             self._fill()
 
     def next_message(self):
-        """The next message that has come whole, None where there is none. Answers pings."""
+        """The next complete message, or None if there is none yet. It answers pings."""
         while (frame := self._next_frame()) is not None:
             is_last, opcode, payload = frame
             if opcode == PING:
                 self._send(frame_of(PONG, payload))
             elif opcode == CLOSE:
                 self._send(frame_of(CLOSE, payload))
-                raise Lost("The server closed the session.")
+                raise Lost("The server closed the connection.")
             elif opcode in (TEXT, CONTINUATION):
                 self._fragments = (self._fragments or b"") + payload
                 if is_last:
                     message, self._fragments = self._fragments, None
                     return message.decode(errors="replace")
             elif opcode != PONG:
-                raise Lost("The server sent what is no text.")
+                raise Lost("The server sent a message that is not text.")
         return None
 
     def take_ready(self):
-        """Takes what has come, without waiting for more."""
+        """Reads the bytes that have arrived, without waiting for more."""
         try:
             self._receive()
         except (BlockingIOError, ssl.SSLWantReadError, ssl.SSLWantWriteError):
             pass
         except OSError as fault:
-            raise Lost(failed(fault)) from None
+            raise Lost(failure_text(fault)) from None
 
     def say_close(self):
-        """Closes the session, and awaits that the server ends it."""
+        """Sends a close frame, and waits for the server's."""
         self._send(frame_of(CLOSE, struct.pack("!H", 1000)))
         while True:
             frame = self._next_frame()
@@ -137,25 +137,25 @@ class WebSocket:
                 return
 
     def end(self):
-        """Ends the connection, whatever state it is in."""
+        """Closes the socket in any state."""
         if self.socket is not None:
             self.socket.close()
 
     def _connect(self, address):
-        """Connects to the first of the host's addresses that lets it."""
+        """Connects to the first address of the host that accepts."""
         fault = None
         try:
             found = socket.getaddrinfo(address.host, address.port, type=socket.SOCK_STREAM)
         except OSError as unknown:
-            raise Lost(failed(unknown)) from None
+            raise Lost(failure_text(unknown)) from None
         for family, kind, protocol, _, place in found:
             fault = self._connect_to(socket.socket(family, kind, protocol), place)
             if fault is None:
                 return
-        raise Lost(failed(fault))
+        raise Lost(failure_text(fault))
 
     def _connect_to(self, sock, place):
-        """Connects a socket: None, or the fault."""
+        """Connects a socket. Returns None, or the error."""
         self.socket = sock
         sock.setblocking(False)
         code = sock.connect_ex(place)
@@ -168,11 +168,11 @@ class WebSocket:
         sock.close()
         return OSError(code, os.strerror(code))
 
-    def _patiently(self, call, *given, for_writing=False):
-        """What a call of the socket gives, once it needn't wait."""
+    def _retry_until_ready(self, call, *arguments, for_writing=False):
+        """Calls a method of the socket until it no longer has to wait, and returns its result."""
         while True:
             try:
-                return call(*given)
+                return call(*arguments)
             except ssl.SSLWantReadError:
                 self._wait(self.socket, False)
             except ssl.SSLWantWriteError:
@@ -180,18 +180,18 @@ class WebSocket:
             except BlockingIOError:
                 self._wait(self.socket, for_writing)
             except OSError as fault:
-                raise Lost(failed(fault)) from None
+                raise Lost(failure_text(fault)) from None
 
     def _send(self, data):
         while data:
-            data = data[self._patiently(self.socket.send, data, for_writing=True):]
+            data = data[self._retry_until_ready(self.socket.send, data, for_writing=True):]
 
     def _fill(self):
-        """Awaits more bytes."""
-        self._patiently(self._receive)
+        """Waits for more bytes."""
+        self._retry_until_ready(self._receive)
 
     def _receive(self):
-        """Takes the bytes that have come, of TLS all that were read off the socket."""
+        """Reads the bytes that have arrived, and with TLS all that the TLS layer has buffered."""
         data = self.socket.recv(65536)
         if not data:
             raise Lost("The connection ended.")
@@ -204,18 +204,18 @@ class WebSocket:
         del self._received[:count]
         return data
 
-    def _read_head(self, accepted):
-        """Reads the head that answers the one with the key of this hash."""
+    def _read_handshake(self, accepted):
+        """Reads the reply to the handshake, and checks its status and `Sec-WebSocket-Accept`."""
         while b"\r\n\r\n" not in self._received:
             if len(self._received) > HEAD_BYTES:
-                raise Lost("The server opens no WebSocket.")
+                raise Lost("The server did not accept the WebSocket handshake.")
             self._fill()
         head = self._take(self._received.index(b"\r\n\r\n") + 4)
         if head.split(b" ", 2)[1] != b"101" or accepted not in head:
-            raise Lost("The server opens no WebSocket.")
+            raise Lost("The server did not accept the WebSocket handshake.")
 
     def _next_frame(self):
-        """The next frame that has come whole: whether it is the last of its message, its opcode and its payload."""
+        """The next complete frame, or None: whether it is the last of its message, its opcode, and its payload."""
         size, start = len(self._received), 2
         if size < start:
             return None
@@ -230,6 +230,6 @@ class WebSocket:
         return bool(first & 128), first & 15, self._take(start + length)[start:]
 
 
-def failed(fault):
-    """In words, that the connection failed."""
+def failure_text(fault):
+    """A sentence about a failed connection."""
     return f"The connection failed: {getattr(fault, 'strerror', None) or fault}."

@@ -1,6 +1,6 @@
-"""Random histories of up to five sites: after each step the module's versions of each object are what the program
-shows. Each site knows a part of the history, and names a version that the module works out from that part alone; a
-version that the program doesn't find would be refused, and so be seen."""
+"""Random histories of up to five sites. After each step the module's versions of each object must be those of the
+program. Each site knows a part of the history, and names a version that the module computes from that part alone. If
+the program did not find it, the refusal would show."""
 
 import os
 import random
@@ -8,51 +8,51 @@ import time
 
 from grace import Drawing, LIMITS, entry_of, operation_of
 from grace.forms import write_text
-from serving import Wrong, run, same
+from lib.serving import CheckFailed, expect_equal, run
 from shown_rows import shown
 
 HISTORIES = int(os.environ.get("HISTORIES", 300))
-# So many rooms in one process of the program.
+# The number of rooms in one process of the program.
 ROOMS = 50
 KEYS = ["x", "y", "fill"]
 VALUES = [1, 2, "1"]
 
 
 def is_ready(drawing, operation):
-    """Whether the operation is the next of its site, and the drawing has all that it counts."""
+    """Returns whether the operation is the next of its site, and the drawing has all operations of its state vector."""
     site, number = operation.name
     return number == drawing.count(site) + 1 and all(count <= drawing.count(other) for other, count in operation.seen)
 
 
 class History:
-    """One room, with what each of its sites knows."""
+    """One room, with the knowledge of each of its sites."""
 
     def __init__(self, room, source):
         self.room, self.source = room, source
         self.whole = Drawing()
         self.operations = []
-        # Each line with the reply that the rules say.
+        # Each line, with its expected reply.
         self.lines = []
         self.sites = [Drawing() for _ in range(source.randrange(1, 6))]
         self.keys = KEYS[: source.randrange(1, 4)]
         for place in range(len(self.sites)):
-            self.says(place, ["join", f"r{room}"], ["joined", place, place + 1])
+            self.expect_reply(place, ["join", f"r{room}"], ["joined", place, place + 1])
         self.at = len(self.sites)
 
-    def says(self, place, request, reply):
-        """A site asks this, and is to be told that."""
+    def expect_reply(self, place, request, reply):
+        """Adds a request of a site and its expected reply."""
         session = self.room * 5 + place
         self.lines.append((f"{session} {write_text(request)}", f"{session} {write_text(reply)}"))
 
     def learn(self, known):
-        """A site takes up some of what it doesn't know, in any causal order."""
+        """A site learns some of the operations that it lacks, in any causal order."""
         for operation in self.operations:
             site, number = operation.name
             if number > known.count(site) and self.source.random() < 0.75 and is_ready(known, operation):
                 known.add(operation)
 
-    def following(self, known, site):
-        """The next operation of a site, by what it knows."""
+    def next_operation(self, known, site):
+        """Returns the next operation of a site, by its knowledge."""
         front = (site, known.count(site) + 1), known.seen()
         objects = known.names()
         if not objects or len(objects) < 3 and self.source.random() < 0.08:
@@ -68,40 +68,40 @@ class History:
         return operation_of(("put", *front, name, version, tuple((key, self.source.choice(VALUES)) for key in keys)))
 
     def step(self):
-        """One operation, and a look at all objects after it."""
+        """Adds one operation, and then reads of all objects."""
         place = self.source.randrange(len(self.sites))
         known = self.sites[place]
         self.learn(known)
-        operation = self.following(known, place + 1)
+        operation = self.next_operation(known, place + 1)
         known.add(operation)
         self.whole.add(operation)
         self.operations.append(operation)
         word, (_, number), *rest = entry_of(operation)
         ids = [version.id for version in self.whole.versions(operation.object)]
         reply = ["made", self.at, operation.name] if word == "new" else ["taken", self.at, ids]
-        self.says(place, [word, number, *rest], reply)
+        self.expect_reply(place, [word, number, *rest], reply)
         self.at += 1
         for name in self.whole.names():
             asker = self.source.randrange(len(self.sites))
-            self.says(asker, ["show", name], ["versions", self.at, name, "rect", shown(self.whole, name)])
+            self.expect_reply(asker, ["show", name], ["versions", self.at, name, "rect", shown(self.whole, name)])
 
     def most_versions(self):
-        """How many versions an object has at most."""
+        """Returns the most versions of an object."""
         return max((len(self.whole.versions(name)) for name in self.whole.names()), default=0)
 
     def check_other_order(self):
-        """The operations in another causal order make the same versions."""
+        """The operations in another causal order must produce the same versions."""
         other, rest = Drawing(), list(self.operations)
         while rest:
             operation = self.source.choice([one for one in rest if is_ready(other, one)])
             other.add(operation)
             rest.remove(operation)
         for name in self.whole.names():
-            same("the versions in another order", shown(other, name), shown(self.whole, name))
+            expect_equal("the versions in another order", shown(other, name), shown(self.whole, name))
 
 
 def history_of(room, source):
-    """A history of some steps. It ends before the limit of versions, which a client can't foresee."""
+    """Returns a history of some steps. It ends before the limit of versions, which a client cannot foresee."""
     history = History(room, source)
     for _ in range(source.randrange(4, 28)):
         if history.most_versions() <= LIMITS.versions // 2:
@@ -111,33 +111,35 @@ def history_of(room, source):
 
 
 def compare(some):
-    """Runs histories by one process of the program, and compares all that it answers."""
+    """Runs histories in one process of the program, and compares all replies."""
     lines = [line for history in some for line in history.lines]
     text = "".join(f"{request}\n" for request, _ in lines)
     status, output, errors = run("script", *(f"r{it.room}" for it in some), stdin=text.encode(), seconds=200)
-    same("the end", (status, errors), (0, ""))
+    expect_equal("the end", (status, errors), (0, ""))
     replies = output.splitlines()
-    for (request, wanted), reply in zip(lines, replies):
-        same(f"the reply to {request}", reply, wanted)
-    same("how many replies", len(replies), len(lines))
+    for (request, expected), reply in zip(lines, replies):
+        expect_equal(f"the reply to {request}", reply, expected)
+    expect_equal("how many replies", len(replies), len(lines))
 
 
 def histories():
-    """Random histories, by a seed that is told."""
+    """Runs random histories and prints their seed."""
     seed = int(os.environ.get("SEED", time.time() % 1_000_000))
     print(f"random histories: seed {seed} (SEED={seed} runs the same again)", flush=True)
     source = random.Random(seed)
-    all_of_them = [history_of(room, source) for room in range(HISTORIES)]
+    all_histories = [history_of(room, source) for room in range(HISTORIES)]
     for start in range(0, HISTORIES, ROOMS):
-        compare(all_of_them[start:start + ROOMS])
-    counts = [history.most_versions() for history in all_of_them]
+        compare(all_histories[start:start + ROOMS])
+    counts = [history.most_versions() for history in all_histories]
     several = sum(count > 1 for count in counts)
-    gone = sum(any(it.is_gone for name in one.whole.names() for it in one.whole.versions(name)) for one in all_of_them)
-    replies = sum(len(history.lines) for history in all_of_them)
+    gone = sum(
+        any(it.is_gone for name in one.whole.names() for it in one.whole.versions(name)) for one in all_histories
+    )
+    replies = sum(len(history.lines) for history in all_histories)
     print(f"{HISTORIES} histories, {replies} replies, {several} with several versions, up to {max(counts)}, "
           f"{gone} with one that is gone", flush=True)
     if several < HISTORIES / 4 or gone < HISTORIES / 8:
-        raise Wrong("too few histories have several versions, or one that is gone")
+        raise CheckFailed("too few histories have several versions, or one that is gone")
 
 
 TESTS = [("random histories", histories)]

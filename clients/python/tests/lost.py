@@ -8,30 +8,30 @@ from functools import partial
 
 from grace.forms import frozen
 from relay import CUT_AFTER, CUT_BEFORE, PASS, Relay
-from rooms import PATIENCE, Heard, agree, comes, entered, shown
-from serving import Server, Wrong, same
+from rooms import PATIENCE, EventLog, agree, wait_until, open_rooms, versions_of
+from lib.serving import CheckFailed, Server, expect_equal
 
 
 @contextmanager
 def cut(**options):
-    """A server, a relay before it, a client through the relay and one past it."""
+    """Yields a server, a relay before it, a client through the relay and one that connects directly."""
     with Server(1000, 64) as server, Relay(server.address[1]) as relay:
-        with entered(relay.name, **options) as (room,), entered(server.name) as (other,):
+        with open_rooms(relay.name, **options) as (room,), open_rooms(server.name) as (other,):
             yield server, relay, room, other
 
 
 def operations(room):
-    """The entries of the record that are no joins."""
+    """Returns the entries of the record that are not joins."""
     return [entry for entry in room.record if entry[0] != "join"]
 
 
 def sites(room):
-    """The sites that joined."""
+    """Returns the sites of the joins in the record."""
     return [entry[1] for entry in room.record if entry[0] == "join"]
 
 
 def cut_once(what):
-    """Each request in turn is cut off, before or after it reached the server. The client stays the same site."""
+    """The relay cuts each request in turn, before or after it reached the server. The client keeps its site."""
     with cut() as (_, relay, room, other):
         relay.cut_once('["new"', what)
         made = room.create("rect", {"x": 0})
@@ -45,140 +45,140 @@ def cut_once(what):
         relay.cut_once('["drop"', what)
         room.drop(line.name, ()).done.result(PATIENCE)
         relay.cut_once('["pull"', what)
-        comes("a pull was cut", lambda: relay.cuts == 4)
+        wait_until("a pull was cut", lambda: relay.cuts == 4)
         relay.cut_once('["back"', what)
         relay.cut()
-        comes("a coming back was cut", lambda: relay.cuts == 5)
+        wait_until("a coming back was cut", lambda: relay.cuts == 5)
         room.set(made.name, (), "x", 6)
         agree(room, other)
-        same("the changes", [(entry[0], entry[1], entry[-1]) for entry in operations(other)], [
+        expect_equal("the changes", [(entry[0], entry[1], entry[-1]) for entry in operations(other)], [
             ("new", (1, 1), (("x", 0),)), ("put", (1, 2), (("x", 5), ("y", 7))), ("put", (1, 3), (("fill", "red"),)),
             ("new", (1, 4), ()), ("drop", (1, 5), ()), ("put", (1, 6), (("x", 6),)),
         ])
         one = [((), {"fill": "red", "x": 6, "y": 7})]
-        same("what both show", (shown(room, made.name), shown(other, made.name)), (one, one))
-        same("the sites", (room.site, sites(other)), (1, [1, 2]))
+        expect_equal("what both show", (versions_of(room, made.name), versions_of(other, made.name)), (one, one))
+        expect_equal("the sites", (room.site, sites(other)), (1, [1, 2]))
 
 
 def join_cut(what):
-    """A join whose reply is lost has used up a site that nobody knows; one that didn't come hasn't."""
+    """A join whose reply is lost uses up a site; a join that did not reach the server does not."""
     with cut() as (_, relay, *_):
         relay.cut_once('["join"', what)
-        with entered(relay.name) as (late,):
-            same("the site", late.site, 4 if what == CUT_AFTER else 3)
+        with open_rooms(relay.name) as (late,):
+            expect_equal("the site", late.site, 4 if what == CUT_AFTER else 3)
 
 
 def drawn_apart():
-    """What is drawn while there is no connection is sent when there is one again; what others did then conflicts."""
+    """Changes made without a connection are sent once there is one. They conflict with concurrent changes of others."""
     with cut() as (_, relay, room, other):
         made = room.create("rect", {"x": 0})
         agree(room, other)
         relay.what_to_do = lambda text: CUT_BEFORE
         relay.cut()
-        comes("it is lost", lambda: room.state != "open")
+        wait_until("the connection is lost", lambda: room.state != "open")
         put = room.set(made.name, (), "x", 5)
         second = room.create("line")
         other.set(made.name, (), "x", 9).done.result(PATIENCE)
-        same("what is shown meanwhile", shown(room, made.name), [((), {"x": 5})])
+        expect_equal("what is shown meanwhile", versions_of(room, made.name), [((), {"x": 5})])
         relay.what_to_do = lambda text: PASS
         agree(room, other)
-        same("the names", (put.name, second.name), ((1, 2), (1, 3)))
+        expect_equal("the names", (put.name, second.name), ((1, 2), (1, 3)))
         two = [(((1, 2),), {"x": 5}), (((2, 1),), {"x": 9})]
-        same("what both show", (shown(room, made.name), shown(other, made.name)), (two, two))
+        expect_equal("what both show", (versions_of(room, made.name), versions_of(other, made.name)), (two, two))
 
 
 def in_use():
-    """Where somebody is in as the old site, the client becomes a new one: its changes get new names."""
+    """If the old site is in use, the client gets a new site, and its changes get new names."""
     with cut(back_seconds=0.3) as (server, relay, room, other):
         made = room.create("rect", {"x": 0})
         agree(room, other)
         relay.what_to_do = lambda text: CUT_BEFORE
         relay.cut()
-        comes("it is lost", lambda: room.state != "open")
+        wait_until("the connection is lost", lambda: room.state != "open")
         put = room.set(made.name, (), "x", 5)
         line = room.create("line")
         renamed = []
         room.on("change", lambda news: renamed.extend(news.renamed))
-        with entered(server.name, site=1) as (stranger,):
+        with open_rooms(server.name, site=1) as (stranger,):
             stranger.set(made.name, (), "x", 1).done.result(PATIENCE)
             relay.what_to_do = lambda text: PASS
-            comes("it is in", lambda: room.state == "open" and room.site == 3)
+            wait_until("the client is in the room", lambda: room.state == "open" and room.site == 3)
             agree(room, other)
-        same("the names", (put.name, line.name, renamed), ((3, 1), (3, 2), [((1, 2), (3, 1)), ((1, 3), (3, 2))]))
+        pairs = [((1, 2), (3, 1)), ((1, 3), (3, 2))]
+        expect_equal("the names", (put.name, line.name, renamed), ((3, 1), (3, 2), pairs))
         two = [(((1, 2),), {"x": 1}), (((3, 1),), {"x": 5})]
-        same("what both show", (shown(room, made.name), shown(other, made.name)), (two, two))
+        expect_equal("what both show", (versions_of(room, made.name), versions_of(other, made.name)), (two, two))
 
 
 def another_room():
-    """A server that was started anew has another room: what is held of the old one is dropped, and told with its
-    text."""
+    """A restarted server has a new room. The client drops the state of the old one and reports it with its text."""
     with cut() as (server, relay, room, other):
-        heard = Heard("renewed", "refusal", "progress")
-        for event, listener in heard.listeners.items():
+        events = EventLog("renewed", "refusal", "progress")
+        for event, listener in events.listeners.items():
             room.on(event, listener)
         made = room.create("rect")
         agree(room, other)
         other.close()
         server.process.kill()
         server.process.wait()
-        comes("it is lost", lambda: room.state != "open")
+        wait_until("the connection is lost", lambda: room.state != "open")
         lost = room.set(made.name, (), "x", 1)
         with Server(10, 4) as anew:
             relay.port = anew.address[1]
-            same("the refusal", lost.done.exception(PATIENCE).word, "another-room")
-            same("whether it is back", room.entered(PATIENCE), True)
-            same("what is left", (room.objects(), room.record, room.has(made.name)), ([], [("join", 1)], False))
+            expect_equal("the refusal", lost.done.exception(PATIENCE).word, "another-room")
+            expect_equal("whether it is back", room.entered(PATIENCE), True)
+            expect_equal("what is left", (room.objects(), room.record, room.has(made.name)), ([], [("join", 1)], False))
             room.create("line").done.result(PATIENCE)
             room.close()
         lines = [
             '["join",1]', '["join",2]', '["new",[1,1],[],"rect",[]]', '["put",[1,2],[[1,1]],[1,1],[],[["x",1]]]', "",
         ]
-        same("what is told", [news.text for news in heard.of("renewed")], ["\n".join(lines)])
-        same("the order", [event for event, _ in heard.news], ["renewed", "refusal", "progress", "progress"])
+        expect_equal("the renewed texts", [news.text for news in events.of("renewed")], ["\n".join(lines)])
+        expect_equal("the order", [event for event, _ in events.news], ["renewed", "refusal", "progress", "progress"])
 
 
 def closed_with_changes():
-    """A close gives up what the server hasn't answered, and tells it."""
+    """A close gives up unanswered changes and reports them."""
     with cut() as (_, relay, room, _):
         relay.what_to_do = lambda text: CUT_BEFORE
         relay.cut()
         change = room.create("rect")
         room.close()
-        same("the refusal", change.done.exception(0).word, "closed")
-        same("whether it was settled", room.settled(0), True)
+        expect_equal("the refusal", change.done.exception(0).word, "closed")
+        expect_equal("whether it was settled", room.settled(0), True)
 
 
 def by_chance():
-    """Two clients draw while the connections of one are cut again and again, at messages by chance."""
+    """Two clients draw while the connection of one is cut at random messages."""
     seed = int(os.environ.get("SEED", time.time() % 1_000_000))
     print(f"cuts by chance: seed {seed}", flush=True)
     source = random.Random(seed)
     chances = [CUT_BEFORE, CUT_AFTER, *[PASS] * 6]
-    heard = Heard("refusal")
+    events = EventLog("refusal")
     with cut() as (server, relay, room, other):
-        room.on("refusal", heard.listeners["refusal"])
+        room.on("refusal", events.listeners["refusal"])
         other.create("rect")
         agree(room, other)
         relay.what_to_do = lambda text: source.choice(chances) if relay.cuts < 60 else PASS
-        wanted = [draw(source, source.choice([room, room, other]), value) for value in range(120)]
+        expected = [draw(source, source.choice([room, room, other]), value) for value in range(120)]
         agree(room, other)
         values = sorted(entry[-1][0][1] for entry in operations(other) if entry[0] != "drop" and entry[-1])
-        same("the values, each once", values, [value for value in wanted if value is not None])
-        same("the drops", sum(entry[0] == "drop" for entry in operations(other)), wanted.count(None))
-        same("the sites and the refusals", (sites(other), heard.news), ([1, 2], []))
+        expect_equal("the values, each once", values, [value for value in expected if value is not None])
+        expect_equal("the drops", sum(entry[0] == "drop" for entry in operations(other)), expected.count(None))
+        expect_equal("the sites and the refusals", (sites(other), events.news), ([1, 2], []))
         asker = server.client()
         asker.reply_to(["join", "r"])
         for name in other.objects():
-            same(f"object {name} of both", shown(room, name), shown(other, name))
+            expect_equal(f"object {name} of both", versions_of(room, name), versions_of(other, name))
             *_, versions = frozen(asker.reply_to(["show", name]))
-            told = [(identifier, it if it == "gone" else dict(it)) for identifier, it in versions]
-            same(f"object {name} by the server", told, shown(room, name))
+            by_server = [(identifier, it if it == "gone" else dict(it)) for identifier, it in versions]
+            expect_equal(f"object {name} by the server", by_server, versions_of(room, name))
         if relay.cuts < 6:
-            raise Wrong(f"the connection was cut {relay.cuts} times")
+            raise CheckFailed(f"the connection was cut {relay.cuts} times")
 
 
 def draw(source, author, value):
-    """Makes an object or a change, by chance: the value that it gives, None of a drop."""
+    """Makes a random change. Returns the value that it puts, or None for a drop."""
     if source.random() < 0.3:
         time.sleep(source.random() / 30)
     name = source.choice(author.objects())

@@ -1,19 +1,19 @@
-"""A relay between clients and `grace serve`, which cuts connections between a request and its reply, and speaks TLS to
-clients where it is asked to. `what_to_do` says of each message of a client, by its text, what is to be done with it."""
+"""A relay between clients and `grace serve`. It can cut connections between a request and its reply, and speak TLS to
+clients. `what_to_do` decides about each message of a client, by its text."""
 
 import asyncio
 import contextlib
 import threading
 
 PASS = "pass"
-# The connection is cut, and the message never reaches the server.
+# The relay cuts the connection; the message does not reach the server.
 CUT_BEFORE = "cut before"
-# The message reaches the server, which answers; the answer doesn't reach the client.
+# The message reaches the server, but its reply does not reach the client.
 CUT_AFTER = "cut after"
 
 
 async def frame_from(reader):
-    """The next frame of a client: its bytes, and its text."""
+    """Reads the next frame of a client. Returns its bytes and its text."""
     front = await reader.readexactly(2)
     length = front[1] & 127
     if length > 125:
@@ -25,13 +25,13 @@ async def frame_from(reader):
 
 
 class Relay:
-    """A relay on a port of its own, in a thread of its own. New connections go to the server at `port`."""
+    """A relay on its own port, in its own thread. New connections go to the server at `port`."""
 
     def __init__(self, port, context=None):
         self.port = port
         self.context = context
         self.what_to_do = lambda text: PASS
-        # The messages of clients, and how many connections were cut at one.
+        # The messages of clients, and the number of connections cut at one.
         self.texts = []
         self.cuts = 0
         self.writers = set()
@@ -51,17 +51,17 @@ class Relay:
         self.loop.close()
 
     def await_in_loop(self, what):
-        """What a coroutine gives, in the relay's thread."""
+        """Runs a coroutine in the relay's thread and returns its result."""
         return asyncio.run_coroutine_threadsafe(what, self.loop).result(10)
 
     async def end(self):
-        """Takes no more connections, and cuts those that there are."""
+        """Closes the listener and cuts all connections."""
         self.listener.close()
         self.abort(*self.writers)
         await asyncio.gather(*asyncio.all_tasks() - {asyncio.current_task()}, return_exceptions=True)
 
     async def serve(self, reader, writer):
-        """Serves one client: what it sends goes through here, what the server sends through a task beside it."""
+        """Serves one client. This task forwards the client's frames; another returns the server's bytes."""
         self.writers.add(writer)
         cut = asyncio.Event()
         with contextlib.suppress(OSError, asyncio.IncompleteReadError):
@@ -73,13 +73,13 @@ class Relay:
             beside = asyncio.ensure_future(self.hand_back(answers, writer, cut))
             try:
                 await self.hand_on(reader, server, cut)
-                # After a cut: the other task meets the answer, and hangs up.
+                # After a cut the other task meets the reply and disconnects.
                 await beside
             finally:
                 self.abort(writer, server)
 
     async def hand_on(self, reader, server, cut):
-        """Hands on the head and the frames of a client, up to a cut."""
+        """Forwards the head and the frames of a client, up to a cut."""
         server.write(await reader.readuntil(b"\r\n\r\n"))
         while not cut.is_set():
             data, text = await frame_from(reader)
@@ -93,14 +93,14 @@ class Relay:
             server.write(data)
 
     async def hand_back(self, answers, writer, cut):
-        """Hands back what the server sends, up to a cut."""
+        """Forwards the server's bytes to the client, up to a cut."""
         with contextlib.suppress(OSError):
             while (data := await answers.read(65536)) and not cut.is_set():
                 writer.write(data)
         self.abort(writer)
 
     def abort(self, *writers):
-        """Ends connections, whatever state they are in."""
+        """Aborts connections in any state."""
         for writer in tuple(writers):
             writer.transport.abort()
             self.writers.discard(writer)
@@ -110,7 +110,7 @@ class Relay:
         self.loop.call_soon_threadsafe(lambda: self.abort(*tuple(self.writers)))
 
     def cut_once(self, start, what):
-        """Cuts once, in this way, at the first message that begins so."""
+        """Cuts once, in this way, at the first message that begins with `start`."""
 
         def decide(text):
             if not text.startswith(start):

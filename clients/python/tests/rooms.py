@@ -1,4 +1,4 @@
-"""Clients in one room of `grace serve`: what they see of each other, and of refusals."""
+"""Clients in one room of `grace serve`: their shared drawing, and refusals."""
 
 import contextlib
 import os
@@ -12,190 +12,195 @@ from functools import partial
 
 import grace
 from grace import LIMITS, Refused, Room
-from serving import ROOT, Server, Wrong, free_address, same
+from lib.serving import CheckFailed, Server, expect_equal, free_address
 
-# How long anything here is waited for, in seconds: long enough for a busy machine.
+# The limit of each wait, in seconds, long enough for a busy machine.
 PATIENCE = 60
 RETRIES = 0.01, 0.02, 0.05
 
 
-def comes(what, is_so):
-    """Awaits what comes to be so."""
+def wait_until(what, is_true):
+    """Waits until the condition holds."""
     bound = time.monotonic() + PATIENCE
-    while not is_so():
+    while not is_true():
         if time.monotonic() > bound:
-            raise Wrong(f"not in {PATIENCE} seconds: {what}")
+            raise CheckFailed(f"not in {PATIENCE} seconds: {what}")
         time.sleep(0.005)
 
 
-class Heard:
-    """What a room told of some events, each as its name and the news."""
+class EventLog:
+    """The events of a room, each as its name and its news."""
 
     def __init__(self, *events):
         self.news = []
         self.listeners = {event: self.listener(event) for event in events}
 
     def listener(self, event):
-        """Keeps what is told of an event."""
+        """Returns a listener that records an event."""
         return lambda news: self.news.append((event, news))
 
     def of(self, event):
-        """The news of an event."""
+        """Returns the news of an event."""
         return [news for name, news in self.news if name == event]
 
 
 @contextlib.contextmanager
-def entered(*addresses, **options):
-    """Clients that came into the room `r` one after the other, each by one of these addresses."""
+def open_rooms(*addresses, **options):
+    """Opens clients of the room `r` in sequence, one for each address."""
     with contextlib.ExitStack() as stack:
         rooms = []
         for address in addresses:
             rooms.append(stack.enter_context(Room(address, "r", retry_seconds=RETRIES, **options)))
-            same("whether a client is in the room", rooms[-1].entered(PATIENCE), True)
+            expect_equal("whether a client is in the room", rooms[-1].entered(PATIENCE), True)
         yield rooms
 
 
 @contextlib.contextmanager
-def served(count, **options):
-    """A server, and so many clients in its room."""
-    with Server(1000, 64) as server, entered(*[server.name] * count, **options) as rooms:
+def server_with_rooms(count, **options):
+    """Yields a server and this many clients of its room."""
+    with Server(1000, 64) as server, open_rooms(*[server.name] * count, **options) as rooms:
         yield server, *rooms
 
 
-def shown(room, name):
-    """The versions of an object: each identifier with the attributes, or that it is gone."""
+def versions_of(room, name):
+    """Returns the versions of an object: each identifier with the attributes, or "gone"."""
     return [(version.id, "gone" if version.is_gone else version.attributes) for version in room.versions(name)]
 
 
 def agree(*rooms):
-    """Awaits that all clients have all that the others did."""
+    """Waits until all clients have all changes of the others."""
     for room in rooms:
-        same("whether all changes are answered", room.settled(PATIENCE), True)
+        expect_equal("whether all changes are answered", room.settled(PATIENCE), True)
     for room in rooms:
-        same("whether all news came", room.refresh(PATIENCE), True)
+        expect_equal("whether all news came", room.refresh(PATIENCE), True)
 
 
 def stop(server):
-    """Stops the program, and awaits that all of it stands: until then it may answer."""
+    """Stops the program, and waits until all its threads have stopped."""
     server.process.send_signal(signal.SIGSTOP)
     os.waitid(os.P_PID, server.process.pid, os.WSTOPPED)
 
 
-def raised(what, kind, call, *given):
-    """The call fails with an error of this kind. Gives it."""
+def expect_error(what, kind, call, *arguments):
+    """Expects that the call fails with an error of this kind. Returns the error."""
     try:
-        call(*given)
+        call(*arguments)
     except kind as fault:
         return fault
-    raise Wrong(f"{what}: it didn't fail")
+    raise CheckFailed(f"{what}: it did not fail")
 
 
 def two_versions():
-    """Two clients change one attribute, neither having seen the other's change."""
-    with served(2) as (_, first, second):
+    """Two clients change one attribute concurrently."""
+    with server_with_rooms(2) as (_, first, second):
         made = first.create("rect", {"x": 0})
         agree(first, second)
-        same("what the second shows", (second.kind(made.name), shown(second, made.name)), ("rect", [((), {"x": 0})]))
+        kind_and_versions = second.kind(made.name), versions_of(second, made.name)
+        expect_equal("what the second shows", kind_and_versions, ("rect", [((), {"x": 0})]))
         with second.hold():
             first.set(made.name, (), "x", 5)
             agree(first, second)
-            same("what is held back", (second.has_news, shown(second, made.name)), (True, [((), {"x": 0})]))
+            held_back = second.has_news, versions_of(second, made.name)
+            expect_equal("what is held back", held_back, (True, [((), {"x": 0})]))
             change = second.set(made.name, (), "x", 9)
-            same("the version that a change made", change.version.id, ())
+            expect_equal("the version that a change made", change.version.id, ())
             change.done.result(PATIENCE)
         agree(first, second)
         two = [(((1, 2),), {"x": 5}), (((2, 1),), {"x": 9})]
-        same("what both show", (shown(first, made.name), shown(second, made.name)), (two, two))
-        same("the entry", second.record[-1], ("put", (2, 1), ((1, 1),), (1, 1), (), (("x", 9),)))
-        same("what became of hers", [it.id for it in second.successors(made.name, change.version)], [((2, 1),)])
+        expect_equal("what both show", (versions_of(first, made.name), versions_of(second, made.name)), (two, two))
+        expect_equal("the entry", second.record[-1], ("put", (2, 1), ((1, 1),), (1, 1), (), (("x", 9),)))
+        successors = [it.id for it in second.successors(made.name, change.version)]
+        expect_equal("the successors of the change", successors, [((2, 1),)])
         following = first.set(made.name, [[2, 1]], "fill", "red")
-        same("the next version's name", following.version.id, ((1, 3), (2, 1)))
+        expect_equal("the next version's name", following.version.id, ((1, 3), (2, 1)))
         agree(first, second)
         after = [two[0], (((1, 3), (2, 1)), {"fill": "red", "x": 9})]
-        same("what both show then", (shown(first, made.name), shown(second, made.name)), (after, after))
+        for room in first, second:
+            expect_equal("what both show then", versions_of(room, made.name), after)
 
 
 def in_one_go():
-    """Many changes without waiting for any reply come in order, each once; texts and numbers as they were."""
-    with served(2) as (_, first, second):
+    """Many changes without waiting for replies arrive in order, each once, with their exact values."""
+    with server_with_rooms(2) as (_, first, second):
         made, version = first.create("rect"), ()
         for x in range(20):
             version = first.set(made.name, version, "x", x).version
         values = {"least": -(2**63), "most": 2**63 - 1, "name": "é\u2028\"\\😀", "text": "5"}
         other = first.create("line", values)
         agree(first, second)
-        same("what waits", first.pending, [])
-        same("what the other shows of one", shown(second, made.name), [((), {"x": 19})])
-        same("what the other shows of two", shown(second, other.name), [((), values)])
-        same("the objects", (first.objects(), second.objects()), ([(1, 1), (1, 22)],) * 2)
+        expect_equal("what waits", first.pending, [])
+        expect_equal("what the other shows of one", versions_of(second, made.name), [((), {"x": 19})])
+        expect_equal("what the other shows of two", versions_of(second, other.name), [((), values)])
+        expect_equal("the objects", (first.objects(), second.objects()), ([(1, 1), (1, 22)],) * 2)
 
 
 def dropped():
-    """A version is dropped while another client, who hasn't seen that, goes on with it."""
-    with served(2) as (_, first, second):
+    """One client drops a version while another, who has not seen that, changes it."""
+    with server_with_rooms(2) as (_, first, second):
         made = first.create("rect", {"x": 0})
         agree(first, second)
         with second.hold():
             drop = first.drop(made.name, ())
-            same("the dropped version", (drop.version.is_gone, drop.version.attributes), (True, {}))
+            expect_equal("the dropped version", (drop.version.is_gone, drop.version.attributes), (True, {}))
             agree(first, second)
             put = second.put(made.name, (), {"x": 5, "y": 7})
             agree(first, second)
         both = [((drop.name,), "gone"), ((put.name,), {"x": 5, "y": 7})]
         agree(first, second)
-        same("what both show", (shown(first, made.name), shown(second, made.name)), (both, both))
+        expect_equal("what both show", (versions_of(first, made.name), versions_of(second, made.name)), (both, both))
         gone = first.versions(made.name)[0]
-        same("the refusal", raised("a put", Refused, first.put, made.name, gone, {"x": 1}).word, "gone")
+        expect_equal("the refusal", expect_error("a put", Refused, first.put, made.name, gone, {"x": 1}).word, "gone")
 
 
 def refused_here():
-    """What can't be done is refused at once, by key and reason, and nothing is sent."""
+    """The module refuses invalid changes at once, with the key and the reason, and sends nothing."""
     long = "é" * 129
-    with served(1) as (_, room):
+    with server_with_rooms(1) as (_, room):
         made = room.create("rect")
         put = lambda attributes: lambda: room.put(made.name, (), attributes)
         for call, kind, message in [
-            (put({"x": 0.5}), TypeError, "x: a value is a whole number or a text, not 0.5"),
-            (put({"x": True}), TypeError, "x: a value is a whole number or a text, not True"),
-            (put({"x": None}), TypeError, "x: a value is a whole number or a text, not None"),
-            (put({"x": 2**63}), ValueError, f"x: {2**63} is outside 64 bits, which go from -2^63 to 2^63 - 1"),
-            (put({"name": long}), ValueError, "name: the text has 258 bytes of UTF-8, more than 256"),
-            (put({"name": "ab\ud83dc"}), ValueError, "name: the text has half a letter at place 2"),
+            (put({"x": 0.5}), TypeError, "x: a value must be an integer or a string, not 0.5"),
+            (put({"x": True}), TypeError, "x: a value must be an integer or a string, not True"),
+            (put({"x": None}), TypeError, "x: a value must be an integer or a string, not None"),
+            (put({"x": 2**63}), ValueError, f"x: {2**63} is outside the 64-bit range from -2^63 to 2^63 - 1"),
+            (put({"name": long}), ValueError, "name: the string has 258 bytes in UTF-8; the limit is 256"),
+            (put({"name": "ab\ud83dc"}), ValueError, "name: the string has an unpaired surrogate at index 2"),
             (put({"Fill": 1}), ValueError, "the key 'Fill' isn't 1 to 32 of a-z, 0-9 and -"),
-            (put({7: 1}), TypeError, "the key is a text, not 7"),
-            (put([("x", 1), ("x", 1)]), ValueError, "x: the key stands twice"),
-            (put({f"k{key}": 1 for key in range(17)}), ValueError, "17 attributes, more than 16"),
-            (put({}), ValueError, "a put gives at least one attribute"),
+            (put({7: 1}), TypeError, "the key must be a string, not 7"),
+            (put([("x", 1), ("x", 1)]), ValueError, "x: the key appears twice"),
+            (put({f"k{key}": 1 for key in range(17)}), ValueError, "17 attributes; the limit is 16"),
+            (put({}), ValueError, "a put needs at least one attribute"),
             (lambda: room.create("a b"), ValueError, "the kind 'a b' isn't 1 to 32 of a-z, 0-9 and -"),
-            (lambda: room.put("1,1", (), {"x": 1}), TypeError, "the object: a name is wanted, as (1, 2), not '1,1'"),
-            (lambda: room.drop(made.name, 1), TypeError, "the version: a Version is wanted, or its identifier"),
+            (lambda: room.put("1,1", (), {"x": 1}), TypeError, "the object must be a name such as (1, 2), not '1,1'"),
+            (lambda: room.drop(made.name, 1), TypeError, "the version must be a Version or its identifier"),
             (lambda: Room("127.0.0.1:1", "R"), ValueError, "the room's name 'R' isn't 1 to 64 of a-z, 0-9 and -"),
-            (lambda: Room("http://h/", "r"), ValueError, "http://h/ is no address: one is as ws://127.0.0.1:7000/"),
+            (lambda: Room("http://h/", "r"), ValueError, "http://h/ is not an address such as ws://127.0.0.1:7000/"),
             (lambda: room.on("news", print), ValueError,
-             "there is no event 'news': there are change, state, progress, refusal, renewed"),
-            (lambda: room.put((9, 9), (), {"x": 1}), Refused, "There is no such object."),
+             "there is no event 'news'; the events are change, state, progress, refusal, renewed"),
+            (lambda: room.put((9, 9), (), {"x": 1}), Refused, "This object does not exist."),
             (lambda: room.put(made.name, [(1, 1)], {"x": 1}), Refused,
-             "The object has no such version any more. Choose one again."),
+             "This version does not exist any more, so please choose again."),
             (lambda: room.create("rect", {f"k{key}": "\x01" * 256 for key in range(16)}), Refused,
              "The change is too long for one message."),
         ]:
-            same("the message", str(raised(message, kind, call)), message)
+            expect_equal("the message", str(expect_error(message, kind, call)), message)
         agree(room)
-        same("the record", len(room.record), 2)
-    same("after the close", raised("a creation", Refused, room.create, "rect").word, "closed")
+        expect_equal("the record", len(room.record), 2)
+    expect_equal("after the close", expect_error("a creation", Refused, room.create, "rect").word, "closed")
 
 
 def refused_there():
-    """A refusal of the server takes back what it refused and what was built on that, and nothing else."""
-    heard = Heard("refusal", "change")
-    with served(1) as (server, first), entered(server.name, listeners=heard.listeners) as (second,):
+    """A refusal of the server takes back the refused change and the changes that depend on it, and no others."""
+    events = EventLog("refusal", "change")
+    with server_with_rooms(1) as (server, first), open_rooms(server.name, listeners=events.listeners) as (second,):
         made = first.create("rect")
         agree(first, second)
         with second.hold():
             for put in range(4):
                 first.put(made.name, (), {f"k{16 * put + key}": 1 for key in range(16)})
             first.settled(PATIENCE)
-            # The object has all the keys that it may, which the second hasn't seen. No answer comes in between.
+            # The object has the most keys, which the second client has not seen. The server is stopped, so no reply
+            # comes in between.
             stop(server)
             refused = second.set(made.name, (), "one-more", 1)
             behind = second.set(made.name, refused.version, "one-more", 2)
@@ -204,51 +209,51 @@ def refused_there():
             names = [apart.name, on_it.name]
             server.process.send_signal(signal.SIGCONT)
             errors = [change.done.exception(PATIENCE).word for change in (refused, behind)]
-            same("the refusals", errors, ["too-many-keys", "withdrawn"])
-            same("what is shown again", shown(second, made.name), [((), {})])
+            expect_equal("the refusals", errors, ["too-many-keys", "withdrawn"])
+            expect_equal("what is shown again", versions_of(second, made.name), [((), {})])
             agree(second)
-        same("the names", (names, [apart.name, on_it.name]), ([(2, 3), (2, 4)], [(2, 1), (2, 2)]))
+        expect_equal("the names", (names, [apart.name, on_it.name]), ([(2, 3), (2, 4)], [(2, 1), (2, 2)]))
         agree(first, second)
-        same("the other object", shown(first, apart.name), [((), {"x": 8})])
-        same("the keys", len(first.versions(made.name)[0].attributes), LIMITS.keys)
-        comes("it is told", lambda: len(heard.of("refusal")) == 2)
-        same("what is told", [(it.refusal.word, it.change) for it in heard.of("refusal")],
-             [("too-many-keys", refused), ("withdrawn", behind)])
-        same("what got another name", [pair for it in heard.of("change") for pair in it.renamed],
-             [((2, 3), (2, 1)), ((2, 4), (2, 2))])
+        expect_equal("the other object", versions_of(first, apart.name), [((), {"x": 8})])
+        expect_equal("the keys", len(first.versions(made.name)[0].attributes), LIMITS.keys)
+        wait_until("the news", lambda: len(events.of("refusal")) == 2)
+        expect_equal("the news", [(it.refusal.word, it.change) for it in events.of("refusal")],
+                     [("too-many-keys", refused), ("withdrawn", behind)])
+        expect_equal("the renamed changes", [pair for it in events.of("change") for pair in it.renamed],
+                     [((2, 3), (2, 1)), ((2, 4), (2, 2))])
 
 
 def listening():
-    """Listeners are called in the room's thread, in order, up to their end; a fault of one ends nothing."""
-    heard = Heard("change")
+    """Listeners run in the room's thread, in order, until they end. An exception in one ends nothing."""
+    events = EventLog("change")
     hook, sys.excepthook = sys.excepthook, lambda *fault: faults.append(fault[1])
     faults, threads, waits = [], set(), []
 
     def fail(news):
         threads.add(threading.current_thread().name)
-        waits.append(raised("a listener that waits", RuntimeError, room.settled))
+        waits.append(expect_error("a listener that waits", RuntimeError, room.settled))
         raise ValueError("a fault of the program")
 
     try:
-        with Server(1) as server, entered(server.name, listeners=heard.listeners) as (room,):
+        with Server(1) as server, open_rooms(server.name, listeners=events.listeners) as (room,):
             end = room.on("change", fail)
             made = room.create("rect")
             agree(room)
-            comes("two news", lambda: len(heard.news) == 2)
+            wait_until("two news", lambda: len(events.news) == 2)
             end()
             room.set(made.name, (), "x", 1)
             agree(room)
-            comes("three news", lambda: len(heard.news) == 3)
+            wait_until("three news", lambda: len(events.news) == 3)
     finally:
         sys.excepthook = hook
-    same("what is told", [it.objects for it in heard.of("change")], [[made.name]] * 3)
-    same("what failed", ([str(fault) for fault in faults], len(waits)), (["a fault of the program"] * 2, 2))
-    same("the thread", threads, {"grace r"})
+    expect_equal("the news", [it.objects for it in events.of("change")], [[made.name]] * 3)
+    expect_equal("what failed", ([str(fault) for fault in faults], len(waits)), (["a fault of the program"] * 2, 2))
+    expect_equal("the thread", threads, {"grace r"})
 
 
 def many_threads():
-    """Threads of a program change one room at once: each change is made, and once."""
-    with served(2) as (_, room, other):
+    """Threads of a program change one room in parallel. Each change is made exactly once."""
+    with server_with_rooms(2) as (_, room, other):
         def work(number):
             for count in range(20):
                 room.create("rect", {"value": 20 * number + count})
@@ -260,53 +265,56 @@ def many_threads():
             thread.join()
         agree(room, other)
         values = sorted(other.versions(name)[0].attributes["value"] for name in other.objects())
-        same("the values", values, list(range(160)))
-        same("the objects of both", room.objects(), other.objects())
+        expect_equal("the values", values, list(range(160)))
+        expect_equal("the objects of both", room.objects(), other.objects())
 
 
 def as_a_site():
-    """Who comes back as a site goes on with its numbers; where that can't be, the room is closed and says why."""
+    """A client that comes back as a site continues its numbers. If it cannot come back, the room is closed and has the
+    reason."""
     with Server(10, 4) as server:
-        with entered(server.name) as (first,):
+        with open_rooms(server.name) as (first,):
             made = first.create("rect", {"x": 0})
             agree(first)
             for site, word in (1, "site-in-use"), (2, "no-such-site"):
                 with Room(server.name, "r", site=site, back_seconds=0.3) as other:
-                    same("the refusal", raised("coming back", Refused, other.entered, PATIENCE).word, word)
-                    same("the state", other.state, "closed")
-        with entered(server.name, site=1) as (again,):
-            same("what it is", (again.site, shown(again, made.name)), (1, [((), {"x": 0})]))
+                    refusal = expect_error("coming back", Refused, other.entered, PATIENCE)
+                    expect_equal("the refusal", refusal.word, word)
+                    expect_equal("the state", other.state, "closed")
+        with open_rooms(server.name, site=1) as (again,):
+            expect_equal("what it is", (again.site, versions_of(again, made.name)), (1, [((), {"x": 0})]))
             agree(again)
-            same("the next name", again.set(made.name, (), "x", 1).name, (1, 2))
+            expect_equal("the next name", again.set(made.name, (), "x", 1).name, (1, 2))
             agree(again)
 
 
 def no_such_room():
-    """A room that isn't there is told in words, and not tried again."""
+    """A room that does not exist is reported in words, and the client does not retry."""
     with Server(1) as server, Room(server.name, "elsewhere") as room:
-        same("the refusal", raised("entering", Refused, room.entered, PATIENCE).word, "no-such-room")
-        same("the words", (room.state, room.words), ("closed", "The server has no room of this name."))
+        expect_equal("the refusal", expect_error("entering", Refused, room.entered, PATIENCE).word, "no-such-room")
+        expect_equal("the words", (room.state, room.words), ("closed", "The server has no room with this name."))
 
 
 def nobody_listens():
-    """Where nobody listens it is tried again, and a close ends that at once."""
-    heard = Heard("state")
-    with Room("{}:{}".format(*free_address()), "r", retry_seconds=(0.01, 30), listeners=heard.listeners) as room:
-        comes("two tries", lambda: [it.state for it in heard.of("state")].count("waiting") == 2)
+    """If nothing listens the client retries, and a close ends that at once."""
+    events = EventLog("state")
+    with Room("{}:{}".format(*free_address()), "r", retry_seconds=(0.01, 30), listeners=events.listeners) as room:
+        wait_until("two attempts", lambda: [it.state for it in events.of("state")].count("waiting") == 2)
         start = time.monotonic()
-    # The next try would come after 30 seconds, and the close waits for nothing. The rest is for a busy machine.
-    same("whether it is closed soon", time.monotonic() - start < 5, True)
-    same("the words", heard.of("state")[1].words, "The connection failed: Connection refused. Trying again.")
-    same("the end", heard.of("state")[-1].state, "closed")
+    # The next attempt would come after 30 seconds, and the close must not wait for it. The bound allows for a busy
+    # machine.
+    expect_equal("whether it is closed soon", time.monotonic() - start < 5, True)
+    expect_equal("the words", events.of("state")[1].words, "The connection failed: Connection refused. Trying again.")
+    expect_equal("the end", events.of("state")[-1].state, "closed")
 
 
 def first_program(text):
-    """The program in a text prints what the room then has."""
+    """The program in a text prints the room's state."""
     program = textwrap.dedent(re.search(r"\n((?: {4}from grace.*\n)(?: {4}.*\n|\n)+)", text)[1])
     printed = []
     with Server(1) as server:
         exec(program.replace("127.0.0.1:7000", server.name), {"print": lambda *words: printed.append(words)})
-    same("what it prints", printed, [("rect", [{"x": 5, "y": 7}])])
+    expect_equal("what it prints", printed, [("rect", [{"x": 5, "y": 7}])])
 
 
 TESTS = [
@@ -321,5 +329,4 @@ TESTS = [
     ("no such room", no_such_room),
     ("nobody listens", nobody_listens),
     ("the module's first program", partial(first_program, grace.__doc__)),
-    ("the first program of CLIENTS.md", partial(first_program, (ROOT / "docs/CLIENTS.md").read_text())),
 ]

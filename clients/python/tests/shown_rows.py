@@ -1,26 +1,25 @@
-"""The worked rows of `tests/rows.py`: what a `Drawing` makes of the operations that a room takes is what the rows
-say."""
+"""The worked examples of `tests/lib/rows.py`: a `Drawing` must compute the versions that the replies have."""
 
 import json
 from functools import partial
 
 from grace import Drawing, Refused, operation_of
 from grace.forms import CODES, frozen
-from rows import ROWS, lines_of, rooms_of
-from serving import Wrong, same
+from lib.rows import ROWS, lines_of, rooms_of
+from lib.serving import CheckFailed, expect_equal
 
-# Refusals that a drawing finds out by itself.
+# The refusals that a drawing decides itself.
 OWN = ["no-such-object", "no-such-version", "gone"]
 
 
 def entry_of_request(request, site):
-    """The entry that a request adds, where it is taken."""
+    """Returns the entry that an accepted request adds."""
     word, number, seen, *rest = request
     return word, (site, number), seen, *rest
 
 
 def shown(drawing, name):
-    """The versions of an object as a reply has them."""
+    """Returns the versions of an object in the form of a reply."""
     return tuple(
         (version.id, "gone" if version.is_gone else tuple(version.attributes.items()))
         for version in drawing.versions(name)
@@ -28,32 +27,32 @@ def shown(drawing, name):
 
 
 def follow(drawing, site, request, reply):
-    """Does what a room does to answer a request, and compares."""
+    """Applies a request and its reply to the drawing, and compares."""
     match reply:
         case ("made" | "taken", _, _):
             operation = operation_of(entry_of_request(request, site))
             drawing.add(operation)
             if reply[0] == "taken":
-                same("the identifiers", tuple(it.id for it in drawing.versions(operation.object)), reply[2])
+                expect_equal("the identifiers", tuple(it.id for it in drawing.versions(operation.object)), reply[2])
         case ("versions", _, name, kind, versions):
-            same("what is shown", (drawing.kind(name), shown(drawing, name)), (kind, versions))
+            expect_equal("what is shown", (drawing.kind(name), shown(drawing, name)), (kind, versions))
         case ("no", _, _, word) if word in OWN and request[0] != "show":
-            refused(drawing, operation_of(entry_of_request(request, site)), word)
+            expect_refusal(drawing, operation_of(entry_of_request(request, site)), word)
 
 
-def refused(drawing, change, word):
-    """The drawing refuses a change with this word, and shows what it did before."""
+def expect_refusal(drawing, change, word):
+    """Expects that the drawing refuses a change with this word, and does not change."""
     before = [shown(drawing, name) for name in drawing.names()]
     try:
         drawing.add(change)
-        raise Wrong(f"{change} is taken")
+        raise CheckFailed(f"{change} is taken")
     except Refused as refusal:
-        same("the refusal", (refusal.word, refusal.code), (word, CODES[word]))
-    same("what is shown then", [shown(drawing, name) for name in drawing.names()], before)
+        expect_equal("the refusal", (refusal.word, refusal.code), (word, CODES[word]))
+    expect_equal("what is shown then", [shown(drawing, name) for name in drawing.names()], before)
 
 
 def test_rows(rows):
-    """The rows of one room."""
+    """Checks the example of one room."""
     sites = {}
     drawing = Drawing()
     for client, request, reply in lines_of(rows):
@@ -65,21 +64,21 @@ def test_rows(rows):
 
 
 def outlived():
-    """A version outlives a drop whose author deleted it as far as they had seen it, and no other drop."""
+    """A version outlives a drop whose author deleted it in an earlier state, and no other drop."""
     made = ("new", (1, 1), (), "rect", (("x", 0),))
     x5 = ("put", (1, 2), ((1, 1),), (1, 1), (), (("x", 5),))
     x9 = ("put", (2, 1), ((1, 1),), (1, 1), (), (("x", 9),))
     drop = ("drop", (2, 1), ((1, 2),), (1, 1), ())
     x6 = ("put", (1, 3), ((1, 2),), (1, 1), (), (("x", 6),))
     one_of_two = ("drop", (1, 3), ((1, 2), (2, 1)), (1, 1), ((1, 2),))
-    for name, changes, wanted in [
+    for name, changes, expected in [
         ("changed in the meantime", [x5, drop, x6], [((2, 1),), ()]),
         ("one of two that were seen", [x5, x9, one_of_two], [(), ()]),
     ]:
         drawing = Drawing()
         for entry in (made, *changes):
             drawing.add(operation_of(entry))
-        same(name, [version.outlived for version in drawing.versions((1, 1))], wanted)
+        expect_equal(name, [version.outlived for version in drawing.versions((1, 1))], expected)
 
 
 TESTS = [

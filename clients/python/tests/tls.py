@@ -8,14 +8,14 @@ import tempfile
 
 from grace import Room
 from relay import Relay
-from rooms import Heard, agree, comes, entered, shown
-from serving import PassedOver, Server, same
+from rooms import EventLog, agree, wait_until, open_rooms, versions_of
+from lib.serving import Server, Skipped, expect_equal
 
 
 def certificate(folder):
     """A self-signed certificate for this machine, with its key: the two files."""
     if shutil.which("openssl") is None:
-        raise PassedOver("there is no openssl here")
+        raise Skipped("there is no openssl here")
     files = [pathlib.Path(folder) / name for name in ("certificate.pem", "key.pem")]
     subprocess.run(
         ["openssl", "req", "-x509", "-newkey", "rsa:2048", "-nodes", "-days", "2", "-subj", "/CN=localhost",
@@ -26,7 +26,7 @@ def certificate(folder):
 
 
 def over_tls():
-    """Who trusts the certificate draws and comes back after a cut; who doesn't is told why there is no connection."""
+    """A client that trusts the certificate draws, and comes back after a cut. One that does not reports the reason."""
     with tempfile.TemporaryDirectory() as folder, Server(10, 4) as server:
         files = certificate(folder)
         own = ssl.SSLContext(ssl.PROTOCOL_TLS_SERVER)
@@ -34,7 +34,7 @@ def over_tls():
         trusting = ssl.create_default_context(cafile=files[0])
         with Relay(server.address[1], own) as relay:
             address = f"wss://{relay.name}/"
-            with entered(address, context=trusting) as (room,), entered(server.name) as (other,):
+            with open_rooms(address, context=trusting) as (room,), open_rooms(server.name) as (other,):
                 made = room.create("rect", {"x": 0})
                 agree(room, other)
                 # A record of several pages, and replies of several records of TLS.
@@ -44,13 +44,14 @@ def over_tls():
                 relay.cut()
                 room.set(made.name, (), "x", 5)
                 agree(room, other)
-                same("what both show", (shown(other, made.name), room.objects()), ([((), {"x": 5})], other.objects()))
-                same("the site", room.site, 1)
-            heard = Heard("state")
-            with Room(address, "r", listeners=heard.listeners):
-                comes("it is told", lambda: any(it.state == "waiting" for it in heard.of("state")))
-            words = heard.of("state")[1].words
-            same("whether the words say why", "certificate verify failed" in words, True)
+                expect_equal("what the other shows", versions_of(other, made.name), [((), {"x": 5})])
+                expect_equal("the objects", room.objects(), other.objects())
+                expect_equal("the site", room.site, 1)
+            events = EventLog("state")
+            with Room(address, "r", listeners=events.listeners):
+                wait_until("the news", lambda: any(it.state == "waiting" for it in events.of("state")))
+            words = events.of("state")[1].words
+            expect_equal("whether the words say why", "certificate verify failed" in words, True)
 
 
 TESTS = [("over TLS", over_tls)]

@@ -1,4 +1,4 @@
-/** Pages of a headless Chromium, driven over its debugging port by true events of mouse and keys. */
+/** Pages of a headless Chromium, driven over its debugging port by real mouse and key events. */
 
 import { spawn } from "node:child_process"
 import { existsSync, readFileSync } from "node:fs"
@@ -6,7 +6,7 @@ import { mkdtemp, rm, writeFile } from "node:fs/promises"
 import { tmpdir } from "node:os"
 import { join } from "node:path"
 import { WebSocket } from "../../../clients/js/tests/websocket.js"
-import { comes } from "../../../clients/js/tests/checks.js"
+import { waitUntil } from "../../../clients/js/tests/checks.js"
 
 const WORDS = [
   "--headless=new", "--no-sandbox", "--disable-gpu", "--disable-dev-shm-usage", "--remote-debugging-port=0",
@@ -18,17 +18,17 @@ const KEYS = {
   Backspace: 8, Tab: 9, Enter: 13, Escape: 27, ArrowLeft: 37, ArrowUp: 38, ArrowRight: 39, ArrowDown: 40, Delete: 46,
   F2: 113,
 }
-/** What is held down with a key. */
+/** The modifiers of a key press. */
 export const CONTROL = 2
 export const SHIFT = 8
 
-/** The browser. It is ended by `end`. */
+/** The browser. `end` closes it. */
 export class Chromium {
   #number = 0
   #waiting = new Map()
   pages = []
 
-  /** Starts one, with further words of its command line. */
+  /** Starts a browser, with further arguments. */
   static async start(...more) {
     const browser = new Chromium()
     browser.folder = await mkdtemp(join(tmpdir(), "whiteboard-"))
@@ -40,14 +40,14 @@ export class Chromium {
     return browser
   }
 
-  /** Asks for something by the browser's own protocol. */
+  /** Sends a command of the browser's protocol. */
   ask(method, params = {}, sessionId = undefined) {
     this.#number += 1
     this.socket.send(JSON.stringify({ id: this.#number, method, params, sessionId }))
     return new Promise((resolve, reject) => this.#waiting.set(this.#number, { resolve, reject, method }))
   }
 
-  /** A new page of this size, at this address. */
+  /** Opens a page of this size, at this address. */
   async open(address, width, height, mobile = false) {
     const { targetId } = await this.ask("Target.createTarget", { url: "about:blank", newWindow: true })
     const { sessionId } = await this.ask("Target.attachToTarget", { targetId, flatten: true })
@@ -65,7 +65,7 @@ export class Chromium {
     try {
       process.kill(-this.process.pid, "SIGKILL")
     } catch {
-      // It has ended already.
+      // The browser has already exited.
     }
     await this.closed
     await rm(this.folder, { recursive: true, force: true, maxRetries: 5 })
@@ -73,7 +73,7 @@ export class Chromium {
 
   async #connect() {
     let lines = []
-    await comes("the debugging port", () => {
+    await waitUntil("the debugging port", () => {
       const file = join(this.folder, "DevToolsActivePort")
       if (existsSync(file)) lines = readFileSync(file, "utf8").split("\n")
       return lines.length > 1
@@ -93,7 +93,7 @@ export class Chromium {
   }
 }
 
-/** A page. What goes wrong in its program is kept in `faults`. */
+/** A page. `faults` has the errors of its program. */
 class Page {
   faults = []
 
@@ -117,7 +117,7 @@ class Page {
     this.faults.push(exception?.description ?? text)
   }
 
-  /** The value of an expression in the page: for looking, never for doing. */
+  /** Evaluates an expression in the page, only to read state and never to act. */
   async look(expression) {
     const params = { expression, returnByValue: true, awaitPromise: true }
     const { result, exceptionDetails } = await this.ask("Runtime.evaluate", params)
@@ -125,8 +125,8 @@ class Page {
     return result.value
   }
 
-  /** Awaits that an expression in the page is true. */
-  async comes(what, expression) {
+  /** Waits until an expression in the page is true. */
+  async waitUntil(what, expression) {
     for (const end = Date.now() + 60000; Date.now() < end; ) {
       if (await this.look(expression)) return
       await new Promise((resolve) => setTimeout(resolve, 30))
@@ -134,7 +134,7 @@ class Page {
     throw new Error(`not in a minute: ${what}`)
   }
 
-  /** The middle of the first element that a selector finds, on the screen; it is scrolled to where need be. */
+  /** Returns the middle of the first element of a selector on the screen. Scrolls it into view if necessary. */
   async middleOf(selector) {
     const place = await this.look(`(() => {
       const element = document.querySelector(${JSON.stringify(selector)})
@@ -171,7 +171,7 @@ class Page {
     await this.frame()
   }
 
-  /** Awaits that the page has drawn what was done: it draws once in a frame. */
+  /** Waits until the page has drawn: it draws once in a frame. */
   frame() {
     return this.look("new Promise((tell) => requestAnimationFrame(() => requestAnimationFrame(() => tell())))")
   }
@@ -188,7 +188,7 @@ class Page {
     await this.release(to)
   }
 
-  /** Drags along all of these places. */
+  /** Drags along these places. */
   async dragAlong(places) {
     await this.press(places[0])
     await Promise.all(places.slice(1).map((place) => this.mouse("mouseMoved", place)))
@@ -204,13 +204,13 @@ class Page {
     await this.frame()
   }
 
-  /** Turns the wheel by so many pixels. */
+  /** Turns the wheel by this many pixels. */
   async wheel([x, y], deltaX, deltaY, modifiers = 0) {
     await this.ask("Input.dispatchMouseEvent", { type: "mouseWheel", x, y, deltaX, deltaY, modifiers })
     await this.frame()
   }
 
-  /** Two fingers go from two places to two others. */
+  /** Moves two fingers from two places to two others. */
   async pinch(from, to) {
     const points = (places) => places.map(([x, y], id) => ({ x, y, id }))
     await this.ask("Emulation.setTouchEmulationEnabled", { enabled: true, maxTouchPoints: 2 })
@@ -231,18 +231,18 @@ class Page {
     await this.frame()
   }
 
-  /** Loads the page anew, as its button in the browser does. */
+  /** Reloads the page, as the browser's button does. */
   async reload() {
     await this.ask("Runtime.evaluate", { expression: "window.isOld = true" })
     await this.ask("Page.reload")
-    await this.comes("the new page", "window.isOld === undefined && document.readyState === 'complete'")
+    await this.waitUntil("the new page", "window.isOld === undefined && document.readyState === 'complete'")
   }
 
   async write(text) {
     for (const letter of text) await this.ask("Input.dispatchKeyEvent", { type: "char", text: letter })
   }
 
-  /** Keeps a picture of the page in a file. */
+  /** Stores a picture of the page in a file. */
   async picture(file) {
     const { data } = await this.ask("Page.captureScreenshot", { format: "png" })
     await writeFile(file, Buffer.from(data, "base64"))

@@ -1,107 +1,109 @@
-/** What is deleted, and what becomes of it where others change it at once. */
+/** Deletions, and their conflicts with concurrent changes. */
 
 import { join } from "node:path"
-import { holds, same } from "../../../clients/js/tests/checks.js"
+import { expect, expectEqual } from "../../../clients/js/tests/checks.js"
 import {
-  BODIES, CARDS, COUNT, HEADING, LIST, NOTICE, PICTURES, VERSIONS, added, allDrag, askedForNews, draw, isOpen,
+  BODIES, CARDS, COUNT, HEADING, LIST, NOTICE, PICTURES, VERSIONS, added, allDrag, waitForPull, draw, isOpen,
   objectsOf, onScreen, tabTo,
 } from "./people.mjs"
 
 const LAKE = '.version[aria-label^="Rectangle “Lake”"]'
 
-/** The tag of a version. */
+/** Returns the tag of a version. */
 const tag = (object, letter) => `.tag[data-object="${object}"][data-letter="${letter}"]`
 
-/** The version that has the focus is deleted by a key, with what the arrows did just before. */
+/** A key deletes the focused version, together with the moves by arrow keys just before. */
 export async function deleteByKey(first, second, room) {
   const count = await second.look(COUNT)
   const newest = `[...document.querySelectorAll(".version")].at(-1)`
   for (const key of ["Delete", "Backspace"]) {
     await draw(first, "ellipse", [40, 40], [160, 120])
-    await second.comes("the new object", `${COUNT} === ${count + 1}`)
+    await second.waitUntil("the new object", `${COUNT} === ${count + 1}`)
     await tabTo(first, `document.activeElement === ${newest}`)
     await first.key("ArrowRight")
-    same(key, await added(room, 1, () => first.key(key)), [["drop"]])
-    for (const page of [first, second]) await page.comes("it is gone", `${COUNT} === ${count}`)
-    same("what has the focus", await first.look("document.activeElement.id"), "board")
-    holds("nothing is selected", (await first.look(HEADING)).startsWith("Objects"))
+    expectEqual(key, await added(room, 1, () => first.key(key)), [["drop"]])
+    for (const page of [first, second]) await page.waitUntil("it is gone", `${COUNT} === ${count}`)
+    expectEqual("what has the focus", await first.look("document.activeElement.id"), "board")
+    expect("nothing is selected", (await first.look(HEADING)).startsWith("Objects"))
   }
-  same("a key more", await added(room, 0, () => first.key("Delete")), [])
+  expectEqual("a key more", await added(room, 0, () => first.key("Delete")), [])
 }
 
-/** An object is deleted by its button: where another person has selected it, that ends. */
+/** A button deletes an object. If another person has selected it, that selection ends. */
 export async function deleteByButton(first, second, room) {
   const count = await second.look(COUNT)
   await draw(first, "rect", [40, 40], [160, 120])
-  await second.comes("the new object", `${COUNT} === ${count + 1}`)
+  await second.waitUntil("the new object", `${COUNT} === ${count + 1}`)
   await second.press(await onScreen(second, [100, 80]))
   await second.release(await onScreen(second, [100, 80]))
   const before = [await first.look(HEADING), await second.look(HEADING)]
-  same("what both have selected", before, ["Rectangle", "Rectangle"])
-  same("the button", await first.look(`document.querySelector('[data-focus="delete"]').textContent`), "Delete")
-  same("what it does", await added(room, 1, () => first.click('[data-focus="delete"]')), [["drop"]])
+  expectEqual("what both have selected", before, ["Rectangle", "Rectangle"])
+  expectEqual("the button", await first.look(`document.querySelector('[data-focus="delete"]').textContent`), "Delete")
+  expectEqual("what it does", await added(room, 1, () => first.click('[data-focus="delete"]')), [["drop"]])
   for (const page of [first, second]) {
-    await page.comes("it is gone", `${COUNT} === ${count}`)
+    await page.waitUntil("it is gone", `${COUNT} === ${count}`)
     const { length } = await page.look(LIST)
-    same("what the list has", [await page.look(HEADING), length], [`Objects (${length})`, await objectsOf(page)])
+    expectEqual("what the list has", [await page.look(HEADING), length], [`Objects (${length})`, await objectsOf(page)])
   }
 }
 
-/** One of two versions is deleted, by one who has seen both: the other one stays, and nothing is said. */
+/** One of two versions is deleted by a person who has seen both. The other one stays, without a notice. */
 export async function deleteVersion(first, second, room) {
   const [object] = (await first.look(VERSIONS)).find(([, , , words]) => words.includes("“Lake”"))
   const old = await first.look(BODIES)
   await first.click(`${LAKE}[data-letter="A"] .body`)
   const button = '[data-focus="delete-A"]'
-  same("the button", await first.look(`document.querySelector('${button}').textContent`), "Delete version A")
-  same("what it does", await added(room, 1, () => first.click(button)), [["drop"]])
+  expectEqual("the button", await first.look(`document.querySelector('${button}').textContent`), "Delete version A")
+  expectEqual("what it does", await added(room, 1, () => first.click(button)), [["drop"]])
   for (const page of [first, second]) {
-    await page.comes("one version", `document.querySelectorAll('${LAKE}').length === 1`)
-    same("what is left", (await page.look(BODIES))[`${object}A`], old[`${object}B`])
+    await page.waitUntil("one version", `document.querySelectorAll('${LAKE}').length === 1`)
+    expectEqual("what is left", (await page.look(BODIES))[`${object}A`], old[`${object}B`])
     await page.click(`${LAKE} .body`)
-    same("its words", await page.look(HEADING), "Rectangle “Lake”")
-    same("what is said of a deletion", await page.look(NOTICE), null)
-    same("the cards", await page.look(CARDS), [])
+    expectEqual("its words", await page.look(HEADING), "Rectangle “Lake”")
+    expectEqual("what is said of a deletion", await page.look(NOTICE), null)
+    expectEqual("the cards", await page.look(CARDS), [])
   }
 }
 
-/** Of three versions one is deleted that a person had picked: she has to pick again. Then she keeps one alone. */
+/**
+ * One of three versions, which a person had picked, is deleted. That person must pick again, and then keeps one alone.
+ */
 export async function keepOnly(pages, room) {
   const [first, second, third] = pages
   const object = await allDrag(pages, '.version[aria-label="Line"]', [[-60, -80], [0, 30], [60, -160]])
   const version = (letter) => `.version[data-object="${object}"][data-letter="${letter}"]`
   const old = await second.look(BODIES)
   await second.click('[data-focus="pick-B"]')
-  same("the buttons", await second.look(`[...document.querySelectorAll(".cards + .actions button")].map((one) =>
+  expectEqual("the buttons", await second.look(`[...document.querySelectorAll(".cards + .actions button")].map((one) =>
     one.textContent)`), ["Keep only this", "Delete version B"])
   await second.picture(join(PICTURES, "three-versions.png"))
   const keep = () => second.click('[data-focus="keep-only"]')
-  same("what it does", await added(room, 2, keep), [["drop"], ["drop"]])
+  expectEqual("what it does", await added(room, 2, keep), [["drop"], ["drop"]])
   for (const page of pages) {
-    await page.comes("one version", `document.querySelectorAll('.version[data-object="${object}"]').length === 1`)
-    same("what is left", (await page.look(BODIES))[`${object}A`], old[`${object}B`])
-    same("what is said of a deletion", await page.look(NOTICE), null)
+    await page.waitUntil("one version", `document.querySelectorAll('.version[data-object="${object}"]').length === 1`)
+    expectEqual("what is left", (await page.look(BODIES))[`${object}A`], old[`${object}B`])
+    expectEqual("what is said of a deletion", await page.look(NOTICE), null)
   }
   await allDrag(pages, version("A"), [[-60, -80], [0, 30], [60, -160]])
   await third.click('[data-focus="pick-C"]')
   const bodies = await second.look(BODIES)
   await first.click(tag(object, "C"))
   await first.key("ArrowRight")
-  same("what a key does", await added(room, 1, () => first.key("Delete")), [["drop"]])
-  await third.comes("two versions", `document.querySelectorAll(".card").length === 2`)
+  expectEqual("what a key does", await added(room, 1, () => first.key("Delete")), [["drop"]])
+  await third.waitUntil("two versions", `document.querySelectorAll(".card").length === 2`)
   const { [`${object}C`]: _, ...others } = bodies
-  same("the others", await third.look(BODIES), others)
-  same("what is picked", (await third.look(CARDS)).map(([, , isPicked]) => isPicked), [false, false])
-  same("the buttons", await third.look(`document.querySelector('[data-focus="keep-only"], .delete')`), null)
+  expectEqual("the others", await third.look(BODIES), others)
+  expectEqual("what is picked", (await third.look(CARDS)).map(([, , isPicked]) => isPicked), [false, false])
+  expectEqual("the buttons", await third.look(`document.querySelector('[data-focus="keep-only"], .delete')`), null)
   await third.picture(join(PICTURES, "pick-again.png"))
   await first.click(tag(object, "A"))
   await first.key("ArrowRight")
-  same("what a key does", await added(room, 1, () => first.key("Delete")), [["drop"]])
-  await third.comes("one version", `document.querySelectorAll('.version[data-object="${object}"]').length === 1`)
-  same("what is left", (await third.look(BODIES))[`${object}A`], bodies[`${object}B`])
+  expectEqual("what a key does", await added(room, 1, () => first.key("Delete")), [["drop"]])
+  await third.waitUntil("one version", `document.querySelectorAll('.version[data-object="${object}"]').length === 1`)
+  expectEqual("what is left", (await third.look(BODIES))[`${object}A`], bodies[`${object}B`])
 }
 
-/** The first person deletes what the second one is dragging. */
+/** The first person deletes an object while the second one drags it. */
 async function deleteWhileDragged(first, second, grip, [x, y]) {
   const from = await second.middleOf(grip)
   const to = [from[0] + x, from[1] + y]
@@ -110,72 +112,78 @@ async function deleteWhileDragged(first, second, grip, [x, y]) {
   await first.click(grip)
   const count = await first.look(COUNT)
   await first.key("Delete")
-  await first.comes("it is gone", `${COUNT} === ${count - 1}`)
-  await askedForNews()
+  await first.waitUntil("it is gone", `${COUNT} === ${count - 1}`)
+  await waitForPull()
   await second.release(to)
-  await first.comes("it is there again", `${COUNT} === ${count}`)
+  await first.waitUntil("it is there again", `${COUNT} === ${count}`)
 }
 
 const DELETED = "Somebody deleted this while others changed it. You see it as they changed it. Keep it Delete it too"
 
-/** What was deleted while another person moved it is there, and both are told; then it is kept, and then it goes. */
+/**
+ * An object that was deleted while another person moved it stays, and both get a notice. One keeps it; then it is
+ * deleted.
+ */
 export async function deletedMeanwhile(first, second, room) {
   await deleteWhileDragged(first, second, `${LAKE} .body`, [-150, -100])
-  same("what is said", await second.look(NOTICE), DELETED)
+  expectEqual("what is said", await second.look(NOTICE), DELETED)
   await second.picture(join(PICTURES, "deleted-meanwhile.png"))
   await second.click('[data-focus="keep"]')
-  same("what is said to who keeps it", await second.look(NOTICE), null)
-  same("what she has selected", await second.look(HEADING), "Rectangle “Lake”")
-  holds("the list tells it", (await first.look(LIST)).includes("Rectangle “Lake”deleted, and changed"))
+  expectEqual("what is said to who keeps it", await second.look(NOTICE), null)
+  expectEqual("what she has selected", await second.look(HEADING), "Rectangle “Lake”")
+  expect("the list tells it", (await first.look(LIST)).includes("Rectangle “Lake”deleted and changed"))
   await first.picture(join(PICTURES, "deleted-in-list.png"))
   await first.click(`${LAKE} .body`)
-  same("what is said to the other", await first.look(NOTICE), DELETED)
+  expectEqual("what is said to the other", await first.look(NOTICE), DELETED)
   const colour = () => first.click('[data-colour="#3a86c8"]')
-  same("a colour", await added(room, 1, colour), [["put", [["fill", "#3a86c8"]]]])
-  await second.comes("the colour", `document.querySelector('${LAKE} .body').getAttribute("fill") === "#3a86c8"`)
-  same("what is said to who keeps it, afterwards", await second.look(NOTICE), null)
+  expectEqual("a colour", await added(room, 1, colour), [["put", [["fill", "#3a86c8"]]]])
+  await second.waitUntil("the colour", `document.querySelector('${LAKE} .body').getAttribute("fill") === "#3a86c8"`)
+  expectEqual("what is said to who keeps it, afterwards", await second.look(NOTICE), null)
   await deleteWhileDragged(first, second, `${LAKE} .body`, [-80, 20])
-  same("what is said of another deletion", await second.look(NOTICE), DELETED)
+  expectEqual("what is said of another deletion", await second.look(NOTICE), DELETED)
   await first.click(`${LAKE} .body`)
-  same("Delete it too", await added(room, 1, () => first.click('[data-focus="delete-too"]')), [["drop"]])
+  expectEqual("Delete it too", await added(room, 1, () => first.click('[data-focus="delete-too"]')), [["drop"]])
   for (const page of [first, second]) {
-    await page.comes("it is gone", `document.querySelector('${LAKE}') === null`)
-    holds("nothing is selected", (await page.look(HEADING)).startsWith("Objects"))
-    holds("it is in no list", (await page.look(LIST)).every((words) => !words.includes("Lake")))
+    await page.waitUntil("it is gone", `document.querySelector('${LAKE}') === null`)
+    expect("nothing is selected", (await page.look(HEADING)).startsWith("Objects"))
+    expect("it is in no list", (await page.look(LIST)).every((words) => !words.includes("Lake")))
   }
 }
 
-/** The same of one of two versions: it is told which. Who presses on it all the while goes on with what is left. */
+/**
+ * The same with one of two versions: the notice names it. A person who holds the button down continues with the
+ * remaining version.
+ */
 export async function versionDeletedMeanwhile(first, second, third) {
   const [object, old] = (await third.look(VERSIONS)).find(([, , , words]) => words.startsWith("Ellipse “Moon”"))
   const grip = tag(object, old)
   const place = await third.middleOf(grip)
   await third.press(place)
   await deleteWhileDragged(first, second, grip, [-200, 80])
-  await askedForNews()
+  await waitForPull()
   await third.release(place)
   const [, letter] = (await second.look(VERSIONS)).find(([, , , words]) => words.startsWith("Ellipse “Moon”"))
-  const words = "Somebody deleted a version while others changed it. What they made of it: " +
+  const words = "Somebody deleted a version while others changed it. Still here: " +
     `version ${letter}. Keep version ${letter} Delete version ${letter} too`
-  same("what is said", await second.look(NOTICE), words)
+  expectEqual("what is said", await second.look(NOTICE), words)
   for (const page of [second, third]) {
     const picked = (await page.look(CARDS)).filter(([, , isPicked]) => isPicked)
-    same("what is picked", picked.map(([one]) => one), [`Version ${letter}`])
+    expectEqual("what is picked", picked.map(([one]) => one), [`Version ${letter}`])
   }
   await second.picture(join(PICTURES, "version-deleted-meanwhile.png"))
   await second.click('[data-focus="delete-too"]')
-  await first.comes("it is gone", `document.querySelector('[aria-label*="Moon"]') === null`)
+  await first.waitUntil("it is gone", `document.querySelector('[aria-label*="Moon"]') === null`)
   for (const page of [first, second]) await page.click('.version[aria-label="Ellipse “Sun”"] .body')
-  same("what is said of the other", [await first.look(NOTICE), await second.look(NOTICE)], [null, null])
+  expectEqual("what is said of the other", [await first.look(NOTICE), await second.look(NOTICE)], [null, null])
 }
 
-/** Who comes late sees what the others see, and nothing of what is gone. */
+/** A late page shows what the others show, and nothing deleted. */
 export async function lateAfterAll(browser, address, first) {
   const page = await browser.open(address, 1240, 720)
   await isOpen(page)
-  await page.comes("all versions", `${COUNT} === ${await first.look(COUNT)}`)
-  same("what it shows", await page.look(BODIES), await first.look(BODIES))
-  same("what the list has", (await page.look(LIST)).length, await objectsOf(first))
-  same("faults in the page", page.faults, [])
+  await page.waitUntil("all versions", `${COUNT} === ${await first.look(COUNT)}`)
+  expectEqual("what it shows", await page.look(BODIES), await first.look(BODIES))
+  expectEqual("what the list has", (await page.look(LIST)).length, await objectsOf(first))
+  expectEqual("faults in the page", page.faults, [])
   await page.picture(join(PICTURES, "late-after-all.png"))
 }

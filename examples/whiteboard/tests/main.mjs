@@ -1,8 +1,8 @@
-/** People at the whiteboard: pages of a browser in a room. Each picture is kept in the folder that PICTURES names. */
+/** Runs the tests of the whiteboard: pages of a browser in a room. PICTURES names the folder of the pictures. */
 
 import { mkdir } from "node:fs/promises"
 import { join } from "node:path"
-import { holds, same } from "../../../clients/js/tests/checks.js"
+import { expect, expectEqual } from "../../../clients/js/tests/checks.js"
 import { Chromium } from "./chromium.mjs"
 import * as connections from "./connections.mjs"
 import * as deleting from "./deleting.mjs"
@@ -19,16 +19,16 @@ const keep = (page, word) => page.picture(join(PICTURES, `${word}.png`))
 
 async function smallScreen(phone) {
   await isOpen(phone)
-  await phone.comes("all versions", `${COUNT} === 6`)
+  await phone.waitUntil("all versions", `${COUNT} === 6`)
   await phone.click('.version[data-letter="B"] .body')
-  await phone.comes("the cards", `document.querySelectorAll(".card").length === 2`)
-  same("what has the focus", await phone.look("document.activeElement.dataset.letter"), "B")
-  holds("nothing is wider than the screen", await phone.look("document.documentElement.scrollWidth <= 390"))
+  await phone.waitUntil("the cards", `document.querySelectorAll(".card").length === 2`)
+  expectEqual("what has the focus", await phone.look("document.activeElement.dataset.letter"), "B")
+  expect("nothing is wider than the screen", await phone.look("document.documentElement.scrollWidth <= 390"))
 }
 
-/** Two people, then more, in one room, one thing after the other. */
+/** Two people and then more in one room, step by step. */
 async function inOneRoom(browser, address) {
-  // In turn: so the second one's version of what both drag is B.
+  // The pages open in sequence, so the second one's version of a concurrent drag is B.
   const first = await browser.open(address, 1240, 720)
   await isOpen(first)
   const second = await browser.open(address, 1240, 720)
@@ -44,7 +44,7 @@ async function inOneRoom(browser, address) {
   await step("two names at once", () => together.nameAtOnce(first, second))
   await keep(second, "one-place")
   const third = await browser.open(address, 1240, 720)
-  await step("a third comes late", () => together.late(first, third))
+  await step("a third person comes late", () => together.late(first, third))
   await step("a version has to be picked first", () => together.toldToPick(third))
   await keep(third, "told")
   await step("keys alone", () => together.keys(first, second))
@@ -53,9 +53,9 @@ async function inOneRoom(browser, address) {
   await step("a small screen", () => smallScreen(phone))
   await keep(phone, "small")
   await step("a lost connection", () => connections.lostConnection(browser, address, first))
-  await step("a page is loaded anew", () => connections.loadedAnew(first, second, room))
-  await step("each thing done is one entry", () => together.onePut(first, room))
-  await step("what other clients put there", () => together.oddShapes(first, second, room))
+  await step("a page is reloaded", () => connections.loadedAnew(first, second, room))
+  await step("each action is one entry", () => together.onePut(first, room))
+  await step("unusual shapes of other clients", () => together.oddShapes(first, second, room))
   await step("a press while others draw", () => together.pressMeanwhile(first, room))
   await step("a key deletes", () => deleting.deleteByKey(first, second, room))
   await step("a button deletes", () => deleting.deleteByButton(first, second, room))
@@ -63,7 +63,7 @@ async function inOneRoom(browser, address) {
   await step("one of three versions is kept alone", () => deleting.keepOnly([first, second, third], room))
   await step("deleted while another moved it", () => deleting.deletedMeanwhile(first, second, room))
   await step("a version deleted while another moved it", () => deleting.versionDeletedMeanwhile(first, second, third))
-  await step("one comes after all", () => deleting.lateAfterAll(browser, address, first))
+  await step("a late page at the end", () => deleting.lateAfterAll(browser, address, first))
   await step("no page had a fault", () => faults(first, second, third, phone))
   room.close()
 }
@@ -72,7 +72,7 @@ async function all(browser) {
   const { server, address } = await serve()
   try {
     await inOneRoom(browser, address)
-    await step("a room that was begun anew", () => connections.begunAnew(browser, address))
+    await step("a room that started again", () => connections.begunAnew(browser, address))
   } finally {
     server.kill()
   }
@@ -89,7 +89,7 @@ async function all(browser) {
 
 await mkdir(PICTURES, { recursive: true })
 let browser
-// Who is stopped leaves no browser behind.
+// A signal ends the browser too.
 for (const signal of ["SIGINT", "SIGTERM", "SIGHUP"]) {
   process.on(signal, async () => {
     await browser?.end()

@@ -1,14 +1,14 @@
-/** How a room opens: what is shown while it loads, and how long that takes. */
+/** How a room opens: what the page shows while it loads, and how long that takes. */
 
 import { createServer } from "node:net"
 import { join } from "node:path"
-import { holds, same } from "../../../clients/js/tests/checks.js"
+import { expect, expectEqual } from "../../../clients/js/tests/checks.js"
 import { PASS, Proxy } from "../../../clients/js/tests/proxy.js"
 import { COUNT, HEADING, PICTURES, STATE, isOpen, pageOf, serve, signalRoom, step, watch } from "./people.mjs"
 
 const OBJECTS = 200
-// A person takes what comes within some one and a half seconds for at once. Other programs on the machine may take its
-// processors for a while: so the shortest of three tries counts.
+// A person perceives a delay of up to about one and a half seconds as immediate. Other programs on the machine may use
+// its processors for a while, so the shortest of three attempts counts.
 const BOUND_MILLISECONDS = 1500
 const TRIES = 3
 
@@ -16,7 +16,7 @@ export async function opening(browser) {
   const { server, address } = await serve("--in-memory", "--sessions", "50")
   try {
     await step("an empty room says so once that is known", () => emptyRoom(browser, address))
-    await step("a server that doesn't answer", () => silentServer(browser, address))
+    await step("a server that does not answer", () => silentServer(browser, address))
     await step(`a room of ${OBJECTS} objects opens in time`, () => fullRoom(browser, address))
     await step("a bar tells how far a room is loaded", () => loadingBar(browser, address, server))
   } finally {
@@ -24,7 +24,7 @@ export async function opening(browser) {
   }
 }
 
-/** What the page told while it loaded: each heading of the panel, and how far the bar came. */
+/** Returns what the page showed while it loaded: each heading of the panel, and the progress of the bar. */
 const TOLD_MEANWHILE = `(() => {
   window.told = { headings: [], progress: [] }
   const note = (list, value) => value !== undefined && list.at(-1) !== value && list.push(value)
@@ -36,7 +36,7 @@ const TOLD_MEANWHILE = `(() => {
   new MutationObserver(look).observe(document, { subtree: true, childList: true, attributes: true })
 })()`
 
-/** Opens a page that notes what it tells from its beginning on. */
+/** Opens a page that records what it shows from the beginning. */
 async function openNoting(browser, address) {
   const page = await browser.open("about:blank", 1240, 720)
   await page.ask("Page.addScriptToEvaluateOnNewDocument", { source: TOLD_MEANWHILE })
@@ -49,22 +49,22 @@ async function emptyRoom(browser, address) {
   const { page } = await openNoting(browser, address)
   await isOpen(page)
   await page.frame()
-  same("the headings", await page.look("told.headings"), ["Loading", "Nothing is drawn yet"])
-  same("the bar", await page.look("document.getElementById('loading').hidden"), true)
+  expectEqual("the headings", await page.look("told.headings"), ["Loading", "Nothing is drawn yet"])
+  expectEqual("the bar", await page.look("document.getElementById('loading').hidden"), true)
   await page.picture(join(PICTURES, "empty.png"))
   await page.close()
 }
 
-/** Who gets no answer is told why that may be, and not that there is nothing. */
+/** Without an answer the page gives the possible reasons, and does not show an empty room. */
 async function silentServer(browser, address) {
   const silent = createServer(() => {}).listen(0, "127.0.0.1")
   await new Promise((tell) => silent.once("listening", tell))
   const place = await pageOf(address)
   place.searchParams.set("server", `ws://127.0.0.1:${silent.address().port}/`)
   const page = await browser.open(place.href, 1240, 720)
-  await page.comes("the page", `document.getElementById("state") !== null`)
-  await page.comes("the words", `${STATE}.includes("All its places may be taken")`)
-  same("the heading", await page.look(HEADING), "Loading")
+  await page.waitUntil("the page", `document.getElementById("state") !== null`)
+  await page.waitUntil("the words", `${STATE}.includes("All its places may be taken")`)
+  expectEqual("the heading", await page.look(HEADING), "Loading")
   await page.picture(join(PICTURES, "silent.png"))
   await page.close()
   silent.close()
@@ -82,22 +82,22 @@ async function fullRoom(browser, address) {
   for (let time = 0; time < TRIES; time++) times.push(await timeToOpen(browser, address, time === 0))
   room.close()
   console.log(`        opened in ${times.map(Math.round).join(", ")} ms`)
-  holds(`it opens within ${BOUND_MILLISECONDS} ms: ${times.map(Math.round)}`, Math.min(...times) <= BOUND_MILLISECONDS)
+  expect(`it opens within ${BOUND_MILLISECONDS} ms: ${times.map(Math.round)}`, Math.min(...times) <= BOUND_MILLISECONDS)
 }
 
-/** How long it takes from the address to all objects. */
+/** Returns the time from the address to all objects. */
 async function timeToOpen(browser, address, isFirst) {
   const { page, start } = await openNoting(browser, address)
-  await page.comes("all objects", `${COUNT} === ${OBJECTS}`)
+  await page.waitUntil("all objects", `${COUNT} === ${OBJECTS}`)
   const time = performance.now() - start
-  same("the headings", await page.look("told.headings"), ["Loading", `Objects (${OBJECTS})`])
-  same("faults in the page", page.faults, [])
+  expectEqual("the headings", await page.look("told.headings"), ["Loading", `Objects (${OBJECTS})`])
+  expectEqual("faults in the page", page.faults, [])
   if (isFirst) await page.picture(join(PICTURES, "many.png"))
   await page.close()
   return time
 }
 
-/** The server rests for a moment after the first entries: meanwhile the page tells how many it has. */
+/** The server pauses after the first entries. The page shows how many it has. */
 async function loadingBar(browser, address, server) {
   const place = await pageOf(address)
   const proxy = await Proxy.start(new URL(place.searchParams.get("server")).port)
@@ -112,12 +112,12 @@ async function loadingBar(browser, address, server) {
     return PASS
   }
   const { page } = await openNoting(browser, place.href)
-  await page.comes("a part", "told.progress.some((value) => value > 0 && value < 1)")
+  await page.waitUntil("a part", "told.progress.some((value) => value > 0 && value < 1)")
   const words = await page.look(`document.getElementById("loading").textContent`)
-  holds(`the words: ${words}`, /^Loading the drawing: \d+ entries of 20\d\.$/.test(words))
+  expect(`the words: ${words}`, /^Loading the drawing: \d+ of 20\d\.$/.test(words))
   await page.picture(join(PICTURES, "loading.png"))
-  await page.comes("all objects", `${COUNT} === ${OBJECTS}`)
-  same("the bar", await page.look("document.getElementById('loading').hidden"), true)
+  await page.waitUntil("all objects", `${COUNT} === ${OBJECTS}`)
+  expectEqual("the bar", await page.look("document.getElementById('loading').hidden"), true)
   await page.close()
   proxy.end()
 }

@@ -1,12 +1,12 @@
-/** The field in which the text on a shape is written, on the drawing itself. Others' news is kept back meanwhile. */
+/** The text field on a shape. A hold keeps other people's changes back while it is open. */
 
 import { boundsOf, middleOf } from "./boxes.js"
 import { html, part } from "./elements.js"
-import { fitting, shapeOf } from "./shapes.js"
+import { truncate, shapeOf } from "./shapes.js"
 
 const LEAST_WIDTH = 180
 
-export class Writing {
+export class TextField {
   #end = null
 
   /** @param {import("./whiteboard.js").Page} page */
@@ -14,12 +14,12 @@ export class Writing {
     this.page = page
   }
 
-  /** Ends what is being written, if something is. */
+  /** Commits the open text field, if there is one. */
   end() {
     this.#end?.(true)
   }
 
-  /** Opens the field on a version. Enter or another press ends it, Escape breaks it off. */
+  /** Opens the field on a version. Enter or a press elsewhere commits the text, Escape cancels. */
   open(name, version) {
     this.end()
     const { page } = this
@@ -27,11 +27,11 @@ export class Writing {
     page.select(name, version)
     const shape = shapeOf(page.room.kind(name), version.attributes)
     const field = html("input", { type: "text", id: "writing", value: shape.text, autocomplete: "off" })
-    field.setAttribute("aria-label", "The text on the shape")
+    field.setAttribute("aria-label", "Text on the shape")
     this.#place(field, shape)
     this.#end = (isWhole) => {
       this.#end = null
-      const text = fitting(field.value)
+      const text = truncate(field.value)
       field.remove()
       this.#put(isWhole && text !== shape.text, text)
       release()
@@ -46,14 +46,14 @@ export class Writing {
   }
 
   #listen(field) {
-    field.addEventListener("input", () => (field.value = fitting(field.value)))
+    field.addEventListener("input", () => (field.value = truncate(field.value)))
     field.addEventListener("blur", () => this.#end?.(true))
     field.addEventListener("keydown", ({ key }) => {
       if (key === "Enter" || key === "Escape") this.#end?.(key === "Enter")
     })
   }
 
-  /** What was selected at the start still is, and its version picked. */
+  /** The selection and the pick follow the version, even if its object was renamed meanwhile. */
   #put(isOther, text) {
     const { board, changes } = this.page
     const version = board.selected === null ? null : board.picked(board.selected)

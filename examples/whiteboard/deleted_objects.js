@@ -1,20 +1,20 @@
-/** Objects whose versions were all deleted, and how one comes back: as a new object with the attributes that it had. */
+/** Deleted objects, and how the user brings one back: as a new object with the old attributes. */
 
 import { shapeOf } from "./shapes.js"
 
-export class Gone {
+export class DeletedObjects {
   /** @param {import("./whiteboard.js").Page} page */
   constructor(page) {
     this.page = page
   }
 
-  /** The objects whose versions are all gone, the youngest first. */
+  /** The objects whose versions are all gone, the latest first. */
   objects() {
     const { room } = this.page
     return room.objects().filter((name) => room.versions(name).every(({ isGone }) => isGone)).toReversed()
   }
 
-  /** What an object was when it was deleted: a kind and attributes for each of its versions, the same ones once. */
+  /** Kind and attributes of each deleted version, without duplicates. */
   formsOf(name) {
     const { room, changes } = this.page
     const kind = room.kind(name)
@@ -23,13 +23,13 @@ export class Gone {
     return [...new Map(forms.map((form) => [textOf(form), form])).values()]
   }
 
-  /** Makes a new object of what one was. */
+  /** Creates an object from a deleted version. */
   bringBack({ kind, attributes }) {
     this.page.changes.draw(kind, attributes)
   }
 }
 
-/** The shape of what an object was. */
+/** The shape of a deleted version. */
 export const shapeOfForm = ({ kind, attributes }) => shapeOf(kind, attributes)
 
 const textOf = ({ attributes }) =>

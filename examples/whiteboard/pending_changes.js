@@ -1,11 +1,11 @@
-/** Which objects have changes that the server hasn't answered for a while. */
+/** Which objects have a change that has been pending for a while. */
 
 import { keyOf } from "./board.js"
 
-// What is answered sooner isn't told: it would only flicker.
+// Faster replies are not shown: the mark would flicker.
 const SHOWN_AFTER_MILLISECONDS = 300
 
-export class Waiting {
+export class PendingChanges {
   #shown = new Set()
   #known = new WeakSet()
 
@@ -15,12 +15,12 @@ export class Waiting {
     this.changed = changed
   }
 
-  /** Whether a change of this object waits. */
+  /** Whether a change of this object is pending. */
   has(name) {
     return this.room.pending.some((change) => this.#shown.has(change) && keyOf(change.object) === keyOf(name))
   }
 
-  /** Looks which changes are new. */
+  /** Starts to watch new changes. */
   look() {
     for (const change of this.room.pending) if (!this.#known.has(change)) this.#await(change)
   }

@@ -1,0 +1,121 @@
+/**
+ * What a client saves so that a reloaded page can continue: its site, the record, and its pending changes. They are
+ * saved as texts in a storage, under keys made of the server's address and the room's name.
+ */
+
+import { LIMITS } from "./forms.js"
+import { readText, writeText } from "./json_text.js"
+
+/**
+ * @typedef {{ getItem(key: string): string | null, setItem(key: string, text: string): void, removeItem(key: string):
+ *   void }} Storage the part of the browser's `sessionStorage` that the library uses
+ */
+
+// The record is saved in pieces of this many entries, so that new entries rewrite the last piece alone.
+const PIECE = 64
+
+/** The saved state of one client in one room. If the storage is full, only the site stays saved. */
+export class SavedState {
+  #storage
+  #prefix
+  #isFull
+
+  /**
+   * @param {Storage | null} storage null saves nothing
+   * @param {string} address of the server
+   * @param {string} name of the room
+   */
+  constructor(storage, address, name) {
+    this.#storage = storage
+    this.#prefix = `grace ${address} ${name}`
+    this.#isFull = storage === null
+  }
+
+  /**
+   * Reads the saved state.
+   * @returns {{ site: number, record: any[][], changes: any[][] } | null} `changes` as entries; null if nothing is
+   *   saved
+   * @throws {SyntaxError} the saved state is damaged
+   */
+  read() {
+    if (this.#storage === null || !this.#has("site")) return null
+    const record = []
+    for (let piece = 0; this.#has(`record ${piece}`); piece++) record.push(...this.#get(`record ${piece}`))
+    const site = this.#get("site")
+    if (!Number.isInteger(site) || site < 1 || site > LIMITS.sites) throw new SyntaxError("the saved site is invalid")
+    return { site, record, changes: this.#has("changes") ? this.#get("changes") : [] }
+  }
+
+  /**
+   * Saves the site.
+   * @param {number} site
+   */
+  saveSite(site) {
+    if (this.#storage !== null) this.#set("site", site)
+  }
+
+  /**
+   * Saves the record.
+   * @param {readonly any[][]} record
+   * @param {number} from the index of the first entry that is not saved yet
+   */
+  saveRecord(record, from) {
+    for (let piece = Math.floor(from / PIECE); piece * PIECE < record.length && !this.#isFull; piece++) {
+      this.#save(`record ${piece}`, record.slice(piece * PIECE, (piece + 1) * PIECE))
+    }
+  }
+
+  /**
+   * Saves the changes that the record lacks.
+   * @param {any[][]} changes as entries
+   */
+  saveChanges(changes) {
+    if (!this.#isFull) this.#save("changes", changes)
+  }
+
+  /** Removes the saved state. */
+  clear() {
+    if (this.#storage === null) return
+    this.#clearRecord()
+    this.#remove("site")
+    this.#isFull = false
+  }
+
+  #clearRecord() {
+    for (let piece = 0; this.#has(`record ${piece}`); piece++) this.#remove(`record ${piece}`)
+    this.#remove("changes")
+  }
+
+  #key(part) {
+    return `${this.#prefix} ${part}`
+  }
+
+  #has(part) {
+    return this.#storage.getItem(this.#key(part)) !== null
+  }
+
+  #get(part) {
+    return readText(this.#storage.getItem(this.#key(part)))
+  }
+
+  #remove(part) {
+    this.#storage.removeItem(this.#key(part))
+  }
+
+  /** Whether the storage accepted the value. */
+  #set(part, value) {
+    try {
+      this.#storage.setItem(this.#key(part), writeText(value))
+      return true
+    } catch {
+      return false
+    }
+  }
+
+  #save(part, value) {
+    if (this.#set(part, value)) return
+    // A record with a gap is useless, and so are changes without the record that they build on.
+    this.#isFull = true
+    this.#clearRecord()
+  }
+}

@@ -1,0 +1,93 @@
+"""Checks of arguments: room names, kinds, keys, values, object names and version identifiers. An error message starts
+with the key or the argument, and says what is wrong with it."""
+
+import re
+
+from .forms import LIMITS
+
+WORD = re.compile(r"[a-z0-9-]+")
+LEAST, MOST = -(2**63), 2**63 - 1
+
+
+def as_word(what, word, most):
+    """Checks a word of at most `most` characters. Raises `TypeError` if it is not a string, `ValueError` if it has
+    other characters or a wrong length."""
+    if not isinstance(word, str):
+        raise TypeError(f"{what} must be a string, not {word!r:.80}")
+    if len(word) > most or not WORD.fullmatch(word):
+        raise ValueError(f"{what} {word!r:.80} isn't 1 to {most} of a-z, 0-9 and -")
+    return word
+
+
+def as_room_name(name):
+    """Checks the name of a room."""
+    return as_word("the room's name", name, LIMITS.room_bytes)
+
+
+def as_kind(kind):
+    """Checks the kind of an object."""
+    return as_word("the kind", kind, LIMITS.word_bytes)
+
+
+def as_value(value, key):
+    """Checks a value. Raises `TypeError` if it is neither an integer nor a string. Raises `ValueError` if an integer
+    exceeds 64 bits, or a string exceeds 256 bytes in UTF-8 or has an unpaired surrogate."""
+    if isinstance(value, str):
+        return as_text(value, key)
+    if not isinstance(value, int) or isinstance(value, bool):
+        raise TypeError(f"{key}: a value must be an integer or a string, not {value!r:.80}")
+    if not LEAST <= value <= MOST:
+        raise ValueError(f"{key}: {value} is outside the 64-bit range from -2^63 to 2^63 - 1")
+    return value
+
+
+def as_text(text, key):
+    """Checks a string value."""
+    try:
+        size = len(text.encode())
+    except UnicodeEncodeError as fault:
+        raise ValueError(f"{key}: the string has an unpaired surrogate at index {fault.start}") from None
+    if size > LIMITS.text_bytes:
+        raise ValueError(f"{key}: the string has {size} bytes in UTF-8; the limit is {LIMITS.text_bytes}")
+    return text
+
+
+def as_attributes(attributes):
+    """Checks the attributes of a new object or of a put: a dictionary, or pairs of a key and a value."""
+    pairs = attributes.items() if hasattr(attributes, "items") else attributes
+    read = tuple((as_word("the key", key, LIMITS.word_bytes), as_value(value, key)) for key, value in pairs)
+    keys = [key for key, _ in read]
+    for key in keys:
+        if keys.count(key) > 1:
+            raise ValueError(f"{key}: the key appears twice")
+    if len(read) > LIMITS.attributes:
+        raise ValueError(f"{len(read)} attributes; the limit is {LIMITS.attributes}")
+    return read
+
+
+def as_pairs(attributes):
+    """Checks the attributes of a put, which needs at least one."""
+    read = as_attributes(attributes)
+    if not read:
+        raise ValueError("a put needs at least one attribute")
+    return read
+
+
+def is_name(name):
+    """Whether it is the name of an operation, such as (1, 2)."""
+    return isinstance(name, (tuple, list)) and len(name) == 2 and all(isinstance(part, int) for part in name)
+
+
+def as_name(name):
+    """Checks the name of an object."""
+    if not is_name(name):
+        raise TypeError(f"the object must be a name such as (1, 2), not {name!r:.80}")
+    return tuple(name)
+
+
+def as_id(version):
+    """Checks a base: a `Version` or its identifier."""
+    names = getattr(version, "id", version)
+    if not isinstance(names, (tuple, list)) or not all(map(is_name, names)):
+        raise TypeError("the version must be a Version or its identifier")
+    return tuple(sorted(map(tuple, names)))

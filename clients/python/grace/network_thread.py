@@ -1,0 +1,436 @@
+"""The thread that talks to the server for a room, one request at a time."""
+
+import contextlib
+import selectors
+import socket
+import ssl
+import sys
+import threading
+import time
+from collections import deque
+
+from .connection_state import ConnectionState
+from .forms import Lost, ProtocolFault, Refused, operation_of, read_text, request_of, write_text
+from .polling import PollTimer
+from .websocket import WebSocket
+
+STILL_CONNECTED = "The server still has your previous connection. Trying again."
+CANNOT_JOIN = "The server still has your previous connection, and the room is too full for a new one."
+CLOSED = "The room was closed."
+
+# A connection that lasted this long resets the backoff. A connection that breaks sooner does not: otherwise the client
+# would reconnect too often.
+STEADY_SECONDS = 5
+# The wait between attempts to rejoin as a site that the server says is in use.
+REJOIN_SECONDS = 0.1
+# How long to wait for the server's close frame.
+CLOSE_SECONDS = 1
+
+
+class NetworkThread:
+    """Connects, joins, sends changes, polls, and reconnects. `room_state` is the client's copy of the room, which
+    `lock` protects. `listeners` has the listeners of each event."""
+
+    def __init__(self, address, name, options, lock, listeners):
+        self.address, self.name, self.options = address, name, options
+        self.room_state = None
+        self.lock = lock
+        # Notified when something changes that a caller may wait for.
+        self.news = threading.Condition(lock)
+        self.listeners = listeners
+        self.events = deque()
+        self.poll_timer = PollTimer(options.poll_seconds, options.busy_seconds, options.idle_seconds)
+        self.connection_state = ConnectionState(self.emit, self._pending_time, self._silent_time)
+        self.is_closing = False
+        # The error that closed the room, or None.
+        self.fault = None
+        # How many refreshes callers have asked for, and how many of them are done.
+        self.refreshes_asked, self.refreshes_done = 0, 0
+        self._socket = None
+        # Whether it is sending the close frame.
+        self._is_leaving = False
+        self._requested_at = None
+        self._deadline = 0
+        self._tries = 0
+        self._wakes, self._waker = socket.socketpair()
+        self._wakes.setblocking(False)
+        self._waker.setblocking(False)
+        self._selector = selectors.DefaultSelector()
+        self._selector.register(self._wakes, selectors.EVENT_READ)
+        self.thread = threading.Thread(target=self._run, name=f"grace {name}", daemon=True)
+
+    # ---- for other threads, which hold the lock
+
+    def emit(self, event, news):
+        """Queues an event for the listeners, which run in this thread."""
+        self.events.append((event, news))
+        self.news.notify_all()
+        self.wake()
+
+    def wake(self):
+        """Wakes the thread up because there is something to do."""
+        try:
+            self._waker.send(b"!")
+        except OSError:
+            # The pipe is full of wake-ups already, or the thread has ended.
+            pass
+
+    def changed(self):
+        """There is a new change to send."""
+        self.poll_timer.speed_up()
+        self.connection_state.update()
+        self.wake()
+
+    def end(self, words=CLOSED):
+        """Closes the room."""
+        if self.is_closing:
+            return
+        self.is_closing = True
+        self.connection_state.leave("closed", words)
+        self.room_state.close()
+        self.wake()
+
+    def _pending_time(self):
+        pending = self.room_state.pending
+        return time.monotonic() - pending[0].made if pending else None
+
+    def _silent_time(self):
+        return 0 if self._requested_at is None else time.monotonic() - self._requested_at
+
+    # ---- events and waiting
+
+    @contextlib.contextmanager
+    def _locked(self):
+        """Takes the lock to change the room's state. Raises `Lost` if the room was closed in the meantime."""
+        with self.lock:
+            if self.is_closing:
+                raise Lost(CLOSED)
+            yield
+
+    def _handle_events(self):
+        """Calls the listeners of queued events. Raises `Lost` if the room is to be closed."""
+        with self.lock:
+            self.connection_state.wake()
+        self._deliver()
+        if self.is_closing:
+            raise Lost(CLOSED)
+
+    def _deliver(self):
+        while True:
+            with self.lock:
+                if not self.events:
+                    return
+                event, news = self.events.popleft()
+                called = list(self.listeners[event])
+            for listener in called:
+                self._call(listener, news)
+
+    def _call(self, listener, news):
+        try:
+            listener(news)
+        except Exception:
+            # A listener's error is reported as an uncaught exception. The connection stays open.
+            sys.excepthook(*sys.exc_info())
+
+    def _select(self, sock, for_writing, until):
+        """Waits until a socket is ready, a wake-up comes, or the time `until` is reached. Returns whether the socket is
+        ready."""
+        if sock is not None:
+            self._selector.register(sock, selectors.EVENT_WRITE if for_writing else selectors.EVENT_READ)
+        try:
+            ready = self._selector.select(max(0, min(until, self.connection_state.due) - time.monotonic()))
+        finally:
+            if sock is not None:
+                self._selector.unregister(sock)
+        found = [key.fileobj for key, _ in ready]
+        if self._wakes in found:
+            self._wakes.recv(4096)
+        return sock in found
+
+    def _wait(self, sock, for_writing):
+        """Waits until a socket is ready. Raises `Lost` if that takes too long."""
+        while True:
+            if not self._is_leaving:
+                self._handle_events()
+            if self._select(sock, for_writing, self._deadline):
+                return
+            if time.monotonic() >= self._deadline:
+                raise Lost("The server did not answer in time.")
+
+    def _sleep(self, seconds, is_over=lambda: False):
+        """Waits this long, or until `is_over` returns true. Raises `Lost` if the connection ends in the meantime."""
+        until = time.monotonic() + seconds
+        while not is_over() and time.monotonic() < until:
+            self._handle_events()
+            if is_over():
+                return
+            sock = self._socket and self._socket.socket
+            if self._select(sock, False, until):
+                self._socket.take_ready()
+                if self._socket.next_message() is not None:
+                    raise ProtocolFault("The server sent a message without a request.")
+
+    # ---- the connection
+
+    def _run(self):
+        while not self.is_closing:
+            try:
+                self._connect()
+                self._serve_and_reset_backoff()
+            except Lost as fault:
+                self._disconnect()
+                self._wait_for_next_try(fault)
+            except Exception as fault:
+                # The next attempt would fail in the same way.
+                self._close_because_of(fault)
+        self._close()
+
+    def _wait_for_next_try(self, fault):
+        waits = self.options.retry_seconds
+        wait = waits[min(self._tries, len(waits) - 1)]
+        self._tries += 1
+        try:
+            with self._locked():
+                self.connection_state.leave("waiting", f"{fault} Trying again.")
+            self._sleep(wait)
+        except Lost:
+            # The room is to be closed.
+            pass
+
+    def _close_because_of(self, fault):
+        is_known = isinstance(fault, (Refused, ProtocolFault))
+        with self.lock:
+            if not self.is_closing:
+                self.fault = fault
+                self.end(str(fault) if is_known else f"The server sent an invalid message: {fault!r}")
+
+    def _disconnect(self):
+        """Ends the connection. A room that is closed sends a close frame first."""
+        if self._socket is None:
+            return
+        try:
+            if self.is_closing and self._socket.is_open:
+                self._is_leaving = True
+                self._deadline = time.monotonic() + CLOSE_SECONDS
+                self._socket.say_close()
+        except Lost:
+            pass
+        self._socket.end()
+        self._socket = None
+
+    def _close(self):
+        self._disconnect()
+        self._deliver()
+        self._selector.close()
+        self._wakes.close()
+        self._waker.close()
+
+    def _connect(self):
+        """Connects and joins. Then it pulls what the record has more, which shows which changes the server accepted."""
+        with self._locked():
+            self.connection_state.connect()
+            self._start_deadline()
+        self._socket = WebSocket(self._wait)
+        context = self.options.context
+        if context is None and self.address.scheme == "wss":
+            context = ssl.create_default_context()
+        self._socket.open(self.address, context)
+        self._requested_at = None
+        self.room_state.is_entering = True
+        if not self._rejoin():
+            self._join()
+        with self._locked():
+            self.options.site = None
+            self.room_state.is_entering = False
+            is_first = not self.room_state.is_loaded
+            self.room_state.is_loaded = True
+            self.room_state.show()
+            if is_first:
+                self.emit("progress", self.room_state.progress())
+            self.connection_state.enter(f"Connected as site {self.room_state.site}.")
+
+    def _rejoin(self):
+        """Rejoins as this client's old site. Returns false if the client must join as a new one."""
+        if self.room_state.site is None and self.options.site is None:
+            return False
+        back = self._request_back()
+        if back is None:
+            return False
+        _, at, site, made = back
+        with self._locked():
+            self.room_state.length = at
+            self.room_state.site = site
+        has_record = bool(self.room_state.record)
+        if self._is_other_record(at):
+            with self._locked():
+                self.room_state.discard_room()
+        else:
+            self._load()
+            pending, drawing = self.room_state.pending, self.room_state.drawing
+            following = pending[0].name[1] if pending else drawing.count(site) + 1
+            # Otherwise another client was in the room as this site, and made operations that this one has not seen.
+            if not has_record or following == made + 1:
+                return True
+        self._request(["leave"], "left")
+        return False
+
+    def _request_back(self):
+        """The reply to `back`, or None if the client cannot rejoin as its old site."""
+        end = time.monotonic() + self.options.back_seconds
+        while True:
+            try:
+                return self._request(["back", self.name, self.room_state.site or self.options.site], "back")
+            except Refused as refusal:
+                if not self._may_rejoin(refusal, end):
+                    return None
+            with self._locked():
+                if self.connection_state.words != STILL_CONNECTED:
+                    self.connection_state.connect(STILL_CONNECTED)
+            self._sleep(REJOIN_SECONDS)
+
+    def _may_rejoin(self, refusal, end):
+        """Whether to try again to rejoin. Raises the refusal if the client must not join as a new site."""
+        is_over = time.monotonic() >= end
+        if refusal.word == "site-in-use" and not is_over:
+            return True
+        if refusal.word not in ("site-in-use", "no-such-site") or self.options.site is not None:
+            raise refusal
+        if refusal.word == "no-such-site":
+            with self._locked():
+                self.room_state.discard_room()
+        return False
+
+    def _join(self):
+        """Joins as a new site."""
+        _, at, site = self._request_join()
+        is_other_record = self._is_other_record(at)
+        with self._locked():
+            if is_other_record:
+                self.room_state.discard_room()
+            self.room_state.length = max(self.room_state.length, at + 1)
+        self._load()
+        with self._locked():
+            self.room_state.become_site(site)
+
+    def _request_join(self):
+        """The reply to `join`. In a full room a client that has a site keeps trying to rejoin."""
+        try:
+            return self._request(["join", self.name], "joined")
+        except Refused as refusal:
+            if refusal.word in ("room-full", "record-full") and self.room_state.site is not None:
+                raise Lost(CANNOT_JOIN) from None
+            raise
+
+    def _load(self):
+        """Pulls until the client has all entries."""
+        while self.room_state.lacks:
+            with self._locked():
+                if not self.room_state.is_loaded:
+                    self.emit("progress", self.room_state.progress())
+            self._pull()
+
+    def _serve_and_reset_backoff(self):
+        start = time.monotonic()
+        try:
+            self._serve()
+        finally:
+            if time.monotonic() - start >= STEADY_SECONDS:
+                self._tries = 0
+
+    def _serve(self):
+        """Sends changes and polls until the connection is lost."""
+        while True:
+            self._handle_events()
+            with self.lock:
+                change = self.room_state.pending[0] if self.room_state.pending else None
+                refreshes = self.refreshes_asked
+            if change is not None:
+                self._send(change)
+            if self.room_state.lacks or refreshes > self.refreshes_done or self.poll_timer.time_left() <= 0:
+                self._pull()
+                self._finish_refreshes(refreshes)
+            elif not self.room_state.pending:
+                self._sleep(self.poll_timer.time_left(), self._has_work)
+
+    def _has_work(self):
+        return bool(self.room_state.pending) or self.refreshes_asked > self.refreshes_done
+
+    def _finish_refreshes(self, refreshes):
+        """These many refreshes are done, unless there is more to pull."""
+        with self.lock:
+            if not self.room_state.lacks:
+                self.refreshes_done = refreshes
+                self.news.notify_all()
+
+    # ---- requests
+
+    def _start_deadline(self):
+        self._requested_at = time.monotonic()
+        self._deadline = self._requested_at + self.options.reply_seconds
+
+    def _request(self, request, kind):
+        """Sends a request and checks that the reply is of this kind."""
+        self._start_deadline()
+        try:
+            self._socket.send(request if isinstance(request, str) else write_text(request))
+            reply = read_text(self._socket.read())
+        finally:
+            self._requested_at = None
+        match reply:
+            case ("no", _, _, str(word)):
+                raise Refused(word)
+            case (word, int(at), *_) if word == kind:
+                with self._locked():
+                    self.room_state.length = max(self.room_state.length, at)
+                return reply
+        raise ProtocolFault(f"The server sent another reply instead of {kind}: {reply!r:.200}")
+
+    def _send(self, change):
+        """Sends a change and processes the reply."""
+        operation = change.operation
+        try:
+            _, at, *_ = self._request(request_of(operation), "made" if operation.word == "new" else "taken")
+            with self._locked():
+                self.room_state.accepted(change, at)
+                self._notify()
+        except Refused as refusal:
+            with self._locked():
+                self.room_state.withdraw(change, refusal)
+                self._notify()
+
+    def _notify(self):
+        self.connection_state.update()
+        self.news.notify_all()
+
+    def _pull(self):
+        """Pulls the next page and shows it."""
+        start = len(self.room_state.record)
+        entries = self._page(start)
+        with self._locked():
+            self.room_state.append(entries)
+            self._notify()
+            if entries:
+                self.poll_timer.speed_up()
+            self.poll_timer.polled()
+            if not entries and self.room_state.lacks:
+                raise ProtocolFault("The server sent an empty page.")
+
+    def _page(self, start):
+        match self._request(["pull", start], "entries"):
+            case (_, _, place, tuple(entries)) if place == start:
+                return entries
+        raise ProtocolFault("The server sent the wrong page.")
+
+    def _is_other_record(self, at):
+        """Whether the server has a different record than the one that this client pulled, as after a restart without
+        `--keep`. It compares the last operation, because its state vector tells records apart. `at` is how many entries
+        the server had when this client joined."""
+        record = self.room_state.record
+        if at < len(record):
+            return True
+        if not record:
+            return False
+        operations = [place for place, entry in enumerate(record) if operation_of(entry) is not None]
+        last = operations[-1] if operations else 0
+        pulled = record[last:]
+        return any(one != other for one, other in zip(self._page(last), pulled))

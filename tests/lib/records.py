@@ -1,7 +1,6 @@
 """The transcripts of clients, and their comparison with the records that the program prints."""
 
 import collections
-import itertools
 import json
 
 
@@ -25,13 +24,9 @@ def entry_of(site, request):
     return [word, [site, seq], *rest]
 
 
-# Numbers the replies of all clients in the order of their arrival. Several clients may be one site, one after another.
-ORDER = itertools.count()
-
-
 class Transcript:
     """The requests of one client in order, with their replies. `lines` has for each reply the room, the line of a
-    transcript and its number among all replies."""
+    transcript and the parsed reply."""
 
     def __init__(self):
         self.waiting = collections.deque()
@@ -62,7 +57,7 @@ class Transcript:
             self.made = reply[3] if reply[0] == "back" else 0
         elif request[0] == "join":
             return
-        self.lines.append((self.room, f"[{compact(self.site)},{compact(request)},{text}]", next(ORDER)))
+        self.lines.append((self.room, f"[{compact(self.site)},{compact(request)},{text}]", reply))
         if reply[0] in ("joined", "made", "taken"):
             self.places.append((self.room, reply[1], compact(entry_of(self.site, request))))
         if reply[0] in ("made", "taken"):
@@ -130,7 +125,25 @@ def compare_record(room, record, transcripts):
         raise Differs(f"room {room} has {len(record)} entries, but replies reported places {sorted(claims)}")
 
 
+def stays_in(room, lines):
+    """Splits a client's lines into its stays in this room. Each stay begins with the reply to a join or a back."""
+    stays = []
+    for name, line, reply in lines:
+        if name == room:
+            if reply[0] in ("joined", "back"):
+                stays.append([])
+            stays[-1].append((line, reply))
+    return stays
+
+
+def span(stay):
+    """Returns the lengths of the record at the beginning and at the end of a stay."""
+    (_, first), (_, last) = stay[0], stay[-1]
+    return first[1], last[1] + (last[0] in ("joined", "made", "taken"))
+
+
 def transcript_lines(room, transcripts):
-    """Returns the transcript of all clients in this room, in the order of the replies."""
-    lines = [line for transcript in transcripts for line in transcript.lines if line[0] == room]
-    return [line for _, line, _ in sorted(lines, key=lambda line: line[2])]
+    """Returns the transcript of all clients in this room. Several clients may be one site, one after another. Their
+    stays are sorted by the record, because a client may read its last replies after the next client has come back."""
+    stays = [stay for transcript in transcripts for stay in stays_in(room, transcript.lines)]
+    return [line for stay in sorted(stays, key=span) for line, _ in stay]

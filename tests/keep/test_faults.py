@@ -80,7 +80,8 @@ def test_full_to_the_end():
 def test_full_at_the_start():
     """A server starts even if the disk has no space to complete a line, and serves the stored entries."""
     with mounted("size=64k") as folder:
-        with KeepingServer(folder, sessions=1) as server:
+        # The server waits for a second session, so that it does not end by itself before it is killed.
+        with KeepingServer(folder, sessions=2) as server:
             made = fill_disk(server)
             server.kill()
         torn = path_of(folder, "r").stat().st_size

@@ -1,6 +1,7 @@
 -- The places of words word by word: how many they are, a list of them, and the words of the first places.
 use Rattle.std.proofs.Common.{◌≡◌, ℕ, zero, suc, ◌+◌, ◌-◌, ◌*◌, cond, replicate, take, ◌||◌, ◌/◌, ◌%◌, ◌^◌, ◌<◌, ◌≤◌, Bool, true, List, [], ◌∷◌, ◌++◌, length, get_or, map, refl, sym, ap, ◌∙◌, inl, inr, arith, eqb, w64}
 use Rattle.std.specs.Prelude.{filter, bit_and, count_ones, All}
+use Rattle.std.specs.List.{AllClonesOf, AppendsClonesOf}
 use Rattle.std.specs.Int.{bit_at, bit_not, trailing_zeros}
 use Rattle.std.specs.Int.Count.{ones}
 use Rattle.std.proofs.lemmas.Bool.{cases_Bool, cases_eq, cases_lt, eq-eqb, eqb-true, ne_eqb, or_left, false_from_ne_true}
@@ -255,10 +256,14 @@ full_words q = replicate q (2 ^ 64 - 1)
 full_length : (q : ℕ) → length (full_words q) ≡ q
 full_length q = length-replicate q (2 ^ 64 - 1)
 
-pub front_is : (q none : ℕ) (old front : List ℕ) → old ≡ [] → none ≡ 0 → front ≡ take q old ++ replicate (q - none) (2 ^ 64 - 1) → front ≡ full_words q
-front_is q none old front e z f =
-    let rest : q - none ≡ q = omega arith in
-    f ∙ (λ i. take q (e i) ++ full_words (rest i)) ∙ ap (λ (l : List ℕ). l ++ full_words q) (take_all q [] (omega arith))
+copies : (x : ℕ) (ys : List ℕ) → AllClonesOf (λ a b. b ≡ a) x ys → ys ≡ replicate (length ys) x
+copies x [] all = refl
+copies x (y ∷ ys) all = (let same : y ≡ x = elim all.0 [ inl e ↦ e | inr e ↦ e ] in λ i. same i ∷ copies x ys all.1 i)
+
+pub front_is : (q : ℕ) (old front : List ℕ) → old ≡ [] → AppendsClonesOf (λ a b. b ≡ a) (take q old) front (2 ^ 64 - 1) → length front ≡ q → front ≡ full_words q
+front_is q old front e all long =
+    let whole : front ≡ all.0 = all.1 ∙ ap (λ (l : List ℕ). take q l ++ all.0) e ∙ ap (λ (l : List ℕ). l ++ all.0) (take_all q [] (omega arith)) in
+    whole ∙ copies (2 ^ 64 - 1) all.0 all.2 ∙ ap (λ n. replicate n (2 ^ 64 - 1)) (sym (ap length whole) ∙ long)
 
 pub first_whole : (n : ℕ) (w : List ℕ) → n % 64 ≡ 0 → w ≡ full_words (n / 64) → AreFirst n w
 first_whole n w z e = let h = full_length (n / 64) in record {

@@ -1,7 +1,7 @@
 -- Rising lists of places, gone over place by place.
-use Rattle.std.proofs.Common.{◌≡◌, ℕ, ◌+◌, ◌<◌, List, [], ◌∷◌, arith, subst, sym, inl, inr}
+use Rattle.std.proofs.Common.{◌≡◌, ℕ, ◌+◌, ◌<◌, List, [], ◌∷◌, arith, subst}
 use Rattle.std.specs.Prelude.{All, filter}
-use Rattle.std.specs.List.{range_with_len, AllByRecursion}
+use Rattle.std.specs.List.{range_with_len}
 use Rattle.std.specs.List.Sorted.{IsStrictlyIncreasing, IsStrictlySortedBy}
 use Rattle.std.specs.Ordering.{nat_cmp}
 use Rattle.std.specs.declared.cmp.Ordering.{Ordering}
@@ -11,7 +11,7 @@ use Rattle.std.proofs.lemmas.Cmp.{nat_cmp_total}
 use Rattle.std.proofs.lemmas.List.Kept.{IsStrictlySortedBy-filter}
 use Rattle.std.proofs.lemmas.List.FromFn.{length-range_with_len, get_or-range_with_len}
 use Rattle.std.proofs.lemmas.Map.Keys.{sorted_from_strictly_increasing}
-use Rattle.rules.proofs.Lists.{In, all_at, Contains-from_In, In-filter, In-filter_back}
+use Rattle.rules.proofs.Lists.{all_at, Contains-from_In, In-filter, In-filter_back}
 use Rattle.rules.proofs.Sorting.{Rises, rises_same}
 use Rattle.places.specs.steps.PlaceSet.{has, places}
 use Rattle.places.proofs.Places.{In-places, has_if_in, in_if_has}

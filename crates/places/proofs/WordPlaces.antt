@@ -1,16 +1,16 @@
 -- Words of 64 bits, and the places that they have.
-use Rattle.std.proofs.Common.{◌≡◌, ℕ, zero, suc, ◌+◌, ◌*◌, ◌/◌, ◌%◌, ◌^◌, ◌<◌, ◌≤◌, ◌-◌, min, max, replicate, take, Bool, true, false, not, ◌&&◌, ◌||◌, List, [], ◌∷◌, ◌++◌, length, get_or, set, map, refl, sym, ap, ◌∙◌, inl, inr, arith, eqb, w64}
+use Rattle.std.proofs.Common.{◌≡◌, ℕ, zero, suc, ◌+◌, ◌*◌, ◌/◌, ◌%◌, ◌^◌, ◌<◌, ◌≤◌, min, max, drop, Bool, true, false, not, ◌&&◌, ◌||◌, List, [], ◌∷◌, ◌++◌, length, get_or, set, map, refl, sym, ap, ◌∙◌, inl, inr, arith, eqb, w64}
 use Rattle.std.specs.Prelude.{filter, bit_and, bit_or, bit_xor}
 use Rattle.std.specs.Int.{bit_at}
 use Rattle.std.specs.Int.Bits.{or_zero_r}
-use Rattle.std.specs.List.{list_any, range_with_len}
+use Rattle.std.specs.List.{list_any, range_with_len, refill}
 use Rattle.std.specs.List.Sorted.{IsStrictlyIncreasing}
 use Rattle.std.specs.Ordering.{nat_cmp}
 use Rattle.std.specs.declared.cmp.Ordering.TheVariants.{Less, Equal, Greater}
 use Rattle.std.specs.Cmp.{nat_cmp_is}
 use Rattle.std.proofs.lemmas.Bool.{true≢false, cases_Bool, cases_eq, cases_lt, cases_order, eq-eqb, eqb-true, ne_eqb, le-ltb, lt-ltb, or_right, or_cases, and_parts, and_from, false_from_ne_true, true_from_ne_false}
 use Rattle.std.proofs.lemmas.Cmp.{nat_cmp_total}
-use Rattle.std.proofs.lemmas.List.{get_or_past, get_or_append_left, get_or-append_right, get_or-replicate, length-replicate, take_all, get_or-set_same, get_or-set_other}
+use Rattle.std.proofs.lemmas.List.{get_or_past, take-append-le, take_all, get_or-set_same, get_or-set_other}
 use Rattle.std.proofs.lemmas.List.Kept.{IsStrictlyIncreasing-filter}
 use Rattle.std.proofs.lemmas.List.FromFn.{length-range_with_len, get_or-range_with_len, get_or-map-range_with_len, length-map-range_with_len, map-range_with_len_more}
 use Rattle.std.proofs.lemmas.Nat.Bits.{bit_at_and, bit_at_or, bit_at_xor, bit_at-zero, bit_at-lt, bit_at_set_same, bit_at_set_other, same_from_bits, bit_at_above}
@@ -207,21 +207,9 @@ bits_of_minus w a b e x =
 
 -- ---- what the functions of the words give
 
--- zeros behind the words change nothing
-abbrev zeros : ℕ → List ℕ
-zeros d = replicate d 0
-
-zero_at : (d j : ℕ) → get_or (zeros d) j 0 ≡ 0
-zero_at d j = elim (cases_lt j d) [
-  | inl b ↦ get_or-replicate d j 0 0 b
-  | inr g ↦ get_or_past (zeros d) j 0 (let h : length (zeros d) ≡ d = length-replicate d 0 in omega arith)
-]
-
-pub padded : (w : List ℕ) (n d : ℕ) → length w ≤ n → (k : ℕ) → get_or (take n w ++ replicate d 0) k 0 ≡ get_or w k 0
-padded w n d l k = ap (λ (v : List ℕ). get_or (v ++ zeros d) k 0) (take_all n w l) ∙ (elim (cases_lt k (length w)) [
-  | inl b ↦ get_or_append_left w (zeros d) 0 k b
-  | inr g ↦ get_or-append_right w (zeros d) (length w) k 0 refl g ∙ zero_at d (k - length w) ∙ sym (get_or_past w k 0 g)
-])
+-- words written back over as many
+pub written : (old new : List ℕ) → length new ≡ length old → refill (length old) old new ≡ new
+written old new e = take-append-le (length old) new (drop (length new) old) (omega arith) ∙ take_all (length old) new (omega arith)
 
 -- words with the same words have the same places
 bits_agree : (w v : List ℕ) → ((k : ℕ) → get_or w k 0 ≡ get_or v k 0) → (x : ℕ) → has_bit w x ≡ has_bit v x

@@ -6,8 +6,8 @@ ghost use Rattle.std.specs.List.Sorted.{IsStrictlyIncreasing};
 ghost use Rattle.places.specs.steps.PlaceSet.{has, is_within, with_place, places, set_of, with_places, IsLowest};
 
 use crate::words::{
-    count_bits, difference, first_places, has_bit, intersection, intersects, is_within, join, list,
-    lowest_place, set_bit,
+    Words, count_bits, difference, first_places, has_bit, intersection, intersects, is_within,
+    join, list, lowest_place, set_bit,
 };
 use base_types::NoMemory;
 use std::alloc::Global;
@@ -17,7 +17,7 @@ use std::marker::Model;
 #[derive(Debug, Drop)]
 pub struct PlaceSet {
     /// Place p is in the set if bit p % 64 of word p / 64 is 1.
-    words: Vec<u64>,
+    words: Words,
 }
 
 impl Model for PlaceSet {
@@ -38,7 +38,7 @@ impl PlaceSet {
         ensures { result ≡ [] }
     {
         PlaceSet {
-            words: Vec::new(alloc),
+            words: Words::new(alloc),
         }
     }
 
@@ -141,7 +141,7 @@ impl PlaceSet {
     pub fn copy(&self, alloc: Global) -> Result<PlaceSet, NoMemory>
         ensures { IfOk result (λ members. members ≡ self.now) }
     {
-        let words = Vec::from_slice(alloc, &self.words)?;
+        let words = Words::from_slice(alloc, &self.words)?;
         Ok(PlaceSet { words })
     }
 

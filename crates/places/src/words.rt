@@ -1,12 +1,16 @@
 //! Sets of places as words of bits: place p is in the set if bit p % 64 of word p / 64 is 1.
 
-ghost use Rattle.std.specs.Prelude.{◌≡◌, ◌≤◌, ◌^◌, slice_index, length, filter, not, IfOk, OnOk, OnErr};
+ghost use Rattle.std.specs.Prelude.{◌≡◌, ℕ, ◌≤◌, ◌^◌, max, slice_index, length, filter, not, IfOk, OnOk, OnErr};
 ghost use Rattle.std.specs.List.{list_any};
 ghost use Rattle.places.specs.steps.PlaceSet.{has, is_within, places, with_places, with_place, IsLowest};
 ghost use Rattle.places.specs.steps.Words.{has_bit, places_in};
 
 use base_types::NoMemory;
+use smallvec::SmallVec;
 use std::alloc::Global;
+
+/// The words of a set. Up to two need no allocation: most objects have no more than 128 changes.
+pub(crate) type Words = SmallVec<u64, 2>;
 
 /// A word, or 0 past the last one.
 pub(crate) fn word(words: &[u64], at: usize) -> u64
@@ -22,8 +26,20 @@ pub(crate) fn has_bit(words: &[u64], place: u32) -> bool
     (word(words, (place / 64) as usize) >> (place % 64)) & 1 == 1
 }
 
+/// Appends words that are 0 until there are at least so many.
+fn lengthen(words: &mut Words, len: usize) -> Result<(), NoMemory>
+    ensures same { (k : ℕ) → slice_index words.new.items k ≡ slice_index words.old.items k }
+    ensures len { OnOk result (length words.new.items ≡ max len (length words.old.items)) }
+    ensures err { OnErr result (words.new.items ≡ words.old.items) }
+{
+    if words.len() < len {
+        words.resize(len, 0)?;
+    }
+    Ok(())
+}
+
 /// Adds a place.
-pub(crate) fn set_bit(words: &mut Vec<u64>, place: u32) -> Result<(), NoMemory>
+pub(crate) fn set_bit(words: &mut Words, place: u32) -> Result<(), NoMemory>
     requires { length words.old.items ≤ 2 ^ 26 }
     ensures ok { OnOk result
         (places_in words.new.items ≡ with_place place (places_in words.old.items)) }
@@ -31,9 +47,7 @@ pub(crate) fn set_bit(words: &mut Vec<u64>, place: u32) -> Result<(), NoMemory>
     ensures err { OnErr result (words.new.items ≡ words.old.items) }
 {
     let at = (place / 64) as usize;
-    if words.len() <= at {
-        words.resize(at + 1, 0)?;
-    }
+    lengthen(words, at + 1)?;
     words[at] |= 1u64 << (place % 64);
     Ok(())
 }
@@ -63,7 +77,7 @@ pub(crate) fn intersects(first: &[u64], second: &[u64]) -> bool
 }
 
 /// Removes the last words that are 0, which saves time later.
-fn trim(words: &mut Vec<u64>)
+fn trim(words: &mut Words)
     ensures same { places_in words.new.items ≡ places_in words.old.items }
     ensures few { length words.new.items ≤ length words.old.items }
 {
@@ -73,16 +87,12 @@ fn trim(words: &mut Vec<u64>)
 }
 
 /// The places of both.
-pub(crate) fn intersection(
-    alloc: Global,
-    first: &[u64],
-    second: &[u64],
-) -> Result<Vec<u64>, NoMemory>
+pub(crate) fn intersection(alloc: Global, first: &[u64], second: &[u64]) -> Result<Words, NoMemory>
     ensures both { IfOk result (λ both. places_in both.items
         ≡ filter (has (places_in second.now)) (places_in first.now)) }
     ensures few { IfOk result (λ both. length both.items ≤ length first.now) }
 {
-    let mut both = Vec::with_capacity(alloc, first.len())?;
+    let mut both = Words::with_capacity(alloc, first.len())?;
     for at in 0..first.len() {
         both.push(first[at] & word(second, at))?;
     }
@@ -91,12 +101,12 @@ pub(crate) fn intersection(
 }
 
 /// The places of the first that the second don't have.
-pub(crate) fn difference(alloc: Global, first: &[u64], second: &[u64]) -> Result<Vec<u64>, NoMemory>
+pub(crate) fn difference(alloc: Global, first: &[u64], second: &[u64]) -> Result<Words, NoMemory>
     ensures others { IfOk result (λ others. places_in others.items
         ≡ filter (λ place. not (has (places_in second.now) place)) (places_in first.now)) }
     ensures few { IfOk result (λ others. length others.items ≤ length first.now) }
 {
-    let mut others = Vec::with_capacity(alloc, first.len())?;
+    let mut others = Words::with_capacity(alloc, first.len())?;
     for at in 0..first.len() {
         others.push(first[at] ^ (first[at] & word(second, at)))?;
     }
@@ -105,7 +115,7 @@ pub(crate) fn difference(alloc: Global, first: &[u64], second: &[u64]) -> Result
 }
 
 /// Adds the places of others.
-pub(crate) fn join(words: &mut Vec<u64>, others: &[u64]) -> Result<(), NoMemory>
+pub(crate) fn join(words: &mut Words, others: &[u64]) -> Result<(), NoMemory>
     requires own { length words.old.items ≤ 2 ^ 26 }
     requires other { length others.now ≤ 2 ^ 26 }
     ensures ok { OnOk result (places_in words.new.items
@@ -113,9 +123,7 @@ pub(crate) fn join(words: &mut Vec<u64>, others: &[u64]) -> Result<(), NoMemory>
     ensures few { length words.new.items ≤ 2 ^ 26 }
     ensures err { OnErr result (words.new.items ≡ words.old.items) }
 {
-    if words.len() < others.len() {
-        words.resize(others.len(), 0)?;
-    }
+    lengthen(words, others.len())?;
     for at in 0..others.len() {
         words[at] |= others[at];
     }
@@ -123,11 +131,11 @@ pub(crate) fn join(words: &mut Vec<u64>, others: &[u64]) -> Result<(), NoMemory>
 }
 
 /// The words of the first places.
-pub(crate) fn first_places(alloc: Global, len: u32) -> Result<Vec<u64>, NoMemory>
+pub(crate) fn first_places(alloc: Global, len: u32) -> Result<Words, NoMemory>
     ensures first { IfOk result (λ words. places_in words.items ≡ places len) }
     ensures few { IfOk result (λ words. length words.items ≤ 2 ^ 26) }
 {
-    let mut words = Vec::with_capacity(alloc, (len / 64) as usize + 1)?;
+    let mut words = Words::with_capacity(alloc, len.div_ceil(64) as usize)?;
     words.resize((len / 64) as usize, u64::MAX)?;
     if !len.is_multiple_of(64) {
         words.push((1u64 << (len % 64)) - 1)?;
@@ -165,7 +173,7 @@ pub(crate) fn list(alloc: Global, words: &[u64]) -> Result<Vec<u32>, NoMemory>
     requires { length words.now ≤ 2 ^ 26 }
     ensures { IfOk result (λ list. list.items ≡ places_in words.now) }
 {
-    let mut list = Vec::new(alloc);
+    let mut list = Vec::with_capacity(alloc, count_bits(words))?;
     for at in 0..words.len() {
         let mut left = words[at];
         while left != 0 {

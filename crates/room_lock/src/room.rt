@@ -243,7 +243,10 @@ impl<P: RoomLedger> Room<P> {
                 let reply = self.state.back(site, false);
                 Ok(Entrance::Entered(Pass { room, part }, reply))
             }
-            None => Ok(Entrance::Refused(self.prefix(), self.state.back(site, true))),
+            None => {
+                drop(room);
+                Ok(Entrance::Refused(self.prefix(), self.state.back(site, true)))
+            }
         }
     }
 
@@ -309,7 +312,10 @@ impl<P: RoomLedger> Room<P> {
         let prefix = self.prefix();
         let Pass { room, part } = pass;
         match put_part(&mut self.shelf, part) {
-            Ok(()) => Ok((prefix, Reply::Left { at })),
+            Ok(()) => {
+                drop(room);
+                Ok((prefix, Reply::Left { at }))
+            }
             Err(part) => Err(Pass { room, part }),
         }
     }

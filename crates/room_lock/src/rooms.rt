@@ -5,6 +5,7 @@ ghost use Rattle.std.specs.Prelude.{IsNone, IsSome, OnErr, Ok, Some, bytes_eq, m
 ghost use Rattle.std.specs.Arc.{arc_value};
 ghost use Rattle.room_core.specs.declared.fault.CallFault.TheVariants as call_fault;
 ghost use Rattle.room_lock.specs.Closing.{IsClosed};
+ghost use Rattle.room_lock.specs.Passes.{IsOfRooms};
 ghost use Rattle.room_lock.specs.Told.{IsBack, IsBackRefusalOver, IsCall, IsJoin, IsLeaveOver};
 ghost use Rattle.room_lock.specs.Told.{IsRefusalOver};
 
@@ -75,8 +76,7 @@ impl<P: RoomLedger> Rooms<P> {
 
     /// The room of a pass behind its lock, if the name of the pass stands at the place of the pass.
     fn room_by_pass(&self, pass: &Pass<P>) -> Option<&Mutex<Room<P>>>
-        ensures { IsSome result
-            ↔ (position (bytes_eq pass.now.room) self.now ≡ Some pass.now.part.place) }
+        ensures { IsSome result ↔ IsOfRooms self.now pass.now }
     {
         match self.find(&pass.room) {
             Some((place, room)) if place == pass.part.place => Some(room),
@@ -172,7 +172,7 @@ impl<P: RoomLedger> Rooms<P> {
     ) -> Result<Reply, CallFault>
         ensures answer { IfOk result (IsCall P.limits pass.old pass.new request) }
         ensures err { OnErr result (pass.new ≡ pass.old) }
-        ensures other_rooms { ¬ (position (bytes_eq pass.old.room) self.now ≡ Some pass.old.part.place)
+        ensures other_rooms { ¬ IsOfRooms self.now pass.old
             → result ≡ Err (call_fault.Torn 0) }
     {
         let Some(room) = self.room_by_pass(pass) else {
@@ -195,7 +195,7 @@ impl<P: RoomLedger> Rooms<P> {
             IsLeaveOver P.limits left.0.entries pass.part left.1) }
         ensures place { IfOk result (λ left. left.0.place ≡ pass.part.place) }
         ensures back { IfErr result (λ back. back ≡ pass) }
-        ensures other_rooms { ¬ (position (bytes_eq pass.room) self.now ≡ Some pass.part.place) → IsErr result }
+        ensures other_rooms { ¬ IsOfRooms self.now pass → IsErr result }
     {
         let Some(room) = self.room_by_pass(&pass) else {
             return Err(pass);

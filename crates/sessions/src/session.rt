@@ -1,7 +1,8 @@
 //! A session: the messages of one client, one after the other.
 
 ghost use Rattle.std.specs.Prelude.{◌≡◌, ◌⊎◌, Err, IfErr, IfOk, OnErr, Ok, None, Some};
-ghost use Rattle.std.specs.Prelude.{bytes_eq, option_map, position, string_bytes};
+ghost use Rattle.std.specs.Prelude.{option_map, string_bytes};
+ghost use Rattle.room_lock.specs.Passes.{IsOfRooms};
 ghost use Rattle.sessions.specs.declared.cause.Cause.TheVariants as cause;
 ghost use Rattle.sessions.specs.steps.Entrances.{IsAfter};
 ghost use Rattle.sessions.specs.Turns.{IsAnswer, IsAnswerInside, IsAnswerOutside, IsBackBy};
@@ -256,7 +257,7 @@ fn call<P: RoomLedger, R: Wait, O: Observer, K>(
         IsCallBy P.limits pass result.0 request answer.told answer.reply) }
     ensures err { OnErr result.1 (result.0 ≡ Some pass) }
     ensures cause { IfErr result.1 (λ why. (why ≡ cause.NoMemory) ⊎ (why ≡ cause.Torn)) }
-    ensures other_rooms { ¬ (position (bytes_eq pass.room) host.now.rooms.now ≡ Some pass.part.place)
+    ensures other_rooms { ¬ IsOfRooms host.now.rooms.now pass
         → result.1 ≡ Err cause.Torn }
 {
     host.observer.before_call(number);
@@ -279,7 +280,7 @@ fn leave<P: RoomLedger, R: Wait, O: Observer, K>(
         IsLeaveBy P.limits pass result.0 answer.told answer.reply) }
     ensures err { OnErr result.1 (result.0 ≡ Some pass) }
     ensures cause { IfErr result.1 (λ why. why ≡ cause.Torn) }
-    ensures other_rooms { ¬ (position (bytes_eq pass.room) host.now.rooms.now ≡ Some pass.part.place)
+    ensures other_rooms { ¬ IsOfRooms host.now.rooms.now pass
         → result.1 ≡ Err cause.Torn }
 {
     host.observer.before_call(number);

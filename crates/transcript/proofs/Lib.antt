@@ -2,3 +2,4 @@ pub mod Breaks
 pub mod LineTexts
 pub mod Tables
 pub mod SoFar
+pub mod Exchanges

@@ -1,18 +1,15 @@
 //! A line of a transcript.
 
 ghost use Rattle.std.specs.Prelude.{◌≡◌, ◌≤◌};
-ghost use Rattle.serde_json.specs.View.{view};
 ghost use Rattle.wire.specs.steps.Reading.{Gives};
 ghost use Rattle.rules.specs.declared.limits.TheConstants.Limits.{MAX_ENTRIES};
 ghost use Rattle.transcript.specs.Lines.{adds, at_of, entries_after, is_join, is_joined};
 ghost use Rattle.transcript.specs.Lines.{is_returned, is_answer, go_together};
-ghost use Rattle.transcript.specs.steps.Reads.{line_with, line_of};
+ghost use Rattle.transcript.specs.steps.Reads.{line_with};
 ghost use Rattle.transcript.specs.steps.Reads.{line_read};
 
-use base_types::MAX_SITE;
-use serde_json::Value;
 use std::alloc::Global;
-use wire::{ReadFault, Reply, Request, items_of, json_of, reply_of, request_of, whole_of};
+use wire::{ReadFault, Reply, Request, read_exchange};
 
 /// A request of a site, and the reply to it.
 #[derive(Drop)]
@@ -124,26 +121,11 @@ fn line_with(site: u32, request: Request, reply: Reply) -> Result<TranscriptLine
     }
 }
 
-/// The line that a JSON value encodes. `Bad` if there is none, `NoMemory` if an allocation failed.
-#[tactic(auto, unfolding(crate::specs::steps::Reads::line_of, crate::specs::steps::Reads::line_at))]
-fn line_of(alloc: Global, value: &Value) -> Result<TranscriptLine, ReadFault>
-    ensures { Gives (λ line. line) result (line_of (view value.now)) }
-{
-    let [site, request, reply] = items_of(value)? else {
-        return Err(ReadFault::Bad);
-    };
-    let site = whole_of(site, 1, MAX_SITE)?;
-    let request = request_of(alloc, request)?;
-    let reply = reply_of(alloc, reply)?;
-    line_with(site, request, reply)
-}
-
 /// The line that the bytes encode: UTF-8 text of one JSON value in the form of a line. Linear in
 /// the bytes. `Bad` if there is none, `NoMemory` if an allocation failed.
-#[tactic(auto, unfolding(crate::specs::steps::Reads::line_read))]
 pub(crate) fn read_line(alloc: Global, bytes: &[u8]) -> Result<TranscriptLine, ReadFault>
     ensures { Gives (λ line. line) result (line_read bytes.now) }
 {
-    let value = json_of(alloc, bytes)?;
-    line_of(alloc, &value)
+    let (site, request, reply) = read_exchange(alloc, bytes)?;
+    line_with(site, request, reply)
 }

@@ -104,7 +104,7 @@ fn groups_and_candidates(
     ensures candidates { let is_compatible = has compatible.now in IfOk result (λ both. both.1.items
         ≡ map (candidate is_compatible place) (incompatible_groups is_compatible groups.now)) }
 {
-    let mut next = Vec::new(alloc);
+    let mut next = Vec::with_capacity(alloc, groups.len())?;
     let mut candidates = VecDeque::new(alloc);
     for group in groups {
         if group.is_subset(compatible) {

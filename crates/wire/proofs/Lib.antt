@@ -1,6 +1,5 @@
-pub mod Parts
+pub mod WholeNumbers
 pub mod Maps
-pub mod Fields
 pub mod Exact
 pub mod PartForms
 pub mod Bodies
@@ -13,3 +12,11 @@ pub mod EntryTexts
 pub mod ReplyTexts
 pub mod Shallow
 pub mod Sent
+pub mod Tokens
+pub mod RequestSteps
+pub mod BodySteps
+pub mod EntrySteps
+pub mod ReplySteps
+pub mod Pairs
+pub mod Shown
+pub mod Exchanges

@@ -7,3 +7,5 @@ pub mod Equality
 pub mod Faults
 pub mod Sending
 pub mod Reads
+pub mod Streams
+pub mod Exchanges

@@ -52,7 +52,7 @@ pub fn replies_by_form()
 
 /// A JSON number has the form of a whole number in the range of i64 exactly where `as_i64` gives
 /// that number.
-#[tactic(auto, using(crate::proofs::Parts::whole_number))]
+#[tactic(auto, using(crate::proofs::WholeNumbers::whole_number))]
 pub fn whole_number()
     ensures { (x : Number) (z : ℤ) → (as_i64 (number_view x) ≡ Some z)
         ↔ ((number_view x ≡ of_integer z) × IsNumber z) }

@@ -11,10 +11,9 @@ mod request;
 mod write;
 
 pub use fault::{ReadFault, if_in_form};
+pub use json::Scratch;
 pub use lists::{EntryList, IdList, ObjectList, VersionList};
-pub use read::{
-    items_of, json_of, read_entry, read_reply, read_request, reply_of, request_of, whole_of,
-};
+pub use read::{read_entry, read_exchange, read_reply, read_request, read_request_with};
 pub use reply::Reply;
 pub use request::{MAX_FROM, MAX_REQUEST_LEN, Request};
 pub use rules::Refusal;

@@ -2,12 +2,14 @@
 
 mod body;
 mod entry;
+mod exchange;
 mod part;
 mod reply;
 mod request;
 mod rising;
+mod token;
 
 pub use entry::read_entry;
-pub use part::{items_of, json_of, whole_of};
-pub use reply::{read_reply, reply_of};
-pub use request::{read_request, request_of};
+pub use exchange::read_exchange;
+pub use reply::read_reply;
+pub use request::{read_request, read_request_with};

@@ -1,7 +1,7 @@
 //! Replies to a session.
 
 ghost use Rattle.std.specs.Prelude.{◌≡◌};
-ghost use Rattle.wire.specs.steps.Equality.{same_listing, same_page};
+ghost use Rattle.wire.specs.steps.Equality.{same_entrance, same_change, same_listing, same_page};
 
 use crate::lists::{EntryList, IdList, ObjectList, VersionList};
 use base_types::{Kind, OpName};
@@ -73,35 +73,8 @@ impl PartialEq for Reply {
 
     fn eq(&self, other: &Reply) -> bool {
         match (self, other) {
-            (
-                Reply::Joined { at, site },
-                Reply::Joined {
-                    at: other_at,
-                    site: other_site,
-                },
-            ) => *at == *other_at && *site == *other_site,
-            (
-                Reply::Returned { at, site, seq },
-                Reply::Returned {
-                    at: other_at,
-                    site: other_site,
-                    seq: other_seq,
-                },
-            ) => *at == *other_at && *site == *other_site && *seq == *other_seq,
-            (
-                Reply::Made { at, name },
-                Reply::Made {
-                    at: other_at,
-                    name: other_name,
-                },
-            ) => *at == *other_at && *name == *other_name,
-            (
-                Reply::Taken { at, ids },
-                Reply::Taken {
-                    at: other_at,
-                    ids: other_ids,
-                },
-            ) => *at == *other_at && *ids == *other_ids,
+            (Reply::Joined { .. } | Reply::Returned { .. }, _) => same_entrance(self, other),
+            (Reply::Made { .. } | Reply::Taken { .. }, _) => same_change(self, other),
             (Reply::Versions { .. }, _) => same_listing(self, other),
             (Reply::Objects { .. } | Reply::Entries { .. }, _) => same_page(self, other),
             (Reply::Left { at }, Reply::Left { at: other_at }) => *at == *other_at,
@@ -121,6 +94,53 @@ impl Eq for Reply {
     ghost use Rattle.wire.specs.steps.Equality.{same_reply-equivalence};
 
     ghost laws = { same_reply-equivalence };
+}
+
+// Both entered the room as the same site.
+fn same_entrance(reply: &Reply, other: &Reply) -> bool
+    ensures { result ≡ same_entrance reply.now other.now }
+{
+    match (reply, other) {
+        (
+            Reply::Joined { at, site },
+            Reply::Joined {
+                at: other_at,
+                site: other_site,
+            },
+        ) => *at == *other_at && *site == *other_site,
+        (
+            Reply::Returned { at, site, seq },
+            Reply::Returned {
+                at: other_at,
+                site: other_site,
+                seq: other_seq,
+            },
+        ) => *at == *other_at && *site == *other_site && *seq == *other_seq,
+        _ => false,
+    }
+}
+
+// Both accepted a change, with the same outcome.
+fn same_change(reply: &Reply, other: &Reply) -> bool
+    ensures { result ≡ same_change reply.now other.now }
+{
+    match (reply, other) {
+        (
+            Reply::Made { at, name },
+            Reply::Made {
+                at: other_at,
+                name: other_name,
+            },
+        ) => *at == *other_at && *name == *other_name,
+        (
+            Reply::Taken { at, ids },
+            Reply::Taken {
+                at: other_at,
+                ids: other_ids,
+            },
+        ) => *at == *other_at && *ids == *other_ids,
+        _ => false,
+    }
 }
 
 // Both show the same versions of an object.

@@ -101,6 +101,14 @@ fn lone_refusal(request: &Request) -> Refusal
     }
 }
 
+/// The text of the reply to a request that is for no room.
+fn lone_text(alloc: Global, request: Request) -> Result<String, NoMemory>
+    ensures { let refusal = lone_refusal (room_to_enter request) in
+        IfOk result (λ text. IsTextFor (string_bytes text) (No 0 refusal)) }
+{
+    refusal_text(alloc, lone_refusal(&request))
+}
+
 impl World {
     /// Empty rooms of these names, in this order, with nobody in them.
     ///
@@ -153,7 +161,7 @@ impl World {
         };
         let seat = seat_at(&self.seats, session);
         let Some(asker) = asker_of(&self.rooms, session, seat, &request) else {
-            return refusal_text(alloc, lone_refusal(&request));
+            return lone_text(alloc, request);
         };
         answer_at(alloc, &mut self.rooms, &mut self.seats, asker, request)
     }

@@ -97,6 +97,19 @@ same_refusal-Decides a b =
     (λ e. ap code_of e)
     (unsigned_Decides (code_of a) (code_of b))
 
+-- both entered the room as the same site
+abbrev pub same_entrance : Reply → Reply → Bool
+same_entrance (Joined at site) (Joined other_at other_site) = at == other_at && site == other_site
+same_entrance (Returned at site seq) (Returned other_at other_site other_seq) =
+    at == other_at && site == other_site && seq == other_seq
+same_entrance _ _ = false
+
+-- both accepted a change, with the same outcome
+abbrev pub same_change : Reply → Reply → Bool
+same_change (Made at name) (Made other_at other_name) = at == other_at && same_name name other_name
+same_change (Taken at ids) (Taken other_at other_ids) = at == other_at && same_ids ids other_ids
+same_change _ _ = false
+
 -- both show the same versions of an object
 abbrev pub same_listing : Reply → Reply → Bool
 same_listing (Versions at object kind versions)
@@ -115,11 +128,10 @@ same_page (Entries at from entries) (Entries other_at other_from other_entries) 
 same_page _ _ = false
 
 abbrev pub same_reply : Reply → Reply → Bool
-same_reply (Joined at site) (Joined other_at other_site) = at == other_at && site == other_site
-same_reply (Returned at site seq) (Returned other_at other_site other_seq) =
-    at == other_at && site == other_site && seq == other_seq
-same_reply (Made at name) (Made other_at other_name) = at == other_at && same_name name other_name
-same_reply (Taken at ids) (Taken other_at other_ids) = at == other_at && same_ids ids other_ids
+same_reply (Joined at site) other = same_entrance (Joined at site) other
+same_reply (Returned at site seq) other = same_entrance (Returned at site seq) other
+same_reply (Made at name) other = same_change (Made at name) other
+same_reply (Taken at ids) other = same_change (Taken at ids) other
 same_reply (Versions at object kind versions) other =
     same_listing (Versions at object kind versions) other
 same_reply (Objects at from total objects) other = same_page (Objects at from total objects) other

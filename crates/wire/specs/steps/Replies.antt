@@ -18,7 +18,7 @@ use Rattle.wire.specs.declared.reply.Reply.TheVariants.{Objects, Entries, Left, 
 use Rattle.wire.specs.Rising.{rise, attr_before, id_before, version_before}
 use Rattle.wire.specs.steps.Reading.{◌>>=◌, passing, list_in, two_in, end_at, field_at, whole_in}
 use Rattle.wire.specs.steps.Reading.{name_in}
-use Rattle.wire.specs.steps.Reading.{id_in, kind_in, attr_in, Words, no_others, message_in}
+use Rattle.wire.specs.steps.Reading.{all_in, id_in, kind_in, attr_in, Words, no_others, message_in}
 use Rattle.wire.specs.steps.Entries.{entry_of}
 
 -- a place in the record, or a number of entries or objects
@@ -32,6 +32,10 @@ ids_in = passing (rise id_before) (list_in id_in)
 -- the attributes of a version
 unfoldable pub shown_attrs_in : Data → Option (List Attr)
 shown_attrs_in = passing (rise attr_before) (list_in attr_in)
+
+-- the attributes of a version, of the values that a list has
+unfoldable pub shown_attrs_at : List Data → Option (List Attr)
+shown_attrs_at ds = all_in attr_in ds >>= λ attrs. if rise attr_before attrs then Some attrs else None
 
 -- what is shown of a version, by whether it is a text
 abbrev gone_or_attrs : Option (List ℕ) → Data → Option Shown

@@ -1,38 +1,35 @@
-//! What operations do, from JSON.
+//! What operations do, from the tokens of their text.
 
-ghost use Rattle.std.specs.Prelude.{map};
-ghost use Rattle.serde_json.specs.View.{view};
-ghost use Rattle.wire.specs.steps.Bodies.{new_at, put_at, drop_at, set_at, body_at};
-ghost use Rattle.wire.specs.steps.Reading.{Gives};
+ghost use Rattle.std.specs.Prelude.{◌≤◌, ℕ};
+ghost use Rattle.wire.specs.steps.Bodies.{new_at, put_at, drop_at, set_at, body_at, operation_at};
+ghost use Rattle.wire.specs.steps.Streams.{rest_in, Takes};
 
-use super::part::{attrs_of, id_of, key_of, kind_of, name_of, pairs_of, value_of};
+use super::part::{Part, attrs_of, id_of, key_of, kind_of, name_of, pairs_of, seen_of, value_of};
+use super::token::close_list;
 use crate::fault::ReadFault;
+use json::Reader;
 use rules::{Body, Pairs};
-use serde_json::Value;
+use state_vector::StateVector;
 use std::alloc::Global;
 
-#[tactic(auto, unfolding(crate::specs::steps::Bodies::new_at))]
-fn new_of(alloc: Global, fields: &[Value]) -> Result<Body, ReadFault>
-    ensures { Gives (λ body. body) result (new_at (map view fields.now)) }
+fn new_of(alloc: Global, reader: &mut Reader<'_>) -> Result<Body, ReadFault>
+    ensures { (n : ℕ) → 2 ≤ n → Takes (λ body. body) result
+        (rest_in new_at n reader.old) reader.new }
 {
-    let [kind, attrs] = fields else {
-        return Err(ReadFault::Bad);
-    };
-    let kind = kind_of(alloc, kind)?;
-    let attrs = attrs_of(alloc, attrs)?;
+    let kind = kind_of(alloc, reader)?;
+    let attrs = attrs_of(alloc, reader)?;
+    close_list(reader)?;
     Ok(Body::New { kind, attrs })
 }
 
-#[tactic(auto, unfolding(crate::specs::steps::Bodies::put_at))]
-fn put_of(alloc: Global, fields: &[Value]) -> Result<Body, ReadFault>
-    ensures { Gives (λ body. body) result (put_at (map view fields.now)) }
+fn put_of(alloc: Global, reader: &mut Reader<'_>) -> Result<Body, ReadFault>
+    ensures { (n : ℕ) → 2 ≤ n → Takes (λ body. body) result
+        (rest_in put_at n reader.old) reader.new }
 {
-    let [object, version, pairs] = fields else {
-        return Err(ReadFault::Bad);
-    };
-    let object = name_of(object)?;
-    let version = id_of(alloc, version)?;
-    let pairs = pairs_of(alloc, pairs)?;
+    let object = name_of(reader)?;
+    let version = id_of(alloc, reader)?;
+    let pairs = pairs_of(alloc, reader)?;
+    close_list(reader)?;
     Ok(Body::Put {
         object,
         version,
@@ -40,30 +37,26 @@ fn put_of(alloc: Global, fields: &[Value]) -> Result<Body, ReadFault>
     })
 }
 
-#[tactic(auto, unfolding(crate::specs::steps::Bodies::drop_at))]
-fn drop_of(alloc: Global, fields: &[Value]) -> Result<Body, ReadFault>
-    ensures { Gives (λ body. body) result (drop_at (map view fields.now)) }
+fn drop_of(alloc: Global, reader: &mut Reader<'_>) -> Result<Body, ReadFault>
+    ensures { (n : ℕ) → 2 ≤ n → Takes (λ body. body) result
+        (rest_in drop_at n reader.old) reader.new }
 {
-    let [object, version] = fields else {
-        return Err(ReadFault::Bad);
-    };
-    let object = name_of(object)?;
-    let version = id_of(alloc, version)?;
+    let object = name_of(reader)?;
+    let version = id_of(alloc, reader)?;
+    close_list(reader)?;
     Ok(Body::DropVersion { object, version })
 }
 
 /// A put of one pair, in the old form.
-#[tactic(auto, unfolding(crate::specs::steps::Bodies::set_at))]
-fn set_of(alloc: Global, fields: &[Value]) -> Result<Body, ReadFault>
-    ensures { Gives (λ body. body) result (set_at (map view fields.now)) }
+fn set_of(alloc: Global, reader: &mut Reader<'_>) -> Result<Body, ReadFault>
+    ensures { (n : ℕ) → 2 ≤ n → Takes (λ body. body) result
+        (rest_in set_at n reader.old) reader.new }
 {
-    let [object, version, key, value] = fields else {
-        return Err(ReadFault::Bad);
-    };
-    let object = name_of(object)?;
-    let version = id_of(alloc, version)?;
-    let key = key_of(alloc, key)?;
-    let value = value_of(alloc, value)?;
+    let object = name_of(reader)?;
+    let version = id_of(alloc, reader)?;
+    let key = key_of(alloc, reader)?;
+    let value = value_of(alloc, reader)?;
+    close_list(reader)?;
     Ok(Body::Put {
         object,
         version,
@@ -71,16 +64,32 @@ fn set_of(alloc: Global, fields: &[Value]) -> Result<Body, ReadFault>
     })
 }
 
-/// What the operation of a word does.
-#[tactic(auto, unfolding(crate::specs::steps::Bodies::body_at))]
-pub(super) fn body_of(alloc: Global, word: &str, fields: &[Value]) -> Result<Body, ReadFault>
-    ensures { Gives (λ body. body) result (body_at word.now (map view fields.now)) }
+/// What the operation of a word does, to the end of its list.
+fn body_of(alloc: Global, word: &str, reader: &mut Reader<'_>) -> Result<Body, ReadFault>
+    ensures { (n : ℕ) → 2 ≤ n → Takes (λ body. body) result
+        (rest_in (body_at word.now) n reader.old) reader.new }
 {
     match word {
-        "new" => new_of(alloc, fields),
-        "put" => put_of(alloc, fields),
-        "drop" => drop_of(alloc, fields),
-        "set" => set_of(alloc, fields),
+        "new" => new_of(alloc, reader),
+        "put" => put_of(alloc, reader),
+        "drop" => drop_of(alloc, reader),
+        "set" => set_of(alloc, reader),
         _ => Err(ReadFault::Bad),
     }
+}
+
+/// What follows the word of an operation: its name or its number, what its author had seen, and
+/// what it does.
+pub(super) fn operation_of<H: Part>(
+    alloc: Global,
+    word: &str,
+    reader: &mut Reader<'_>,
+) -> Result<(H, StateVector, Body), ReadFault>
+    ensures { (n : ℕ) → 2 ≤ n → H.levels ≤ n → Takes (λ op. (H.seen op.0, (op.1, op.2))) result
+        (rest_in (operation_at H.read_in word.now) n reader.old) reader.new }
+{
+    let head = H::read(alloc, reader)?;
+    let seen = seen_of(alloc, reader)?;
+    let body = body_of(alloc, word, reader)?;
+    Ok((head, seen, body))
 }

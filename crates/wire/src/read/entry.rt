@@ -1,44 +1,36 @@
 //! Entries of a record from JSON.
 
-ghost use Rattle.std.specs.Prelude.{◌≡◌, map, IfOk, IsErrOf, Some, None};
+ghost use Rattle.std.specs.Prelude.{◌≡◌, ◌≤◌, ℕ, IfOk, IsErrOf, Some, None};
 ghost use Rattle.std.specs.Arc.{arc_value};
-ghost use Rattle.serde_json.specs.View.{view};
 ghost use Rattle.rules.specs.declared.history.Entry.{Entry as AnyEntry};
 ghost use Rattle.wire.specs.Form.{IsEntryText};
-ghost use Rattle.wire.specs.steps.Reading.{Gives};
 ghost use Rattle.wire.specs.steps.Entries.{join_at, change_at, entry_of};
 ghost use Rattle.wire.specs.steps.Reads.{entry_read};
+ghost use Rattle.wire.specs.steps.Streams.{rest_in, Takes};
 
-use super::body::body_of;
-use super::part::{Part, name_of, read_text, seen_of, whole_of, worded_of};
+use super::body::operation_of;
+use super::part::{Part, read_text};
+use super::token::{close_list, whole_of, word_of};
 use crate::fault::ReadFault;
 use base_types::MAX_SITE;
+use json::{Reader, Scratch};
 use rules::{Entry, Op};
-use serde_json::Value;
 use std::alloc::Global;
 use std::sync::Arc;
 
-#[tactic(auto, unfolding(crate::specs::steps::Entries::join_at))]
-fn join_of(fields: &[Value]) -> Result<Entry, ReadFault>
-    ensures { Gives (λ entry. entry) result (join_at (map view fields.now)) }
+fn join_of(reader: &mut Reader<'_>) -> Result<Entry, ReadFault>
+    ensures { (n : ℕ) → Takes (λ entry. entry) result (rest_in join_at n reader.old) reader.new }
 {
-    let [site] = fields else {
-        return Err(ReadFault::Bad);
-    };
-    let site = whole_of(site, 1, MAX_SITE)?;
+    let site = whole_of(reader, 1, MAX_SITE)?;
+    close_list(reader)?;
     Ok(Entry::Join(site))
 }
 
-#[tactic(auto, unfolding(crate::specs::steps::Entries::change_at))]
-fn change_of(alloc: Global, word: &str, fields: &[Value]) -> Result<Entry, ReadFault>
-    ensures { Gives (λ entry. entry) result (change_at word.now (map view fields.now)) }
+fn change_of(alloc: Global, word: &str, reader: &mut Reader<'_>) -> Result<Entry, ReadFault>
+    ensures { (n : ℕ) → 2 ≤ n → Takes (λ entry. entry) result
+        (rest_in (change_at word.now) n reader.old) reader.new }
 {
-    let [name, seen, rest @ ..] = fields else {
-        return Err(ReadFault::Bad);
-    };
-    let name = name_of(name)?;
-    let seen = seen_of(alloc, seen)?;
-    let body = body_of(alloc, word, rest)?;
+    let (name, seen, body) = operation_of(alloc, word, reader)?;
     Ok(Entry::Operation(Op { name, seen, body }))
 }
 
@@ -49,12 +41,13 @@ impl Part for Entry {
 
     ghost read_in = { entry_of };
 
-    #[tactic(auto, unfolding(crate::specs::steps::Entries::entry_of))]
-    fn read(alloc: Global, value: &Value) -> Result<Entry, ReadFault> {
-        let (word, fields) = worded_of(value)?;
+    ghost levels = { 3 };
+
+    fn read(alloc: Global, reader: &mut Reader<'_>) -> Result<Entry, ReadFault> {
+        let word = word_of(reader)?;
         match word {
-            "join" => join_of(fields),
-            _ => change_of(alloc, word, fields),
+            "join" => join_of(reader),
+            _ => change_of(alloc, word, reader),
         }
     }
 }
@@ -66,8 +59,10 @@ impl Part for Arc<Entry> {
 
     ghost read_in = { entry_of };
 
-    fn read(alloc: Global, value: &Value) -> Result<Arc<Entry>, ReadFault> {
-        let entry = Entry::read(alloc, value)?;
+    ghost levels = { 3 };
+
+    fn read(alloc: Global, reader: &mut Reader<'_>) -> Result<Arc<Entry>, ReadFault> {
+        let entry = Entry::read(alloc, reader)?;
         Ok(Arc::new(alloc, entry)?)
     }
 }
@@ -85,5 +80,6 @@ pub fn read_entry(alloc: Global, bytes: &[u8]) -> Result<Entry, ReadFault>
     ensures value { IfOk result (λ entry. entry_read bytes.now ≡ Some entry) }
     ensures none { IsErrOf result ReadFault.Bad → entry_read bytes.now ≡ None }
 {
-    read_text(alloc, bytes)
+    let mut scratch = Scratch::new(alloc);
+    read_text(alloc, &mut scratch, bytes)
 }

@@ -1,117 +1,121 @@
-//! The parts of a form, from JSON.
+//! The parts of a form, from the tokens of its text.
 
-ghost use Rattle.std.specs.Prelude.{map, Option, List, ℕ};
+ghost use Rattle.std.specs.Str.{is_utf8};
+ghost use Rattle.std.specs.Prelude.{◌≡◌, ◌≤◌, ◌∷◌, [], ℕ, List, Option, Some, None, true, MatchResult, if◌then◌else◌, map, suc};
+ghost use Rattle.json.specs.Reads.{token_of};
 ghost use Rattle.serde_json.specs.Data.{Data};
-ghost use Rattle.serde_json.specs.Find.{as_str};
-ghost use Rattle.serde_json.specs.View.{view};
-ghost use Rattle.wire.specs.steps.Reading.{Gives, items_in, worded_in, integer_in, whole_in, name_in, room_in, pair_in, list_in, seen_in, id_in, key_in, kind_in, value_in, attr_in, attrs_in, pairs_in};
+ghost use Rattle.wire.specs.steps.Reading.{Fails, Gives, name_in, pair_in, whole_in, room_in, list_in, two_in, all_in, seen_in, id_in, key_in, kind_in, value_in, attr_in, attrs_in, pairs_in};
 ghost use Rattle.wire.specs.steps.Reads.{json_of, text_in};
-ghost use Rattle.rules.specs.AttrLists.{Attr};
+ghost use Rattle.wire.specs.steps.Streams.{next_in, rest_in, fronted, value_of, Takes};
+ghost use Rattle.base_types.specs.Names.{is_op_name};
+ghost use Rattle.base_types.specs.Texts.{is_key, is_kind, is_room_name};
+ghost use Rattle.base_types.specs.VersionIds.{names_rise};
+ghost use Rattle.state_vector.specs.Vectors.{is_vector};
+ghost use Rattle.rules.specs.AttrLists.{Attr, are_attrs, are_pairs};
+ghost use Rattle.base_types.specs.declared.op_name.TheConstants.{MAX_SEQ};
 
+use super::token::{Seq, close_list, integer_in_text, open_list, text_of, whole_of};
 use crate::fault::ReadFault;
-use base_types::{Key, Kind, OpName, RoomName, VersionId};
+use base_types::{Key, Kind, MAX_SEQ, OpName, RoomName, VersionId};
+use json::{Reader, Scratch, Token};
 use rules::{Attrs, Pairs};
-use serde_json::Value;
 use state_vector::{SitePairs, StateVector};
 use std::alloc::Global;
 
-/// The items of a JSON list.
-///
-/// # Errors
-///
-/// `Bad` if the value is not a list.
-#[tactic(auto, using(crate::proofs::Parts::listed_items_view), unfolding(crate::specs::steps::Reading::items_in))]
-pub fn items_of(value: &Value) -> Result<&[Value], ReadFault>
-    ensures { Gives (λ items. map view items.now) result (items_in (view value.now)) }
-{
-    let items = value.as_array().ok_or(ReadFault::Bad)?;
-    Ok(items.as_slice())
-}
-
-pub(crate) fn text_of(value: &Value) -> Result<&str, ReadFault>
-    ensures { Gives (λ text. text.now) result (as_str (view value.now)) }
-{
-    value.as_str().ok_or(ReadFault::Bad)
-}
-
-/// A list of a word and what follows it.
-#[tactic(auto, unfolding(crate::specs::steps::Reading::worded_in))]
-pub(crate) fn worded_of(value: &Value) -> Result<(&str, &[Value]), ReadFault>
-    ensures { Gives (λ worded. (worded.0.now, map view worded.1.now)) result
-        (worded_in (view value.now)) }
-{
-    let [first, rest @ ..] = items_of(value)? else {
-        return Err(ReadFault::Bad);
-    };
-    let word = text_of(first)?;
-    Ok((word, rest))
-}
-
-/// Reads a JSON value from bytes. Linear in the bytes.
-///
-/// # Errors
-///
-/// - `Bad` if they are not the text of one JSON value in UTF-8.
-/// - `NoMemory` if an allocation failed.
-#[tactic(auto, unfolding(crate::specs::steps::Reads::json_of))]
-pub fn json_of(alloc: Global, bytes: &[u8]) -> Result<Value, ReadFault>
-    ensures { Gives view result (json_of bytes.now) }
-{
-    Ok(Value::from_slice(alloc, bytes)?)
-}
-
-#[tactic(auto, using(crate::proofs::Parts::integer_at_view), unfolding(crate::specs::steps::Reading::integer_in))]
-fn integer_of(value: &Value) -> Result<i64, ReadFault>
-    ensures { Gives (λ number. number) result (integer_in (view value.now)) }
-{
-    let number = value.as_number().ok_or(ReadFault::Bad)?;
-    number.as_i64().ok_or(ReadFault::Bad)
-}
-
-/// Reads a whole number from `low` to `high`, both included.
-///
-/// # Errors
-///
-/// `Bad` if the value is not such a number.
-#[tactic(auto, unfolding(crate::specs::steps::Reading::whole_in, crate::specs::steps::Reading::natural_in))]
-pub fn whole_of(value: &Value, low: u32, high: u32) -> Result<u32, ReadFault>
-    ensures { Gives (λ number. number) result (whole_in low high (view value.now)) }
-{
-    let number = value.as_u64().ok_or(ReadFault::Bad)?;
-    if low as u64 <= number && number <= high as u64 {
-        Ok(number as u32)
-    } else {
-        Err(ReadFault::Bad)
-    }
-}
-
 /// Two numbers. Whoever takes them tests their ranges.
-#[tactic(auto, unfolding(crate::specs::steps::Reading::pair_in, crate::specs::steps::Reading::two_in, crate::specs::steps::Reading::two_at))]
-fn pair_of(value: &Value) -> Result<(u32, u32), ReadFault>
-    ensures { Gives (λ pair. pair) result (pair_in (view value.now)) }
+fn pair_of(reader: &mut Reader<'_>) -> Result<(u32, u32), ReadFault>
+    ensures { (n : ℕ) → 1 ≤ n → Takes (λ pair. pair) result
+        (next_in pair_in n reader.old) reader.new }
 {
-    let [first, second] = items_of(value)? else {
-        return Err(ReadFault::Bad);
-    };
-    let first = whole_of(first, 0, u32::MAX)?;
-    let second = whole_of(second, 0, u32::MAX)?;
+    open_list(reader)?;
+    let first = whole_of(reader, 0, u32::MAX)?;
+    let second = whole_of(reader, 0, u32::MAX)?;
+    close_list(reader)?;
     Ok((first, second))
 }
 
-#[tactic(auto, unfolding(crate::specs::steps::Reading::name_in))]
-pub(crate) fn name_of(value: &Value) -> Result<OpName, ReadFault>
-    ensures { Gives (λ name. name) result (name_in (view value.now)) }
+/// The name that a pair is.
+fn name_with(pair: (u32, u32)) -> Result<OpName, ReadFault>
+    ensures { Gives (λ name. name) result (if is_op_name pair then Some pair else None) }
 {
-    let (site, seq) = pair_of(value)?;
-    OpName::new(site, seq).ok_or(ReadFault::Bad)
+    OpName::new(pair.0, pair.1).ok_or(ReadFault::Bad)
 }
 
-#[tactic(auto, unfolding(crate::specs::steps::Reading::room_in))]
-pub(crate) fn room_of(alloc: Global, value: &Value) -> Result<RoomName, ReadFault>
-    ensures { Gives (λ room. room) result (room_in (view value.now)) }
+pub(super) fn name_of(reader: &mut Reader<'_>) -> Result<OpName, ReadFault>
+    ensures { (n : ℕ) → 1 ≤ n → Takes (λ name. name) result
+        (next_in name_in n reader.old) reader.new }
 {
-    let text = text_of(value)?;
+    let pair = pair_of(reader)?;
+    name_with(pair)
+}
+
+/// The name of a room that a text is.
+fn room_with(alloc: Global, text: &str) -> Result<RoomName, ReadFault>
+    ensures { Gives (λ room. room) result
+        (if is_room_name text.now then Some text.now else None) }
+{
     Ok(RoomName::parse(alloc, text.as_bytes())?)
+}
+
+pub(super) fn room_of(alloc: Global, reader: &mut Reader<'_>) -> Result<RoomName, ReadFault>
+    ensures { (n : ℕ) → Takes (λ room. room) result (next_in room_in n reader.old) reader.new }
+{
+    let text = text_of(reader)?;
+    room_with(alloc, text)
+}
+
+/// The key that a text is.
+fn key_with(alloc: Global, text: &str) -> Result<Key, ReadFault>
+    ensures { Gives (λ key. key) result (if is_key text.now then Some text.now else None) }
+{
+    Ok(Key::parse(alloc, text.as_bytes())?)
+}
+
+pub(super) fn key_of(alloc: Global, reader: &mut Reader<'_>) -> Result<Key, ReadFault>
+    ensures { (n : ℕ) → Takes (λ key. key) result (next_in key_in n reader.old) reader.new }
+{
+    let text = text_of(reader)?;
+    key_with(alloc, text)
+}
+
+/// The kind that a text is.
+fn kind_with(alloc: Global, text: &str) -> Result<Kind, ReadFault>
+    ensures { Gives (λ kind. kind) result (if is_kind text.now then Some text.now else None) }
+{
+    Ok(Kind::parse(alloc, text.as_bytes())?)
+}
+
+pub(super) fn kind_of(alloc: Global, reader: &mut Reader<'_>) -> Result<Kind, ReadFault>
+    ensures { (n : ℕ) → Takes (λ kind. kind) result (next_in kind_in n reader.old) reader.new }
+{
+    let text = text_of(reader)?;
+    kind_with(alloc, text)
+}
+
+/// The value that a token is.
+fn value_with(alloc: Global, token: Token<'_>) -> Result<base_types::Value, ReadFault>
+    ensures { Gives (λ held. held) result (value_of (token_of token.entry)) }
+{
+    match token {
+        Token::String(text) => Ok(base_types::Value::text(alloc, text)?),
+        Token::Number(text) => {
+            let number = integer_in_text(text).ok_or(ReadFault::Bad)?;
+            Ok(base_types::Value::Number(number))
+        }
+        _ => Err(ReadFault::Bad),
+    }
+}
+
+pub(super) fn value_of(
+    alloc: Global,
+    reader: &mut Reader<'_>,
+) -> Result<base_types::Value, ReadFault>
+    ensures { (n : ℕ) → Takes (λ held. held) result (next_in value_in n reader.old) reader.new }
+{
+    match reader.next() {
+        Some(token) => value_with(alloc, token),
+        None => Err(ReadFault::Bad),
+    }
 }
 
 /// What a list is made of.
@@ -123,50 +127,122 @@ pub(crate) trait Part: Sized + Drop {
 
     ghost read_in: { Data → Option Seen };
 
-    fn read(alloc: Global, value: &Value) -> Result<Self, ReadFault>
-        ensures { Gives seen result (read_in (view value.now)) };
+    /// How deep lists nest in it, at most.
+    ghost levels: { ℕ };
+
+    fn read(alloc: Global, reader: &mut Reader<'_>) -> Result<Self, ReadFault>
+        ensures { (n : ℕ) → levels ≤ n → Takes seen result
+            (next_in read_in n reader.old) reader.new };
+}
+
+/// The bytes as a text. `Bad` if they are not UTF-8.
+fn utf8_of(bytes: &[u8]) -> Result<&str, ReadFault>
+    ensures { MatchResult result (λ text. (text.now ≡ bytes.now) × (is_utf8 bytes.now ≡ true))
+        (λ e. Fails e (json_of bytes.now)) }
+{
+    match std::str::from_utf8(bytes) {
+        Ok(text) => Ok(text),
+        Err(_) => Err(ReadFault::Bad),
+    }
 }
 
 /// What the bytes are a text of.
-pub(crate) fn read_text<P: Part>(alloc: Global, bytes: &[u8]) -> Result<P, ReadFault>
+pub(crate) fn read_text<P: Part>(
+    alloc: Global,
+    scratch: &mut Scratch,
+    bytes: &[u8],
+) -> Result<P, ReadFault>
+    requires { P.levels ≤ 127 }
     ensures { Gives P.seen result (text_in P.read_in bytes.now) }
 {
-    let value = json_of(alloc, bytes)?;
-    P::read(alloc, &value)
+    let text = utf8_of(bytes)?;
+    let mut reader = Reader::new(text, scratch)?;
+    let part = P::read(alloc, &mut reader)?;
+    match reader.next() {
+        None => Ok(part),
+        Some(_) => Err(ReadFault::Bad),
+    }
 }
 
-/// The parts of a list.
-#[tactic(auto, unfolding(crate::specs::steps::Reading::list_in, crate::specs::steps::Reading::all_in))]
-pub(crate) fn list_of<P: Part>(alloc: Global, value: &Value) -> Result<Vec<P>, ReadFault>
-    ensures { Gives (λ parts. map P.seen parts.items) result (list_in P.read_in (view value.now)) }
+/// These parts, and then those up to the end of a list.
+fn rest_of<P: Part>(
+    alloc: Global,
+    reader: &mut Reader<'_>,
+    front: Vec<P>,
+) -> Result<Vec<P>, ReadFault>
+    ensures { (n : ℕ) → P.levels ≤ n → Takes (λ parts. map P.seen parts.items) result
+        (fronted (map P.seen front.items) (rest_in (all_in P.read_in) n reader.old)) reader.new }
 {
-    let items = items_of(value)?;
-    let mut parts = Vec::with_capacity(alloc, items.len())?;
-    for item in items {
-        parts.push(P::read(alloc, item)?)?;
+    let mut parts = front;
+    'parts: while !reader.take_end_array() {
+        let part = P::read(alloc, reader)?;
+        parts.push(part)?;
     }
     Ok(parts)
 }
 
-/// Pairs of a site and a count.
-#[tactic(auto, unfolding(crate::specs::steps::Reading::list_in, crate::specs::steps::Reading::all_in))]
-fn site_pairs_of(alloc: Global, value: &Value) -> Result<SitePairs, ReadFault>
-    ensures { Gives (λ pairs. pairs.items) result (list_in pair_in (view value.now)) }
+/// The parts up to the end of a list.
+pub(super) fn others_of<P: Part>(
+    alloc: Global,
+    reader: &mut Reader<'_>,
+) -> Result<Vec<P>, ReadFault>
+    ensures { (n : ℕ) → P.levels ≤ n → Takes (λ parts. map P.seen parts.items) result
+        (rest_in (all_in P.read_in) n reader.old) reader.new }
 {
-    let items = items_of(value)?;
-    let mut pairs = SitePairs::with_capacity(alloc, items.len())?;
-    for item in items {
-        pairs.push(pair_of(item)?)?;
+    rest_of(alloc, reader, Vec::new(alloc))
+}
+
+/// The parts of a list.
+pub(super) fn list_of<P: Part>(alloc: Global, reader: &mut Reader<'_>) -> Result<Vec<P>, ReadFault>
+    ensures { (n : ℕ) → suc P.levels ≤ n → Takes (λ parts. map P.seen parts.items) result
+        (next_in (list_in P.read_in) n reader.old) reader.new }
+{
+    open_list(reader)?;
+    others_of(alloc, reader)
+}
+
+/// Pairs of a site and a count.
+fn site_pairs_of(alloc: Global, reader: &mut Reader<'_>) -> Result<SitePairs, ReadFault>
+    ensures { (n : ℕ) → 2 ≤ n → Takes (λ pairs. pairs.items) result
+        (next_in (list_in pair_in) n reader.old) reader.new }
+{
+    open_list(reader)?;
+    let mut pairs = SitePairs::new(alloc);
+    'pairs: while !reader.take_end_array() {
+        let pair = pair_of(reader)?;
+        pairs.push(pair)?;
     }
     Ok(pairs)
 }
 
-#[tactic(auto, unfolding(crate::specs::steps::Reading::seen_in))]
-pub(crate) fn seen_of(alloc: Global, value: &Value) -> Result<StateVector, ReadFault>
-    ensures { Gives (λ seen. seen) result (seen_in (view value.now)) }
+/// The state vector that pairs are.
+fn seen_with(pairs: SitePairs) -> Result<StateVector, ReadFault>
+    ensures { Gives (λ seen. seen) result
+        (if is_vector pairs.items then Some pairs.items else None) }
 {
-    let pairs = site_pairs_of(alloc, value)?;
     Ok(StateVector::from_site_pairs(pairs)?)
+}
+
+pub(super) fn seen_of(alloc: Global, reader: &mut Reader<'_>) -> Result<StateVector, ReadFault>
+    ensures { (n : ℕ) → 2 ≤ n → Takes (λ seen. seen) result
+        (next_in seen_in n reader.old) reader.new }
+{
+    let pairs = site_pairs_of(alloc, reader)?;
+    seen_with(pairs)
+}
+
+impl Part for Seq {
+    ghost Seen = { ℕ };
+
+    ghost seen = { λ seq. seq.0 };
+
+    ghost read_in = { whole_in 1 MAX_SEQ };
+
+    ghost levels = { 0 };
+
+    fn read(_alloc: Global, reader: &mut Reader<'_>) -> Result<Seq, ReadFault> {
+        Ok(Seq(whole_of(reader, 1, MAX_SEQ)?))
+    }
 }
 
 impl Part for OpName {
@@ -176,43 +252,25 @@ impl Part for OpName {
 
     ghost read_in = { name_in };
 
-    fn read(_alloc: Global, value: &Value) -> Result<OpName, ReadFault> {
-        name_of(value)
+    ghost levels = { 1 };
+
+    fn read(_alloc: Global, reader: &mut Reader<'_>) -> Result<OpName, ReadFault> {
+        name_of(reader)
     }
 }
 
-#[tactic(auto, using(crate::proofs::Maps::map_same), unfolding(crate::specs::steps::Reading::id_in))]
-pub(crate) fn id_of(alloc: Global, value: &Value) -> Result<VersionId, ReadFault>
-    ensures { Gives (λ id. id) result (id_in (view value.now)) }
+/// The version identifier that names are.
+fn id_with(names: Vec<OpName>) -> Result<VersionId, ReadFault>
+    ensures { Gives (λ id. id) result (if names_rise names.items then Some names.items else None) }
 {
-    let names: Vec<OpName> = list_of(alloc, value)?;
     Ok(VersionId::from_vec(names)?)
 }
 
-#[tactic(auto, unfolding(crate::specs::steps::Reading::key_in))]
-pub(crate) fn key_of(alloc: Global, value: &Value) -> Result<Key, ReadFault>
-    ensures { Gives (λ key. key) result (key_in (view value.now)) }
+pub(super) fn id_of(alloc: Global, reader: &mut Reader<'_>) -> Result<VersionId, ReadFault>
+    ensures { (n : ℕ) → 2 ≤ n → Takes (λ id. id) result (next_in id_in n reader.old) reader.new }
 {
-    let text = text_of(value)?;
-    Ok(Key::parse(alloc, text.as_bytes())?)
-}
-
-#[tactic(auto, unfolding(crate::specs::steps::Reading::kind_in))]
-pub(crate) fn kind_of(alloc: Global, value: &Value) -> Result<Kind, ReadFault>
-    ensures { Gives (λ kind. kind) result (kind_in (view value.now)) }
-{
-    let text = text_of(value)?;
-    Ok(Kind::parse(alloc, text.as_bytes())?)
-}
-
-#[tactic(auto, unfolding(crate::specs::steps::Reading::value_in))]
-pub(crate) fn value_of(alloc: Global, value: &Value) -> Result<base_types::Value, ReadFault>
-    ensures { Gives (λ held. held) result (value_in (view value.now)) }
-{
-    match value.as_str() {
-        Some(text) => Ok(base_types::Value::text(alloc, text)?),
-        None => Ok(base_types::Value::Number(integer_of(value)?)),
-    }
+    let names: Vec<OpName> = list_of(alloc, reader)?;
+    id_with(names)
 }
 
 /// A key with its value.
@@ -223,33 +281,64 @@ impl Part for (Key, base_types::Value) {
 
     ghost read_in = { attr_in };
 
-    #[tactic(auto, unfolding(crate::specs::steps::Reading::attr_in, crate::specs::steps::Reading::two_in, crate::specs::steps::Reading::two_at))]
-    fn read(alloc: Global, value: &Value) -> Result<(Key, base_types::Value), ReadFault> {
-        let [key, held] = items_of(value)? else {
-            return Err(ReadFault::Bad);
-        };
-        let key = key_of(alloc, key)?;
-        let held = value_of(alloc, held)?;
+    ghost levels = { 1 };
+
+    fn read(alloc: Global, reader: &mut Reader<'_>) -> Result<(Key, base_types::Value), ReadFault> {
+        open_list(reader)?;
+        let key = key_of(alloc, reader)?;
+        let held = value_of(alloc, reader)?;
+        close_list(reader)?;
         Ok((key, held))
     }
 }
 
-#[tactic(auto, using(crate::proofs::Maps::map_same), unfolding(crate::specs::steps::Reading::attrs_in))]
-pub(crate) fn attrs_of(alloc: Global, value: &Value) -> Result<Attrs, ReadFault>
-    ensures { Gives (λ attrs. attrs) result (attrs_in (view value.now)) }
+/// The attributes of a creation that pairs are.
+fn attrs_with(pairs: Vec<(Key, base_types::Value)>) -> Result<Attrs, ReadFault>
+    ensures { Gives (λ attrs. attrs) result
+        (if are_attrs pairs.items then Some pairs.items else None) }
 {
-    let pairs: Vec<(Key, base_types::Value)> = list_of(alloc, value)?;
     Attrs::from_pairs(pairs).map_err(|_| ReadFault::Bad)
 }
 
-#[tactic(auto, using(crate::proofs::Maps::map_same), unfolding(crate::specs::steps::Reading::pairs_in))]
-pub(crate) fn pairs_of(alloc: Global, value: &Value) -> Result<Pairs, ReadFault>
-    ensures { Gives (λ pairs. pairs) result (pairs_in (view value.now)) }
+pub(super) fn attrs_of(alloc: Global, reader: &mut Reader<'_>) -> Result<Attrs, ReadFault>
+    ensures { (n : ℕ) → 2 ≤ n → Takes (λ attrs. attrs) result
+        (next_in attrs_in n reader.old) reader.new }
 {
-    if let [pair] = items_of(value)? {
-        let (key, held) = Part::read(alloc, pair)?;
+    let pairs: Vec<(Key, base_types::Value)> = list_of(alloc, reader)?;
+    attrs_with(pairs)
+}
+
+/// The attributes of a put that pairs are.
+fn pairs_with(pairs: Vec<(Key, base_types::Value)>) -> Result<Pairs, ReadFault>
+    ensures { Gives (λ given. given) result
+        (if are_pairs pairs.items then Some pairs.items else None) }
+{
+    Pairs::from_pairs(pairs).map_err(|_| ReadFault::Bad)
+}
+
+/// The pairs of a list after its first one.
+fn other_pairs_of(
+    alloc: Global,
+    reader: &mut Reader<'_>,
+    first: (Key, base_types::Value),
+) -> Result<Vec<(Key, base_types::Value)>, ReadFault>
+    ensures { (n : ℕ) → 1 ≤ n → Takes (λ pairs. pairs.items) result
+        (fronted (first ∷ []) (rest_in (all_in attr_in) n reader.old)) reader.new }
+{
+    let mut front = Vec::new(alloc);
+    front.push(first)?;
+    rest_of(alloc, reader, front)
+}
+
+pub(super) fn pairs_of(alloc: Global, reader: &mut Reader<'_>) -> Result<Pairs, ReadFault>
+    ensures { (n : ℕ) → 2 ≤ n → Takes (λ pairs. pairs) result
+        (next_in pairs_in n reader.old) reader.new }
+{
+    open_list(reader)?;
+    let (key, held) = Part::read(alloc, reader)?;
+    if reader.take_end_array() {
         return Ok(Pairs::one(key, held));
     }
-    let pairs: Vec<(Key, base_types::Value)> = list_of(alloc, value)?;
-    Pairs::from_pairs(pairs).map_err(|_| ReadFault::Bad)
+    let pairs = other_pairs_of(alloc, reader, (key, held))?;
+    pairs_with(pairs)
 }

@@ -1,41 +1,43 @@
 //! Replies from JSON.
 
-ghost use Rattle.std.specs.Prelude.{◌≡◌, List, ℕ, map, IfOk, IsErrOf, Some, None};
-ghost use Rattle.serde_json.specs.View.{view};
+ghost use Rattle.std.specs.Prelude.{◌≡◌, ◌≤◌, List, ℕ, IfOk, IsErrOf, Some, None, bytes_eq, codes, if◌then◌else◌};
 ghost use Rattle.rules.specs.declared.version.Version.{Version as AnyVersion};
 ghost use Rattle.wire.specs.declared.reply.Reply.{Reply as AnyReply};
-ghost use Rattle.wire.specs.Form.{IsReplyText, IsReplyValue};
+ghost use Rattle.rules.specs.declared.version.Shown.TheVariants.{Gone};
+ghost use Rattle.wire.specs.Rising.{rise, attr_before, id_before, version_before};
+ghost use Rattle.wire.specs.Form.{IsReplyText};
 ghost use Rattle.wire.specs.steps.Reading.{Gives, whole_in, id_in};
-ghost use Rattle.wire.specs.steps.Replies.{at_in, ids_in, shown_attrs_in, shown_in, version_in, versions_in, object_in, joined_at, returned_at, made_at, taken_at, versions_at, objects_at, entries_at, left_at, refusal_with, refusal_fields, no_at, reply_of};
+ghost use Rattle.wire.specs.steps.Replies.{at_in, ids_in, shown_attrs_at, shown_in, version_in, versions_in, object_in, joined_at, returned_at, made_at, taken_at, versions_at, objects_at, entries_at, left_at, refusal_with, refusal_fields, no_at, reply_of};
 ghost use Rattle.wire.specs.steps.Reads.{reply_read};
+ghost use Rattle.wire.specs.steps.Streams.{next_in, rest_in, Takes};
 
-use super::part::{
-    Part, id_of, items_of, kind_of, list_of, name_of, read_text, text_of, whole_of, worded_of,
-};
+use super::part::{Part, id_of, kind_of, list_of, name_of, others_of, read_text};
 use super::rising::rising;
+use super::token::{begins_list, close_list, open_list, string_of, text_of, whole_of, word_of};
 use crate::fault::ReadFault;
 use crate::lists::{EntryList, IdList, ObjectList, VersionList};
 use crate::reply::Reply;
 use crate::request::MAX_FROM;
 use base_types::{Key, Kind, MAX_SITE, OpName, VersionId};
+use json::{Reader, Scratch};
 use rules::{AttrList, Entry, Limits, MAX_REFUSAL_CODE, Refusal, Shown, Version};
-use serde_json::Value;
 use std::alloc::Global;
 use std::sync::Arc;
 
 /// A number of entries, objects or operations, or a place in the record.
-#[tactic(auto, unfolding(crate::specs::steps::Replies::at_in))]
-fn at_of(value: &Value) -> Result<u32, ReadFault>
-    ensures { Gives (λ at. at) result (at_in (view value.now)) }
+fn at_of(reader: &mut Reader<'_>) -> Result<u32, ReadFault>
+    ensures { (n : ℕ) → Takes (λ at. at) result
+        (next_in at_in n reader.old) reader.new }
 {
-    whole_of(value, 0, Limits::MAX_ENTRIES)
+    whole_of(reader, 0, Limits::MAX_ENTRIES)
 }
 
 /// The place at which a page starts.
-fn from_of(value: &Value) -> Result<u32, ReadFault>
-    ensures { Gives (λ from. from) result (whole_in 0 MAX_FROM (view value.now)) }
+fn from_of(reader: &mut Reader<'_>) -> Result<u32, ReadFault>
+    ensures { (n : ℕ) → Takes (λ from. from) result
+        (next_in (whole_in 0 MAX_FROM) n reader.old) reader.new }
 {
-    whole_of(value, 0, MAX_FROM)
+    whole_of(reader, 0, MAX_FROM)
 }
 
 impl Part for VersionId {
@@ -45,38 +47,74 @@ impl Part for VersionId {
 
     ghost read_in = { id_in };
 
-    fn read(alloc: Global, value: &Value) -> Result<VersionId, ReadFault> {
-        id_of(alloc, value)
+    ghost levels = { 2 };
+
+    fn read(alloc: Global, reader: &mut Reader<'_>) -> Result<VersionId, ReadFault> {
+        id_of(alloc, reader)
     }
 }
 
-#[tactic(auto, using(crate::proofs::Maps::map_same), unfolding(crate::specs::steps::Replies::ids_in))]
-fn ids_of(alloc: Global, value: &Value) -> Result<IdList, ReadFault>
-    ensures { Gives (λ ids. ids) result (ids_in (view value.now)) }
+/// The identifiers, if they rise.
+fn ids_with(ids: Vec<VersionId>) -> Result<IdList, ReadFault>
+    ensures { Gives (λ list. list) result
+        (if rise id_before ids.items then Some ids.items else None) }
 {
-    let ids: Vec<VersionId> = list_of(alloc, value)?;
     let ids = rising(ids)?;
     Ok(IdList::from_vec(ids))
 }
 
-#[tactic(auto, using(crate::proofs::Maps::map_same), unfolding(crate::specs::steps::Replies::shown_attrs_in))]
-fn shown_attrs_of(alloc: Global, value: &Value) -> Result<AttrList, ReadFault>
-    ensures { Gives (λ attrs. attrs) result (shown_attrs_in (view value.now)) }
+fn ids_of(alloc: Global, reader: &mut Reader<'_>) -> Result<IdList, ReadFault>
+    ensures { (n : ℕ) → 3 ≤ n → Takes (λ ids. ids) result
+        (next_in ids_in n reader.old) reader.new }
 {
-    let attrs: Vec<(Key, base_types::Value)> = list_of(alloc, value)?;
+    let ids: Vec<VersionId> = list_of(alloc, reader)?;
+    ids_with(ids)
+}
+
+/// The attributes of a version, if their keys rise.
+fn attrs_with(attrs: Vec<(Key, base_types::Value)>) -> Result<AttrList, ReadFault>
+    ensures { Gives (λ list. list) result
+        (if rise attr_before attrs.items then Some attrs.items else None) }
+{
     let attrs = rising(attrs)?;
     Ok(AttrList::from_vec(attrs))
 }
 
-#[tactic(auto, unfolding(crate::specs::steps::Replies::shown_in))]
-fn shown_of(alloc: Global, value: &Value) -> Result<Shown, ReadFault>
-    ensures { Gives (λ shown. shown) result (shown_in (view value.now)) }
+/// The attributes of a version, after the bracket that begins their list.
+fn attrs_after(alloc: Global, reader: &mut Reader<'_>) -> Result<AttrList, ReadFault>
+    ensures { (n : ℕ) → 1 ≤ n → Takes (λ attrs. attrs) result
+        (rest_in shown_attrs_at n reader.old) reader.new }
 {
-    match value.as_str() {
-        Some("gone") => Ok(Shown::Gone),
-        Some(_) => Err(ReadFault::Bad),
-        None => Ok(Shown::Attrs(shown_attrs_of(alloc, value)?)),
+    let attrs: Vec<(Key, base_types::Value)> = others_of(alloc, reader)?;
+    attrs_with(attrs)
+}
+
+/// What a text in place of attributes shows of a version: that it is gone.
+fn gone_with(text: &str) -> Result<Shown, ReadFault>
+    ensures { Gives (λ shown. shown) result
+        (if bytes_eq text.now (codes "gone") then Some Gone else None) }
+{
+    match text {
+        "gone" => Ok(Shown::Gone),
+        _ => Err(ReadFault::Bad),
     }
+}
+
+fn shown_of(alloc: Global, reader: &mut Reader<'_>) -> Result<Shown, ReadFault>
+    ensures { (n : ℕ) → 2 ≤ n → Takes (λ shown. shown) result
+        (next_in shown_in n reader.old) reader.new }
+{
+    let Some(token) = reader.next() else {
+        return Err(ReadFault::Bad);
+    };
+    if let Some(text) = string_of(token) {
+        return gone_with(text);
+    }
+    if !begins_list(token) {
+        return Err(ReadFault::Bad);
+    }
+    let attrs = attrs_after(alloc, reader)?;
+    Ok(Shown::Attrs(attrs))
 }
 
 impl Part for Version {
@@ -86,24 +124,32 @@ impl Part for Version {
 
     ghost read_in = { version_in };
 
-    #[tactic(auto, unfolding(crate::specs::steps::Replies::version_in, crate::specs::steps::Reading::two_in, crate::specs::steps::Reading::two_at))]
-    fn read(alloc: Global, value: &Value) -> Result<Version, ReadFault> {
-        let [id, shown] = items_of(value)? else {
-            return Err(ReadFault::Bad);
-        };
-        let id = id_of(alloc, id)?;
-        let shown = shown_of(alloc, shown)?;
+    ghost levels = { 3 };
+
+    fn read(alloc: Global, reader: &mut Reader<'_>) -> Result<Version, ReadFault> {
+        open_list(reader)?;
+        let id = id_of(alloc, reader)?;
+        let shown = shown_of(alloc, reader)?;
+        close_list(reader)?;
         Ok(Version { id, shown })
     }
 }
 
-#[tactic(auto, using(crate::proofs::Maps::map_same), unfolding(crate::specs::steps::Replies::versions_in))]
-fn versions_list_of(alloc: Global, value: &Value) -> Result<VersionList, ReadFault>
-    ensures { Gives (λ versions. versions) result (versions_in (view value.now)) }
+/// The versions, if their identifiers rise.
+fn versions_with(versions: Vec<Version>) -> Result<VersionList, ReadFault>
+    ensures { Gives (λ list. list) result
+        (if rise version_before versions.items then Some versions.items else None) }
 {
-    let versions: Vec<Version> = list_of(alloc, value)?;
     let versions = rising(versions)?;
     Ok(VersionList::from_vec(versions))
+}
+
+fn versions_list_of(alloc: Global, reader: &mut Reader<'_>) -> Result<VersionList, ReadFault>
+    ensures { (n : ℕ) → 4 ≤ n → Takes (λ versions. versions) result
+        (next_in versions_in n reader.old) reader.new }
+{
+    let versions: Vec<Version> = list_of(alloc, reader)?;
+    versions_with(versions)
 }
 
 /// An object with its kind.
@@ -114,77 +160,67 @@ impl Part for (OpName, Kind) {
 
     ghost read_in = { object_in };
 
-    #[tactic(auto, unfolding(crate::specs::steps::Replies::object_in, crate::specs::steps::Reading::two_in, crate::specs::steps::Reading::two_at))]
-    fn read(alloc: Global, value: &Value) -> Result<(OpName, Kind), ReadFault> {
-        let [name, kind] = items_of(value)? else {
-            return Err(ReadFault::Bad);
-        };
-        let name = name_of(name)?;
-        let kind = kind_of(alloc, kind)?;
+    ghost levels = { 2 };
+
+    fn read(alloc: Global, reader: &mut Reader<'_>) -> Result<(OpName, Kind), ReadFault> {
+        open_list(reader)?;
+        let name = name_of(reader)?;
+        let kind = kind_of(alloc, reader)?;
+        close_list(reader)?;
         Ok((name, kind))
     }
 }
 
-#[tactic(auto, unfolding(crate::specs::steps::Replies::joined_at))]
-fn joined_of(fields: &[Value]) -> Result<Reply, ReadFault>
-    ensures { Gives (λ reply. reply) result (joined_at (map view fields.now)) }
+fn joined_of(reader: &mut Reader<'_>) -> Result<Reply, ReadFault>
+    ensures { (n : ℕ) → Takes (λ reply. reply) result
+        (rest_in joined_at n reader.old) reader.new }
 {
-    let [at, site] = fields else {
-        return Err(ReadFault::Bad);
-    };
-    let at = at_of(at)?;
-    let site = whole_of(site, 1, MAX_SITE)?;
+    let at = at_of(reader)?;
+    let site = whole_of(reader, 1, MAX_SITE)?;
+    close_list(reader)?;
     Ok(Reply::Joined { at, site })
 }
 
-#[tactic(auto, unfolding(crate::specs::steps::Replies::returned_at))]
-fn returned_of(fields: &[Value]) -> Result<Reply, ReadFault>
-    ensures { Gives (λ reply. reply) result (returned_at (map view fields.now)) }
+fn returned_of(reader: &mut Reader<'_>) -> Result<Reply, ReadFault>
+    ensures { (n : ℕ) → Takes (λ reply. reply) result
+        (rest_in returned_at n reader.old) reader.new }
 {
-    let [at, site, seq] = fields else {
-        return Err(ReadFault::Bad);
-    };
-    let at = at_of(at)?;
-    let site = whole_of(site, 1, MAX_SITE)?;
-    let seq = at_of(seq)?;
+    let at = at_of(reader)?;
+    let site = whole_of(reader, 1, MAX_SITE)?;
+    let seq = at_of(reader)?;
+    close_list(reader)?;
     Ok(Reply::Returned { at, site, seq })
 }
 
-#[tactic(auto, unfolding(crate::specs::steps::Replies::made_at))]
-fn made_of(fields: &[Value]) -> Result<Reply, ReadFault>
-    ensures { Gives (λ reply. reply) result (made_at (map view fields.now)) }
+fn made_of(reader: &mut Reader<'_>) -> Result<Reply, ReadFault>
+    ensures { (n : ℕ) → 1 ≤ n → Takes (λ reply. reply) result
+        (rest_in made_at n reader.old) reader.new }
 {
-    let [at, name] = fields else {
-        return Err(ReadFault::Bad);
-    };
-    let at = at_of(at)?;
-    let name = name_of(name)?;
+    let at = at_of(reader)?;
+    let name = name_of(reader)?;
+    close_list(reader)?;
     Ok(Reply::Made { at, name })
 }
 
-#[tactic(auto, unfolding(crate::specs::steps::Replies::taken_at))]
-fn taken_of(alloc: Global, fields: &[Value]) -> Result<Reply, ReadFault>
-    ensures { Gives (λ reply. reply) result (taken_at (map view fields.now)) }
+fn taken_of(alloc: Global, reader: &mut Reader<'_>) -> Result<Reply, ReadFault>
+    ensures { (n : ℕ) → 3 ≤ n → Takes (λ reply. reply) result
+        (rest_in taken_at n reader.old) reader.new }
 {
-    let [at, ids] = fields else {
-        return Err(ReadFault::Bad);
-    };
-    let at = at_of(at)?;
-    let ids = ids_of(alloc, ids)?;
+    let at = at_of(reader)?;
+    let ids = ids_of(alloc, reader)?;
+    close_list(reader)?;
     Ok(Reply::Taken { at, ids })
 }
 
-#[tactic(auto, unfolding(crate::specs::steps::Replies::versions_at))]
-fn versions_of(alloc: Global, fields: &[Value]) -> Result<Reply, ReadFault>
-    ensures { Gives (λ reply. reply) result (versions_at (map view fields.now)) }
+fn versions_of(alloc: Global, reader: &mut Reader<'_>) -> Result<Reply, ReadFault>
+    ensures { (n : ℕ) → 4 ≤ n → Takes (λ reply. reply) result
+        (rest_in versions_at n reader.old) reader.new }
 {
-    let [at, object, kind, versions] = fields else {
-        return Err(ReadFault::Bad);
-    };
-    let at = at_of(at)?;
-    let object = name_of(object)?;
-    let kind = kind_of(alloc, kind)?;
-    let versions = versions_list_of(alloc, versions)?;
+    let at = at_of(reader)?;
+    let object = name_of(reader)?;
+    let kind = kind_of(alloc, reader)?;
+    let versions = versions_list_of(alloc, reader)?;
+    close_list(reader)?;
     Ok(Reply::Versions {
         at,
         object,
@@ -193,17 +229,15 @@ fn versions_of(alloc: Global, fields: &[Value]) -> Result<Reply, ReadFault>
     })
 }
 
-#[tactic(auto, using(crate::proofs::Maps::map_same), unfolding(crate::specs::steps::Replies::objects_at))]
-fn objects_of(alloc: Global, fields: &[Value]) -> Result<Reply, ReadFault>
-    ensures { Gives (λ reply. reply) result (objects_at (map view fields.now)) }
+fn objects_of(alloc: Global, reader: &mut Reader<'_>) -> Result<Reply, ReadFault>
+    ensures { (n : ℕ) → 4 ≤ n → Takes (λ reply. reply) result
+        (rest_in objects_at n reader.old) reader.new }
 {
-    let [at, from, total, objects] = fields else {
-        return Err(ReadFault::Bad);
-    };
-    let at = at_of(at)?;
-    let from = from_of(from)?;
-    let total = at_of(total)?;
-    let objects: Vec<(OpName, Kind)> = list_of(alloc, objects)?;
+    let at = at_of(reader)?;
+    let from = from_of(reader)?;
+    let total = at_of(reader)?;
+    let objects: Vec<(OpName, Kind)> = list_of(alloc, reader)?;
+    close_list(reader)?;
     Ok(Reply::Objects {
         at,
         from,
@@ -212,28 +246,27 @@ fn objects_of(alloc: Global, fields: &[Value]) -> Result<Reply, ReadFault>
     })
 }
 
-#[tactic(auto, unfolding(crate::specs::steps::Replies::entries_at))]
-fn entries_of(alloc: Global, fields: &[Value]) -> Result<Reply, ReadFault>
-    ensures { Gives (λ reply. reply) result (entries_at (map view fields.now)) }
+fn entries_of(alloc: Global, reader: &mut Reader<'_>) -> Result<Reply, ReadFault>
+    ensures { (n : ℕ) → 4 ≤ n → Takes (λ reply. reply) result
+        (rest_in entries_at n reader.old) reader.new }
 {
-    let [at, from, entries] = fields else {
-        return Err(ReadFault::Bad);
-    };
-    let at = at_of(at)?;
-    let from = from_of(from)?;
-    let entries: Vec<Arc<Entry>> = list_of(alloc, entries)?;
-    let entries = EntryList::from_vec(entries);
-    Ok(Reply::Entries { at, from, entries })
+    let at = at_of(reader)?;
+    let from = from_of(reader)?;
+    let entries: Vec<Arc<Entry>> = list_of(alloc, reader)?;
+    close_list(reader)?;
+    Ok(Reply::Entries {
+        at,
+        from,
+        entries: EntryList::from_vec(entries),
+    })
 }
 
-#[tactic(auto, unfolding(crate::specs::steps::Replies::left_at))]
-fn left_of(fields: &[Value]) -> Result<Reply, ReadFault>
-    ensures { Gives (λ reply. reply) result (left_at (map view fields.now)) }
+fn left_of(reader: &mut Reader<'_>) -> Result<Reply, ReadFault>
+    ensures { (n : ℕ) → Takes (λ reply. reply) result
+        (rest_in left_at n reader.old) reader.new }
 {
-    let [at] = fields else {
-        return Err(ReadFault::Bad);
-    };
-    let at = at_of(at)?;
+    let at = at_of(reader)?;
+    close_list(reader)?;
     Ok(Reply::Left { at })
 }
 
@@ -250,17 +283,22 @@ fn refusal_with(code: u32, word: &str) -> Result<Refusal, ReadFault>
     }
 }
 
-#[tactic(auto, unfolding(crate::specs::steps::Replies::no_at, crate::specs::steps::Replies::refusal_fields))]
-fn no_of(fields: &[Value]) -> Result<Reply, ReadFault>
-    ensures { Gives (λ reply. reply) result (no_at (map view fields.now)) }
+/// The number and the word of a refusal, to the end of their list.
+fn refusal_of(reader: &mut Reader<'_>) -> Result<Refusal, ReadFault>
+    ensures { (n : ℕ) → Takes (λ refusal. refusal) result
+        (rest_in refusal_fields n reader.old) reader.new }
 {
-    let [at, code, word] = fields else {
-        return Err(ReadFault::Bad);
-    };
-    let at = at_of(at)?;
-    let code = whole_of(code, 1, MAX_REFUSAL_CODE)?;
-    let word = text_of(word)?;
-    let refusal = refusal_with(code, word)?;
+    let code = whole_of(reader, 1, MAX_REFUSAL_CODE)?;
+    let word = text_of(reader)?;
+    close_list(reader)?;
+    refusal_with(code, word)
+}
+
+fn no_of(reader: &mut Reader<'_>) -> Result<Reply, ReadFault>
+    ensures { (n : ℕ) → Takes (λ reply. reply) result (rest_in no_at n reader.old) reader.new }
+{
+    let at = at_of(reader)?;
+    let refusal = refusal_of(reader)?;
     Ok(Reply::No { at, refusal })
 }
 
@@ -271,38 +309,23 @@ impl Part for Reply {
 
     ghost read_in = { reply_of };
 
-    #[tactic(auto, unfolding(crate::specs::steps::Replies::reply_of))]
-    fn read(alloc: Global, value: &Value) -> Result<Reply, ReadFault> {
-        let (word, fields) = worded_of(value)?;
+    ghost levels = { 5 };
+
+    fn read(alloc: Global, reader: &mut Reader<'_>) -> Result<Reply, ReadFault> {
+        let word = word_of(reader)?;
         match word {
-            "joined" => joined_of(fields),
-            "back" => returned_of(fields),
-            "made" => made_of(fields),
-            "taken" => taken_of(alloc, fields),
-            "versions" => versions_of(alloc, fields),
-            "objects" => objects_of(alloc, fields),
-            "entries" => entries_of(alloc, fields),
-            "left" => left_of(fields),
-            "no" => no_of(fields),
+            "joined" => joined_of(reader),
+            "back" => returned_of(reader),
+            "made" => made_of(reader),
+            "taken" => taken_of(alloc, reader),
+            "versions" => versions_of(alloc, reader),
+            "objects" => objects_of(alloc, reader),
+            "entries" => entries_of(alloc, reader),
+            "left" => left_of(reader),
+            "no" => no_of(reader),
             _ => Err(ReadFault::Bad),
         }
     }
-}
-
-/// Reads a reply from a JSON value.
-///
-/// # Errors
-///
-/// - `Bad` if the value is not a form of a reply in range.
-/// - `NoMemory` if an allocation failed.
-pub fn reply_of(alloc: Global, value: &Value) -> Result<Reply, ReadFault>
-    ensures ok { IfOk result (IsReplyValue (view value.now)) }
-    ensures bad { IsErrOf result ReadFault.Bad
-        → (r : AnyReply) → ¬ IsReplyValue (view value.now) r }
-    ensures value { IfOk result (λ reply. reply_of (view value.now) ≡ Some reply) }
-    ensures none { IsErrOf result ReadFault.Bad → reply_of (view value.now) ≡ None }
-{
-    Reply::read(alloc, value)
 }
 
 /// Reads a reply from bytes: UTF-8 that is one JSON value, a form of the reply. Linear in the
@@ -318,5 +341,6 @@ pub fn read_reply(alloc: Global, bytes: &[u8]) -> Result<Reply, ReadFault>
     ensures value { IfOk result (λ reply. reply_read bytes.now ≡ Some reply) }
     ensures none { IsErrOf result ReadFault.Bad → reply_read bytes.now ≡ None }
 {
-    read_text(alloc, bytes)
+    let mut scratch = Scratch::new(alloc);
+    read_text(alloc, &mut scratch, bytes)
 }

@@ -1,97 +1,81 @@
 //! Requests from JSON.
 
-ghost use Rattle.std.specs.Prelude.{◌≡◌, map, IfOk, IsErrOf, Some, None};
-ghost use Rattle.serde_json.specs.View.{view};
+ghost use Rattle.std.specs.Prelude.{◌≡◌, ◌≤◌, ℕ, IfOk, IsErrOf, Some, None};
 ghost use Rattle.wire.specs.declared.request.Request.{Request as AnyRequest};
-ghost use Rattle.wire.specs.Form.{IsRequestText, IsRequestValue};
+ghost use Rattle.wire.specs.Form.{IsRequestText};
 ghost use Rattle.wire.specs.steps.Reading.{Gives};
 ghost use Rattle.wire.specs.steps.Requests.{join_at, back_at, change_at, show_at, list_at, pull_at, leave_at, request_of};
 ghost use Rattle.wire.specs.steps.Reads.{request_read};
+ghost use Rattle.wire.specs.steps.Streams.{rest_in, Takes};
 
-use super::body::body_of;
-use super::part::{Part, name_of, read_text, room_of, seen_of, whole_of, worded_of};
+use super::body::operation_of;
+use super::part::{Part, name_of, read_text, room_of};
+use super::token::{Seq, close_list, whole_of, word_of};
 use crate::fault::ReadFault;
 use crate::request::{MAX_FROM, MAX_REQUEST_LEN, Request};
-use base_types::{MAX_SEQ, MAX_SITE};
-use serde_json::Value;
+use base_types::MAX_SITE;
+use json::{Reader, Scratch};
 use std::alloc::Global;
 
-#[tactic(auto, unfolding(crate::specs::steps::Requests::join_at))]
-fn join_of(alloc: Global, fields: &[Value]) -> Result<Request, ReadFault>
-    ensures { Gives (λ request. request) result (join_at (map view fields.now)) }
+fn join_of(alloc: Global, reader: &mut Reader<'_>) -> Result<Request, ReadFault>
+    ensures { (n : ℕ) → Takes (λ request. request) result
+        (rest_in join_at n reader.old) reader.new }
 {
-    let [room] = fields else {
-        return Err(ReadFault::Bad);
-    };
-    let room = room_of(alloc, room)?;
+    let room = room_of(alloc, reader)?;
+    close_list(reader)?;
     Ok(Request::Join { room })
 }
 
-#[tactic(auto, unfolding(crate::specs::steps::Requests::back_at))]
-fn back_of(alloc: Global, fields: &[Value]) -> Result<Request, ReadFault>
-    ensures { Gives (λ request. request) result (back_at (map view fields.now)) }
+fn back_of(alloc: Global, reader: &mut Reader<'_>) -> Result<Request, ReadFault>
+    ensures { (n : ℕ) → Takes (λ request. request) result
+        (rest_in back_at n reader.old) reader.new }
 {
-    let [room, site] = fields else {
-        return Err(ReadFault::Bad);
-    };
-    let room = room_of(alloc, room)?;
-    let site = whole_of(site, 1, MAX_SITE)?;
+    let room = room_of(alloc, reader)?;
+    let site = whole_of(reader, 1, MAX_SITE)?;
+    close_list(reader)?;
     Ok(Request::Back { room, site })
 }
 
-#[tactic(auto, unfolding(crate::specs::steps::Requests::change_at))]
-fn change_of(alloc: Global, word: &str, fields: &[Value]) -> Result<Request, ReadFault>
-    ensures { Gives (λ request. request) result (change_at word.now (map view fields.now)) }
+fn change_of(alloc: Global, word: &str, reader: &mut Reader<'_>) -> Result<Request, ReadFault>
+    ensures { (n : ℕ) → 2 ≤ n → Takes (λ request. request) result
+        (rest_in (change_at word.now) n reader.old) reader.new }
 {
-    let [seq, seen, rest @ ..] = fields else {
-        return Err(ReadFault::Bad);
-    };
-    let seq = whole_of(seq, 1, MAX_SEQ)?;
-    let seen = seen_of(alloc, seen)?;
-    let body = body_of(alloc, word, rest)?;
+    let (Seq(seq), seen, body) = operation_of(alloc, word, reader)?;
     Ok(Request::Change { seq, seen, body })
 }
 
-#[tactic(auto, unfolding(crate::specs::steps::Requests::show_at))]
-fn show_of(fields: &[Value]) -> Result<Request, ReadFault>
-    ensures { Gives (λ request. request) result (show_at (map view fields.now)) }
+fn show_of(reader: &mut Reader<'_>) -> Result<Request, ReadFault>
+    ensures { (n : ℕ) → 1 ≤ n → Takes (λ request. request) result
+        (rest_in show_at n reader.old) reader.new }
 {
-    let [object] = fields else {
-        return Err(ReadFault::Bad);
-    };
-    let object = name_of(object)?;
+    let object = name_of(reader)?;
+    close_list(reader)?;
     Ok(Request::Show { object })
 }
 
-#[tactic(auto, unfolding(crate::specs::steps::Requests::list_at))]
-fn list_of(fields: &[Value]) -> Result<Request, ReadFault>
-    ensures { Gives (λ request. request) result (list_at (map view fields.now)) }
+fn list_of(reader: &mut Reader<'_>) -> Result<Request, ReadFault>
+    ensures { (n : ℕ) → Takes (λ request. request) result
+        (rest_in list_at n reader.old) reader.new }
 {
-    let [from] = fields else {
-        return Err(ReadFault::Bad);
-    };
-    let from = whole_of(from, 0, MAX_FROM)?;
+    let from = whole_of(reader, 0, MAX_FROM)?;
+    close_list(reader)?;
     Ok(Request::List { from })
 }
 
-#[tactic(auto, unfolding(crate::specs::steps::Requests::pull_at))]
-fn pull_of(fields: &[Value]) -> Result<Request, ReadFault>
-    ensures { Gives (λ request. request) result (pull_at (map view fields.now)) }
+fn pull_of(reader: &mut Reader<'_>) -> Result<Request, ReadFault>
+    ensures { (n : ℕ) → Takes (λ request. request) result
+        (rest_in pull_at n reader.old) reader.new }
 {
-    let [from] = fields else {
-        return Err(ReadFault::Bad);
-    };
-    let from = whole_of(from, 0, MAX_FROM)?;
+    let from = whole_of(reader, 0, MAX_FROM)?;
+    close_list(reader)?;
     Ok(Request::Pull { from })
 }
 
-#[tactic(auto, unfolding(crate::specs::steps::Requests::leave_at))]
-fn leave_of(fields: &[Value]) -> Result<Request, ReadFault>
-    ensures { Gives (λ request. request) result (leave_at (map view fields.now)) }
+fn leave_of(reader: &mut Reader<'_>) -> Result<Request, ReadFault>
+    ensures { (n : ℕ) → Takes (λ request. request) result
+        (rest_in leave_at n reader.old) reader.new }
 {
-    let [] = fields else {
-        return Err(ReadFault::Bad);
-    };
+    close_list(reader)?;
     Ok(Request::Leave)
 }
 
@@ -102,45 +86,55 @@ impl Part for Request {
 
     ghost read_in = { request_of };
 
-    #[tactic(auto, unfolding(crate::specs::steps::Requests::request_of))]
-    fn read(alloc: Global, value: &Value) -> Result<Request, ReadFault> {
-        let (word, fields) = worded_of(value)?;
+    ghost levels = { 3 };
+
+    fn read(alloc: Global, reader: &mut Reader<'_>) -> Result<Request, ReadFault> {
+        let word = word_of(reader)?;
         match word {
-            "join" => join_of(alloc, fields),
-            "back" => back_of(alloc, fields),
-            "show" => show_of(fields),
-            "list" => list_of(fields),
-            "pull" => pull_of(fields),
-            "leave" => leave_of(fields),
-            _ => change_of(alloc, word, fields),
+            "join" => join_of(alloc, reader),
+            "back" => back_of(alloc, reader),
+            "show" => show_of(reader),
+            "list" => list_of(reader),
+            "pull" => pull_of(reader),
+            "leave" => leave_of(reader),
+            _ => change_of(alloc, word, reader),
         }
     }
 }
 
-/// Reads a request from a JSON value.
-///
-/// # Errors
-///
-/// - `Bad` if the value is not a form of a request in range.
-/// - `NoMemory` if an allocation failed.
-pub fn request_of(alloc: Global, value: &Value) -> Result<Request, ReadFault>
-    ensures ok { IfOk result (IsRequestValue (view value.now)) }
-    ensures bad { IsErrOf result ReadFault.Bad
-        → (q : AnyRequest) → ¬ IsRequestValue (view value.now) q }
-    ensures value { IfOk result (λ request. request_of (view value.now) ≡ Some request) }
-    ensures none { IsErrOf result ReadFault.Bad → request_of (view value.now) ≡ None }
-{
-    Request::read(alloc, value)
-}
-
 #[tactic(auto, unfolding(crate::specs::steps::Reads::request_read))]
-fn request_in_bytes(alloc: Global, bytes: &[u8]) -> Result<Request, ReadFault>
+fn request_in_bytes(
+    alloc: Global,
+    scratch: &mut Scratch,
+    bytes: &[u8],
+) -> Result<Request, ReadFault>
     ensures { Gives (λ request. request) result (request_read bytes.now) }
 {
     if bytes.len() > MAX_REQUEST_LEN {
         return Err(ReadFault::Bad);
     }
-    read_text(alloc, bytes)
+    read_text(alloc, scratch, bytes)
+}
+
+/// Reads a request from bytes: at most 16,384 bytes of UTF-8 that are one JSON value, a form of the
+/// request. Linear in the bytes. Who reads many requests keeps the scratch between them, because a
+/// new one costs as much as a short request.
+///
+/// # Errors
+///
+/// - `Bad` if they are not such a text.
+/// - `NoMemory` if an allocation failed.
+pub fn read_request_with(
+    alloc: Global,
+    scratch: &mut Scratch,
+    bytes: &[u8],
+) -> Result<Request, ReadFault>
+    ensures ok { IfOk result (IsRequestText bytes.now) }
+    ensures bad { IsErrOf result ReadFault.Bad → (q : AnyRequest) → ¬ IsRequestText bytes.now q }
+    ensures value { IfOk result (λ request. request_read bytes.now ≡ Some request) }
+    ensures none { IsErrOf result ReadFault.Bad → request_read bytes.now ≡ None }
+{
+    request_in_bytes(alloc, scratch, bytes)
 }
 
 /// Reads a request from bytes: at most 16,384 bytes of UTF-8 that are one JSON value, a form of the
@@ -156,5 +150,6 @@ pub fn read_request(alloc: Global, bytes: &[u8]) -> Result<Request, ReadFault>
     ensures value { IfOk result (λ request. request_read bytes.now ≡ Some request) }
     ensures none { IsErrOf result ReadFault.Bad → request_read bytes.now ≡ None }
 {
-    request_in_bytes(alloc, bytes)
+    let mut scratch = Scratch::new(alloc);
+    read_request_with(alloc, &mut scratch, bytes)
 }

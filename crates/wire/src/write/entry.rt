@@ -8,15 +8,15 @@ ghost use Rattle.wire.specs.Form.{entry_form, IsEntry, IsEntryText};
 use super::operation::send_operation;
 use super::part::{Written, compact};
 use base_types::NoMemory;
+use json::Writer;
 use rules::Entry;
-use serde::Serializer;
-use std::alloc::Global;
+use std::alloc::{AllocError, Global};
 use std::sync::Arc;
 
 impl Written for Entry {
     ghost form = { entry_form };
 
-    fn send<S: Serializer>(&self, out: &mut S) -> Result<(), S::Error> {
+    fn send(&self, out: &mut Writer) -> Result<(), AllocError> {
         match self {
             Entry::Join(site) => ("join", *site).send(out),
             Entry::Operation(op) => send_operation(&op.name, &op.seen, &op.body, out),
@@ -27,7 +27,7 @@ impl Written for Entry {
 impl Written for Arc<Entry> {
     ghost form = { λ entry. entry_form (arc_value entry) };
 
-    fn send<S: Serializer>(&self, out: &mut S) -> Result<(), S::Error> {
+    fn send(&self, out: &mut Writer) -> Result<(), AllocError> {
         let entry: &Entry = self;
         entry.send(out)
     }

@@ -5,19 +5,20 @@ ghost use Rattle.wire.specs.Form.{body_form, operation_form};
 ghost use Rattle.wire.specs.steps.Sending.{Sends};
 
 use super::part::Written;
+use json::Writer;
 use rules::Body;
-use serde::Serializer;
 use state_vector::StateVector;
+use std::alloc::AllocError;
 
 /// Sends an operation: its name or its number, what its author had seen, and what it does.
-pub(super) fn send_operation<H: Written, S: Serializer>(
+pub(super) fn send_operation<H: Written>(
     head: &H,
     seen: &StateVector,
     body: &Body,
-    out: &mut S,
-) -> Result<(), S::Error>
+    out: &mut Writer,
+) -> Result<(), AllocError>
     ensures { OnOk result (Sends (operation_form (H.form head.now) seen.now (body_form body.now))
-        (S.written out.old) (S.written out.new)) }
+        out.old out.new) }
 {
     let seen = seen.pairs();
     match body {

@@ -4,36 +4,23 @@ ghost use Rattle.std.specs.Prelude.{◌≡◌, ◌≤◌, ◌∷◌, [], map, So
 ghost use Rattle.serde_json.specs.Data.{Data, string, depth};
 ghost use Rattle.serde_json.specs.Read.{read, max_depth};
 ghost use Rattle.serde_json.specs.Written.{compact_text};
-ghost use Rattle.wire.specs.Form.{list_form, whole_form, name_form, value_form, names_form, shown_form, version_form};
+ghost use Rattle.wire.specs.Form.{list_form, whole_form, name_form, value_form, names_form};
+ghost use Rattle.wire.specs.Form.{shown_form, version_form};
 ghost use Rattle.wire.specs.steps.Sending.{Sends};
 
 use base_types::{Key, Kind, NoMemory, OpName, VersionId};
+use json::Writer;
 use rules::{Shown, Version};
-use serde::{Described, Serialize, Serializer};
-use serde_json::Number;
-use std::alloc::Global;
+use std::alloc::{AllocError, Global};
 
 /// A value with a JSON form. This is not serde's `Serialize`, which can't state the form of a tuple
 /// or of another crate's type.
 pub(crate) trait Written {
     ghost form: { Self → Data };
 
-    fn send<S: Serializer>(&self, out: &mut S) -> Result<(), S::Error>
-        ensures { OnOk result (Sends (form self.now) (S.written out.old) (S.written out.new)) };
-}
-
-/// A part as serde's data.
-#[derive(Drop)]
-struct Form<'a, W>(&'a W);
-
-impl<W: Written> Described for Form<'_, W> {
-    ghost writes = { λ part. Sends (W.form part.0.now) };
-}
-
-impl<W: Written> Serialize for Form<'_, W> {
-    fn serialize<S: Serializer>(&self, out: &mut S) -> Result<(), S::Error> {
-        self.0.send(out)
-    }
+    /// Writes the tokens of the form.
+    fn send(&self, out: &mut Writer) -> Result<(), AllocError>
+        ensures { OnOk result (Sends (form self.now) out.old out.new) };
 }
 
 /// The compact text of a part: its form without white space.
@@ -42,22 +29,26 @@ pub(crate) fn compact<W: Written>(alloc: Global, part: &W) -> Result<String, NoM
     ensures reads_back { IfOk result (λ text. depth (W.form part.now) ≤ max_depth
         → read (string_bytes text) ≡ Some (W.form part.now)) }
 {
-    // Every form is valid JSON, so only an allocation can fail.
-    serde_json::to_string(alloc, &Form(part)).map_err(|_| NoMemory)
+    let mut out = Writer::new(Vec::with_capacity(alloc, 128)?);
+    part.send(&mut out)?;
+    let Ok(text) = String::from_utf8(out.into_inner()) else {
+        unreachable!()
+    };
+    Ok(text)
 }
 
 impl Written for &str {
     ghost form = { λ text. string text.now };
 
-    fn send<S: Serializer>(&self, out: &mut S) -> Result<(), S::Error> {
-        out.str(self)
+    fn send(&self, out: &mut Writer) -> Result<(), AllocError> {
+        out.string(self)
     }
 }
 
 impl Written for u32 {
     ghost form = { whole_form };
 
-    fn send<S: Serializer>(&self, out: &mut S) -> Result<(), S::Error> {
+    fn send(&self, out: &mut Writer) -> Result<(), AllocError> {
         out.u64(u64::from(*self))
     }
 }
@@ -65,7 +56,7 @@ impl Written for u32 {
 impl<W: Written> Written for &W {
     ghost form = { λ part. W.form part.now };
 
-    fn send<S: Serializer>(&self, out: &mut S) -> Result<(), S::Error> {
+    fn send(&self, out: &mut Writer) -> Result<(), AllocError> {
         (**self).send(out)
     }
 }
@@ -73,58 +64,58 @@ impl<W: Written> Written for &W {
 impl<W: Written> Written for &[W] {
     ghost form = { λ parts. list_form (map W.form parts.now) };
 
-    fn send<S: Serializer>(&self, out: &mut S) -> Result<(), S::Error> {
-        out.begin_seq(Some(self.len()))?;
+    fn send(&self, out: &mut Writer) -> Result<(), AllocError> {
+        out.begin_array()?;
         for part in self.iter() {
             part.send(out)?;
         }
-        out.end_seq()
+        out.end_array()
     }
 }
 
 impl<A: Written> Written for (A,) {
     ghost form = { λ p. list_form (A.form p.0 ∷ []) };
 
-    fn send<S: Serializer>(&self, out: &mut S) -> Result<(), S::Error> {
-        out.begin_seq(Some(1))?;
+    fn send(&self, out: &mut Writer) -> Result<(), AllocError> {
+        out.begin_array()?;
         self.0.send(out)?;
-        out.end_seq()
+        out.end_array()
     }
 }
 
 impl<A: Written, B: Written> Written for (A, B) {
     ghost form = { λ p. list_form (A.form p.0 ∷ B.form p.1 ∷ []) };
 
-    fn send<S: Serializer>(&self, out: &mut S) -> Result<(), S::Error> {
-        out.begin_seq(Some(2))?;
+    fn send(&self, out: &mut Writer) -> Result<(), AllocError> {
+        out.begin_array()?;
         self.0.send(out)?;
         self.1.send(out)?;
-        out.end_seq()
+        out.end_array()
     }
 }
 
 impl<A: Written, B: Written, C: Written> Written for (A, B, C) {
     ghost form = { λ p. list_form (A.form p.0 ∷ B.form p.1 ∷ C.form p.2 ∷ []) };
 
-    fn send<S: Serializer>(&self, out: &mut S) -> Result<(), S::Error> {
-        out.begin_seq(Some(3))?;
+    fn send(&self, out: &mut Writer) -> Result<(), AllocError> {
+        out.begin_array()?;
         self.0.send(out)?;
         self.1.send(out)?;
         self.2.send(out)?;
-        out.end_seq()
+        out.end_array()
     }
 }
 
 impl<A: Written, B: Written, C: Written, D: Written> Written for (A, B, C, D) {
     ghost form = { λ p. list_form (A.form p.0 ∷ B.form p.1 ∷ C.form p.2 ∷ D.form p.3 ∷ []) };
 
-    fn send<S: Serializer>(&self, out: &mut S) -> Result<(), S::Error> {
-        out.begin_seq(Some(4))?;
+    fn send(&self, out: &mut Writer) -> Result<(), AllocError> {
+        out.begin_array()?;
         self.0.send(out)?;
         self.1.send(out)?;
         self.2.send(out)?;
         self.3.send(out)?;
-        out.end_seq()
+        out.end_array()
     }
 }
 
@@ -132,14 +123,14 @@ impl<A: Written, B: Written, C: Written, D: Written, E: Written> Written for (A,
     ghost form = { λ p. list_form
         (A.form p.0 ∷ B.form p.1 ∷ C.form p.2 ∷ D.form p.3 ∷ E.form p.4 ∷ []) };
 
-    fn send<S: Serializer>(&self, out: &mut S) -> Result<(), S::Error> {
-        out.begin_seq(Some(5))?;
+    fn send(&self, out: &mut Writer) -> Result<(), AllocError> {
+        out.begin_array()?;
         self.0.send(out)?;
         self.1.send(out)?;
         self.2.send(out)?;
         self.3.send(out)?;
         self.4.send(out)?;
-        out.end_seq()
+        out.end_array()
     }
 }
 
@@ -148,22 +139,22 @@ impl<A: Written, B: Written, C: Written, D: Written, E: Written, F: Written> Wri
     ghost form = { λ p. list_form
         (A.form p.0 ∷ B.form p.1 ∷ C.form p.2 ∷ D.form p.3 ∷ E.form p.4 ∷ F.form p.5 ∷ []) };
 
-    fn send<S: Serializer>(&self, out: &mut S) -> Result<(), S::Error> {
-        out.begin_seq(Some(6))?;
+    fn send(&self, out: &mut Writer) -> Result<(), AllocError> {
+        out.begin_array()?;
         self.0.send(out)?;
         self.1.send(out)?;
         self.2.send(out)?;
         self.3.send(out)?;
         self.4.send(out)?;
         self.5.send(out)?;
-        out.end_seq()
+        out.end_array()
     }
 }
 
 impl Written for OpName {
     ghost form = { name_form };
 
-    fn send<S: Serializer>(&self, out: &mut S) -> Result<(), S::Error> {
+    fn send(&self, out: &mut Writer) -> Result<(), AllocError> {
         (self.site(), self.seq()).send(out)
     }
 }
@@ -171,7 +162,7 @@ impl Written for OpName {
 impl Written for VersionId {
     ghost form = { names_form };
 
-    fn send<S: Serializer>(&self, out: &mut S) -> Result<(), S::Error> {
+    fn send(&self, out: &mut Writer) -> Result<(), AllocError> {
         self.names().send(out)
     }
 }
@@ -179,7 +170,7 @@ impl Written for VersionId {
 impl Written for Key {
     ghost form = { string };
 
-    fn send<S: Serializer>(&self, out: &mut S) -> Result<(), S::Error> {
+    fn send(&self, out: &mut Writer) -> Result<(), AllocError> {
         self.text().send(out)
     }
 }
@@ -187,7 +178,7 @@ impl Written for Key {
 impl Written for Kind {
     ghost form = { string };
 
-    fn send<S: Serializer>(&self, out: &mut S) -> Result<(), S::Error> {
+    fn send(&self, out: &mut Writer) -> Result<(), AllocError> {
         self.text().send(out)
     }
 }
@@ -196,9 +187,9 @@ impl Written for base_types::Value {
     ghost form = { value_form };
 
     #[tactic(auto, using(crate::proofs::Sent::held_integer))]
-    fn send<S: Serializer>(&self, out: &mut S) -> Result<(), S::Error> {
+    fn send(&self, out: &mut Writer) -> Result<(), AllocError> {
         match self {
-            base_types::Value::Number(number) => Number::from(*number).serialize(out),
+            base_types::Value::Number(number) => out.i64(*number),
             base_types::Value::Text(text) => text.text().send(out),
         }
     }
@@ -207,7 +198,7 @@ impl Written for base_types::Value {
 impl Written for Shown {
     ghost form = { shown_form };
 
-    fn send<S: Serializer>(&self, out: &mut S) -> Result<(), S::Error> {
+    fn send(&self, out: &mut Writer) -> Result<(), AllocError> {
         match self {
             Shown::Attrs(attrs) => attrs.as_slice().send(out),
             Shown::Gone => "gone".send(out),
@@ -218,7 +209,7 @@ impl Written for Shown {
 impl Written for Version {
     ghost form = { version_form };
 
-    fn send<S: Serializer>(&self, out: &mut S) -> Result<(), S::Error> {
+    fn send(&self, out: &mut Writer) -> Result<(), AllocError> {
         (&self.id, &self.shown).send(out)
     }
 }

@@ -8,13 +8,13 @@ use super::part::{Written, compact};
 use crate::lists::EntryList;
 use crate::reply::Reply;
 use base_types::NoMemory;
-use serde::Serializer;
-use std::alloc::Global;
+use json::Writer;
+use std::alloc::{AllocError, Global};
 
 impl Written for EntryList {
     ghost form = { λ entries. list_form (map entry_form entries) };
 
-    fn send<S: Serializer>(&self, out: &mut S) -> Result<(), S::Error> {
+    fn send(&self, out: &mut Writer) -> Result<(), AllocError> {
         self.as_slice().send(out)
     }
 }
@@ -22,7 +22,7 @@ impl Written for EntryList {
 impl Written for Reply {
     ghost form = { reply_form };
 
-    fn send<S: Serializer>(&self, out: &mut S) -> Result<(), S::Error> {
+    fn send(&self, out: &mut Writer) -> Result<(), AllocError> {
         match self {
             Reply::Joined { at, site } => ("joined", *at, *site).send(out),
             Reply::Returned { at, site, seq } => ("back", *at, *site, *seq).send(out),

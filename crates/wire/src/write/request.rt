@@ -9,13 +9,13 @@ use super::operation::send_operation;
 use super::part::{Written, compact};
 use crate::request::Request;
 use base_types::NoMemory;
-use serde::Serializer;
-use std::alloc::Global;
+use json::Writer;
+use std::alloc::{AllocError, Global};
 
 impl Written for Request {
     ghost form = { request_form };
 
-    fn send<S: Serializer>(&self, out: &mut S) -> Result<(), S::Error> {
+    fn send(&self, out: &mut Writer) -> Result<(), AllocError> {
         match self {
             Request::Join { room } => ("join", room.text()).send(out),
             Request::Back { room, site } => ("back", room.text(), *site).send(out),

@@ -9,7 +9,7 @@ pub loop-at-preserved : goal.loop-at-preserved
 loop-at-preserved c =
     let made : ℕ → ℕ = λ k. bit_xor (get_or c.args.first.now k 0) (bit_and (get_or c.args.first.now k 0) (get_or c.args.second.now k 0)) in
     let v : ℕ = (λ (x : ℕ). bit_xor (get_or c.args.first.now c.loop-at.at 0) (bit_and (get_or c.args.first.now c.loop-at.at 0) x)) c.word.result in
-    let pushed : c.push.new.self.items ≡ c.loop-at.others.items ++ v ∷ [] = cc (c.in_ok-push.ensures.items) in
+    let pushed : c.push.new.self.items ≡ c.loop-at.others.items ++ v ∷ [] = cc (c.in_ok-push.ensures.ok) in
     one_more made c.loop-at.others.items c.push.new.self.items c.loop-at.at v c.loop-at.invariant (ap (λ (x : ℕ). bit_xor (get_or c.args.first.now c.loop-at.at 0) (bit_and (get_or c.args.first.now c.loop-at.at 0) x)) c.word.ensures) pushed
 
 pub returns-clause-others : goal.returns-clause-others

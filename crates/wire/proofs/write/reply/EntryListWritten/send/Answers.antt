@@ -5,4 +5,4 @@ use Rattle.wire.proofs.Maps.{map_of_map}
 use Rattle.wire.proofs.write.reply.EntryListWritten.send.Goals as goal
 
 pub returns : goal.returns
-returns g c = rw (sym c.as_slice.ensures, map_of_map entry_form arc_value c.as_slice.result.now) c.send.ensures
+returns c = rw (sym c.as_slice.ensures, map_of_map entry_form arc_value c.as_slice.result.now) c.send.ensures

@@ -1,7 +1,16 @@
 use Rattle.wire.proofs.write.reply.ReplyWritten.send.Goals as goal
 
+pub returns-in-Returned : goal.returns-in-Returned
+returns-in-Returned c = rw c.in-Returned.is c.send-in-Returned.ensures
+
+pub returns-in-Made : goal.returns-in-Made
+returns-in-Made c = rw c.in-Made.is c.send-in-Made.ensures
+
 pub returns-in-Versions : goal.returns-in-Versions
-returns-in-Versions g c = rw c.in-Versions.is (rw c.as_slice-in-Versions.ensures at c.send-in-Versions.ensures)
+returns-in-Versions c = rw c.in-Versions.is (rw c.as_slice-in-Versions.ensures at c.send-in-Versions.ensures)
 
 pub returns-in-Objects : goal.returns-in-Objects
-returns-in-Objects g c = rw c.in-Objects.is (rw c.as_slice-in-Objects.ensures at c.send-in-Objects.ensures)
+returns-in-Objects c = rw c.in-Objects.is (rw c.as_slice-in-Objects.ensures at c.send-in-Objects.ensures)
+
+pub returns-in-No : goal.returns-in-No
+returns-in-No c = rw c.in-No.is (rw (c.code.ensures, c.word.ensures) at c.send-in-No.ensures)

@@ -2,7 +2,7 @@
 
 ghost use Rattle.std.specs.Prelude.{◌≡◌, IfOk, OnErr, OnOk, length};
 ghost use Rattle.std.specs.Io.KnownBytes.{Appends};
-ghost use Rattle.byte_streams.specs.Fronts.{AppendsFront};
+ghost use Rattle.byte_streams.specs.Prefixes.{AppendsPrefix};
 
 use base_types::NoMemory;
 use std::alloc::Global;
@@ -27,8 +27,8 @@ pub fn read_buffer(alloc: Global) -> Result<Vec<u8>, NoMemory>
 /// first bytes were written.
 pub fn write_out<W: Write>(output: &mut W, bytes: &[u8]) -> io::Result<()>
     ensures ok { OnOk result (Appends (W.contents output.old) (W.contents output.new) bytes.now) }
-    ensures front { OnErr result
-        (AppendsFront (W.contents output.old) (W.contents output.new) bytes.now) }
+    ensures prefix { OnErr result
+        (AppendsPrefix (W.contents output.old) (W.contents output.new) bytes.now) }
 {
     let mut written = 0;
     while written < bytes.len() {

@@ -3,7 +3,7 @@ use Rattle.std.specs.Prelude.{◌≡◌, ◌↔◌, ◌++◌, ◌∷◌, [], ℕ
 use Rattle.std.specs.Prelude.{codes}
 use Rattle.std.specs.Fmt.{decimal}
 use Rattle.std.specs.Io.KnownBytes.{Appends}
-use Rattle.byte_streams.specs.Fronts.{AppendsFront}
+use Rattle.byte_streams.specs.Prefixes.{AppendsPrefix}
 use Rattle.history_check.specs.declared.verdict.Verdict.{Verdict}
 use Rattle.history_check.specs.declared.verdict.Verdict.TheVariants.{Holds, BadRecord}
 use Rattle.history_check.specs.declared.verdict.Verdict.TheVariants.{BadTranscript, WrongReply}
@@ -45,10 +45,10 @@ pub record Tells
   pub line : Appends before after (verdict_line verdict)
 
 -- a prefix of the verdict's line was appended
-pub record TellsFront (before after : Option (List ℕ)) (entries transcript : List ℕ) : Type 0 where
+pub record TellsPrefix (before after : Option (List ℕ)) (entries transcript : List ℕ) : Type 0 where
   pub verdict : Verdict
   pub right : IsRight entries transcript verdict
-  pub front : AppendsFront before after (verdict_line verdict)
+  pub prefix : AppendsPrefix before after (verdict_line verdict)
 
 -- The bytes of a record and of a transcript of which a statement is made: all that two readers
 -- give, if both are known,
@@ -71,4 +71,4 @@ pub record Judges
 -- the effect of the command on a record and a transcript
 abbrev pub Checks : ((List ℕ → List ℕ → Type 0) → Type 0) → Option (List ℕ) → Option (List ℕ) → ℕ
     → Type 0
-Checks Of before after = Ends (Judges Of before after) (Of (TellsFront before after)) before after
+Checks Of before after = Ends (Judges Of before after) (Of (TellsPrefix before after)) before after

@@ -6,20 +6,20 @@ use Rattle.commands.specs.declared.fault.Fault.TheVariants.{Input, Output, NoMem
 
 -- what was written before a fault: nothing, unless the output failed
 abbrev pub EndsEarly : Type 0 → Option (List ℕ) → Option (List ℕ) → Fault → Type 0
-EndsEarly Front before after Input = Keeps before after
-EndsEarly Front before after NoMemory = Keeps before after
-EndsEarly Front before after Output = Front
-EndsEarly Front before after _ = ⊥
+EndsEarly Prefix before after Input = Keeps before after
+EndsEarly Prefix before after NoMemory = Keeps before after
+EndsEarly Prefix before after Output = Prefix
+EndsEarly Prefix before after _ = ⊥
 
 -- the possible statuses, and what was written before each
 pub record Ends
-    (Told : ℕ → Type 0) (Front : Type 0) (before after : Option (List ℕ)) (status : ℕ)
+    (Told : ℕ → Type 0) (Prefix : Type 0) (before after : Option (List ℕ)) (status : ℕ)
     : Type 0 where
   -- the possible statuses
   pub known : (status ≡ 0) ⊎ (status ≡ 1) ⊎ (status ≡ 3) ⊎ (status ≡ 4)
   -- 0 and 1: everything was written
   pub told : (status ≡ 0) ⊎ (status ≡ 1) → Told status
   -- 3: nothing was written, or a prefix
-  pub failed : status ≡ 3 → Keeps before after ⊎ Front
+  pub failed : status ≡ 3 → Keeps before after ⊎ Prefix
   -- 4: nothing was written
   pub memory : status ≡ 4 → Keeps before after

@@ -2,7 +2,7 @@
 use Rattle.std.specs.Prelude.{◌≡◌, ℕ, Bool, true, false, List, Option, Result, Ok, Err, IfSome}
 use Rattle.std.specs.Prelude.{codes, string_bytes}
 use Rattle.std.specs.Io.KnownBytes.{Appends}
-use Rattle.byte_streams.specs.Fronts.{AppendsFront}
+use Rattle.byte_streams.specs.Prefixes.{AppendsPrefix}
 use Rattle.wire.specs.Lines.{lines_of}
 use Rattle.history_check.specs.declared.migration.Migrated.{Migrated}
 use Rattle.history_check.specs.declared.migration.Migrated.TheVariants.{Text, BadRecord}
@@ -39,10 +39,10 @@ pub record Tells (before after : Option (List ℕ)) (is_one : Bool) (entries : L
   pub text : Appends before after (told_text migrated)
 
 -- a prefix of the result was appended
-pub record TellsFront (before after : Option (List ℕ)) (entries : List ℕ) : Type 0 where
+pub record TellsPrefix (before after : Option (List ℕ)) (entries : List ℕ) : Type 0 where
   pub migrated : Migrated
   pub right : IsMigrated (lines_of entries) migrated
-  pub front : AppendsFront before after (told_text migrated)
+  pub prefix : AppendsPrefix before after (told_text migrated)
 
 -- The bytes of which a statement is made: all that a reader gives, if they are known,
 abbrev pub OfReader : Option (List ℕ) → (List ℕ → Type 0) → Type 0
@@ -61,4 +61,4 @@ pub record Told
 
 -- the effect of the command on a record
 abbrev pub Migrates : ((List ℕ → Type 0) → Type 0) → Option (List ℕ) → Option (List ℕ) → ℕ → Type 0
-Migrates Of before after = Ends (Told Of before after) (Of (TellsFront before after)) before after
+Migrates Of before after = Ends (Told Of before after) (Of (TellsPrefix before after)) before after

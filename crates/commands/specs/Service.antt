@@ -2,7 +2,7 @@
 use Rattle.std.specs.Prelude.{ℕ, ◌≡◌, ◌⊎◌, List, Option, Some, None, IsSome}
 use Rattle.rules.specs.Limits.{full_limits}
 use Rattle.world.specs.State.{WorldState, new_world}
-use Rattle.byte_streams.specs.Fronts.{AppendsFront}
+use Rattle.byte_streams.specs.Prefixes.{AppendsPrefix}
 use Rattle.world.specs.Script.{AnswersScript, output_of}
 use Rattle.commands.specs.declared.fault.Fault.{Fault}
 use Rattle.commands.specs.declared.fault.Fault.TheVariants.{Input, Output, NoMemory}
@@ -20,8 +20,8 @@ pub record Serves
   pub answers : AnswersScript before after (start names) bytes new
 
 -- a prefix of that text is appended
-abbrev pub ServesFront : Option (List ℕ) → Option (List ℕ) → List (List ℕ) → List ℕ → Type 0
-ServesFront before after names bytes = AppendsFront before after (output_of (start names) bytes)
+abbrev pub ServesPrefix : Option (List ℕ) → Option (List ℕ) → List (List ℕ) → List ℕ → Type 0
+ServesPrefix before after names bytes = AppendsPrefix before after (output_of (start names) bytes)
 
 -- Why a script in rooms of these names may end early: a mistake in the names; if there is none,
 -- failed input or output; or a failed allocation.

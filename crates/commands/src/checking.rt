@@ -3,8 +3,8 @@
 ghost use Rattle.std.specs.Prelude.{◌≡◌, ◌≤◌, ◌⊎◌, IfErr, IfOk, IfSome, OnErr, OnOk, length};
 ghost use Rattle.std.specs.Prelude.{string_bytes};
 ghost use Rattle.std.specs.Io.KnownBytes.{Appends, IsAtEnd};
-ghost use Rattle.byte_streams.specs.Fronts.{AppendsFront};
-ghost use Rattle.commands.specs.Checks.{Checks, OfReaders, OfSome, Tells, TellsFront, end_status};
+ghost use Rattle.byte_streams.specs.Prefixes.{AppendsPrefix};
+ghost use Rattle.commands.specs.Checks.{Checks, OfReaders, OfSome, Tells, TellsPrefix, end_status};
 ghost use Rattle.commands.specs.Checks.{verdict_line};
 ghost use Rattle.commands.specs.Ends.{EndsEarly};
 
@@ -86,8 +86,8 @@ fn verdict_line(alloc: Global, verdict: Verdict) -> Result<String, Fault>
 /// Writes a line and flushes the output.
 pub(crate) fn write_line<W: Write>(output: &mut W, line: &[u8]) -> Result<(), Fault>
     ensures ok { OnOk result (Appends (W.contents output.old) (W.contents output.new) line.now) }
-    ensures front { OnErr result
-        (AppendsFront (W.contents output.old) (W.contents output.new) line.now) }
+    ensures prefix { OnErr result
+        (AppendsPrefix (W.contents output.old) (W.contents output.new) line.now) }
     ensures fault { IfErr result (λ fault. fault ≡ Fault.Output) }
 {
     if write_out(output, line).is_err() || output.flush().is_err() {
@@ -106,7 +106,7 @@ fn judge<W: Write>(
     ensures ok { IfOk result (λ verdict. Tells (W.contents output.old) (W.contents output.new)
         verdict entries.now transcript.now) }
     ensures fault { IfErr result (EndsEarly
-        (TellsFront (W.contents output.old) (W.contents output.new) entries.now transcript.now)
+        (TellsPrefix (W.contents output.old) (W.contents output.new) entries.now transcript.now)
         (W.contents output.old) (W.contents output.new)) }
 {
     let verdict = check(alloc, entries, transcript)?;
@@ -127,7 +127,7 @@ fn judge_over<A: Read, B: Read, W: Write>(
     ensures fault { IfErr result
         (EndsEarly
         (OfReaders (A.remaining first.old) (B.remaining second.old)
-        (TellsFront (W.contents output.old) (W.contents output.new)))
+        (TellsPrefix (W.contents output.old) (W.contents output.new)))
         (W.contents output.old) (W.contents output.new)) }
 {
     let entries = read_whole(alloc, first)?;
@@ -147,7 +147,7 @@ fn judge_at<H: Files, W: Write>(
         (Tells (W.contents output.old) (W.contents output.new) verdict)) }
     ensures fault { IfErr result
         (EndsEarly
-        (OfSome (TellsFront (W.contents output.old) (W.contents output.new)))
+        (OfSome (TellsPrefix (W.contents output.old) (W.contents output.new)))
         (W.contents output.old) (W.contents output.new)) }
 {
     let entries = read_at(rt, alloc, record)?;

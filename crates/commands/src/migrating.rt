@@ -2,10 +2,10 @@
 
 ghost use Rattle.std.specs.Prelude.{◌≡◌, IfErr, IfOk, OnOk, string_bytes};
 ghost use Rattle.std.specs.Io.KnownBytes.{Appends};
-ghost use Rattle.byte_streams.specs.Fronts.{AppendsFront};
+ghost use Rattle.byte_streams.specs.Prefixes.{AppendsPrefix};
 ghost use Rattle.history_check.specs.declared.migration.Migrated.TheVariants.{BadRecord};
 ghost use Rattle.commands.specs.Ends.{EndsEarly};
-ghost use Rattle.commands.specs.Migrations.{Migrates, OfReader, OfSome, Tells, TellsFront};
+ghost use Rattle.commands.specs.Migrations.{Migrates, OfReader, OfSome, Tells, TellsPrefix};
 ghost use Rattle.commands.specs.Migrations.{end_status, told_text};
 
 use crate::checking::{read_at, read_whole, write_line};
@@ -29,7 +29,7 @@ fn tell<W: Write>(alloc: Global, migrated: &Migrated, output: &mut W) -> Result<
     ensures ok { OnOk result
         (Appends (W.contents output.old) (W.contents output.new) (told_text migrated.now)) }
     ensures fault { IfErr result (EndsEarly
-        (AppendsFront (W.contents output.old) (W.contents output.new) (told_text migrated.now))
+        (AppendsPrefix (W.contents output.old) (W.contents output.new) (told_text migrated.now))
         (W.contents output.old) (W.contents output.new)) }
 {
     match migrated {
@@ -48,7 +48,7 @@ fn migrate_bytes<W: Write>(alloc: Global, entries: &[u8], output: &mut W) -> Res
     ensures ok { IfOk result (λ is_one.
         Tells (W.contents output.old) (W.contents output.new) is_one entries.now) }
     ensures fault { IfErr result (EndsEarly
-        (TellsFront (W.contents output.old) (W.contents output.new) entries.now)
+        (TellsPrefix (W.contents output.old) (W.contents output.new) entries.now)
         (W.contents output.old) (W.contents output.new)) }
 {
     let migrated = migrate(alloc, entries)?;
@@ -66,7 +66,7 @@ fn migrate_reader<R: Read, W: Write>(
         (Tells (W.contents output.old) (W.contents output.new) is_one)) }
     ensures fault { IfErr result (EndsEarly
         (OfReader (R.remaining input.old)
-        (TellsFront (W.contents output.old) (W.contents output.new)))
+        (TellsPrefix (W.contents output.old) (W.contents output.new)))
         (W.contents output.old) (W.contents output.new)) }
 {
     let entries = read_whole(alloc, input)?;
@@ -83,7 +83,7 @@ fn migrate_file<H: Files, W: Write>(
     ensures ok { IfOk result (λ is_one. OfSome
         (Tells (W.contents output.old) (W.contents output.new) is_one)) }
     ensures fault { IfErr result (EndsEarly
-        (OfSome (TellsFront (W.contents output.old) (W.contents output.new)))
+        (OfSome (TellsPrefix (W.contents output.old) (W.contents output.new)))
         (W.contents output.old) (W.contents output.new)) }
 {
     let entries = read_at(rt, alloc, record)?;

@@ -4,7 +4,7 @@ ghost use Rattle.std.specs.Prelude.{◌≡◌, ◌≢◌, IfErr, IfOk, IfSome, N
 ghost use Rattle.std.specs.List.{list_all};
 ghost use Rattle.base_types.specs.Texts.{is_room_name};
 ghost use Rattle.commands.specs.Names.{texts_of, mistake_in};
-ghost use Rattle.commands.specs.Service.{IsStatus, MayEnd, Serves, ServesFront};
+ghost use Rattle.commands.specs.Service.{IsStatus, MayEnd, Serves, ServesPrefix};
 
 use crate::fault::Fault;
 use base_types::RoomName;
@@ -41,8 +41,8 @@ fn script<R: Read, W: Write>(
     ensures ok { OnOk result (IfSome (R.remaining input.old)
         (Serves (W.contents output.old) (W.contents output.new) (texts_of names.now))) }
     ensures good { OnOk result (mistake_in (texts_of names.now) ≡ None) }
-    ensures front { OnErr result (IfSome (R.remaining input.old)
-        (ServesFront (W.contents output.old) (W.contents output.new) (texts_of names.now))) }
+    ensures prefix { OnErr result (IfSome (R.remaining input.old)
+        (ServesPrefix (W.contents output.old) (W.contents output.new) (texts_of names.now))) }
     ensures fault { IfErr result (MayEnd (texts_of names.now)) }
 {
     let rooms = room_names(alloc, names)?;
@@ -72,8 +72,8 @@ pub fn script_over<R: Read, W: Write, E: Write>(
 ) -> u8
     ensures served { result ≡ 0 → IfSome (R.remaining input.old)
         (Serves (W.contents output.old) (W.contents output.new) (texts_of names.now)) }
-    ensures front { result ≢ 0 → IfSome (R.remaining input.old)
-        (ServesFront (W.contents output.old) (W.contents output.new) (texts_of names.now)) }
+    ensures prefix { result ≢ 0 → IfSome (R.remaining input.old)
+        (ServesPrefix (W.contents output.old) (W.contents output.new) (texts_of names.now)) }
     ensures status { IsStatus (texts_of names.now) result }
 {
     match script(alloc, names, input, output) {

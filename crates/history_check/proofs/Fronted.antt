@@ -11,7 +11,7 @@ use Rattle.transcript.specs.declared.line.TranscriptLine.{TranscriptLine}
 use Rattle.transcript.specs.Lines.{at_of}
 use Rattle.transcript.specs.steps.Reads.{line_read}
 use Rattle.transcript.specs.Order.{IsInOrder, IsNext}
-use Rattle.transcript.specs.steps.Fronts.{FrontLines, EndsBefore, IsFront}
+use Rattle.transcript.specs.steps.OrderedParts.{OrderedPartView, EndsBefore, IsOrderedPart}
 use Rattle.history_check.specs.declared.findings.Fault.{Fault}
 use Rattle.history_check.specs.declared.findings.Fault.TheVariants.{NotJoined, WrongReply}
 use Rattle.history_check.specs.steps.Findings.{IsFinding, IsFirstFault}
@@ -33,7 +33,7 @@ pairs_take R xs n l h = λ i j d below within.
     subst (λ x. R x (get_or (take n xs) j d)) (sym first)
     (subst (λ y. R (get_or xs i d) y) (sym second) (h i j d below (omega (arith, small, l))))
 
-module _ (r : List Entry) (file : List (List ℕ)) (front : FrontLines) (f : IsFront (length r) file front) where
+module _ (r : List Entry) (file : List (List ℕ)) (front : OrderedPartView) (f : IsOrderedPart (length r) file front) where
   -- lines in order of which each is answered so are a true transcript
   true_lines : (lines : List TranscriptLine) → All (λ line. at_of line.reply ≤ length r) lines → All (IsAnswered r) lines → AllPairs IsInOrder lines → IsTrueTranscript r lines
   true_lines lines within answered order = record {
@@ -123,10 +123,10 @@ module _ (r : List Entry) (file : List (List ℕ)) (front : FrontLines) (f : IsF
 
 -- ---- what follows from the first fault
 
-module _ (r : List Entry) (file : List (List ℕ)) (front : FrontLines) (count : ℕ) (counted : count ≡ length r) (whole : IsFront count file front)
+module _ (r : List Entry) (file : List (List ℕ)) (front : OrderedPartView) (count : ℕ) (counted : count ≡ length r) (whole : IsOrderedPart count file front)
     (lines : List TranscriptLine) (same : lines ≡ front.lines) (found : Option (ℕ × Fault)) (first : IsFirstFault r lines found) where
-  moved : IsFront (length r) file front
-  moved = subst (λ k. IsFront k file front) counted whole
+  moved : IsOrderedPart (length r) file front
+  moved = subst (λ k. IsOrderedPart k file front) counted whole
 
   first_is : (other : Option (ℕ × Fault)) → found ≡ other → IsFirstFault r front.lines other
   first_is other e = subst (λ (ls : List TranscriptLine). IsFirstFault r ls other) same (subst (λ (o : Option (ℕ × Fault)). IsFirstFault r lines o) e first)

@@ -14,7 +14,7 @@ use Rattle.transcript.specs.declared.line.TranscriptLine.{TranscriptLine}
 use Rattle.transcript.specs.Lines.{at_of}
 use Rattle.history_check.specs.declared.findings.Fault.{Fault}
 use Rattle.history_check.specs.steps.Findings.{IsFinding, AreFindings}
-use Rattle.history_check.specs.steps.Replays.{AreByTime, IsFrontRoom, timed_from}
+use Rattle.history_check.specs.steps.Replays.{AreByTime, IsRoomOfPrefix, timed_from}
 use Rattle.history_check.specs.Transcripts.{room_at}
 use Rattle.history_check.proofs.Timed.{in_time}
 
@@ -25,7 +25,7 @@ IsJudged r lines findings place = (line : TranscriptLine) → slice_get lines pl
 -- the first k lines by time are judged, and the room is no further than the next one
 pub record HasJudged (r : List Entry) (lines : List TranscriptLine) (order : List (ℕ × ℕ)) (k : ℕ) (findings : List (Option Fault)) (room : Room) : Type 0 where
   pub size : length findings ≡ length lines
-  pub front : IsFrontRoom r room
+  pub front : IsRoomOfPrefix r room
   pub later : (j : ℕ) → k ≤ j → j < length order → length room.entries ≤ (get_or order j (0, 0)).0
   pub done : (j : ℕ) → j < k → j < length order → IsJudged r lines findings (get_or order j (0, 0)).1
 

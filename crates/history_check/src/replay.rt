@@ -5,7 +5,7 @@ ghost use Rattle.std.specs.Arc.{arc_value};
 ghost use Rattle.rules.specs.Limits.{full_limits};
 ghost use Rattle.rules.specs.Records.{IsLegal};
 ghost use Rattle.room_core.specs.Room.{full_room};
-ghost use Rattle.history_check.specs.steps.Replays.{AreByTime, IsFrontRoom};
+ghost use Rattle.history_check.specs.steps.Replays.{AreByTime, IsRoomOfPrefix};
 
 use base_types::NoMemory;
 use room_core::RoomState;
@@ -23,7 +23,7 @@ pub(crate) fn advance(
     at: usize,
 ) -> Result<(), NoMemory>
     requires legal { IsLegal full_limits (map arc_value entries.now) }
-    requires front { IsFrontRoom (map arc_value entries.now) room.old.room }
+    requires prefix { IsRoomOfPrefix (map arc_value entries.now) room.old.room }
     requires later { length room.old.room.entries ≤ at }
     requires within { at ≤ length entries.now }
     ensures { OnOk result (room.new.room ≡ full_room (take at (map arc_value entries.now))) }

@@ -14,7 +14,7 @@ use restore::{Reading, read_record};
 use rules::Entry;
 use std::alloc::Global;
 use std::sync::Arc;
-use transcript::Front;
+use transcript::OrderedPart;
 
 /// The verdict on a record and a transcript. Lines count from 1.
 #[derive(Clone, Copy, Debug, PartialEq, Eq)]
@@ -57,11 +57,11 @@ fn check_transcript(
     requires { IsLegal full_limits (map arc_value entries.now) }
     ensures { IfOk result (IsVerdictOn (map arc_value entries.now) (lines_of transcript.now)) }
 {
-    let front = Front::read(alloc, entries.len(), transcript)?;
-    match first_fault(alloc, entries, front.lines())? {
+    let part = OrderedPart::read(alloc, entries.len(), transcript)?;
+    match first_fault(alloc, entries, part.lines())? {
         Some((place, Fault::NotJoined)) => Ok(Verdict::BadTranscript(place + 1)),
         Some((place, Fault::WrongReply)) => Ok(Verdict::WrongReply(place + 1)),
-        None if front.is_stopped() => Ok(Verdict::BadTranscript(front.lines().len() + 1)),
+        None if part.is_stopped() => Ok(Verdict::BadTranscript(part.lines().len() + 1)),
         None => Ok(Verdict::Holds),
     }
 }

@@ -95,7 +95,7 @@ impl Journal for Memory {
         ensures fault { FailsBy JournalFault.NoMemory (fault_now self.old.failures) result }
         ensures held { OnOk result (self.new.held ≡ self.old.held ++ bytes.now) }
         ensures memory { result ≡ Err JournalFault.NoMemory → self.new.held ≡ self.old.held }
-        ensures front { OnErr result
+        ensures prefix { OnErr result
             (AppendsAtMost self.old.failures.leaves self.old.held self.new.held bytes.now) }
         ensures kept { self.new.kept ≡ self.old.kept }
         ensures failures { self.new.failures ≡ after_call self.old.failures }

@@ -91,7 +91,7 @@ impl Replica {
 
     /// The number of entries that were taken.
     pub fn count_taken(&self) -> u32
-        ensures taken { result ≡ length self.now.taken }
+        ensures count { result ≡ length self.now.taken }
         ensures takeable { IsTakeable self.now.limits self.now.taken }
     {
         self.drawing.len()
@@ -172,7 +172,7 @@ impl Replica {
     /// Takes a join.
     #[tactic(auto, unfolding(crate::specs::Taking::take_fault))]
     fn take_join(&mut self, alloc: Global, site: u32) -> Result<(), TakeFault>
-        ensures taken { OnOk result
+        ensures accepted { OnOk result
             (take_fault self.old.limits self.old.taken (Join site) ≡ None) }
         ensures fault { IfErr result (λ fault. fault ≢ WantOfMemory
             → take_fault self.old.limits self.old.taken (Join site) ≡ Some fault) }
@@ -194,7 +194,7 @@ impl Replica {
 
     /// Takes an operation.
     fn take_operation(&mut self, alloc: Global, op: Op) -> Result<(), TakeFault>
-        ensures taken { OnOk result
+        ensures accepted { OnOk result
             (take_fault self.old.limits self.old.taken (Operation op) ≡ None) }
         ensures fault { IfErr result (λ fault. fault ≢ WantOfMemory
             → take_fault self.old.limits self.old.taken (Operation op) ≡ Some fault) }
@@ -220,7 +220,7 @@ impl Replica {
     /// of joins is refused as room-full.
     /// `NoMemory` if an allocation failed; this may replace any of the others.
     pub fn take(&mut self, alloc: Global, entry: Entry) -> Result<(), TakeFault>
-        ensures taken { OnOk result (take_fault self.old.limits self.old.taken entry ≡ None) }
+        ensures accepted { OnOk result (take_fault self.old.limits self.old.taken entry ≡ None) }
         ensures fault { IfErr result (λ fault. fault ≢ WantOfMemory
             → take_fault self.old.limits self.old.taken entry ≡ Some fault) }
         ensures ok { OnOk result (self.new ≡ with_taken self.old entry) }
@@ -278,7 +278,7 @@ impl Replica {
 
     /// Takes a copy of the entry.
     fn take_copy(&mut self, alloc: Global, entry: &Entry) -> Result<(), TakeFault>
-        ensures taken { OnOk result (take_fault self.old.limits self.old.taken entry.now ≡ None) }
+        ensures accepted { OnOk result (take_fault self.old.limits self.old.taken entry.now ≡ None) }
         ensures fault { IfErr result (λ fault. fault ≢ WantOfMemory
             → take_fault self.old.limits self.old.taken entry.now ≡ Some fault) }
         ensures ok { OnOk result (self.new ≡ with_taken self.old entry.now) }

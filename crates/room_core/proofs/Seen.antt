@@ -8,7 +8,7 @@ use Rattle.std.proofs.lemmas.List.Elements.{filter-append, filter_more}
 use Rattle.std.proofs.lemmas.Option.{slice_get-get_or, slice_get_within, get_or_from_slice_get}
 use Rattle.rules.specs.declared.history.Entry.{Entry}
 use Rattle.rules.specs.steps.Equality.{same_entry, same_entry-Decides}
-use Rattle.room_core.specs.steps.Differences.{IsFrontOf, first_difference}
+use Rattle.room_core.specs.steps.Differences.{BeginsWith, first_difference}
 
 -- ---- the first difference
 
@@ -43,7 +43,7 @@ missing (f ∷ r) (e ∷ seen) (suc k) short there same =
     further e f seen r (Some k) s.0 (missing r seen k (omega arith) (omega arith) s.1) ∙ one_further k
 
 -- a front differs nowhere
-pub nowhere_if : (r seen : List Entry) → IsFrontOf r seen → first_difference r seen ≡ None
+pub nowhere_if : (r seen : List Entry) → BeginsWith r seen → first_difference r seen ≡ None
 nowhere_if r [] front = refl
 nowhere_if [] (e ∷ seen) front = absurd cc
 nowhere_if (f ∷ r) (e ∷ seen) front =
@@ -55,12 +55,12 @@ mapped_none None none = refl
 mapped_none (Some k) none = cc
 
 -- only a front differs nowhere
-pub front_if : (r seen : List Entry) → first_difference r seen ≡ None → IsFrontOf r seen
+pub front_if : (r seen : List Entry) → first_difference r seen ≡ None → BeginsWith r seen
 front_if r [] none = refl
 front_if [] (e ∷ seen) none = absurd cc
 front_if (f ∷ r) (e ∷ seen) none = go (λ none_left. front_if r seen none_left) (same_entry e f) refl
   where
-    go : (first_difference r seen ≡ None → IsFrontOf r seen) → (b : Bool) → same_entry e f ≡ b → IsFrontOf (f ∷ r) (e ∷ seen)
+    go : (first_difference r seen ≡ None → BeginsWith r seen) → (b : Bool) → same_entry e f ≡ b → BeginsWith (f ∷ r) (e ∷ seen)
     go later false is = absurd (let here = sym (cond-false _ _ _ is) ∙ none in cc)
     go later true is =
         let rest = sym (cond-true _ _ _ is) ∙ none in

@@ -3,8 +3,6 @@
 
 mod accept;
 mod command;
-mod early_end;
-mod folder;
 mod serve;
 mod server_observer;
 mod stamped_log;

@@ -6,8 +6,6 @@ ghost use Rattle.room_lock.specs.steps.Planned.{IsLedgerOf};
 ghost use Rattle.server.specs.steps.Faults.{of_serving};
 
 use crate::accept::Accepted;
-use crate::early_end::EarlyEnd;
-use crate::folder::Folder;
 use crate::server_observer::ServerObserver;
 use crate::tally::{Tally, empty_tallies, tallies_of};
 use base_types::repeated_name;
@@ -15,6 +13,7 @@ use commands::{Fault, room_names};
 use journal::Synced;
 use keeping::{Keeping, RoomFile};
 use log::{Log, warn};
+use room_folder::{EarlyEnd, Folder};
 use room_lock::{NewRooms, RoomLedger, Rooms};
 use rules::Limits;
 use sessions::{Forgets, Keeper, ServeFault, serve_streams};

@@ -19,7 +19,7 @@ use room_lock::{Entrance, Pass, RoomLedger};
 use std::alloc::Global;
 use std::marker::Model;
 use std::sync::Wait;
-use wire::{ReadFault, Refusal, Request, read_request};
+use wire::{ReadFault, Refusal, Request, Scratch, read_request_with};
 
 /// A session, with its pass if it is in a room. It cannot be dropped: `end` hands the pass back.
 pub struct Session<P: RoomLedger> {
@@ -77,6 +77,8 @@ impl<P: RoomLedger> Session<P> {
     /// and the rest call the room by it.
     /// The reply of a room is returned once what it reports of the room is kept, with the receipt.
     /// The session's own refusals have no receipt.
+    /// The scratch is memory for reading; nothing of an earlier message counts. Keep one between
+    /// messages, because a new one costs as much as a short message.
     ///
     /// # Errors
     /// `NoMemory` if an allocation failed. The call of the rooms may stand, although no reply is
@@ -87,6 +89,7 @@ impl<P: RoomLedger> Session<P> {
     pub fn message<R: Wait, O: Observer, K: Keeper<P>>(
         self,
         host: &Host<'_, P, R, O, K>,
+        scratch: &mut Scratch,
         bytes: &[u8],
     ) -> (Session<P>, Result<Answered<K::Receipt>, Cause>)
         ensures ok { IfOk result.1 (λ answered. (told : _) × IsTextOfTurn P.limits
@@ -97,7 +100,7 @@ impl<P: RoomLedger> Session<P> {
         ensures cause { IfErr result.1 (λ why. (why ≡ cause.NoMemory) ⊎ (why ≡ cause.NotKept)
             ⊎ ((why ≡ cause.Torn) × (result.0 ≡ self))) }
     {
-        let (after, answer) = self.answer(host, bytes);
+        let (after, answer) = self.answer(host, scratch, bytes);
         match answer {
             Ok(answer) => (after, answer.keep(host)),
             Err(cause) => (after, Err(cause)),
@@ -108,6 +111,7 @@ impl<P: RoomLedger> Session<P> {
     fn answer<R: Wait, O: Observer, K>(
         self,
         host: &Host<'_, P, R, O, K>,
+        scratch: &mut Scratch,
         bytes: &[u8],
     ) -> (Session<P>, Result<Answer<P>, Cause>)
         ensures ok { IfOk result.1 (λ answer. IsTurn P.limits
@@ -115,7 +119,7 @@ impl<P: RoomLedger> Session<P> {
         ensures err { OnErr result.1 (result.0 ≡ self) }
         ensures cause { IfErr result.1 (λ why. (why ≡ cause.NoMemory) ⊎ (why ≡ cause.Torn)) }
     {
-        match read_request(host.alloc, bytes) {
+        match read_request_with(host.alloc, scratch, bytes) {
             Ok(request) => self.ask(host, request),
             Err(ReadFault::Bad) => (self, Ok(Answer::own_refusal(Refusal::BadMessage))),
             Err(ReadFault::NoMemory) => (self, Err(Cause::NoMemory)),

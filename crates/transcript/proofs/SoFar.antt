@@ -4,7 +4,7 @@ use Rattle.std.proofs.lemmas.List.{map-append}
 use Rattle.transcript.specs.declared.line.TranscriptLine.{TranscriptLine}
 use Rattle.transcript.specs.steps.Reads.{line_read}
 use Rattle.transcript.specs.Order.{AreInOrder}
-use Rattle.transcript.specs.steps.Fronts.{IsNoNext, IsFront}
+use Rattle.transcript.specs.steps.OrderedParts.{IsNoNext, IsOrderedPart}
 use Rattle.transcript.specs.steps.Tables.{OrderedLines}
 
 -- the first lines of the file are read, and these are left
@@ -31,7 +31,7 @@ so_far_more count file before after bytes later line h is same more = record {
 
 -- nothing is left
 pub front_whole : (count : ℕ) (file : List (List ℕ)) (ordered : OrderedLines) (lines : List TranscriptLine) → IsReadSoFar count file ordered [] → lines ≡ ordered.lines → AreInOrder ordered.count ordered.lines
-    → IsFront count file (record { lines = lines; stopped = false })
+    → IsOrderedPart count file (record { lines = lines; stopped = false })
 front_whole count file ordered lines h same order = record {
   heads = h.heads;
   rest = [];
@@ -43,7 +43,7 @@ front_whole count file ordered lines h same order = record {
 
 -- what is left begins with a line that may not come next
 pub front_stopped : (count : ℕ) (file : List (List ℕ)) (ordered : OrderedLines) (lines : List TranscriptLine) (bytes : List ℕ) (later : List (List ℕ)) → IsReadSoFar count file ordered (bytes ∷ later) → lines ≡ ordered.lines
-    → AreInOrder ordered.count ordered.lines → IsNoNext ordered.count ordered.lines bytes → IsFront count file (record { lines = lines; stopped = true })
+    → AreInOrder ordered.count ordered.lines → IsNoNext ordered.count ordered.lines bytes → IsOrderedPart count file (record { lines = lines; stopped = true })
 front_stopped count file ordered lines bytes later h same order none = record {
   heads = h.heads;
   rest = bytes ∷ later;

@@ -1,3 +1,3 @@
-pub mod Fronts
+pub mod OrderedParts
 pub mod Tables
 pub mod Reads

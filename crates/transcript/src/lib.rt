@@ -2,12 +2,12 @@
 //! stand.
 #![tactic(auto)]
 
-mod front;
 pub mod laws;
 mod line;
 mod lines;
 mod order;
+mod ordered_part;
 
-pub use front::Front;
 pub use line::{TranscriptLine, adds, at_of, is_join};
 pub use lines::first_line;
+pub use ordered_part::OrderedPart;

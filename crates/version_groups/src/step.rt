@@ -20,7 +20,7 @@ pub(crate) fn groups_with_last<R: Relation>(
     kept: &[PlaceSet],
 ) -> Result<Vec<PlaceSet>, NoMemory>
     requires some { 0 < R.size relation.now }
-    requires kept { AreGroups (R.conflicts relation.now) (places (R.size relation.now - 1))
+    requires groups { AreGroups (R.conflicts relation.now) (places (R.size relation.now - 1))
         kept.now }
     ensures { IfOk result (λ next.
         AreGroups (R.conflicts relation.now) (places (R.size relation.now)) next.items) }
@@ -139,7 +139,8 @@ fn add_candidate(
     ensures { OnOk result (groups.new.items
         ≡ with_candidate groups.old.items candidate later.now.items) }
 {
-    if !lies_in(&candidate, groups) && !lies_in_later(&candidate, later) {
+    // Many candidates are the same, and the next one shows it at once.
+    if !lies_in_later(&candidate, later) && !lies_in(&candidate, groups) {
         groups.push(candidate)?;
     }
     Ok(())

@@ -208,7 +208,3 @@ asker_within state session (Some seat) request asker h e f =
 pub both_ok : {T E P Q R : Type 0} (r : Result T E) → (P → Q → R) → OnOk r P → OnOk r Q → OnOk r R
 both_ok (Ok x) f p q = f p q
 both_ok (Err y) f p q = tt
-
-pub ok_of : {T E P : Type 0} (r : Result T E) → P → OnOk r P
-ok_of (Ok x) p = p
-ok_of (Err y) p = tt

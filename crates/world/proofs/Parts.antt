@@ -4,7 +4,7 @@ use Rattle.std.proofs.lemmas.List.{length-take, take-append-drop, take_min, map-
 use Rattle.std.proofs.Math.Seq.{take-append-add}
 use Rattle.std.proofs.KnownBytes.{Appends-trans, Appends-nil, Appends-kept}
 use Rattle.std.specs.Io.KnownBytes.{Appends, Keeps}
-use Rattle.byte_streams.specs.Fronts.{AppendsFront}
+use Rattle.byte_streams.specs.Prefixes.{AppendsPrefix}
 use Rattle.byte_streams.proofs.Written.{no_front}
 use Rattle.wire.specs.Lines.{lines_of}
 use Rattle.world.specs.Rooms.{Rooms}
@@ -202,16 +202,16 @@ wrote_cut {s0 = s0} {s1 = s1} {taken = taken} {shorter = shorter} {pending = pen
 -- some of the answers were written
 pub wrote_hands : {a b c : Option (List ℕ)} {s0 s1 : WorldState} {taken held before after : List ℕ} → Wrote a b s0 s1 taken held before → Hands b c before after → Wrote a c s0 s1 taken held after
 wrote_hands {a = a} {b = b} {c = c} {s0 = s0} {s1 = s1} {taken = taken} {held = held} {before = before} {after = after} h k = record {
-  written = h.written ++ k.front;
+  written = h.written ++ k.prefix;
   adds = Appends-trans a b c _ _ h.adds k.adds;
-  answered = subst (λ t. Answered s0 s1 taken held t) (ap (λ t. h.written ++ t) k.whole ∙ sym (append_assoc h.written k.front after)) h.answered;
+  answered = subst (λ t. Answered s0 s1 taken held t) (ap (λ t. h.written ++ t) k.whole ∙ sym (append_assoc h.written k.prefix after)) h.answered;
 }
 
 pub hands_all : {b c : Option (List ℕ)} {before after : List ℕ} → Appends b c before → after ≡ [] → Hands b c before after
-hands_all {before = before} h e = record { front = before; adds = h; whole = sym (append-nil before) ∙ ap (λ t. before ++ t) (sym e) }
+hands_all {before = before} h e = record { prefix = before; adds = h; whole = sym (append-nil before) ∙ ap (λ t. before ++ t) (sym e) }
 
-pub hands_front : {b c : Option (List ℕ)} {before : List ℕ} (h : AppendsFront b c before) → Hands b c before h.rest
-hands_front h = record { front = h.front; adds = h.adds; whole = h.whole }
+pub hands_front : {b c : Option (List ℕ)} {before : List ℕ} (h : AppendsPrefix b c before) → Hands b c before h.rest
+hands_front h = record { prefix = h.prefix; adds = h.adds; whole = h.whole }
 
 pub wrote_kept : {a b c : Option (List ℕ)} {s0 s1 : WorldState} {taken held pending : List ℕ} → Wrote a b s0 s1 taken held pending → Keeps b c → Wrote a c s0 s1 taken held pending
 wrote_kept {a = a} {b = b} {c = c} h k = record { written = h.written; adds = Appends-kept a b c _ h.adds k; answered = h.answered }
@@ -220,7 +220,7 @@ pub some_of : {a b : Option (List ℕ)} {s0 s1 : WorldState} {taken held pending
 some_of {held = held} {pending = pending} h = record { held = held; pending = pending; wrote = h }
 
 hands_more : {b c : Option (List ℕ)} {before after : List ℕ} (lost : List ℕ) → Hands b c before after → Hands b c (before ++ lost) (after ++ lost)
-hands_more {after = after} lost h = record { front = h.front; adds = h.adds; whole = ap (λ t. t ++ lost) h.whole ∙ append_assoc h.front after lost }
+hands_more {after = after} lost h = record { prefix = h.prefix; adds = h.adds; whole = ap (λ t. t ++ lost) h.whole ∙ append_assoc h.prefix after lost }
 
 -- a line ended, and answers up to here are there
 pub record WroteUpTo (a b : Option (List ℕ)) (s0 s2 : WorldState) (taken after : List ℕ) : Type 0 where
@@ -265,7 +265,7 @@ stops_of {s0 = s0} {s1 = s1} {pending = pending} rest h = record {
   rooms = sym (first_end h.answered rest 0);
   names = h.answered.names;
   answers = record {
-    front = h.written;
+    prefix = h.written;
     rest = pending;
     adds = h.adds;
     whole = first_output h.answered rest 0 ∙ append-nil (h.written ++ pending);
@@ -278,19 +278,19 @@ stops_then {a = a} {b = b} {c = c} {s1 = s1} {held = held} rest h k = record {
   rooms = k.rooms ∙ sym (first_end h.answered rest k.count);
   names = k.names ∙ h.answered.names;
   answers = record {
-    front = h.written ++ k.answers.front;
+    prefix = h.written ++ k.answers.prefix;
     rest = k.answers.rest;
     adds = Appends-trans a b c _ _ h.adds k.answers.adds;
     whole =
         first_output h.answered rest k.count
         ∙ ap (λ t. t ++ lines_out (names_of s1) (rooms_of s1) (take k.count (lines_of (held ++ rest)))) (append-nil h.written)
         ∙ ap (λ t. h.written ++ t) k.answers.whole
-        ∙ sym (append_assoc h.written k.answers.front k.answers.rest);
+        ∙ sym (append_assoc h.written k.answers.prefix k.answers.rest);
   };
 }
 
 -- the last line was answered, and some of the answer written
-pub stops_line : (a c : Option (List ℕ)) (s new : WorldState) (line : List ℕ) → HasNoBreak line → 0 < length line → IsPastLine s line new → AppendsFront a c (line_text s line) → Stops a c s new line
+pub stops_line : (a c : Option (List ℕ)) (s new : WorldState) (line : List ℕ) → HasNoBreak line → 0 < length line → IsPastLine s line new → AppendsPrefix a c (line_text s line) → Stops a c s new line
 stops_line a c s new [] clean some past part = absurd (omega (arith, some))
 stops_line a c s new (x ∷ line) clean some past part =
     let one : (x ∷ line) ∷ [] ≡ take 1 (lines_of (x ∷ line)) = ap (take 1) (sym (lines_last x line clean)) in
@@ -299,7 +299,7 @@ stops_line a c s new (x ∷ line) clean some past part =
       rooms = past.rooms ∙ ap (lines_end (names_of s) (rooms_of s)) one;
       names = past.names;
       answers = record {
-        front = part.front;
+        prefix = part.prefix;
         rest = part.rest;
         adds = part.adds;
         whole = ap (lines_out (names_of s) (rooms_of s)) (sym one) ∙ append-nil (line_text s (x ∷ line)) ∙ part.whole;
@@ -324,17 +324,17 @@ past_end s new (x ∷ line) clean some past = record {
   shown = subst (LinesShow (names_of s) (rooms_of s)) (sym (lines_last x line clean)) (past.shown, tt);
 }
 
--- what was written is a front of the whole output
-pub stops_front : {a b : Option (List ℕ)} {s0 s1 : WorldState} {bytes : List ℕ} → Stops a b s0 s1 bytes → AppendsFront a b (output_of s0 bytes)
+-- what was written is a prefix of the whole output
+pub stops_front : {a b : Option (List ℕ)} {s0 s1 : WorldState} {bytes : List ℕ} → Stops a b s0 s1 bytes → AppendsPrefix a b (output_of s0 bytes)
 stops_front {s0 = s0} {bytes = bytes} h =
     let later = lines_out (names_of s0) (lines_end (names_of s0) (rooms_of s0) (take h.count (lines_of bytes))) (drop h.count (lines_of bytes)) in
     record {
-      front = h.answers.front;
+      prefix = h.answers.prefix;
       rest = h.answers.rest ++ later;
       adds = h.answers.adds;
       whole =
           ap (lines_out (names_of s0) (rooms_of s0)) (sym (take-append-drop h.count (lines_of bytes)))
           ∙ out_append (names_of s0) (rooms_of s0) (take h.count (lines_of bytes)) (drop h.count (lines_of bytes))
           ∙ ap (λ t. t ++ later) h.answers.whole
-          ∙ append_assoc h.answers.front h.answers.rest later;
+          ∙ append_assoc h.answers.prefix h.answers.rest later;
     }

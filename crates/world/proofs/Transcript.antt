@@ -2,7 +2,7 @@
 use Rattle.std.proofs.Common.{◌≡◌, ℕ, List, [], ◌++◌, take, append-nil, Option, Some, None, IfSome, sym, ap, subst, ◌∙◌}
 use Rattle.std.proofs.KnownBytes.{Appends-trans, Consumes-trans, Consumes-kept}
 use Rattle.std.specs.Io.KnownBytes.{Appends, Consumes, Keeps, IsAtEnd}
-use Rattle.byte_streams.specs.Fronts.{AppendsFront}
+use Rattle.byte_streams.specs.Prefixes.{AppendsPrefix}
 use Rattle.wire.specs.Lines.{lines_of}
 use Rattle.world.specs.State.{WorldState, names_of, rooms_of}
 use Rattle.world.specs.Script.{AnswersScript, output_of, end_of}
@@ -48,7 +48,7 @@ pub read_part : {r0 r1 a b c : Option (List ℕ)} (r2 : Option (List ℕ)) {old 
 read_part {r0 = r0} {r1 = r1} {a = a} {c = c} r2 {old = old} {new = new} bytes h k t =
     at_whole (λ all. Stops a c old new all) r0 r2 (h.taken ++ bytes) (Consumes-trans r0 r1 r2 _ _ h.consumed k) (λ rest. stops_of rest (wrote_then (wrote_more bytes h.wrote) t.wrote))
 
-pub stop_front : (r0 a b : Option (List ℕ)) (old new : WorldState) → IfSome r0 (λ all. Stops a b old new all) → IfSome r0 (λ all. AppendsFront a b (output_of old all))
+pub stop_front : (r0 a b : Option (List ℕ)) (old new : WorldState) → IfSome r0 (λ all. Stops a b old new all) → IfSome r0 (λ all. AppendsPrefix a b (output_of old all))
 stop_front None a b old new h = tt
 stop_front (Some all) a b old new h = stops_front h
 

@@ -31,7 +31,7 @@ use std::alloc::Global;
 use std::collections::BTreeMap;
 use std::marker::Model;
 use std::sync::Arc;
-use wire::{Refusal, Reply, Request, if_in_form, read_request, write_reply};
+use wire::{Refusal, Reply, Request, Scratch, if_in_form, read_request_with, write_reply};
 
 /// Rooms, and the sessions that are in them.
 #[derive(Drop)]
@@ -52,10 +52,14 @@ impl Model for World {
 }
 
 /// The request that the bytes are a text of, if there is one.
-fn request_read(alloc: Global, bytes: &[u8]) -> Result<Option<Request>, NoMemory>
+fn request_read(
+    alloc: Global,
+    scratch: &mut Scratch,
+    bytes: &[u8],
+) -> Result<Option<Request>, NoMemory>
     ensures { IfOk result (λ request. request ≡ request_read bytes.now) }
 {
-    if_in_form(read_request(alloc, bytes))
+    if_in_form(read_request_with(alloc, scratch, bytes))
 }
 
 /// The text of a refusal that asks no room.
@@ -156,7 +160,24 @@ impl World {
         ensures names { names_of self.new ≡ names_of self.old }
         ensures err { OnErr result (self.new ≡ self.old) }
     {
-        let Some(request) = request_read(alloc, bytes)? else {
+        let mut scratch = Scratch::new(alloc);
+        self.step_with(alloc, &mut scratch, session, bytes)
+    }
+
+    /// `step` with the caller's memory for reading. A new one costs as much as a short message.
+    pub(crate) fn step_with(
+        &mut self,
+        alloc: Global,
+        scratch: &mut Scratch,
+        session: u32,
+        bytes: &[u8],
+    ) -> Result<String, NoMemory>
+        ensures answer { let message = message_of session bytes.now in
+            IfOk result (λ text. IsAnswer self.old message (string_bytes text) self.new) }
+        ensures names { names_of self.new ≡ names_of self.old }
+        ensures err { OnErr result (self.new ≡ self.old) }
+    {
+        let Some(request) = request_read(alloc, scratch, bytes)? else {
             return refusal_text(alloc, Refusal::BadMessage);
         };
         let seat = seat_at(&self.seats, session);
@@ -184,8 +205,14 @@ impl World {
         ensures err { OnErr result (self.new ≡ self.old) }
     {
         let mut answers = Vec::with_capacity(alloc, messages.len())?;
+        let mut scratch = Scratch::new(alloc);
         for message in messages {
-            let answer = match self.step(alloc, message.0, message.1.as_slice()) {
+            let answer = match self.step_with(
+                alloc,
+                &mut scratch,
+                message.0,
+                message.1.as_slice(),
+            ) {
                 Ok(text) => Some(text),
                 Err(NoMemory) => None,
             };

@@ -5,7 +5,7 @@ ghost use Rattle.std.specs.Fmt.{decimal};
 ghost use Rattle.std.specs.Io.KnownBytes.{Appends, IsAtEnd, Keeps};
 ghost use Rattle.world.specs.Alone.{message_of};
 ghost use Rattle.world.specs.State.{names_of};
-ghost use Rattle.byte_streams.specs.Fronts.{AppendsFront};
+ghost use Rattle.byte_streams.specs.Prefixes.{AppendsPrefix};
 ghost use Rattle.world.specs.Script.{message_in, output_of, AnswersScript};
 ghost use Rattle.world.specs.steps.Endings.{HasNoBreak, Stops, AnswersRead};
 ghost use Rattle.world.specs.steps.Answered.{kept_part, line_text, IsHeld, IsPastLine, IsPastEnd, Adds, AnswersSome, Hands, Wrote, WroteSome};
@@ -18,6 +18,7 @@ use itoa::Buffer;
 use memchr::memchr;
 use std::alloc::Global;
 use std::io::{Read, Write};
+use wire::Scratch;
 
 /// How many bytes of a line are kept: a session, a space and one byte more than a request has.
 const LINE_LIMIT: usize = 16396;
@@ -78,7 +79,7 @@ fn hand_out<W: Write>(output: &mut W, answers: &mut Vec<u8>) -> Result<(), Scrip
         (Appends (W.contents output.old) (W.contents output.new) answers.old.items) }
     ensures empty { OnOk result (answers.new.items ≡ []) }
     ensures fault { OnErr result
-        (AppendsFront (W.contents output.old) (W.contents output.new) answers.old.items) }
+        (AppendsPrefix (W.contents output.old) (W.contents output.new) answers.old.items) }
     ensures kind { IfErr result (λ fault. fault ≡ ScriptFault.Write) }
 {
     if write_out(output, answers.as_slice()).is_err() {
@@ -98,7 +99,7 @@ fn hand_out_many<W: Write>(
         (Hands (W.contents output.old) (W.contents output.new)
         answers.old.items answers.new.items) }
     ensures fault { OnErr result
-        (AppendsFront (W.contents output.old) (W.contents output.new) answers.old.items) }
+        (AppendsPrefix (W.contents output.old) (W.contents output.new) answers.old.items) }
     ensures kind { IfErr result (λ fault. fault ≡ ScriptFault.Write) }
 {
     if now || answers.len() >= MANY_ANSWERS {
@@ -139,6 +140,7 @@ impl World {
     fn answer_line(
         &mut self,
         alloc: Global,
+        scratch: &mut Scratch,
         line: &[u8],
         answers: &mut Vec<u8>,
     ) -> Result<(), NoMemory>
@@ -152,7 +154,7 @@ impl World {
         match message_in(line) {
             None => answers.extend_from_slice(b"?\n")?,
             Some((session, bytes)) => {
-                let reply = self.step(alloc, session, bytes)?;
+                let reply = self.step_with(alloc, scratch, session, bytes)?;
                 add_reply(answers, session, reply.as_str())?;
             }
         }
@@ -163,6 +165,7 @@ impl World {
     fn end_line(
         &mut self,
         alloc: Global,
+        scratch: &mut Scratch,
         line: &mut Vec<u8>,
         bytes: &[u8],
         answers: &mut Vec<u8>,
@@ -178,10 +181,10 @@ impl World {
             OnErr result (AnswersSome self.old self.new whole) }
     {
         if line.is_empty() {
-            return self.answer_line(alloc, bytes, answers);
+            return self.answer_line(alloc, scratch, bytes, answers);
         }
         keep_bytes(line, bytes)?;
-        self.answer_line(alloc, line.as_slice(), answers)?;
+        self.answer_line(alloc, scratch, line.as_slice(), answers)?;
         line.clear();
         Ok(())
     }
@@ -191,6 +194,7 @@ impl World {
     fn answer_lines<'b, W: Write>(
         &mut self,
         alloc: Global,
+        scratch: &mut Scratch,
         line: &mut Vec<u8>,
         bytes: &'b [u8],
         answers: &mut Vec<u8>,
@@ -211,7 +215,7 @@ impl World {
     {
         let mut rest = bytes;
         while let Some((first, others)) = split_line(rest) {
-            let ended = self.end_line(alloc, line, first, answers);
+            let ended = self.end_line(alloc, scratch, line, first, answers);
             hand_out_many(output, answers, ended.is_err())?;
             ended?;
             rest = others;
@@ -223,6 +227,7 @@ impl World {
     fn take_bytes<W: Write>(
         &mut self,
         alloc: Global,
+        scratch: &mut Scratch,
         line: &mut Vec<u8>,
         bytes: &[u8],
         answers: &mut Vec<u8>,
@@ -241,7 +246,7 @@ impl World {
             self.old self.new taken) }
         ensures kind { IfErr result (λ fault. fault ≢ ScriptFault.Read) }
     {
-        let rest = self.answer_lines(alloc, line, bytes, answers, output)?;
+        let rest = self.answer_lines(alloc, scratch, line, bytes, answers, output)?;
         hand_out(output, answers)?;
         flush_out(output)?;
         keep_bytes(line, rest)?;
@@ -252,6 +257,7 @@ impl World {
     fn finish<W: Write>(
         &mut self,
         alloc: Global,
+        scratch: &mut Scratch,
         line: &[u8],
         answers: &mut Vec<u8>,
         output: &mut W,
@@ -270,7 +276,7 @@ impl World {
         if line.is_empty() {
             return Ok(());
         }
-        self.answer_line(alloc, line, answers)?;
+        self.answer_line(alloc, scratch, line, answers)?;
         hand_out(output, answers)?;
         flush_out(output)
     }
@@ -285,15 +291,14 @@ impl World {
     /// `byte_streams::Uninterrupted` streams.
     ///
     /// The clauses hold for a reader with known bytes and a writer that tells what it holds, such
-    /// as a slice and a `Vec`. No clause speaks of a pipe or a file. and their answers are written.
-    /// answers are written.
+    /// as a slice and a `Vec`. No clause speaks of a pipe or a file.
     ///
     /// # Errors
     ///
     /// - `Read` if a read failed, or after 1,000,000,000 reads. All lines whose end was read are
-    ///   answered,
+    ///   answered, and their answers are written.
     /// - `Write` if a write or a flush failed. Some first lines were answered, and some first bytes
-    ///   of their
+    ///   of their answers are written.
     /// - `NoMemory` if an allocation failed; otherwise as for `Write`.
     pub fn script<R: Read, W: Write>(
         &mut self,
@@ -308,7 +313,7 @@ impl World {
         ensures names { names_of self.new ≡ names_of self.old }
         // Where it ends early:
         ensures fault { OnErr result (IfSome (R.remaining input.old) (λ bytes.
-            AppendsFront (W.contents output.old) (W.contents output.new)
+            AppendsPrefix (W.contents output.old) (W.contents output.new)
             (output_of self.old bytes))) }
         ensures stops { OnErr result (IfSome (R.remaining input.old) (λ bytes.
             Stops (W.contents output.old) (W.contents output.new) self.old self.new bytes)) }
@@ -320,11 +325,25 @@ impl World {
         let chunk = buffer.as_mut_slice();
         let mut line = Vec::new(alloc);
         let mut answers = Vec::new(alloc);
+        let mut scratch = Scratch::new(alloc);
         for _ in 0..1_000_000_000u32 {
             match input.read(chunk) {
-                Ok(0) => return self.finish(alloc, line.as_slice(), &mut answers, output),
+                Ok(0) => return self.finish(
+                    alloc,
+                    &mut scratch,
+                    line.as_slice(),
+                    &mut answers,
+                    output,
+                ),
                 Ok(count) => {
-                    self.take_bytes(alloc, &mut line, &chunk[..count], &mut answers, output)?
+                    self.take_bytes(
+                        alloc,
+                        &mut scratch,
+                        &mut line,
+                        &chunk[..count],
+                        &mut answers,
+                        output,
+                    )?
                 }
                 Err(_fault) => return Err(ScriptFault::Read),
             }

@@ -17,5 +17,5 @@ pub record AreByTime (lines : List TranscriptLine) (order : List (ℕ × ℕ)) :
   pub rises : IsNonDecreasingBy (λ timed. timed.0) order
 
 -- the room has a prefix of the record
-abbrev pub IsFrontRoom : List Entry → Room → Type 0
-IsFrontRoom r room = room ≡ full_room (take (length room.entries) r)
+abbrev pub IsRoomOfPrefix : List Entry → Room → Type 0
+IsRoomOfPrefix r room = room ≡ full_room (take (length room.entries) r)

@@ -5,8 +5,8 @@ use Rattle.rules.specs.declared.history.Entry.{Entry}
 use Rattle.rules.specs.steps.Equality.{same_entry}
 
 -- the seen entries are the record's first
-abbrev pub IsFrontOf : List Entry → List Entry → Type 0
-IsFrontOf r seen = take (length seen) r ≡ seen
+abbrev pub BeginsWith : List Entry → List Entry → Type 0
+BeginsWith r seen = take (length seen) r ≡ seen
 
 -- the first place, if there is one, at which the seen entry is not the record's or the record has
 -- none

@@ -19,6 +19,7 @@ use std::sync::Wait;
 use std::sync::atomic::{AtomicU64, Ordering};
 use std::thread::Threads;
 use tungstenite::Duplex;
+use wire::Scratch;
 
 /// The rooms that are asked.
 const NAMES: [&str; 2] = ["r", "s"];
@@ -131,8 +132,9 @@ fn receipts_in<P: RoomLedger>(
     };
     let mut session = Session::new(1);
     let mut receipts = Vec::new(rt.alloc());
+    let mut scratch = Scratch::new(rt.alloc());
     for words in ASKED_FREELY.lines() {
-        let (after, answered) = session.message(&host, words.as_bytes());
+        let (after, answered) = session.message(&host, &mut scratch, words.as_bytes());
         session = after;
         let receipt = answered.expect(rt, "an answer").receipt;
         receipts.push(receipt).expect(rt, "memory");

@@ -6,7 +6,7 @@ use Rattle.transcript.specs.declared.line.TranscriptLine.{TranscriptLine}
 use Rattle.transcript.specs.Lines.{at_of, adds, entries_after}
 use Rattle.transcript.specs.steps.Reads.{line_read}
 use Rattle.transcript.specs.Order.{IsNext, AreInOrder}
-use Rattle.transcript.specs.steps.Fronts.{IsNoNext}
+use Rattle.transcript.specs.steps.OrderedParts.{IsNoNext}
 
 -- lines in order, of a record with `count` entries
 pub record OrderedLines : Type 0 where

@@ -73,11 +73,11 @@ pub record AnswersSome (from to : WorldState) (taken : List ℕ) : Type 0 where
   pub text : List ℕ
   pub answered : Answered from to taken held text
 
--- a front of the answers was written, and the others are pending
+-- a prefix of the answers was written, and the others are pending
 pub record Hands (old new : Option (List ℕ)) (before after : List ℕ) : Type 0 where
-  pub front : List ℕ
-  pub adds : Appends old new front
-  pub whole : before ≡ front ++ after
+  pub prefix : List ℕ
+  pub adds : Appends old new prefix
+  pub whole : before ≡ prefix ++ after
 
 pub record Wrote (old new : Option (List ℕ)) (from to : WorldState)
     (taken held pending : List ℕ) : Type 0 where

@@ -3,7 +3,7 @@ use Rattle.std.specs.Prelude.{ℕ, ◌+◌, ◌^◌, ◌≡◌, ◌≢◌, ◌<�
 use Rattle.std.specs.Prelude.{if◌then◌else◌}
 use Rattle.std.specs.Fmt.{decimal}
 use Rattle.std.specs.Io.KnownBytes.{Appends, Consumes}
-use Rattle.byte_streams.specs.Fronts.{AppendsFront}
+use Rattle.byte_streams.specs.Prefixes.{AppendsPrefix}
 use Rattle.wire.specs.Lines.{ends_line, lines_of}
 use Rattle.world.specs.Alone.{Message}
 use Rattle.world.specs.State.{WorldState, names_of, rooms_of}
@@ -19,12 +19,12 @@ abbrev pub HasNoBreak : List ℕ → Type 0
 HasNoBreak [] = Unit {0}
 HasNoBreak (byte ∷ bytes) = (byte ≢ 10) × HasNoBreak bytes
 
--- some of the first lines of these bytes were answered, and a front of the answers was written
+-- some of the first lines of these bytes were answered, and a prefix of the answers was written
 pub record Stops (old new : Option (List ℕ)) (from to : WorldState) (bytes : List ℕ) : Type 0 where
   pub count : ℕ
   pub rooms : rooms_of to ≡ lines_end (names_of from) (rooms_of from) (take count (lines_of bytes))
   pub names : names_of to ≡ names_of from
-  pub answers : AppendsFront old new
+  pub answers : AppendsPrefix old new
       (lines_out (names_of from) (rooms_of from) (take count (lines_of bytes)))
 
 -- how many lines end in these bytes

@@ -1,13 +1,10 @@
-use Rattle.std.proofs.Common.{List, ℕ, map, Result, Ok, Err, OnOk, ap, subst, ◌∙◌}
+use Rattle.std.proofs.Common.{List, ℕ, map, ap, subst, ◌∙◌}
 use Rattle.std.specs.Io.KnownBytes.{Appends}
 use Rattle.std.proofs.KnownBytes.{Appends-kept}
+use Rattle.byte_streams.proofs.Written.{ok_of}
 use Rattle.sessions.specs.Records.{all_lines}
 use Rattle.sessions.proofs.Printed.{all_legal, named, same_names}
 use Rattle.sessions.proofs.streams.serve_streams.Goals as goal
-
-ok_of : {T E P : Type 0} (r : Result T E) → P → OnOk r P
-ok_of (Ok x) p = p
-ok_of (Err y) p = tt
 
 pub returns : goal.returns
 returns g c =

@@ -100,4 +100,4 @@ returns-clause-allowed c =
     let there = ap (λ (n : Name). lookup (same_name n) i.objects.entries) (sym named) ∙ sym found in
     ap (λ (s : DrawingState). body_refusal s.room c.args.op) (sym c.self.view_is)
     ∙ by_object (room_of i.limits (map arc_value i.entries.items)) c.args.op c.requires.change i.objects.entries i.past.history c.self.invariant c.requires.counted c.in-Some-get_index_mut.shape.now there
-    ∙ c.in_ok-plan_change.ensures.taken
+    ∙ c.in_ok-plan_change.ensures.accepted

@@ -22,7 +22,7 @@ returns-in-Err-clause-err c =
     let sum = length-append c.args.self.now.taken (take k entries) in
     let front = length-take-le k entries (omega arith) in
     let counted = ap (λ (s : ReplicaState). length s.taken) same in
-    let place : c.count_taken.result - c.count_taken-before.result ≡ k = omega (arith, c.count_taken.ensures.taken, c.count_taken-before.ensures.taken, counted, sum, front) in
+    let place : c.count_taken.result - c.count_taken-before.result ≡ k = omega (arith, c.count_taken.ensures.count, c.count_taken-before.ensures.count, counted, sum, front) in
     subst (λ n. StopsAt c.args.self.now c.take_copy.new.self entries n c.in-Err.fault) (sym place) (record {
       within = within;
       before = same;

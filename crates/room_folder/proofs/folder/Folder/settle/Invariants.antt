@@ -1,5 +1,5 @@
 use Rattle.std.proofs.Common.{◌≡◌, ◌++◌, length, vec_len}
-use Rattle.server.proofs.folder.Folder.settle.Given as goal
+use Rattle.room_folder.proofs.folder.Folder.settle.Given as goal
 
 abbrev pub invariant-loop-found : goal.invariant-loop-found
 invariant-loop-found g l =

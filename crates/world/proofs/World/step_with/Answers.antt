@@ -9,7 +9,7 @@ use Rattle.world.proofs.SeatMaps.{seats_within, state_of, moves_of}
 use Rattle.world.proofs.Changed.{asker_within}
 use Rattle.world.proofs.ReadBack.{request_in_range}
 use Rattle.world.proofs.StepAnswers.{bad_answer, room_answer, if_ok_and}
-use Rattle.world.proofs.World.step.Goals as goal
+use Rattle.world.proofs.World.step_with.Goals as goal
 
 pub invariant_of-self : goal.invariant_of-self
 invariant_of-self c =

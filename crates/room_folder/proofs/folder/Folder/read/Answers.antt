@@ -2,7 +2,7 @@ use Rattle.std.proofs.Common.{◌≡◌, rules, subst, sym}
 use Rattle.std.specs.Prelude.{All}
 use Rattle.std.proofs.lemmas.List.Elements.{All-push}
 use Rattle.rules.specs.Limits.{full_limits}
-use Rattle.server.proofs.folder.Folder.read.Goals as goal
+use Rattle.room_folder.proofs.folder.Folder.read.Goals as goal
 
 -- the state that was read last has full limits, as those before it
 pub loop-name-preserved : goal.loop-name-preserved

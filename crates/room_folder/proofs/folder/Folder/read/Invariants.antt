@@ -1,6 +1,6 @@
 use Rattle.std.proofs.Common.{◌≡◌, All, vec_len}
 use Rattle.rules.specs.Limits.{full_limits}
-use Rattle.server.proofs.folder.Folder.read.Given as goal
+use Rattle.room_folder.proofs.folder.Folder.read.Given as goal
 
 abbrev pub invariant-loop-name : goal.invariant-loop-name
 invariant-loop-name g l =

@@ -5,7 +5,7 @@ use Rattle.transcript.specs.steps.Reads.{line_read}
 use Rattle.transcript.specs.Order.{IsNext, AreInOrder}
 
 -- the first lines of a transcript, and whether reading stopped before its end
-pub record FrontLines : Type 0 where
+pub record OrderedPartView : Type 0 where
   pub lines : List TranscriptLine
   pub stopped : Bool
 
@@ -15,15 +15,15 @@ IsNoNext count before bytes =
     (line : TranscriptLine) → line_read bytes ≡ Some line → ¬ IsNext count before line
 
 -- what remains where reading ends: nothing, or a line that may not come next
-abbrev pub EndsBefore : ℕ → FrontLines → List (List ℕ) → Type 0
-EndsBefore count front [] = front.stopped ≡ false
-EndsBefore count front (bytes ∷ later) = (front.stopped ≡ true) × IsNoNext count front.lines bytes
+abbrev pub EndsBefore : ℕ → OrderedPartView → List (List ℕ) → Type 0
+EndsBefore count part [] = part.stopped ≡ false
+EndsBefore count part (bytes ∷ later) = (part.stopped ≡ true) × IsNoNext count part.lines bytes
 
 -- the lines of a file, up to the first that is not in form or may not come next
-pub record IsFront (count : ℕ) (file : List (List ℕ)) (front : FrontLines) : Type 0 where
+pub record IsOrderedPart (count : ℕ) (file : List (List ℕ)) (part : OrderedPartView) : Type 0 where
   pub heads : List (List ℕ)
   pub rest : List (List ℕ)
   pub whole : file ≡ heads ++ rest
-  pub read : map line_read heads ≡ map Some front.lines
-  pub order : AreInOrder count front.lines
-  pub ends : EndsBefore count front rest
+  pub read : map line_read heads ≡ map Some part.lines
+  pub order : AreInOrder count part.lines
+  pub ends : EndsBefore count part rest

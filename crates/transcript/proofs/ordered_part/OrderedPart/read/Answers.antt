@@ -4,7 +4,7 @@ use Rattle.transcript.specs.declared.line.TranscriptLine.{TranscriptLine}
 use Rattle.transcript.specs.steps.Tables.{IsNextIn}
 use Rattle.transcript.proofs.LineTexts.{line_fits}
 use Rattle.transcript.proofs.SoFar.{so_far_more}
-use Rattle.transcript.proofs.front.Front.read.Goals as goal
+use Rattle.transcript.proofs.ordered_part.OrderedPart.read.Goals as goal
 
 pub take-requires-clause-in_form : goal.take-requires-clause-in_form
 take-requires-clause-in_form c =

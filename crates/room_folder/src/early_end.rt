@@ -9,7 +9,7 @@ use thiserror::Error;
 
 /// Why `grace serve` ends early, with the words of its line.
 #[derive(Clone, Copy, Debug, Error)]
-pub(crate) enum EarlyEnd<'a> {
+pub enum EarlyEnd<'a> {
     #[error("{0}")]
     Fault(Fault),
     /// The folder is no folder, or it or a file in it cannot be opened, read or written.
@@ -31,7 +31,7 @@ pub(crate) enum EarlyEnd<'a> {
 
 impl EarlyEnd<'_> {
     /// The exit status: that of the fault, or else 3.
-    pub(crate) fn status(self) -> u8 {
+    pub fn status(self) -> u8 {
         match self {
             EarlyEnd::Fault(fault) => fault.status(),
             EarlyEnd::CannotKeep(_)
@@ -42,7 +42,7 @@ impl EarlyEnd<'_> {
     }
 
     /// Writes the line of the fault. Ignores a failed write.
-    pub(crate) fn write_line<E: Write>(self, errors: &mut E) {
+    pub fn write_line<E: Write>(self, errors: &mut E) {
         let _ = writeln!(errors, "grace: {self}");
         let _ = errors.flush();
     }

@@ -21,7 +21,7 @@ use std::{fs, io};
 /// A folder that keeps rooms. The file ROOM.record has the entries of a room, one per line. No
 /// other process holds the folder while this value exists.
 #[derive(Drop)]
-pub(crate) struct Folder<'a> {
+pub struct Folder<'a> {
     dir: &'a str,
     opened: File,
 }
@@ -29,7 +29,7 @@ pub(crate) struct Folder<'a> {
 /// A room's file as it was found: the open file, if there is one, and two numbers of bytes. `whole`
 /// counts the bytes of its whole lines, and `behind` the bytes behind them.
 #[derive(Drop)]
-pub(crate) struct Found {
+pub struct Found {
     path: String,
     file: Option<File>,
     behind: usize,
@@ -102,7 +102,7 @@ impl<'a> Folder<'a> {
     /// # Errors
     /// `CannotKeep` if it is no folder or cannot be opened.
     /// `KeptByAnother` if another process holds it.
-    pub(crate) fn open<R: Files<File = File> + Log>(
+    pub fn open<R: Files<File = File> + Log>(
         rt: &R,
         dir: &'a str,
     ) -> Result<Folder<'a>, EarlyEnd<'a>> {
@@ -125,7 +125,7 @@ impl<'a> Folder<'a> {
     /// `CannotKeep` if a file cannot be opened or read, or has more than 1,073,741,824 bytes.
     /// `BadRecord` if the whole lines of a file are no legal record.
     /// `Fault` if an allocation failed.
-    pub(crate) fn read<R: Files<File = File> + Log>(
+    pub fn read<R: Files<File = File> + Log>(
         &self,
         rt: &R,
         alloc: Global,
@@ -211,7 +211,7 @@ impl<'a> Folder<'a> {
     /// # Errors
     /// `CannotKeep` if a file cannot be created, cut or synced.
     /// `Fault` if an allocation failed.
-    pub(crate) fn settle<R: Files<File = File> + Log>(
+    pub fn settle<R: Files<File = File> + Log>(
         &self,
         rt: &R,
         alloc: Global,

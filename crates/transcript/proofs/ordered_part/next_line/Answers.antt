@@ -3,7 +3,7 @@ use Rattle.std.specs.Prelude.{IfSome}
 use Rattle.wire.specs.steps.Reading.{Gives}
 use Rattle.transcript.specs.steps.Reads.{line_read}
 use Rattle.transcript.proofs.LineTexts.{line_fits}
-use Rattle.transcript.proofs.front.next_line.Goals as goal
+use Rattle.transcript.proofs.ordered_part.next_line.Goals as goal
 
 pub takes-requires : goal.takes-requires
 takes-requires c =

@@ -2,7 +2,7 @@
 
 ghost use Rattle.std.specs.Prelude.{◌≡◌, IfOk};
 ghost use Rattle.wire.specs.Lines.{lines_of};
-ghost use Rattle.transcript.specs.steps.Fronts.{IsFront};
+ghost use Rattle.transcript.specs.steps.OrderedParts.{IsOrderedPart};
 ghost use Rattle.transcript.specs.steps.Tables.{IsNextIn};
 
 use crate::line::{TranscriptLine, read_line};
@@ -15,17 +15,17 @@ use wire::if_in_form;
 
 /// The first lines of a transcript, and whether reading stopped before its end.
 #[derive(Drop)]
-pub struct Front {
+pub struct OrderedPart {
     lines: Vec<TranscriptLine>,
     stopped: bool,
 }
 
-impl Model for Front {
-    ghost use Rattle.transcript.specs.steps.Fronts.{FrontLines};
+impl Model for OrderedPart {
+    ghost use Rattle.transcript.specs.steps.OrderedParts.{OrderedPartView};
 
-    ghost Value = { FrontLines };
+    ghost Value = { OrderedPartView };
 
-    ghost view = { λ front. record { lines = front.lines.items; stopped = front.stopped } };
+    ghost view = { λ part. record { lines = part.lines.items; stopped = part.stopped } };
 }
 
 /// The line that the bytes encode, if it is in form and may come next.
@@ -38,21 +38,21 @@ fn next_line(alloc: Global, order: &Order, bytes: &[u8]) -> Result<Option<Transc
     }
 }
 
-impl Front {
+impl OrderedPart {
     /// Reads a transcript of a record with `count` entries, up to the first line that is not in
     /// form or may not come next. Linear in the bytes and in `count`, in time and in memory.
     ///
     /// # Errors
     /// `NoMemory` if an allocation failed.
-    pub fn read(alloc: Global, count: usize, transcript: &[u8]) -> Result<Front, NoMemory>
-        ensures { IfOk result (IsFront count (lines_of transcript.now)) }
+    pub fn read(alloc: Global, count: usize, transcript: &[u8]) -> Result<OrderedPart, NoMemory>
+        ensures { IfOk result (IsOrderedPart count (lines_of transcript.now)) }
     {
         let mut order = Order::new(alloc, count)?;
         let mut rest = transcript;
         while !rest.is_empty() {
             let (bytes, after) = first_line(rest);
             let Some(line) = next_line(alloc, &order, bytes)? else {
-                return Ok(Front {
+                return Ok(OrderedPart {
                     lines: order.into_lines(),
                     stopped: true,
                 });
@@ -60,7 +60,7 @@ impl Front {
             order.take(line)?;
             rest = after;
         }
-        Ok(Front {
+        Ok(OrderedPart {
             lines: order.into_lines(),
             stopped: false,
         })

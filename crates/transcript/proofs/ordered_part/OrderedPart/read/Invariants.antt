@@ -1,7 +1,7 @@
 use Rattle.std.proofs.Common.{length}
 use Rattle.wire.specs.Lines.{lines_of}
 use Rattle.transcript.proofs.SoFar.{IsReadSoFar}
-use Rattle.transcript.proofs.front.Front.read.Given as goal
+use Rattle.transcript.proofs.ordered_part.OrderedPart.read.Given as goal
 
 -- the order has the lines before the rest
 abbrev pub invariant-loop-rest : goal.invariant-loop-rest

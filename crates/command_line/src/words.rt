@@ -1,0 +1,151 @@
+//! The commands, their arguments and their options.
+
+use clap::{Arg, ArgAction, Command, value_parser};
+use std::alloc::{AllocError, Global};
+
+/// The version that `--version` prints. docs/DECISIONS.md says what the number means.
+const VERSION: &str = "0.2.0";
+
+/// A required argument.
+fn word<'a>(alloc: Global, name: &'a str, help: &'a str) -> Arg<'a> {
+    Arg::new(alloc, name)
+        .required(true)
+        .action(ArgAction::Set)
+        .help(help)
+}
+
+/// The option for the timeout of a client.
+fn idle<'a>(alloc: Global) -> Arg<'a> {
+    Arg::new(alloc, "idle")
+        .long("idle")
+        .value_name("SECONDS")
+        .action(ArgAction::Set)
+        .value_parser(value_parser!(u32))
+        .default_value("300")
+        .help("How long to wait for a silent or blocked client; 0 waits forever")
+}
+
+/// The option for the period of reports.
+fn report<'a>(alloc: Global) -> Arg<'a> {
+    Arg::new(alloc, "report")
+        .long("report")
+        .value_name("SECONDS")
+        .action(ArgAction::Set)
+        .value_parser(value_parser!(u32))
+        .default_value("0")
+        .help("How often to report sessions and rooms on standard error; 0 disables reports")
+}
+
+/// The option for the folder of the rooms' files.
+fn keep<'a>(alloc: Global) -> Arg<'a> {
+    Arg::new(alloc, "keep")
+        .long("keep")
+        .value_name("DIR")
+        .action(ArgAction::Set)
+        .help(
+            "A folder that keeps each room in DIR/ROOM.record; without it rooms are in memory only",
+        )
+}
+
+/// The names of rooms, last on the command line.
+fn rooms<'a>(alloc: Global) -> Arg<'a> {
+    Arg::new(alloc, "ROOM")
+        .required(true)
+        .num_args(1..)
+        .action(ArgAction::Append)
+        .help("The name of a room: 1 to 64 of a-z, 0-9 and -")
+}
+
+/// `grace script`.
+fn script_command<'a>(alloc: Global) -> Result<Command<'a>, AllocError> {
+    Command::new(alloc, "script")
+        .about("Answers a script: lines SESSION MESSAGE from standard input")
+        .arg(rooms(alloc))
+}
+
+/// `grace serve`.
+fn serve_command<'a>(alloc: Global) -> Result<Command<'a>, AllocError> {
+    Command::new(alloc, "serve")
+        .about("Serves sessions over WebSocket, then prints the rooms' records")
+        .arg(keep(alloc))?
+        .arg(idle(alloc))?
+        .arg(report(alloc))?
+        .arg(word(
+            alloc,
+            "ADDRESS",
+            "The address to listen on: a host and a port, such as 127.0.0.1:8080",
+        ))?
+        .arg(word(
+            alloc,
+            "SESSIONS",
+            "How many sessions to serve in all, 1 to 100000",
+        )
+        .value_parser(value_parser!(u32).range(1..=100_000)))?
+        .arg(word(
+            alloc,
+            "WORKERS",
+            "How many sessions to serve at a time, 1 to 64",
+        )
+        .value_parser(value_parser!(u32).range(1..=64)))?
+        .arg(rooms(alloc))
+}
+
+/// `grace watch`.
+fn watch_command<'a>(alloc: Global) -> Result<Command<'a>, AllocError> {
+    Command::new(alloc, "watch")
+        .about("Shows the objects of a live room with their versions")
+        .arg(word(
+            alloc,
+            "ADDRESS",
+            "The address of the server: a host and a port, such as 127.0.0.1:8080",
+        ))?
+        .arg(word(
+            alloc,
+            "ROOM",
+            "The name of the room: 1 to 64 of a-z, 0-9 and -",
+        ))
+}
+
+/// `grace check`.
+fn check_command<'a>(alloc: Global) -> Result<Command<'a>, AllocError> {
+    Command::new(alloc, "check")
+        .about("Checks a room's record and a transcript of it")
+        .arg(word(
+            alloc,
+            "RECORD",
+            "A file of the record's entries, one a line",
+        ))?
+        .arg(word(
+            alloc,
+            "TRANSCRIPT",
+            "A file of requests and replies, one a line",
+        ))
+}
+
+/// `grace migrate`.
+fn migrate_command<'a>(alloc: Global) -> Result<Command<'a>, AllocError> {
+    Command::new(alloc, "migrate")
+        .about("Prints a room's record in today's forms")
+        .arg(word(
+            alloc,
+            "RECORD",
+            "A file of the record's entries, one a line",
+        ))
+}
+
+/// The command line of the program: its commands with their arguments and options.
+///
+/// # Errors
+///
+/// `AllocError` if an allocation failed.
+pub fn grace<'a>(alloc: Global) -> Result<Command<'a>, AllocError> {
+    Command::new(alloc, "grace")
+        .about("A group drawing server with object versions")
+        .version(VERSION)
+        .subcommand_required(true)
+        .subcommand(script_command(alloc)?)?
+        .subcommand(serve_command(alloc)?)?
+        .subcommand(watch_command(alloc)?)?
+        .subcommand(check_command(alloc)?)?
+        .subcommand(migrate_command(alloc)?)
+}

@@ -278,7 +278,8 @@ impl Replica {
 
     /// Takes a copy of the entry.
     fn take_copy(&mut self, alloc: Global, entry: &Entry) -> Result<(), TakeFault>
-        ensures accepted { OnOk result (take_fault self.old.limits self.old.taken entry.now ≡ None) }
+        ensures accepted { OnOk result
+            (take_fault self.old.limits self.old.taken entry.now ≡ None) }
         ensures fault { IfErr result (λ fault. fault ≢ WantOfMemory
             → take_fault self.old.limits self.old.taken entry.now ≡ Some fault) }
         ensures ok { OnOk result (self.new ≡ with_taken self.old entry.now) }

@@ -14,7 +14,7 @@ use room_lock::{Entrance, NewRooms, Pass, RoomLedger, Rooms};
 use rules::Limits;
 use std::process::Abort;
 use std::sync::Wait;
-use wire::{Request, read_request, write_reply};
+use wire::{Request, Scratch, read_request, write_reply};
 
 /// The creation of a rectangle as a site's first operation, which has seen nothing.
 const CREATION: &str = r#"["new",1,[],"rect",[["x",0]]]"#;
@@ -24,7 +24,8 @@ fn room_name(rt: &(impl Abort + AllocGlobal), text: &str) -> RoomName {
 }
 
 fn request_of(rt: &(impl Abort + AllocGlobal), text: &str) -> Request {
-    read_request(rt.alloc(), text.as_bytes()).expect(rt, "a request")
+    let mut scratch = Scratch::new(rt.alloc());
+    read_request(rt.alloc(), &mut scratch, text.as_bytes()).expect(rt, "a request")
 }
 
 /// A plan of rooms of these names.

@@ -19,7 +19,7 @@ use room_lock::{Entrance, Pass, RoomLedger};
 use std::alloc::Global;
 use std::marker::Model;
 use std::sync::Wait;
-use wire::{ReadFault, Refusal, Request, Scratch, read_request_with};
+use wire::{ReadFault, Refusal, Request, Scratch, read_request};
 
 /// A session, with its pass if it is in a room. It cannot be dropped: `end` hands the pass back.
 pub struct Session<P: RoomLedger> {
@@ -119,7 +119,7 @@ impl<P: RoomLedger> Session<P> {
         ensures err { OnErr result.1 (result.0 ≡ self) }
         ensures cause { IfErr result.1 (λ why. (why ≡ cause.NoMemory) ⊎ (why ≡ cause.Torn)) }
     {
-        match read_request_with(host.alloc, scratch, bytes) {
+        match read_request(host.alloc, scratch, bytes) {
             Ok(request) => self.ask(host, request),
             Err(ReadFault::Bad) => (self, Ok(Answer::own_refusal(Refusal::BadMessage))),
             Err(ReadFault::NoMemory) => (self, Err(Cause::NoMemory)),

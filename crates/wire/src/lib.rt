@@ -13,7 +13,7 @@ mod write;
 pub use fault::{ReadFault, if_in_form};
 pub use json::Scratch;
 pub use lists::{EntryList, IdList, ObjectList, VersionList};
-pub use read::{read_entry, read_exchange, read_reply, read_request, read_request_with};
+pub use read::{read_entry, read_exchange, read_reply, read_request};
 pub use reply::Reply;
 pub use request::{MAX_FROM, MAX_REQUEST_LEN, Request};
 pub use rules::Refusal;

@@ -12,4 +12,4 @@ mod token;
 pub use entry::read_entry;
 pub use exchange::read_exchange;
 pub use reply::read_reply;
-pub use request::{read_request, read_request_with};
+pub use request::read_request;

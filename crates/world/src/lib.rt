@@ -31,7 +31,7 @@ use std::alloc::Global;
 use std::collections::BTreeMap;
 use std::marker::Model;
 use std::sync::Arc;
-use wire::{Refusal, Reply, Request, Scratch, if_in_form, read_request_with, write_reply};
+use wire::{Refusal, Reply, Request, Scratch, if_in_form, read_request, write_reply};
 
 /// Rooms, and the sessions that are in them.
 #[derive(Drop)]
@@ -59,7 +59,7 @@ fn request_read(
 ) -> Result<Option<Request>, NoMemory>
     ensures { IfOk result (λ request. request ≡ request_read bytes.now) }
 {
-    if_in_form(read_request_with(alloc, scratch, bytes))
+    if_in_form(read_request(alloc, scratch, bytes))
 }
 
 /// The text of a refusal that asks no room.

@@ -5,7 +5,7 @@ use room_core::{Limits, RoomState};
 use rules::{Attrs, Body, LimitValues};
 use state_vector::StateVector;
 use std::process::Abort;
-use wire::{Reply, Request, read_request, write_reply};
+use wire::{Reply, Request, Scratch, read_request, write_reply};
 
 /// What is asked of a room with one site as a site that hasn't joined.
 const NOT_JOINED: &str = r#"0 ["leave"] => ["no",0,2,"not-joined"]
@@ -36,7 +36,8 @@ fn answer_text(
 }
 
 fn request_of(rt: &(impl Abort + AllocGlobal), text: &str) -> Request {
-    read_request(rt.alloc(), text.as_bytes()).expect(rt, "a request")
+    let mut scratch = Scratch::new(rt.alloc());
+    read_request(rt.alloc(), &mut scratch, text.as_bytes()).expect(rt, "a request")
 }
 
 /// Does the room answer the line, SITE REQUEST => REPLY or join => REPLY where the next site joins?

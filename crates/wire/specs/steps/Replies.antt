@@ -35,7 +35,8 @@ shown_attrs_in = passing (rise attr_before) (list_in attr_in)
 
 -- the attributes of a version, of the values that a list has
 unfoldable pub shown_attrs_at : List Data → Option (List Attr)
-shown_attrs_at ds = all_in attr_in ds >>= λ attrs. if rise attr_before attrs then Some attrs else None
+shown_attrs_at ds =
+    all_in attr_in ds >>= λ attrs. if rise attr_before attrs then Some attrs else None
 
 -- what is shown of a version, by whether it is a text
 abbrev gone_or_attrs : Option (List ℕ) → Data → Option Shown

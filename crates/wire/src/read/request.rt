@@ -117,14 +117,14 @@ fn request_in_bytes(
 }
 
 /// Reads a request from bytes: at most 16,384 bytes of UTF-8 that are one JSON value, a form of the
-/// request. Linear in the bytes. Who reads many requests keeps the scratch between them, because a
-/// new one costs as much as a short request.
+/// request. Linear in the bytes. Nothing that the scratch holds counts. A caller that reads many
+/// requests should keep it between them, because a new one costs as much as a short request.
 ///
 /// # Errors
 ///
 /// - `Bad` if they are not such a text.
 /// - `NoMemory` if an allocation failed.
-pub fn read_request_with(
+pub fn read_request(
     alloc: Global,
     scratch: &mut Scratch,
     bytes: &[u8],
@@ -135,21 +135,4 @@ pub fn read_request_with(
     ensures none { IsErrOf result ReadFault.Bad → request_read bytes.now ≡ None }
 {
     request_in_bytes(alloc, scratch, bytes)
-}
-
-/// Reads a request from bytes: at most 16,384 bytes of UTF-8 that are one JSON value, a form of the
-/// request. Linear in the bytes.
-///
-/// # Errors
-///
-/// - `Bad` if they are not such a text.
-/// - `NoMemory` if an allocation failed.
-pub fn read_request(alloc: Global, bytes: &[u8]) -> Result<Request, ReadFault>
-    ensures ok { IfOk result (IsRequestText bytes.now) }
-    ensures bad { IsErrOf result ReadFault.Bad → (q : AnyRequest) → ¬ IsRequestText bytes.now q }
-    ensures value { IfOk result (λ request. request_read bytes.now ≡ Some request) }
-    ensures none { IsErrOf result ReadFault.Bad → request_read bytes.now ≡ None }
-{
-    let mut scratch = Scratch::new(alloc);
-    read_request_with(alloc, &mut scratch, bytes)
 }

@@ -2,11 +2,17 @@
 
 use super::{between, is_bad, is_read, is_text};
 use std::process::Abort;
-use wire::{read_request, write_request};
+use wire::{ReadFault, Request, Scratch, read_request, write_request};
+
+/// Reads a request with new memory.
+fn read(rt: &impl AllocGlobal, bytes: &[u8]) -> Result<Request, ReadFault> {
+    let mut scratch = Scratch::new(rt.alloc());
+    read_request(rt.alloc(), &mut scratch, bytes)
+}
 
 /// The second text is what is written of what the first is read as.
 fn is_written(rt: &(impl Abort + AllocGlobal), text: &str, again: &str) {
-    let request = read_request(rt.alloc(), text.as_bytes()).expect(rt, "a request");
+    let request = read(rt, text.as_bytes()).expect(rt, "a request");
     is_text(rt, write_request(rt.alloc(), &request), again);
 }
 
@@ -154,7 +160,7 @@ const NO_PAGE: &str = r#"["list"]
 
 #[test]
 fn no_request(rt: HostRuntime) {
-    is_bad(&rt, read_request(rt.alloc(), b""), "no text");
+    is_bad(&rt, read(&rt, b""), "no text");
     for table in [
         NO_REQUEST,
         NO_CREATION,
@@ -164,7 +170,7 @@ fn no_request(rt: HostRuntime) {
         NO_PAGE,
     ] {
         for text in table.lines() {
-            is_bad(&rt, read_request(rt.alloc(), text.as_bytes()), text);
+            is_bad(&rt, read(&rt, text.as_bytes()), text);
         }
     }
 }
@@ -179,7 +185,7 @@ fn with_bad_byte(rt: &(impl Abort + AllocGlobal), start: &str, end: &str) -> Vec
 
 fn is_no_text(rt: &(impl Abort + AllocGlobal), start: &str, end: &str) {
     let bytes = with_bad_byte(rt, start, end);
-    is_bad(rt, read_request(rt.alloc(), &bytes), start);
+    is_bad(rt, read(rt, &bytes), start);
 }
 
 #[test]
@@ -193,9 +199,9 @@ fn no_utf8(rt: HostRuntime) {
 fn is_bound(rt: &(impl Abort + AllocGlobal), before: &str, most: u16, middle: &str, after: &str) {
     let most = u32::from(most);
     let longest = between(rt, before, most, middle, after);
-    is_read(rt, read_request(rt.alloc(), longest.as_bytes()), before);
+    is_read(rt, read(rt, longest.as_bytes()), before);
     let longer = between(rt, before, most + 1, middle, after);
-    is_bad(rt, read_request(rt.alloc(), longer.as_bytes()), before);
+    is_bad(rt, read(rt, longer.as_bytes()), before);
 }
 
 #[test]
@@ -221,7 +227,7 @@ fn nested(rt: HostRuntime) {
     for depth in 127..129 {
         let opened = between(&rt, "", depth, "[", "");
         let lists = between(&rt, opened.as_str(), depth, "]", "");
-        is_bad(&rt, read_request(rt.alloc(), lists.as_bytes()), "lists");
+        is_bad(&rt, read(&rt, lists.as_bytes()), "lists");
     }
 }
 
@@ -247,7 +253,7 @@ fn sixteen_attributes(rt: HostRuntime) {
         is_written(&rt, text, text);
     }
     for text in [SEVENTEEN, PUT_OF_SEVENTEEN] {
-        is_bad(&rt, read_request(rt.alloc(), text.as_bytes()), text);
+        is_bad(&rt, read(&rt, text.as_bytes()), text);
     }
 }
 

@@ -1,7 +1,7 @@
 use Rattle.wire.proofs.ByForm.{given_value, given_none, given_ok, given_bad}
 use Rattle.wire.proofs.RequestTexts.{request_text_takes, request_text_again}
 use Rattle.wire.specs.Form.{IsRequestText}
-use Rattle.wire.proofs.read.request.read_request_with.Goals as goal
+use Rattle.wire.proofs.read.request.read_request.Goals as goal
 
 pub returns-clause-ok : goal.returns-clause-ok
 returns-clause-ok c = given_ok _ _ (IsRequestText c.args.bytes.now) (request_text_takes c.args.bytes.now) c.request_in_bytes.ensures

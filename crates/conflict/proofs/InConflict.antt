@@ -16,7 +16,7 @@ use Rattle.conflict.proofs.Growth.{never_alone}
 use Rattle.conflict.proofs.Rows.{one_change_more, changes_with_addition, last_in_row, conflict_stays, row_found}
 use Rattle.places.specs.steps.PlaceSet.{has, places, with_places}
 use Rattle.conflict.specs.steps.Rows.{conflicts_below, earlier_conflicts, has_earlier_conflict, places_in_conflict, with_row, with_rows}
-use Rattle.places.proofs.Places.{In-places, below, has_if_in, in_if_has, has-filter, has-filter_past, kept_next, left_next}
+use Rattle.places.proofs.Places.{In-places, below, has_if_in, in_if_has, has-filter, has-filter_past, in_all, kept_next, left_next}
 use Rattle.places.proofs.ChangesAt.{at_in}
 use Rattle.places.proofs.WordPlaces.{Up, same_set, up_range, up_filter, up_with_place, up_with_all, has-with_place, has-with_all, or_turned}
 
@@ -32,6 +32,22 @@ none_below is_conflict scope n found e = e ∙ sym (nothing (places n))
         let l = ltb-true c.0 0 b.0 in absurd (omega arith))
 
     nothing : (xs : List ℕ) → filter (conflicts_below is_conflict scope 0) xs ≡ []
+    nothing [] = refl
+    nothing (x ∷ xs) = rw (fails x) (nothing xs)
+
+-- none is in conflict with places that are not below n
+pub none_with_others : (is_conflict : ℕ → ℕ → Bool) (scope : List ℕ) (n : ℕ) → All (λ s. n ≤ s) scope → (xs : List ℕ) → filter (conflicts_below is_conflict scope n) xs ≡ []
+none_with_others is_conflict scope n above = nothing
+  where
+    fails : (x : ℕ) → conflicts_below is_conflict scope n x ≡ false
+    fails x = false_from_ne_true (conflicts_below is_conflict scope n x) (λ t.
+        let c = any_back (λ s. (nat_lt s n && nat_lt x n) && is_conflict x s) scope t in
+        let a = and_parts (nat_lt c.0 n && nat_lt x n) (is_conflict x c.0) c.2 in
+        let b = and_parts (nat_lt c.0 n) (nat_lt x n) a.0 in
+        let l = ltb-true c.0 n b.0 in
+        let g = in_all (λ s. n ≤ s) scope above c.0 c.1 in absurd (omega (arith, l, g)))
+
+    nothing : (xs : List ℕ) → filter (conflicts_below is_conflict scope n) xs ≡ []
     nothing [] = refl
     nothing (x ∷ xs) = rw (fails x) (nothing xs)
 

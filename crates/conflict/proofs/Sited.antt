@@ -18,7 +18,7 @@ use Rattle.places.proofs.Places.{In-places, below, has_if_in, in_if_has, kept_ne
 use Rattle.places.proofs.ChangesAt.{at_in, at_push}
 use Rattle.places.proofs.WordPlaces.{Up, same_set, up_range, up_filter, up_with_all, has-with_all, kept_rises, or_turned, or_grouped}
 use Rattle.conflict.proofs.Growth.{in_history, never_before}
-use Rattle.conflict.proofs.Indexed.{filter_all, index_agrees, index_grown, index_begun}
+use Rattle.conflict.proofs.Indexed.{filter_all, filter_none, index_agrees, index_grown, index_begun}
 
 one_site : (k : List Op) (s t p : ℕ) → of_site k s p ≡ true → of_site k t p ≡ true → s ≡ t
 one_site k s t p e f = sym (eqb-true (at k p).name.0 s e) ∙ eqb-true (at k p).name.0 t f
@@ -195,6 +195,13 @@ module _ (of : OfSite) (r : IsRising of) (number j : ℕ) (point : IsPartitionPo
       let c = Contains-from_In x of.changes m in
       let l : c.0 < length of.changes = c.1 in
       ap (λ (s : ℕ × ℕ). nat_le s.0 number) (sym c.2) ∙ point.0 c.0 x (omega arith) (omega (arith, l)))))
+
+  -- it is the first
+  pub counted_none : j ≡ 0 → map (λ (change : ℕ × ℕ). change.1) (filter (λ (change : ℕ × ℕ). nat_le change.0 number) of.changes) ≡ []
+  counted_none e = ap (map (λ (change : ℕ × ℕ). change.1)) (filter_none (λ (change : ℕ × ℕ). nat_le change.0 number) of.changes (λ x m.
+      let c = Contains-from_In x of.changes m in
+      let l : c.0 < length of.changes = c.1 in
+      ap (λ (s : ℕ × ℕ). nat_le s.0 number) (sym c.2) ∙ point.1 c.0 x (omega (arith, e)) l))
 
   -- it is at j
   pub counted_cut : (d : ℕ × ℕ) (bound : ℕ) → j < length of.changes → bound ≡ (get_or of.changes j d).1 → filter (has (places bound)) of.places ≡ map (λ (change : ℕ × ℕ). change.1) (filter (λ (change : ℕ × ℕ). nat_le change.0 number) of.changes)

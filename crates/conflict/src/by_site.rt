@@ -76,6 +76,9 @@ impl SiteChanges {
         if counted == self.changes.len() {
             return known.insert_all(&self.places);
         }
+        if counted == 0 {
+            return Ok(());
+        }
         let earlier = PlaceSet::first_places(alloc, self.changes[counted].1)?;
         let places = self.places.intersection(alloc, &earlier)?;
         known.insert_all(&places)

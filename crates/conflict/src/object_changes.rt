@@ -349,6 +349,12 @@ impl ObjectChanges {
             ≡ filter (conflicts_below (is_conflict_of self.now.ops) scope.now count)
             (places count)) }
     {
+        let Some(lowest) = scope.lowest_place() else {
+            return Ok(PlaceSet::empty(alloc));
+        };
+        if lowest >= self.ops.len() as u32 {
+            return Ok(PlaceSet::empty(alloc));
+        }
         union_of_rows(alloc, &self.rows, &self.in_conflict, scope)
     }
 

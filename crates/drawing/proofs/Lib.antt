@@ -1,4 +1,3 @@
-pub mod Fronts
 pub mod WithChanges
 pub mod AtPlace
 pub mod Lookup

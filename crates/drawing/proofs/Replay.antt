@@ -1,15 +1,14 @@
 -- A drawing with one more entry is the replay of its record with that entry.
-use Rattle.std.proofs.Common.{◌≡◌, ℕ, ◌+◌, ◌<◌, Bool, true, false, List, [], ◌∷◌, ◌++◌, length, map, sym, ap, ◌∙◌, subst, arith, Some, None, leb, cond}
+use Rattle.std.proofs.Common.{◌≡◌, ℕ, ◌+◌, ◌<◌, Bool, true, false, List, [], ◌∷◌, ◌++◌, length, sym, ap, ◌∙◌, subst, arith, Some, None, leb, cond}
 use Rattle.std.specs.List.{IsDistinct}
 use Rattle.std.specs.Map.{keys_of, lookup, set_value}
 use Rattle.std.proofs.lemmas.Bool.{leb-false}
-use Rattle.std.proofs.lemmas.List.{length_push, map-append}
+use Rattle.std.proofs.lemmas.List.{length_push}
 use Rattle.base_types.specs.Names.{Name, same_name}
 use Rattle.rules.specs.declared.history.Op.{Op}
 use Rattle.rules.specs.declared.history.Entry.{Entry}
 use Rattle.rules.specs.declared.history.Entry.TheVariants.{Join, Operation}
 use Rattle.rules.specs.declared.refusal.Refusal.TheVariants.{TooManyObjects}
-use Rattle.rules.specs.declared.limits.LimitValues.{LimitValues}
 use Rattle.rules.specs.Admission.{count_at_site, first_that_applies}
 use Rattle.rules.specs.Bodies.{is_change_body}
 use Rattle.rules.specs.Operations.{object_of}
@@ -121,11 +120,6 @@ module _ (room : Room) (shapes : List (Name × Stored)) (history : List Op) (rep
     fits = replay.fits;
   }
 
--- ---- of a list that gives the entries
-
-module _ {X : Type 0} (f : X → Entry) (l : LimitValues) (xs : List X) (x : X) (shapes : List (Name × Stored)) (history : List Op) where
-  abbrev pub room_of : List X → Room
-  room_of ys = record { limits = l; entries = map f ys }
-
-  pub pushed : (e : Entry) → f x ≡ e → IsReplay (more (room_of xs) e) shapes history → IsReplay (room_of (xs ++ x ∷ [])) shapes history
-  pushed e is replay = subst (λ t. IsReplay (record { limits = l; entries = t }) shapes history) (ap (λ (y : Entry). map f xs ++ y ∷ []) (sym is) ∙ sym (map-append f xs (x ∷ []))) replay
+-- the same for another name of the entry
+pub pushed : (room : Room) (shapes : List (Name × Stored)) (history : List Op) (x entry : Entry) → x ≡ entry → IsReplay (more room entry) shapes history → IsReplay (more room x) shapes history
+pushed room shapes history x entry is = subst (λ e. IsReplay (more room e) shapes history) (sym is)

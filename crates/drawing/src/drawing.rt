@@ -26,21 +26,19 @@ use shape::{PlannedChange, Shape};
 use std::alloc::Global;
 use std::marker::Model;
 use std::sync::Arc;
-use wire::{ObjectList, Reply, VersionList};
+use wire::{EntryList, ObjectList, Record, Reply, VersionList};
 
 /// The entries of a room so far, and what they draw: the operations, and the objects in order of
 /// creation. The owner decides which entry comes next.
 #[derive(Drop)]
 pub struct Drawing {
     limits: Limits,
-    entries: Vec<Arc<Entry>>,
+    record: Record,
     past: Past,
     objects: IndexMap<OpName, Shape>,
 }
 
 impl Model for Drawing {
-    ghost use Rattle.std.specs.Prelude.{map, ◌-◌, vec_len, vec_capacity};
-    ghost use Rattle.std.specs.Arc.{arc_value};
     ghost use Rattle.indexmap.specs.IndexMap.{spare};
     ghost use Rattle.drawing.specs.Room.{room_of};
     ghost use Rattle.drawing.specs.steps.State.{DrawingState};
@@ -49,9 +47,9 @@ impl Model for Drawing {
     ghost Value = { DrawingState };
 
     ghost view = { λ d. record {
-      room = record { limits = d.limits; entries = map arc_value d.entries.items };
+      room = record { limits = d.limits; entries = d.record.entries };
       reserve = record {
-        entries = vec_capacity d.entries - vec_len d.entries;
+        entries = d.record.spare;
         operations = d.past.reserve;
         objects = spare d.objects;
         shapes = d.objects.entries;
@@ -59,8 +57,7 @@ impl Model for Drawing {
     } };
 
     ghost invariant = { λ d.
-        IsReplay (room_of d.limits (map arc_value d.entries.items)) d.objects.entries
-        d.past.history };
+        IsReplay (room_of d.limits d.record.entries) d.objects.entries d.past.history };
 }
 
 /// The object that an operation creates or changes.
@@ -85,7 +82,7 @@ impl Drawing {
         let past = Past::new(alloc)?;
         Ok(Drawing {
             limits,
-            entries: Vec::new(alloc),
+            record: Record::new(alloc),
             past,
             objects: IndexMap::new(alloc),
         })
@@ -102,14 +99,14 @@ impl Drawing {
     pub fn entries(&self) -> &[Arc<Entry>]
         ensures { map arc_value result.now ≡ self.now.room.entries }
     {
-        self.entries.as_slice()
+        self.record.as_slice()
     }
 
     /// The entries, of a drawing that is given up.
     pub fn into_entries(self) -> Vec<Arc<Entry>>
         ensures { map arc_value result.items ≡ self.room.entries }
     {
-        self.entries
+        self.record.into_vec()
     }
 
     /// The number of entries.
@@ -118,7 +115,7 @@ impl Drawing {
         ensures range { length self.now.room.entries ≤ self.now.room.limits.entries }
     {
         let _bound = self.limits.entries();
-        self.entries.len() as u32
+        self.record.len() as u32
     }
 
     /// Does the record have its maximum number of entries?
@@ -178,6 +175,21 @@ impl Drawing {
         objects_page(alloc, &self.objects, from as usize, page)
     }
 
+    /// A page of the entries, from a place on. Linear in the page.
+    ///
+    /// # Errors
+    ///
+    /// `NoMemory` if an allocation failed.
+    pub fn entries_page(&mut self, alloc: Global, from: u32) -> Result<EntryList, NoMemory>
+        requires { from ≤ length self.old.room.entries }
+        ensures page { IfOk result (λ list. list
+            ≡ take self.old.room.limits.page (drop from self.old.room.entries)) }
+        ensures room { self.new ≡ self.old }
+    {
+        let page = self.limits.page() as usize;
+        self.record.page(alloc, from as usize, page)
+    }
+
     /// The versions of an object, or the refusal `NoSuchObject` if no object has this name.
     ///
     /// # Errors
@@ -220,7 +232,7 @@ impl Drawing {
         requires { CanJoin self.old (arc_value entry) }
         ensures { self.new.room ≡ with_entry self.old.room (Some (arc_value entry)) }
     {
-        self.entries.push_reserved(entry);
+        self.record.push_reserved(entry);
     }
 
     /// Adds a creation and its object.
@@ -230,7 +242,7 @@ impl Drawing {
         ensures { self.new.room ≡ with_entry self.old.room (Some (arc_value entry)) }
     {
         let name = op.name;
-        self.entries.push_reserved(entry);
+        self.record.push_reserved(entry);
         add_reserved(&mut self.past, op);
         insert_reserved(&mut self.objects, name, shape);
     }
@@ -241,7 +253,7 @@ impl Drawing {
         requires change { CanChange self.old place op planned }
         ensures { self.new.room ≡ with_entry self.old.room (Some (arc_value entry)) }
     {
-        self.entries.push_reserved(entry);
+        self.record.push_reserved(entry);
         add_reserved(&mut self.past, op);
         match self.objects.get_index_mut(place) {
             Some(shape) => shape.commit(planned),

@@ -324,8 +324,18 @@ mapped f n k z = elim (cases_lt k n) [
   | inr g ↦ get_or_past (map f (places n)) k 0 (let h = length-map-range_with_len f 0 n in omega arith) ∙ sym (z g)
 ]
 
+-- the words of the places of both
+abbrev pub common_words : List ℕ → List ℕ → List ℕ
+common_words a b = map (λ k. bit_and (get_or a k 0) (get_or b k 0)) (places (length a))
+
+pub length-common_words : (a b : List ℕ) → length (common_words a b) ≡ length a
+length-common_words a b = length-map-range_with_len (λ k. bit_and (get_or a k 0) (get_or b k 0)) 0 (length a)
+
+pub common_word : (a b : List ℕ) (k : ℕ) → k < length a → get_or (common_words a b) k 0 ≡ bit_and (get_or a k 0) (get_or b k 0)
+common_word a b k within = mapped (λ k. bit_and (get_or a k 0) (get_or b k 0)) (length a) k (λ past. absurd (omega (arith, past, within)))
+
 module _ (a b w : List ℕ) where
-  pub places_in_both : w ≡ map (λ k. bit_and (get_or a k 0) (get_or b k 0)) (places (length a)) → places_in w ≡ filter (has (places_in b)) (places_in a)
+  pub places_in_both : w ≡ common_words a b → places_in w ≡ filter (has (places_in b)) (places_in a)
   places_in_both e =
       same_set (places_in w) (filter (has (places_in b)) (places_in a)) (up_places_in w) (up_filter (has (places_in b)) (places_in a) (up_places_in a))
       (λ x.

@@ -7,7 +7,7 @@ ghost use Rattle.places.specs.steps.PlaceSet.{has, is_within, with_place, places
 
 use crate::words::{
     Words, count_bits, difference, first_places, has_bit, intersection, intersects, is_within,
-    join, list, lowest_place, set_bit,
+    join, list, list_common, lowest_place, set_bit,
 };
 use base_types::NoMemory;
 use std::alloc::Global;
@@ -169,6 +169,18 @@ impl PlaceSet {
     {
         let words = intersection(alloc, &self.words, &other.words)?;
         Ok(PlaceSet { words })
+    }
+
+    /// Fills a list with the places that are in both sets, in increasing order. What the list held
+    /// before goes. Linear in these places and in the greatest place over 64.
+    ///
+    /// # Errors
+    ///
+    /// `NoMemory` if an allocation failed.
+    pub fn list_common(&self, other: &PlaceSet, list: &mut Vec<u32>) -> Result<(), NoMemory>
+        ensures { OnOk result (list.new.items ≡ filter (has other.now) self.now) }
+    {
+        list_common(&self.words, &other.words, list)
     }
 
     /// The places of this set that are not in the other. Takes 64 places at a time.

@@ -130,6 +130,28 @@ pub(crate) fn join(words: &mut Words, others: &[u64]) -> Result<(), NoMemory>
     Ok(())
 }
 
+/// Fills a list with the places of both, in increasing order.
+pub(crate) fn list_common(
+    first: &[u64],
+    second: &[u64],
+    list: &mut Vec<u32>,
+) -> Result<(), NoMemory>
+    requires { length first.now ≤ 2 ^ 26 }
+    ensures { OnOk result (list.new.items
+        ≡ filter (has (places_in second.now)) (places_in first.now)) }
+{
+    list.clear();
+    for at in 0..first.len() {
+        let mut left = first[at] & word(second, at);
+        while left != 0 {
+            let bit = left.trailing_zeros();
+            list.push(at as u32 * 64 + bit)?;
+            left &= !(1u64 << bit);
+        }
+    }
+    Ok(())
+}
+
 /// The words of the first places.
 pub(crate) fn first_places(alloc: Global, len: u32) -> Result<Words, NoMemory>
     ensures first { IfOk result (λ words. places_in words.items ≡ places len) }

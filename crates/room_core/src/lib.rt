@@ -3,7 +3,6 @@
 
 pub mod examples;
 mod fault;
-mod pages;
 mod planned;
 mod room;
 

@@ -34,8 +34,10 @@ fn listed_ids<R: Relation>(
 {
     let conflicting = places_in_conflict(alloc, relation)?;
     let mut ids = Vec::with_capacity(alloc, groups.count())?;
+    let mut scratch = Vec::new(alloc);
     for group in 0..groups.count() {
-        ids.push(id_by(alloc, relation, &conflicting, groups.members(group))?)?;
+        let members = groups.members(group);
+        ids.push(id_by(alloc, relation, &conflicting, members, &mut scratch)?)?;
     }
     Ok(ids)
 }
@@ -88,6 +90,7 @@ fn version_of(
     changes: &ObjectChanges,
     conflicting: &PlaceSet,
     group: &PlaceSet,
+    scratch: &mut Vec<u32>,
 ) -> Result<Version, NoMemory>
     requires creation { is_change_body creation.now.body ≡ false }
     requires conflicting { conflicting.now
@@ -96,7 +99,7 @@ fn version_of(
         in Contains (groups_of (is_conflict_of changes.now.ops) all) group.now }
     ensures { IfOk result (λ version. version ≡ version_at creation.now changes.now.ops group.now) }
 {
-    let id = id_by(alloc, changes, conflicting, group)?;
+    let id = id_by(alloc, changes, conflicting, group, scratch)?;
     let shown = shown_of(alloc, creation, changes, group)?;
     Ok(Version { id, shown })
 }
@@ -115,6 +118,7 @@ fn listed_versions(
 {
     let conflicting = places_in_conflict(alloc, changes)?;
     let mut versions = Vec::with_capacity(alloc, groups.count())?;
+    let mut scratch = Vec::new(alloc);
     for group in 0..groups.count() {
         versions.push(version_of(
             alloc,
@@ -122,6 +126,7 @@ fn listed_versions(
             changes,
             &conflicting,
             groups.members(group),
+            &mut scratch,
         )?)?;
     }
     Ok(versions)

@@ -29,8 +29,8 @@ pub fn places_in_conflict<R: Relation>(alloc: Global, relation: &R) -> Result<Pl
 }
 
 /// The identifier of a group: the names of its members that conflict with some place of the
-/// relation, in increasing order. `in_conflict` are the places that conflict with some place; they
-/// serve all groups.
+/// relation, in increasing order. `conflicting` are the places that conflict with some place; they
+/// serve all groups, and so does the memory of `scratch`, whatever it holds.
 ///
 /// # Errors
 ///
@@ -41,6 +41,7 @@ pub fn id_by<R: Relation>(
     relation: &R,
     conflicting: &PlaceSet,
     group: &PlaceSet,
+    scratch: &mut Vec<u32>,
 ) -> Result<VersionId, NoMemory>
     requires conflicting { conflicting.now
         ≡ places_in_conflict (R.conflicts relation.now) (R.size relation.now) }
@@ -49,7 +50,7 @@ pub fn id_by<R: Relation>(
         id ≡ identifier (R.conflicts relation.now) (R.name_at relation.now) all group.now) }
 {
     group.rises();
-    id_of_conflicting(alloc, relation, conflicting, group)
+    id_of_conflicting(alloc, relation, conflicting, group, scratch)
 }
 
 /// The group of the known places with this identifier, or `None` if none of their groups has it.
@@ -96,7 +97,7 @@ fn identifier_among<R: Relation>(
     // With the length of a relation comes what it keeps.
     let _ = relation.len();
     let conflicting = relation.in_conflict_with(alloc, scope)?;
-    id_of_conflicting(alloc, relation, &conflicting, group)
+    id_of_conflicting(alloc, relation, &conflicting, group, &mut Vec::new(alloc))
 }
 
 /// The rising list of the names of those members of a group that are among some places.
@@ -106,6 +107,7 @@ fn id_of_conflicting<R: Relation>(
     relation: &R,
     conflicting: &PlaceSet,
     group: &PlaceSet,
+    scratch: &mut Vec<u32>,
 ) -> Result<VersionId, NoMemory>
     requires { AreAmong (R.size relation.now) group.now }
     ensures { let named = filter (has conflicting.now) group.now
@@ -113,7 +115,7 @@ fn id_of_conflicting<R: Relation>(
 {
     // With the length of a relation comes what it keeps.
     let _ = relation.len();
-    let names = names_in_conflict(alloc, relation, conflicting, group)?;
+    let names = names_in_conflict(alloc, relation, conflicting, group, scratch)?;
     Ok(id_of_names(names))
 }
 
@@ -123,14 +125,14 @@ fn names_in_conflict<R: Relation>(
     relation: &R,
     conflicting: &PlaceSet,
     group: &PlaceSet,
+    scratch: &mut Vec<u32>,
 ) -> Result<Vec<OpName>, NoMemory>
     requires { AreAmong (R.size relation.now) group.now }
     ensures { let named = filter (has conflicting.now) group.now
         in IfOk result (λ names. names.items ≡ map (R.name_at relation.now) named) }
 {
-    let named = group.intersection(alloc, conflicting)?;
-    let places = named.list(alloc)?;
-    names_at(alloc, relation, &places)
+    group.list_common(conflicting, scratch)?;
+    names_at(alloc, relation, scratch)
 }
 
 /// The names at some places.

@@ -1,5 +1,7 @@
 pub mod WholeNumbers
 pub mod Maps
+pub mod Parts
+pub mod Pages
 pub mod Exact
 pub mod PartForms
 pub mod Bodies

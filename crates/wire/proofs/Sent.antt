@@ -18,7 +18,7 @@ use Rattle.serde_json.specs.View.{items_of}
 use Rattle.serde_json.specs.Written.{number_text, outline, items_outline, compact_text}
 use Rattle.serde_json.proofs.Numbers.{number_of-decimal, number_of-negative}
 use Rattle.serde_json.proofs.Texts.{print-outline}
-use Rattle.wire.specs.steps.Sending.{IsHeldNumber, Sends, SendsItems}
+use Rattle.wire.specs.steps.Sending.{IsHeldNumber, Sends, SendsItems, IsPlain, ArePlain}
 
 pub held_integer : (z : ℤ) → FitsSigned w64 z → IsHeldNumber (of_integer z)
 held_integer (pos n) h = omega arith
@@ -56,6 +56,19 @@ mutual
 
 -- ---- what is held
 
+mutual
+  pub sent_is_plain : (d : Data) (old new : Written) → Sends d old new → IsPlain d
+  sent_is_plain null old new h = h
+  sent_is_plain (boolean b) old new h = h
+  sent_is_plain (number n) old new h = h.1
+  sent_is_plain (string s) old new h = tt
+  sent_is_plain (array ds) old new h = sent_are_plain ds h.0 new h.2
+  sent_is_plain (object ms) old new h = h
+
+  sent_are_plain : (ds : Items) (old new : Written) → SendsItems ds old new → ArePlain ds
+  sent_are_plain no_items old new h = tt
+  sent_are_plain (item d ds) old new h = (sent_is_plain d old h.0 h.1, sent_are_plain ds h.0 new h.2)
+
 is_number : (n : Num) → IsHeldNumber n → IsNumber (number_text n)
 is_number (unsigned n) h = IsNumber-decimal n h
 is_number (negative (pos n)) h = absurd h
@@ -80,19 +93,19 @@ record AreOutlines (ds : Items) : Type 0 where
   again : of_items (items_outline ds) ≡ Some ds
 
 mutual
-  outlined : (d : Data) (old new : Written) → Sends d old new → IsOutline d
-  outlined null old new h = absurd h
-  outlined (boolean b) old new h = absurd h
-  outlined (number n) old new h = record { numbers = is_number n h.1; nests = refl; again = ap (option_map number) (number_again n h.1) }
-  outlined (string s) old new h = record { numbers = tt; nests = refl; again = refl }
-  outlined (array ds) old new h = let all = all_outlined ds h.0 new h.2 in record { numbers = all.numbers; nests = ap suc all.nests; again = ap (option_map array) all.again }
-  outlined (object ms) old new h = absurd h
+  outlined : (d : Data) → IsPlain d → IsOutline d
+  outlined null h = absurd h
+  outlined (boolean b) h = absurd h
+  outlined (number n) h = record { numbers = is_number n h; nests = refl; again = ap (option_map number) (number_again n h) }
+  outlined (string s) h = record { numbers = tt; nests = refl; again = refl }
+  outlined (array ds) h = let all = all_outlined ds h in record { numbers = all.numbers; nests = ap suc all.nests; again = ap (option_map array) all.again }
+  outlined (object ms) h = absurd h
 
-  all_outlined : (ds : Items) (old new : Written) → SendsItems ds old new → AreOutlines ds
-  all_outlined no_items old new h = record { numbers = tt; nests = refl; again = refl }
-  all_outlined (item d ds) old new h =
-      let first = outlined d old h.0 h.1 in
-      let rest = all_outlined ds h.0 new h.2 in
+  all_outlined : (ds : Items) → ArePlain ds → AreOutlines ds
+  all_outlined no_items h = record { numbers = tt; nests = refl; again = refl }
+  all_outlined (item d ds) h =
+      let first = outlined d h.0 in
+      let rest = all_outlined ds h.1 in
       record { numbers = (first.numbers, rest.numbers); nests = rw (first.nests, rest.nests) refl; again = rw (first.again, rest.again) refl }
 
 -- ---- the text
@@ -104,9 +117,9 @@ print_alone d old new bytes empty sent all = all ∙ ap (λ s. s ++ print new.to
 pub text_of_sent : (d : Data) (old new : Written) → old.tokens ≡ [] → Sends d old new → print new.tokens ≡ compact_text d
 text_of_sent d old new none sent = ap print ((sent_tokens d old new sent).0 ∙ ap (λ ts. ts ++ tree.json_tokens (outline d)) none) ∙ print-outline d
 
-pub compact_again : (d : Data) (old new : Written) → Sends d old new → depth d ≤ max_depth → read (compact_text d) ≡ Some d
-compact_again d old new sent shallow =
-    let o = outlined d old new sent in
+pub compact_again : (d : Data) → IsPlain d → depth d ≤ max_depth → read (compact_text d) ≡ Some d
+compact_again d plain shallow =
+    let o = outlined d plain in
     let ts = tree.json_tokens (outline d) in
     let same = tokens-print ts (ArePrintable-json_tokens (outline d) o.numbers) in
     let parsed = ap (value max_depth) (same ∙ sym (append-nil ts)) ∙ value-json_tokens (outline d) max_depth [] (omega (arith, o.nests)) in

@@ -6,6 +6,7 @@ pub mod Replies
 pub mod Equality
 pub mod Faults
 pub mod Sending
+pub mod Pages
 pub mod Reads
 pub mod Streams
 pub mod Exchanges

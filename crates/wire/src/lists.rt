@@ -1,12 +1,12 @@
 //! The lists in replies. Contracts see each as the plain list of its members.
 
-ghost use Rattle.std.specs.Prelude.{◌≡◌, List, ℕ, map};
+ghost use Rattle.std.specs.Prelude.{◌≡◌, IfOk, IfSome, length, map, string_bytes};
 ghost use Rattle.std.specs.Arc.{arc_value};
-ghost use Rattle.rules.specs.Names.{Name};
-ghost use Rattle.rules.specs.Texts.{Bytes};
+ghost use Rattle.wire.specs.steps.Pages.{AreTexts, IsPageText};
 
-use base_types::{Kind, OpName, VersionId};
+use base_types::{Kind, NoMemory, OpName, VersionId};
 use rules::{Entry, Version};
+use std::alloc::Global;
 use std::marker::Model;
 use std::sync::Arc;
 
@@ -17,6 +17,9 @@ pub struct IdList {
 }
 
 impl Model for IdList {
+    ghost use Rattle.std.specs.Prelude.{List};
+    ghost use Rattle.rules.specs.Names.{Name};
+
     ghost Value = { List (List Name) };
 
     ghost view = { λ list. list.ids.items };
@@ -114,6 +117,10 @@ pub struct ObjectList {
 }
 
 impl Model for ObjectList {
+    ghost use Rattle.std.specs.Prelude.{List};
+    ghost use Rattle.rules.specs.Names.{Name};
+    ghost use Rattle.rules.specs.Texts.{Bytes};
+
     ghost Value = { List (Name × Bytes) };
 
     ghost view = { λ list. list.objects.items };
@@ -154,20 +161,27 @@ impl Eq for ObjectList {
     ghost laws = { same_objects-equivalence };
 }
 
-/// Entries of a record. Each is shared with the record that stores it.
+/// Entries of a record. Each is shared with the record that stores it. A list from a `Record` may
+/// have its text, which `write_reply` then copies.
 #[derive(Drop)]
 pub struct EntryList {
     entries: Vec<Arc<Entry>>,
+    text: Option<String>,
 }
 
 impl Model for EntryList {
-    ghost use Rattle.std.specs.Prelude.{List, map};
+    ghost use Rattle.std.specs.Prelude.{List, IfSome, map, string_bytes};
     ghost use Rattle.std.specs.Arc.{arc_value};
     ghost use Rattle.rules.specs.declared.history.Entry.{Entry};
 
     ghost Value = { List Entry };
 
+    ghost use Rattle.wire.specs.steps.Pages.{IsPageText};
+
     ghost view = { λ list. map arc_value list.entries.items };
+
+    ghost invariant = { λ list. IfSome list.text
+        (λ text. IsPageText (string_bytes text) (map arc_value list.entries.items)) };
 }
 
 impl EntryList {
@@ -175,7 +189,31 @@ impl EntryList {
     pub fn from_vec(entries: Vec<Arc<Entry>>) -> EntryList
         ensures { result ≡ map arc_value entries.items }
     {
-        EntryList { entries }
+        EntryList {
+            entries,
+            text: None,
+        }
+    }
+
+    /// These entries, in their order, with their texts.
+    ///
+    /// # Errors
+    ///
+    /// `NoMemory` if an allocation failed.
+    pub(crate) fn with_texts(
+        alloc: Global,
+        entries: Vec<Arc<Entry>>,
+        texts: &[String],
+    ) -> Result<EntryList, NoMemory>
+        requires texts { AreTexts (map string_bytes texts.now) (map arc_value entries.items) }
+        requires all { length texts.now ≡ length entries.items }
+        ensures { IfOk result (λ list. list ≡ map arc_value entries.items) }
+    {
+        let text = texts.join(alloc, ",")?;
+        Ok(EntryList {
+            entries,
+            text: Some(text),
+        })
     }
 
     /// The entries.
@@ -183,6 +221,16 @@ impl EntryList {
         ensures { map arc_value result.now ≡ self.now }
     {
         &self.entries
+    }
+
+    /// The text of the list without its brackets, if the list has it.
+    pub(crate) fn text(&self) -> Option<&str>
+        ensures { IfSome result (λ text. IsPageText text.now self.now) }
+    {
+        match &self.text {
+            Some(text) => Some(text.as_str()),
+            None => None,
+        }
     }
 }
 

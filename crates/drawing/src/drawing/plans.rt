@@ -33,7 +33,7 @@ impl Drawing {
         ensures ready { IfOk result (IsReady self.new) }
         ensures room { self.new.room ≡ self.old.room }
     {
-        self.entries.reserve(1)?;
+        self.record.reserve_one()?;
         let entry = Arc::new(alloc, Entry::Join(site))?;
         Ok(Addition {
             entry,
@@ -125,7 +125,7 @@ impl Drawing {
         ensures shapes { self.new.reserve.shapes ≡ self.old.reserve.shapes }
         ensures room { self.new.room ≡ self.old.room }
     {
-        self.entries.reserve(1)?;
+        self.record.reserve_one()?;
         self.past.reserve(site)?;
         Ok(())
     }

@@ -13,7 +13,6 @@ ghost use Rattle.room_core.specs.Answers.{join_answer, operation_answer, operati
 ghost use Rattle.room_core.specs.steps.Plans.{entry_added, outcome, order_refusal, refusal_in, reply_by, IsAdmitted, IsReady, Plans};
 
 use super::RoomState;
-use crate::pages::entries_page;
 use crate::planned::Planned;
 use base_types::{NoMemory, OpName};
 use drawing::{AddFault, Addition};
@@ -180,16 +179,16 @@ impl RoomState {
     }
 
     /// Plans to give a page of the record.
-    pub(super) fn plan_pull(&self, alloc: Global, from: u32) -> Result<Planned, NoMemory>
-        ensures reply { IfOk result (λ p. p.reply ≡ pull_reply self.now.room from) }
+    pub(super) fn plan_pull(&mut self, alloc: Global, from: u32) -> Result<Planned, NoMemory>
+        ensures reply { IfOk result (λ p. p.reply ≡ pull_reply self.old.room from) }
         ensures addition { IfOk result (λ p. p.addition ≡ None) }
+        ensures room { self.new.room ≡ self.old.room }
     {
         let at = self.drawing.len();
         if from > at {
             return Ok(self.refuse(Refusal::TooFar));
         }
-        let page = self.drawing.limits().page() as usize;
-        let entries = entries_page(alloc, self.entries(), from as usize, page)?;
+        let entries = self.drawing.entries_page(alloc, from)?;
         Ok(Planned::of_reply(Reply::Entries { at, from, entries }))
     }
 }

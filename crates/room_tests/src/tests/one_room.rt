@@ -11,6 +11,18 @@ use wire::{Reply, Request, Scratch, read_request, write_reply};
 const NOT_JOINED: &str = r#"0 ["leave"] => ["no",0,2,"not-joined"]
 2 ["leave"] => ["no",0,2,"not-joined"]"#;
 
+/// Pages of the record: before an entry has its text, with texts that are made, and with those that
+/// an earlier page made.
+const PULLS: &str = r#"join => ["joined",0,1]
+1 ["new",1,[],"rect",[["x",5]]] => ["made",1,[1,1]]
+1 ["pull",1] => ["entries",2,1,[["new",[1,1],[],"rect",[["x",5]]]]]
+1 ["pull",0] => ["entries",2,0,[["join",1],["new",[1,1],[],"rect",[["x",5]]]]]
+1 ["pull",1] => ["entries",2,1,[["new",[1,1],[],"rect",[["x",5]]]]]
+join => ["joined",2,2]
+1 ["pull",0] => ["entries",3,0,[["join",1],["new",[1,1],[],"rect",[["x",5]]],["join",2]]]
+1 ["pull",2] => ["entries",3,2,[["join",2]]]
+1 ["pull",3] => ["entries",3,3,[]]"#;
+
 fn text(rt: &(impl Abort + AllocGlobal), reply: &Reply) -> String {
     write_reply(rt.alloc(), reply).expect(rt, "memory")
 }
@@ -64,6 +76,12 @@ fn sites_that_have_not_joined(rt: HostRuntime) {
     let mut room = room_of(&rt, LimitValues::FULL);
     let _ = join_text(&rt, &mut room);
     answers_lines(&rt, &mut room, NOT_JOINED);
+}
+
+#[test]
+fn pages_with_and_without_texts(rt: HostRuntime) {
+    let mut room = room_of(&rt, LimitValues::FULL);
+    answers_lines(&rt, &mut room, PULLS);
 }
 
 /// A creation of this number, which may be out of range.

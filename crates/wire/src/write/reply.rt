@@ -1,7 +1,11 @@
 //! Replies as text.
 
-ghost use Rattle.std.specs.Prelude.{◌≡◌, map, IfOk, string_bytes};
+ghost use Rattle.std.specs.Prelude.{◌≡◌, List, map, IfOk, string_bytes};
+ghost use Rattle.rules.specs.declared.history.Entry.{Entry};
+ghost use Rattle.wire.specs.declared.reply.Reply.TheVariants.{Entries};
 ghost use Rattle.wire.specs.Form.{list_form, entry_form, reply_form, IsReply, IsReplyText};
+ghost use Rattle.wire.specs.steps.Pages.{IsPageText};
+ghost use Rattle.wire.specs.steps.Sending.{IsPlain};
 ghost use Rattle.wire.specs.Texts.{reply_text};
 
 use super::part::{Written, compact};
@@ -59,5 +63,21 @@ pub fn write_reply(alloc: Global, reply: &Reply) -> Result<String, NoMemory>
     ensures is_read { IfOk result (λ text. IsReply reply.now
         → IsReplyText (string_bytes text) reply.now) }
 {
+    if let Reply::Entries { at, from, entries } = reply {
+        if let Some(text) = entries.text() {
+            return page_text(alloc, *at, *from, text);
+        }
+    }
     compact(alloc, reply)
+}
+
+/// The text of a page of the record, from the text of its entries.
+#[tactic(auto, unfolding(crate::specs::Texts::reply_text))]
+fn page_text(alloc: Global, at: u32, from: u32, entries: &str) -> Result<String, NoMemory>
+    ensures text { (page : List Entry) → IsPageText entries.now page
+        → IfOk result (λ text. string_bytes text ≡ reply_text (Entries at from page)) }
+    ensures plain { (page : List Entry) → IsPageText entries.now page
+        → IsPlain (reply_form (Entries at from page)) }
+{
+    Ok(format!(in alloc; "[\"entries\",{at},{from},[{entries}]]")?)
 }

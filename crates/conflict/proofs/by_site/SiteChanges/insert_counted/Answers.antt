@@ -1,4 +1,4 @@
-use Rattle.std.proofs.Common.{◌≡◌, ℕ, ◌<◌, ◌∙◌, sym, ap, subst, Bool, true, false, length, get_or, List, arith, rules, of_calls, map}
+use Rattle.std.proofs.Common.{◌≡◌, ℕ, ◌<◌, ◌∙◌, sym, ap, subst, Bool, true, false, length, get_or, List, [], arith, rules, of_calls, map}
 use Rattle.std.specs.Prelude.{OnOk, nat_le, filter}
 use Rattle.std.specs.Fn.{Called, ComputesKey}
 use Rattle.std.specs.List.Sorted.{IsNonDecreasingBy, IsPartitionedBy, IsPartitionPoint}
@@ -6,7 +6,7 @@ use Rattle.std.proofs.lemmas.List.Sorted.{IsPartitionedBy-leb, IsPartitionPoint-
 use Rattle.state_vector.specs.Vectors.{count_of}
 use Rattle.places.specs.steps.PlaceSet.{has, with_places}
 use Rattle.conflict.specs.steps.Indexes.{OfSite, IsRising, counted_of}
-use Rattle.conflict.proofs.Sited.{counted_whole, counted_cut}
+use Rattle.conflict.proofs.Sited.{counted_whole, counted_none, counted_cut}
 use Rattle.conflict.proofs.by_site.SiteChanges.insert_counted.Goals as goal
 use denote.Param.Members.{Mut}
 use denote.Ref.{Bor}
@@ -33,6 +33,18 @@ returns-then-counted-len c =
     ∙ counted_whole of c.requires c.count-number.result i (point of c.count-number.result i c.deref.result.now changes c.requires c.partition_point-counted.ensures.partitioned (λ a r f k. search (rules, of_calls))) size
     ∙ ap (λ n. map (λ (s : ℕ × ℕ). s.1) (filter (λ (s : ℕ × ℕ). nat_le s.0 n) of.changes)) number in
     subst (λ (l : List ℕ). OnOk c.insert_all.result (c.insert_all.new.self ≡ with_places c.args.known.now l)) all c.insert_all.ensures.ok
+
+pub returns-then-counted-eq0 : goal.returns-then-counted-eq0
+returns-then-counted-eq0 c =
+    let of = c.args.self.now in
+    let seen = c.args.seen.now in
+    let i = c.partition_point-counted.result in
+    let changes : c.deref.result.now ≡ of.changes = c.deref.ensures.value ∙ ap (λ (o : OfSite). o.changes) c.self.view_is in
+    let number : c.count-number.result ≡ count_of seen of.site = c.count-number.ensures ∙ ap (λ (o : OfSite). count_of seen o.site) c.self.view_is in
+    let none : counted_of seen of ≡ [] =
+    ap (λ n. map (λ (s : ℕ × ℕ). s.1) (filter (λ (s : ℕ × ℕ). nat_le s.0 n) of.changes)) (sym number)
+    ∙ counted_none of c.requires c.count-number.result i (point of c.count-number.result i c.deref.result.now changes c.requires c.partition_point-counted.ensures.partitioned (λ a r f k. search (rules, of_calls))) c.if-counted-eq0.true in
+    ap (with_places c.args.known.now) (sym none)
 
 pub returns : goal.returns
 returns c =

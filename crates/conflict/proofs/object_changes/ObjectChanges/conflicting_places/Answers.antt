@@ -1,12 +1,13 @@
-use Rattle.std.proofs.Common.{◌≡◌, ◌<◌, ◌∙◌, sym, subst, length, List, ℕ}
+use Rattle.std.proofs.Common.{◌≡◌, ◌<◌, ◌≤◌, ◌∙◌, sym, ap, subst, length, List, ℕ, arith}
+use Rattle.std.proofs.lemmas.List.Elements.{All-nil}
 use Rattle.std.specs.Prelude.{filter, All}
 use Rattle.std.proofs.lemmas.Result.{IfOk-weaker}
 use Rattle.places.specs.steps.PlaceSet.{places}
 use Rattle.conflict.specs.steps.Rows.{conflicts_below, has_earlier_conflict}
 use Rattle.places.specs.steps.Changes.{Changes, is_conflict_of}
-use Rattle.places.proofs.Places.{all_below}
+use Rattle.places.proofs.Places.{all_below, all_in, in_all}
 use Rattle.conflict.proofs.Rows.{rows_length}
-use Rattle.conflict.proofs.InConflict.{all_rows}
+use Rattle.conflict.proofs.InConflict.{all_rows, none_with_others}
 use Rattle.conflict.proofs.object_changes.ObjectChanges.conflicting_places.Goals as goal
 
 pub union_of_rows-requires : goal.union_of_rows-requires
@@ -26,3 +27,18 @@ returns c =
     IfOk-weaker c.union_of_rows.result _ _ (λ conflicting r.
     subst (λ (s : Changes). conflicting ≡ filter (conflicts_below (is_conflict_of s.ops) scope (length s.ops)) (places (length s.ops))) c.self.view_is
     (r ∙ all_rows k c.self.invariant.changes scope rows (c.deref.ensures.value ∙ c.self.invariant.rows_are) in_conflict (c.deref-2.ensures.value ∙ c.self.invariant.in_conflict_are))) c.union_of_rows.ensures
+
+pub returns-in_default : goal.returns-in_default
+returns-in_default c =
+    let k = c.args.self.now.ops in
+    let above : All (λ place. length k ≤ place) c.args.scope.now = subst (λ scope. All (λ place. length k ≤ place) scope) (sym c.in_default.ensures) (All-nil (λ place. length k ≤ place)) in
+    c.empty.ensures ∙ sym (none_with_others (is_conflict_of k) c.args.scope.now (length k) above (places (length k)))
+
+pub returns-then-lowest-len : goal.returns-then-lowest-len
+returns-then-lowest-len c =
+    let k = c.args.self.now.ops in
+    let count : c.len.result ≡ length k = omega (arith, c.len.ensures, c.self.inside.ops.ok.0, ap (λ (s : Changes). length s.ops) c.self.view_is) in
+    let above : All (λ place. length k ≤ place) c.args.scope.now =
+    all_in (λ place. length k ≤ place) c.args.scope.now (λ place m.
+    let least = in_all (λ other. c.in-Some.lowest ≤ other) c.args.scope.now c.in-Some.ensures.1 place m in omega (arith, least, count, c.if-lowest-len.true)) in
+    c.empty-then-lowest-len.ensures ∙ sym (none_with_others (is_conflict_of k) c.args.scope.now (length k) above (places (length k)))

@@ -1,5 +1,4 @@
 use Rattle.std.proofs.Common.{◌≡◌, map, take, length, sym, ap, ◌∙◌, arith}
-use Rattle.std.specs.Arc.{arc_value}
 use Rattle.std.proofs.Math.Seq.{take-length}
 use Rattle.std.proofs.lemmas.List.{length-map}
 use Rattle.base_types.specs.Names.{Name}
@@ -7,7 +6,7 @@ use Rattle.rules.specs.Operations.{name_of}
 use Rattle.rules.specs.Records.{objects}
 use Rattle.shape.specs.steps.Objects.{Stored}
 use Rattle.drawing.specs.steps.State.{DrawingState}
-use Rattle.drawing.proofs.Fronts.{found_more}
+use Rattle.wire.proofs.Parts.{found_more}
 use Rattle.drawing.proofs.Lookup.{listed}
 use Rattle.drawing.proofs.drawing.Drawing.names.Goals as goal
 
@@ -27,5 +26,5 @@ returns c =
     ∙ ap (λ xs. take c.loop-place.place (map name_in xs)) c.as_slice-shapes.ensures.entries
     ∙ ap (λ n. take n (map name_in shapes)) (all ∙ sym (length-map shapes name_in))
     ∙ take-length (map name_in shapes)
-    ∙ listed c.self.inside.limits (map arc_value c.self.inside.entries.items) shapes c.self.invariant.shapes_are (λ name op. name)
+    ∙ listed c.self.inside.limits c.self.inside.record.entries shapes c.self.invariant.shapes_are (λ name op. name)
     ∙ ap (λ (s : DrawingState). map name_of (objects s.room.entries)) c.self.view_is

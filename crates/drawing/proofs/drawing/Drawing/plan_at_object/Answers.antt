@@ -1,6 +1,5 @@
-use Rattle.std.proofs.Common.{◌≡◌, map, sym, subst, ap, ◌∙◌}
+use Rattle.std.proofs.Common.{◌≡◌, sym, subst, ap, ◌∙◌}
 use Rattle.std.specs.Prelude.{IfErr}
-use Rattle.std.specs.Arc.{arc_value}
 use Rattle.std.specs.List.{position}
 use Rattle.std.specs.Map.{lookup, keys_of}
 use Rattle.indexmap.specs.IndexMap.{set_value_at}
@@ -24,7 +23,7 @@ returns-in_default-clause-refusal c =
     let named = c.object_of.ensures ∙ ap object_of c.deref.ensures in
     let none = ap (λ (n : Name). lookup (same_name n) i.objects.entries) (sym named) ∙ none_found (lookup (same_name c.object_of.result) i.objects.entries) c.in_default.ensures.found in
     λ n. ap (λ (s : DrawingState). body_refusal s.room c.args.op) (sym c.self.view_is)
-    ∙ not_there (room_of i.limits (map arc_value i.entries.items)) c.args.op c.requires.change i.objects.entries i.past.history c.self.invariant c.requires.counted none
+    ∙ not_there (room_of i.limits i.record.entries) c.args.op c.requires.change i.objects.entries i.past.history c.self.invariant c.requires.counted none
 
 pub plan_change-requires : goal.plan_change-requires
 plan_change-requires c =
@@ -33,7 +32,7 @@ plan_change-requires c =
     let found = c.in-Some-get_index_mut.ensures.value ∙ c.in-Some.ensures.value in
     let there = ap (λ (n : Name). lookup (same_name n) i.objects.entries) (sym named) ∙ sym found in
     let next = subst (λ (s : DrawingState). IsNext s.room c.args.op) (sym c.self.view_is) c.requires.next in
-    may_be_asked (room_of i.limits (map arc_value i.entries.items)) c.args.op c.requires.change i.objects.entries i.past.history c.self.invariant c.requires.counted c.in-Some-get_index_mut.shape.now there next
+    may_be_asked (room_of i.limits i.record.entries) c.args.op c.requires.change i.objects.entries i.past.history c.self.invariant c.requires.counted c.in-Some-get_index_mut.shape.now there next
 
 pub invariant_of-self : goal.invariant_of-self
 invariant_of-self c =
@@ -44,7 +43,7 @@ invariant_of-self c =
 pub returns-in_err-plan_change-clause-refusal : goal.returns-in_err-plan_change-clause-refusal
 returns-in_err-plan_change-clause-refusal c =
     let i = c.self.inside in
-    let room = room_of i.limits (map arc_value i.entries.items) in
+    let room = room_of i.limits i.record.entries in
     let named = c.object_of.ensures ∙ ap object_of c.deref.ensures in
     let found = c.in-Some-get_index_mut.ensures.value ∙ c.in-Some.ensures.value in
     let there = ap (λ (n : Name). lookup (same_name n) i.objects.entries) (sym named) ∙ sym found in
@@ -89,7 +88,7 @@ returns-clause-ids c =
     let there = ap (λ (n : Name). lookup (same_name n) i.objects.entries) (sym named) ∙ sym found in
     let next = subst (λ (s : DrawingState). IsNext s.room c.args.op) (sym c.self.view_is) c.requires.next in
     c.in_ok-plan_change.ensures.ids
-    ∙ ids_are (room_of i.limits (map arc_value i.entries.items)) c.args.op c.requires.change i.objects.entries i.past.history c.self.invariant c.requires.counted c.in-Some-get_index_mut.shape.now there next
+    ∙ ids_are (room_of i.limits i.record.entries) c.args.op c.requires.change i.objects.entries i.past.history c.self.invariant c.requires.counted c.in-Some-get_index_mut.shape.now there next
     ∙ ap (λ (s : DrawingState). ids_with s.room c.args.op) c.self.view_is
 
 pub returns-clause-allowed : goal.returns-clause-allowed
@@ -99,5 +98,5 @@ returns-clause-allowed c =
     let found = c.in-Some-get_index_mut.ensures.value ∙ c.in-Some.ensures.value in
     let there = ap (λ (n : Name). lookup (same_name n) i.objects.entries) (sym named) ∙ sym found in
     ap (λ (s : DrawingState). body_refusal s.room c.args.op) (sym c.self.view_is)
-    ∙ by_object (room_of i.limits (map arc_value i.entries.items)) c.args.op c.requires.change i.objects.entries i.past.history c.self.invariant c.requires.counted c.in-Some-get_index_mut.shape.now there
+    ∙ by_object (room_of i.limits i.record.entries) c.args.op c.requires.change i.objects.entries i.past.history c.self.invariant c.requires.counted c.in-Some-get_index_mut.shape.now there
     ∙ c.in_ok-plan_change.ensures.accepted

@@ -1,6 +1,6 @@
 use Rattle.std.proofs.Common.{◌∙◌, sym, ap, subst, IsUtf8}
 use Rattle.serde_json.specs.Read.{read}
-use Rattle.wire.proofs.Sent.{print_alone, text_of_sent, compact_again}
+use Rattle.wire.proofs.Sent.{print_alone, text_of_sent, compact_again, sent_is_plain}
 use Rattle.wire.proofs.write.part.compact.Goals as goal
 
 pub unreachable-requires : goal.unreachable-requires
@@ -15,9 +15,12 @@ returns-clause-text g c =
     let sent = c.in_ok-send.ensures in
     ap (λ v. v.items) c.in-Ok.ensures.ok ∙ print_alone _ _ _ _ empty sent c.into_inner.ensures.items ∙ text_of_sent _ _ _ c.new-out.ensures.tokens sent
 
+pub returns-clause-plain : goal.returns-clause-plain
+returns-clause-plain g c = sent_is_plain _ _ _ c.in_ok-send.ensures
+
 pub returns-clause-reads_back : goal.returns-clause-reads_back
 returns-clause-reads_back g c shallow =
     let empty = c.new-out.ensures.before ∙ c.in_ok-with_capacity.ensures.items in
     let sent = c.in_ok-send.ensures in
     let text = ap (λ v. v.items) c.in-Ok.ensures.ok ∙ print_alone _ _ _ _ empty sent c.into_inner.ensures.items ∙ text_of_sent _ _ _ c.new-out.ensures.tokens sent in
-    ap read text ∙ compact_again _ _ _ sent shallow
+    ap read text ∙ compact_again _ (sent_is_plain _ _ _ sent) shallow

@@ -1,6 +1,6 @@
 -- Parts of a list whose members are seen through a function.
-use Rattle.std.proofs.Common.{◌≡◌, ℕ, ◌+◌, ◌<◌, List, [], ◌∷◌, ◌++◌, length, get_or, map, take, drop, sym, ap, ◌∙◌, slice_get, Some, min}
-use Rattle.std.proofs.lemmas.List.{get_or-map, length-map, map-append, take-map, take_min, take_more, drop-map}
+use Rattle.std.proofs.Common.{◌≡◌, ℕ, ◌+◌, ◌-◌, ◌<◌, List, [], ◌∷◌, ◌++◌, length, get_or, map, take, drop, sym, ap, ◌∙◌, slice_get, Some, min}
+use Rattle.std.proofs.lemmas.List.{get_or-map, length-drop, length-map, map-append, take-map, take_min, take_more, drop-map}
 use Rattle.std.proofs.lemmas.Option.{get_or_from_slice_get, slice_get_within}
 
 module _ {X Y : Type 0} (f : X → Y) (xs : List X) where
@@ -8,20 +8,27 @@ module _ {X Y : Type 0} (f : X → Y) (xs : List X) where
   pub page_seen : (n from : ℕ) → map f (take n (drop from xs)) ≡ take n (drop from (map f xs))
   page_seen n from = sym (take-map f n (drop from xs)) ∙ ap (take n) (sym (drop-map f from xs))
 
-  -- one more of a front
-  pub front_more : (ys : List X) (k : ℕ) (a b : X) → k < length xs → a ≡ get_or xs k a → f b ≡ f a → map f ys ≡ take k (map f xs) → map f (ys ++ b ∷ []) ≡ take (k + 1) (map f xs)
-  front_more ys k a b there is same front =
+  -- one more of a prefix
+  pub prefix_more : (ys : List X) (k : ℕ) (a b : X) → k < length xs → a ≡ get_or xs k a → f b ≡ f a → map f ys ≡ take k (map f xs) → map f (ys ++ b ∷ []) ≡ take (k + 1) (map f xs)
+  prefix_more ys k a b there is same prefix =
       let within : k < length (map f xs) = rw length-map there in
       let next : f b ≡ get_or (map f xs) k (f a) = same ∙ ap f is ∙ sym (get_or-map f xs k a (f a) there) in
-      map-append f ys (b ∷ []) ∙ (λ i. front i ++ next i ∷ []) ∙ sym (take_more (map f xs) k (f a) within)
+      map-append f ys (b ∷ []) ∙ (λ i. prefix i ++ next i ∷ []) ∙ sym (take_more (map f xs) k (f a) within)
 
-  -- one more of a front, as it is found
+  -- one more of a prefix, as it is found
   pub found_more : (ys : List Y) (k : ℕ) (a : X) → slice_get xs k ≡ Some a → ys ≡ take k (map f xs) → ys ++ f a ∷ [] ≡ take (k + 1) (map f xs)
-  found_more ys k a there front =
+  found_more ys k a there prefix =
       let within : k < length (map f xs) = rw length-map (slice_get_within xs k a there) in
       let next : get_or (map f xs) k (f a) ≡ f a = get_or-map f xs k a (f a) (slice_get_within xs k a there) ∙ ap f (get_or_from_slice_get xs k a a there) in
-      (λ i. front i ++ sym next i ∷ []) ∙ sym (take_more (map f xs) k (f a) within)
+      (λ i. prefix i ++ sym next i ∷ []) ∙ sym (take_more (map f xs) k (f a) within)
 
   -- a page holds no more than there is
   pub page_counted : (page count : ℕ) → count ≡ min page (length xs) → take count (map f xs) ≡ take page (map f xs)
   page_counted page count e = ap (λ n. take n (map f xs)) (e ∙ ap (min page) (sym (length-map xs f))) ∙ take_min page (map f xs)
+
+-- a page from a place on, as many as there are
+pub page_of : {X Y : Type 0} (f : X → Y) (xs : List X) (from page count : ℕ) → count ≡ min page (length xs - from) → map f (take count (drop from xs)) ≡ take page (drop from (map f xs))
+page_of f xs from page count is =
+    sym (take-map f count (drop from xs))
+    ∙ page_counted f (drop from xs) page count (is ∙ ap (min page) (sym (length-drop from xs)))
+    ∙ ap (take page) (sym (drop-map f from xs))

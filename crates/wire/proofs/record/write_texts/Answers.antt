@@ -1,0 +1,39 @@
+use Rattle.std.proofs.Common.{◌≡◌, ◌<◌, [], ◌∷◌, map, length, get_or, string_bytes, sym, ap, ◌∙◌, subst, arith}
+use Rattle.std.proofs.lemmas.List.{map-append, length-map, get_or-map}
+use Rattle.std.specs.Arc.{arc_value}
+use Rattle.wire.specs.steps.Pages.{AreTexts, IsWritten}
+use Rattle.wire.proofs.Pages.{one_more_text}
+use Rattle.wire.proofs.record.write_texts.Goals as goal
+
+pub loop-place-init : goal.loop-place-init
+loop-place-init c = (c.requires.texts, sym c.len-place.ensures)
+
+pub returns-in_err-text-clause-texts : goal.returns-in_err-text-clause-texts
+returns-in_err-text-clause-texts c = c.loop-place.invariant.0
+
+pub returns-in_err-push-clause-texts : goal.returns-in_err-push-clause-texts
+returns-in_err-push-clause-texts c =
+    subst (λ texts. AreTexts (map string_bytes texts) (map arc_value c.args.entries.now)) (sym c.in_err-push.ensures.items) c.loop-place.invariant.0
+
+pub loop-place-preserved : goal.loop-place-preserved
+loop-place-preserved c =
+    let texts = c.loop-place.texts in
+    let entries = c.args.entries.now in
+    let entry = c.index-entries-place.result in
+    let count : length (map string_bytes texts.items) ≡ c.loop-place.place = length-map texts.items string_bytes ∙ sym texts.ok.0 ∙ c.loop-place.invariant.1 in
+    let within : c.loop-place.place < length entries = omega (arith, c.loop-place-test.true, c.requires.range) in
+    let there : arc_value entry ≡ get_or (map arc_value entries) c.loop-place.place (arc_value entry) =
+    ap arc_value c.index-entries-place.is ∙ sym (get_or-map arc_value entries c.loop-place.place entry (arc_value entry) within) in
+    let more = ap (map string_bytes) c.in_ok-push.ensures.items ∙ map-append string_bytes texts.items (c.shrink_to_fit.new.self ∷ []) in
+    let is : IsWritten (string_bytes c.shrink_to_fit.new.self) (arc_value entry) = record { compact = c.shrink_to_fit.ensures.bytes ∙ c.in_ok-text.ensures.text; plain = c.in_ok-text.ensures.plain } in (
+      subst (λ ts. AreTexts ts (map arc_value entries)) (sym more)
+          (one_more_text (map string_bytes texts.items) (map arc_value entries) (string_bytes c.shrink_to_fit.new.self) (arc_value entry)
+          (omega (arith, count, within, length-map entries arc_value)) (there ∙ ap (λ k. get_or (map arc_value entries) k (arc_value entry)) (sym count)) is c.loop-place.invariant.0),
+      omega (arith, c.in_ok-push.ensures.len, c.loop-place.invariant.1),
+    )
+
+pub returns-clause-texts : goal.returns-clause-texts
+returns-clause-texts c = c.loop-place.invariant.0
+
+pub returns-clause-all : goal.returns-clause-all
+returns-clause-all c = omega (arith, c.loop-place-test.false, c.loop-place.invariant.1)

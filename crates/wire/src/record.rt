@@ -1,0 +1,142 @@
+//! A room's record, with texts of its entries.
+
+ghost use Rattle.std.specs.Prelude.{◌≡◌, ◌<◌, ◌≤◌, ◌++◌, ◌∷◌, [], length, drop, map, take, IfOk, OnOk, string_bytes, vec_len};
+ghost use Rattle.std.specs.Arc.{arc_value};
+ghost use Rattle.wire.specs.steps.Pages.{AreTexts};
+
+use crate::lists::EntryList;
+use crate::write::compact;
+use base_types::NoMemory;
+use rules::Entry;
+use std::alloc::Global;
+use std::marker::Model;
+use std::sync::Arc;
+
+/// The entries of a room, and texts of the first of them. A page makes the texts that it needs, so
+/// an entry that is never on a page has none, and no text is made twice.
+#[derive(Drop)]
+pub struct Record {
+    entries: Vec<Arc<Entry>>,
+    texts: Vec<String>,
+}
+
+impl Model for Record {
+    ghost use Rattle.std.specs.Prelude.{◌-◌, map, string_bytes, vec_capacity, vec_len};
+    ghost use Rattle.std.specs.Arc.{arc_value};
+    ghost use Rattle.wire.specs.steps.Pages.{AreTexts, RecordState};
+
+    ghost Value = { RecordState };
+
+    ghost view = { λ r. record {
+      entries = map arc_value r.entries.items;
+      spare = vec_capacity r.entries - vec_len r.entries;
+    } };
+
+    ghost invariant = { λ r.
+        AreTexts (map string_bytes r.texts.items) (map arc_value r.entries.items) };
+}
+
+impl Record {
+    /// An empty record. Takes no memory.
+    pub fn new(alloc: Global) -> Record
+        ensures { result.entries ≡ [] }
+    {
+        Record {
+            entries: Vec::new(alloc),
+            texts: Vec::new(alloc),
+        }
+    }
+
+    /// The entries, in the order in which they were added.
+    pub fn as_slice(&self) -> &[Arc<Entry>]
+        ensures { map arc_value result.now ≡ self.now.entries }
+    {
+        &self.entries
+    }
+
+    /// The entries, of a record that is given up.
+    pub fn into_vec(self) -> Vec<Arc<Entry>>
+        ensures { map arc_value result.items ≡ self.entries }
+    {
+        self.entries
+    }
+
+    /// The number of entries.
+    pub fn len(&self) -> usize
+        ensures { result ≡ length self.now.entries }
+    {
+        self.entries.len()
+    }
+
+    /// Reserves memory for one more entry.
+    ///
+    /// # Errors
+    ///
+    /// `NoMemory` if an allocation failed.
+    pub fn reserve_one(&mut self) -> Result<(), NoMemory>
+        ensures memory { OnOk result (0 < self.new.spare) }
+        ensures entries { self.new.entries ≡ self.old.entries }
+    {
+        self.entries.reserve(1)?;
+        Ok(())
+    }
+
+    /// Adds an entry, for which memory is reserved.
+    pub fn push_reserved(&mut self, entry: Arc<Entry>)
+        requires { 0 < self.old.spare }
+        ensures { self.new.entries ≡ self.old.entries ++ arc_value entry ∷ [] }
+    {
+        self.entries.push_reserved(entry);
+    }
+
+    /// At most `count` entries from a place on. They have their text if the entries before them
+    /// have theirs. Linear in the page.
+    ///
+    /// # Errors
+    ///
+    /// `NoMemory` if an allocation failed.
+    pub fn page(&mut self, alloc: Global, from: usize, count: usize) -> Result<EntryList, NoMemory>
+        requires { from ≤ length self.old.entries }
+        ensures page { IfOk result (λ page. page ≡ take count (drop from self.old.entries)) }
+        ensures record { self.new ≡ self.old }
+    {
+        let end = from + count.min(self.entries.len() - from);
+        let entries = share(alloc, &self.entries[from..end])?;
+        if from > self.texts.len() {
+            return Ok(EntryList::from_vec(entries));
+        }
+        write_texts(alloc, &self.entries, end, &mut self.texts)?;
+        EntryList::with_texts(alloc, entries, &self.texts[from..end])
+    }
+}
+
+/// Other owners of these entries.
+fn share(alloc: Global, entries: &[Arc<Entry>]) -> Result<Vec<Arc<Entry>>, NoMemory>
+    ensures { IfOk result (λ owners. map arc_value owners.items ≡ map arc_value entries.now) }
+{
+    let mut owners = Vec::with_capacity(alloc, entries.len())?;
+    for entry in entries {
+        owners.push(entry.clone()?)?;
+    }
+    Ok(owners)
+}
+
+/// Adds the texts that are missing of the entries before a place.
+fn write_texts(
+    alloc: Global,
+    entries: &[Arc<Entry>],
+    end: usize,
+    texts: &mut Vec<String>,
+) -> Result<(), NoMemory>
+    requires texts { AreTexts (map string_bytes texts.old.items) (map arc_value entries.now) }
+    requires range { end ≤ length entries.now }
+    ensures texts { AreTexts (map string_bytes texts.new.items) (map arc_value entries.now) }
+    ensures all { OnOk result (end ≤ vec_len texts.new) }
+{
+    for place in texts.len()..end {
+        let mut text = compact(alloc, &entries[place])?;
+        text.shrink_to_fit();
+        texts.push(text)?;
+    }
+    Ok(())
+}

@@ -3,6 +3,9 @@ use Rattle.std.proofs.Common.{◌≡◌, ℕ, ◌<◌, ◌≤◌, Bool, true, fa
 use Rattle.std.specs.Prelude.{filter, nat_lt, All}
 use Rattle.std.specs.List.{list_any}
 use Rattle.std.proofs.lemmas.Bool.{and_right, true≢false, cases_Bool, cases_lt, cases_order, eq-eqb, ne_eqb, lt-ltb, le-ltb, or_right, false_from_ne_true}
+use Rattle.std.proofs.lemmas.List.{nil_from_length}
+use Rattle.std.proofs.lemmas.List.Filters.{length-filter_both}
+use Rattle.std.proofs.lemmas.List.FromFn.{length-range_with_len}
 use Rattle.state_vector.specs.Vectors.{counts}
 use Rattle.base_types.specs.Names.{Name}
 use Rattle.rules.specs.declared.history.Op.{Op}
@@ -110,6 +113,26 @@ module _ {object : Name} (k : List Op) (o : Op) (w : AreChangesOf object (k ++ o
       let same_direct : direct ≡ first = m ∙ (λ i. filter (λ x. not (has (b i) x)) (n i)) in
       let same_second : filter at_odds listed ≡ second = ap (filter at_odds) l ∙ c ∙ ap (filter at_odds) same_others in
       r ∙ with_those-filter at_odds direct listed ∙ (λ i. with_places (same_direct i) (same_second i)) ∙ both
+
+  -- where all are known, there are no others
+  pub direct_conflicts_of_known : (based known direct : List ℕ) → based ≡ base_places k o → known ≡ places_counted k o.seen → length known ≡ length k
+      → direct ≡ filter (λ x. not (has based x)) known → direct ≡ filter is_direct (places (length k))
+  direct_conflicts_of_known based known direct b n whole m =
+      direct_conflicts_are based known (places (length k)) (filter (λ x. not (has known x)) (places (length k))) [] [] direct direct b n refl refl
+      (ap (filter at_odds) (sym none)) refl m refl
+    where
+      size : length (places (length k)) ≡ length k
+      size = length-range_with_len 0 (length k)
+
+      rest : length (filter (λ p. not (counted p)) (places (length k))) ≡ 0
+      rest =
+          let both = length-filter_both counted (λ p. not (counted p)) (λ p. refl) (places (length k)) in
+          let all = ap length (sym n) in omega (arith, both, size, whole, all)
+
+      none : filter (λ x. not (has known x)) (places (length k)) ≡ []
+      none =
+          filter_agree (λ x. not (has known x)) (λ p. not (counted p)) (places (length k)) (λ p m. ap not (ap (λ l. has l p) n ∙ has-filter counted (length k) p (below (length k) p m)))
+          ∙ nil_from_length (filter (λ p. not (counted p)) (places (length k))) rest
 
 -- places of a part of the first n
 pub others_below : (n : ℕ) (known all others : List ℕ) → all ≡ places n → others ≡ filter (λ x. not (has known x)) all → All (λ x. x < n) others

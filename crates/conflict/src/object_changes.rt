@@ -331,11 +331,14 @@ impl ObjectChanges {
         requires known { known.now ≡ places_counted self.now.ops op.now.seen }
         ensures { IfOk result (λ direct. direct ≡ direct_places self.now.ops op.now) }
     {
+        let direct = known.without(alloc, based)?;
+        if known.count() == self.ops.len() {
+            return Ok(direct);
+        }
         let all = PlaceSet::first_places(alloc, self.ops.len() as u32)?;
         let unknown = all.without(alloc, known)?;
         let candidates = self.that_may_be_at_odds(alloc, &op.body, &unknown)?;
         let others = candidates.list(alloc)?;
-        let direct = known.without(alloc, based)?;
         self.with_those_at_odds(direct, op, &others)
     }
 

@@ -17,13 +17,12 @@ use crate::pass::Pass;
 use crate::prefix::{News, Prefix};
 use crate::room::Room;
 use base_types::{NoMemory, RoomName};
-use crossbeam_utils::CachePadded;
+use crossbeam_utils::{Backoff, CachePadded};
 use indexmap::IndexMap;
 use room_core::{CallFault, RoomState};
 use std::alloc::Global;
 use std::marker::Model;
 use std::sync::{Mutex, MutexGuard, Wait};
-use std::thread::yield_now;
 use wire::{Reply, Request};
 
 /// Rooms by name, each behind a lock of its own. Each lock has its own cache line, so threads in
@@ -43,17 +42,19 @@ impl<P: RoomLedger> Model for Rooms<P> {
     ghost view = { λ r. keys r.rooms };
 }
 
-/// The number of attempts to take a lock before the thread sleeps.
-const TRIES: u32 = 100;
+/// The number of attempts to take a lock before the thread sleeps: one to two milliseconds.
+const TRIES: u32 = 400;
 
-/// Takes a room's lock. Holds are short, and a thread that sleeps is woken late, as are those
-/// behind it. So the thread yields first, and sleeps only after `TRIES` attempts.
+/// Takes a room's lock. Holds take microseconds, and a thread that sleeps is woken late, so the
+/// thread spins first. It does not yield: where threads outnumber processors, a thread that yields
+/// may wait for milliseconds.
 fn lock_of<'a, T>(rt: &impl Wait, room: &'a Mutex<T>) -> MutexGuard<'a, T> {
+    let backoff = Backoff::new();
     for _try in 0..TRIES {
         if let Some(guard) = room.try_lock() {
             return guard;
         }
-        yield_now();
+        backoff.spin();
     }
     room.lock(rt)
 }

@@ -17,6 +17,9 @@ use places::PlaceSet;
 use rules::{Attrs, Body, SharedOp};
 use std::alloc::Global;
 
+/// For how many attributes memory is taken at once. Most versions have fewer.
+const MOST_AT_FIRST: usize = 16;
+
 /// The attributes of a version, in order of key: the initial attributes of its object, and the
 /// changes of its group, by their places in causal order. A key has the value of its last put, or
 /// else its initial value.
@@ -58,7 +61,7 @@ fn last_given(
         pairs.items ≡ with_new_attrs [] (given_backwards (map (at ops.now) members.now))) }
 {
     let places = members.list(alloc)?;
-    let mut pairs = Vec::new(alloc);
+    let mut pairs = Vec::with_capacity(alloc, places.len().min(MOST_AT_FIRST))?;
     for index in (0..places.len()).rev() {
         let place = places[index] as usize;
         add_given(alloc, &mut pairs, &ops[place].body)?;

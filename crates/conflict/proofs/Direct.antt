@@ -18,7 +18,7 @@ use Rattle.rules.proofs.Changes.{in_known_back}
 use Rattle.places.specs.steps.PlaceSet.{has, with_place, places, with_places}
 use Rattle.conflict.specs.steps.Rows.{conflicts_below, is_in_row, with_those}
 use Rattle.places.specs.steps.Changes.{AreChangesOf, at, is_conflict_of, base_places, places_counted}
-use Rattle.places.proofs.Places.{In-places, below, has_if_in, in_if_has, has-filter, has-filter_past, all_below, in_all}
+use Rattle.places.proofs.Places.{In-places, below, has_if_in, in_if_has, has-filter, has-filter_past, in_all}
 use Rattle.places.proofs.ChangesAt.{has-places_of}
 use Rattle.places.proofs.WordPlaces.{Up, same_set, up_range, up_filter, up_with_place, up_with_all, has-with_place, has-with_all, has-kept, or_turned}
 use Rattle.conflict.proofs.Growth.{base_within, never_before}
@@ -135,9 +135,6 @@ module _ {object : Name} (k : List Op) (o : Op) (w : AreChangesOf object (k ++ o
           ∙ nil_from_length (filter (λ p. not (counted p)) (places (length k))) rest
 
 -- places of a part of the first n
-pub others_below : (n : ℕ) (known all others : List ℕ) → all ≡ places n → others ≡ filter (λ x. not (has known x)) all → All (λ x. x < n) others
-others_below n known all others a u = all_below (λ x. not (has known x)) n others (u ∙ ap (filter (λ x. not (has known x))) a)
-
 -- ---- the row, from the direct conflicts and those of the base
 
 -- is the change at a place in the row, where of those in direct conflict, themselves or by their bases, only the ones below n count?

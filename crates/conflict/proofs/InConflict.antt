@@ -4,6 +4,7 @@ use Rattle.std.specs.Prelude.{filter, nat_lt, All}
 use Rattle.std.specs.List.{list_any}
 use Rattle.std.proofs.lemmas.Bool.{true≢false, cases_Bool, cases_lt, eq-eqb, eqb-true, ltb-false, ltb-true, lt-ltb, or_left, or_right, or_cases, and_parts, and_from, false_from_ne_true}
 use Rattle.std.proofs.lemmas.List.{nil_from_length}
+use Rattle.std.proofs.lemmas.List.FromFn.{length-range_with_len, get_or-range_with_len}
 use Rattle.base_types.specs.Names.{Name}
 use Rattle.rules.specs.declared.history.Op.{Op}
 use Rattle.rules.specs.Groups.{in_conflict_with}
@@ -11,29 +12,14 @@ use Rattle.rules.specs.Conflicts.{conflict}
 use Rattle.rules.proofs.Relation.{conflict_symmetric}
 use Rattle.rules.proofs.Lists.{In, In-filter, In-filter_back, any_from, any_back, any_agree, Contains-from_In, filter_agree}
 use Rattle.rules.proofs.Relation.{same_answer}
-use Rattle.places.specs.steps.Changes.{is_conflict_of, Added, IsAddition, AreChangesOn, at}
+use Rattle.places.specs.steps.Changes.{is_conflict_of, Added, IsAddition, AreChangesOn, at, base_places, conflicting_places, new_conflicts}
 use Rattle.conflict.proofs.Growth.{never_alone}
 use Rattle.conflict.proofs.Rows.{one_change_more, changes_with_addition, last_in_row, conflict_stays, row_found}
 use Rattle.places.specs.steps.PlaceSet.{has, places, with_places}
-use Rattle.conflict.specs.steps.Rows.{conflicts_below, earlier_conflicts, has_earlier_conflict, places_in_conflict, with_row, with_rows}
+use Rattle.conflict.specs.steps.Rows.{conflicts_below, earlier_conflicts, has_earlier_conflict, places_with_earlier_conflict, with_conflicts, with_row, with_rows}
 use Rattle.places.proofs.Places.{In-places, below, has_if_in, in_if_has, has-filter, has-filter_past, in_all, kept_next, left_next}
 use Rattle.places.proofs.ChangesAt.{at_in}
 use Rattle.places.proofs.WordPlaces.{Up, same_set, up_range, up_filter, up_with_place, up_with_all, has-with_place, has-with_all, or_turned}
-
--- none is below 0
-pub none_below : (is_conflict : ℕ → ℕ → Bool) (scope : List ℕ) (n : ℕ) (found : List ℕ) → found ≡ [] → found ≡ filter (conflicts_below is_conflict scope 0) (places n)
-none_below is_conflict scope n found e = e ∙ sym (nothing (places n))
-  where
-    fails : (x : ℕ) → conflicts_below is_conflict scope 0 x ≡ false
-    fails x = false_from_ne_true (conflicts_below is_conflict scope 0 x) (λ t.
-        let c = any_back (λ s. (nat_lt s 0 && nat_lt x 0) && is_conflict x s) scope t in
-        let a = and_parts (nat_lt c.0 0 && nat_lt x 0) (is_conflict x c.0) c.2 in
-        let b = and_parts (nat_lt c.0 0) (nat_lt x 0) a.0 in
-        let l = ltb-true c.0 0 b.0 in absurd (omega arith))
-
-    nothing : (xs : List ℕ) → filter (conflicts_below is_conflict scope 0) xs ≡ []
-    nothing [] = refl
-    nothing (x ∷ xs) = rw (fails x) (nothing xs)
 
 -- none is in conflict with places that are not below n
 pub none_with_others : (is_conflict : ℕ → ℕ → Bool) (scope : List ℕ) (n : ℕ) → All (λ s. n ≤ s) scope → (xs : List ℕ) → filter (conflicts_below is_conflict scope n) xs ≡ []
@@ -50,6 +36,10 @@ none_with_others is_conflict scope n above = nothing
     nothing : (xs : List ℕ) → filter (conflicts_below is_conflict scope n) xs ≡ []
     nothing [] = refl
     nothing (x ∷ xs) = rw (fails x) (nothing xs)
+
+-- none is below 0
+pub none_below : (is_conflict : ℕ → ℕ → Bool) (scope : List ℕ) (n : ℕ) (found : List ℕ) → found ≡ [] → found ≡ filter (conflicts_below is_conflict scope 0) (places n)
+none_below is_conflict scope n found e = e ∙ sym (none_with_others is_conflict scope 0 (λ i d l. omega arith) (places n))
 
 module _ (is_conflict : ℕ → ℕ → Bool) (scope : List ℕ) where
   conflicts_below_from : (n x s : ℕ) → In s scope → s < n → x < n → is_conflict x s ≡ true → conflicts_below is_conflict scope n x ≡ true
@@ -205,7 +195,7 @@ module _ {object : Name} (k : List Op) (w : AreChangesOn object k) (scope : List
   rows_up_to zero l = none_below (is_conflict_of k) scope (length k) [] refl
   rows_up_to (suc n) l = let e : n + 1 ≡ suc n = omega arith in subst (λ m. so_far m ≡ goal_at m) e (one_row n (omega arith) (rows_up_to n (omega arith)))
 
-  pub all_rows : (in_conflict : List ℕ) → in_conflict ≡ places_in_conflict k → with_rows scope rows [] in_conflict ≡ goal_at (length k)
+  pub all_rows : (in_conflict : List ℕ) → in_conflict ≡ places_with_earlier_conflict k → with_rows scope rows [] in_conflict ≡ goal_at (length k)
   all_rows in_conflict e = ap (with_rows scope rows []) e ∙ rows_up_to (length k) (omega arith)
 
 -- the places that are in conflict with a base
@@ -230,7 +220,7 @@ lifted is_conflict more scope n size found l same e =
     ∙ sym (has_conflicts_below more scope size n x l))
 
 module _ {object : Name} (k : List Op) (a : Added) (w : IsAddition object k a) (ops : List Op) (e : k ++ a.op ∷ [] ≡ ops) where
-  row_is_of_last : a.row ≡ earlier_conflicts ops (length k)
+  pub row_is_of_last : a.row ≡ earlier_conflicts ops (length k)
   row_is_of_last = w.row ∙ filter_agree (λ p. conflict (k ++ a.op ∷ []) a.op (at k p)) (is_conflict_of ops (length k)) (places (length k)) (λ j m.
       let l = below (length k) j m in
       sym (ap (λ (r : List ℕ). has r j) w.row ∙ has-filter (λ p. conflict (k ++ a.op ∷ []) a.op (at k p)) (length k) j l)
@@ -246,3 +236,42 @@ module _ {object : Name} (k : List Op) (a : Added) (w : IsAddition object k a) (
       let start = lifted (is_conflict_of k) (is_conflict_of ops) scope n size first (omega (arith, more)) (λ i j l h. conflict_stays k a w ops e i j l h) f in
       let next = row_added ops (changes_with_addition k a w ops e) scope n row first (omega (arith, more)) (r ∙ row_is_of_last) start in
       all_in_conflict (is_conflict_of ops) scope size found low (m ∙ ap (λ (v : ℕ). with_row scope row v first) q ∙ next ∙ ap (λ (v : ℕ). filter (conflicts_below (is_conflict_of ops) scope v) (places size)) (sym more))
+
+-- all that conflict with some change, with one change more
+pub conflicting_grow : {object : Name} (k : List Op) (o : Op) → AreChangesOn object (k ++ o ∷ []) → (base row : List ℕ) → base ≡ base_places k o → row ≡ new_conflicts k o
+    → (old : List ℕ) → old ≡ conflicting_places k → with_conflicts row (length k) old ≡ conflicting_places (k ++ o ∷ [])
+conflicting_grow {object} k o w base row b r old e =
+    let n : ℕ = length k in
+    let ops : List Op = k ++ o ∷ [] in
+    let size : ℕ = length ops in
+    let a : Added = record { op = o; base = base; row = row; conflicting = conflicting_places ops } in
+    let ready : IsAddition object k a = record { changes = w; base = b; row = r; conflicting = refl } in
+    let more : size ≡ n + 1 = one_change_more k a ready ops refl in
+    let scope : List ℕ = places size in
+    let first : old ≡ filter (conflicts_below (is_conflict_of k) scope n) (places n) =
+    e ∙ filter_agree (in_conflict_with (is_conflict_of k) (places n)) (conflicts_below (is_conflict_of k) scope n) (places n) (λ x m.
+    let l = below n x m in
+    same_answer (in_conflict_with (is_conflict_of k) (places n) x) (conflicts_below (is_conflict_of k) scope n x)
+    (λ t. let c = any_back (is_conflict_of k x) (places n) t in let h = below n c.0 c.1 in conflicts_below_from (is_conflict_of k) scope n x c.0 (In-places size c.0 (omega (arith, more, h))) h l c.2)
+    (λ t. let c = conflicts_below_back (is_conflict_of k) scope n x t in any_from (is_conflict_of k x) c.0 (places n) (In-places n c.0 c.2) c.4)) in
+    let here : has scope n ≡ true = has_if_in scope n (In-places size n (omega (arith, more))) in
+    let low : All (λ place. place < size) scope = λ i d l. below size (get_or scope i d) (let p = get_or-range_with_len 0 size i d (omega (arith, length-range_with_len 0 size, l)) in subst (λ z. In z scope) (sym p) (In-places size (0 + i) (omega (arith, length-range_with_len 0 size, l)))) in
+    conflicts_with_addition k a ready ops refl scope row old (with_conflicts row n old) n low refl refl first (same scope here (λ x m. has_if_in scope x (In-places size x (let h = in_row x m in omega (arith, more, h)))))
+  where
+    in_row : (x : ℕ) → In x row → x < length k
+    in_row x m = below (length k) x (In-filter_back (λ p. conflict (k ++ o ∷ []) o (at k p)) x (places (length k)) (subst (In x) r m)).0
+
+    any_of : (scope xs : List ℕ) (x : ℕ) → has scope x ≡ true → list_any (has scope) (x ∷ xs) ≡ true
+    any_of scope xs x t = rw t refl
+
+    same : (scope : List ℕ) → has scope (length k) ≡ true → ((x : ℕ) → In x row → has scope x ≡ true) → with_conflicts row (length k) old ≡ with_row scope row (length k) old
+    same scope here inside = by_row row inside
+      where
+        by_row : (xs : List ℕ) → ((x : ℕ) → In x xs → has scope x ≡ true) → with_conflicts xs (length k) old ≡ with_row scope xs (length k) old
+        by_row [] i = sym (no_row scope (length k) old)
+        by_row (x ∷ xs) i = rw (here, any_of scope xs x (i x (inl refl))) refl
+
+pub addition_is : (object : Name) (k : List Op) (o : Op) → AreChangesOn object (k ++ o ∷ []) → (base row conflicting : List ℕ) → base ≡ base_places k o → row ≡ new_conflicts k o
+    → conflicting ≡ with_conflicts row (length k) (conflicting_places k) → IsAddition object k (record { op = o; base = base; row = row; conflicting = conflicting })
+addition_is object k o w base row conflicting b r c =
+    record { changes = w; base = b; row = r; conflicting = c ∙ conflicting_grow k o w base row b r (conflicting_places k) refl }

@@ -1,8 +1,12 @@
 -- The index of changes by key: with one change more, and which changes it leaves to be compared.
 use Rattle.std.proofs.Common.{◌≡◌, ℕ, suc, ◌+◌, ◌<◌, ◌≤◌, Bool, true, false, ◌||◌, ◌⊎◌, List, [], ◌∷◌, ◌++◌, length, set, refl, sym, ap, ◌∙◌, subst, inl, inr, arith, eqb, get_or, drop, drop-cons, map}
-use Rattle.std.specs.Prelude.{filter, bytes_eq, is_some, MatchBool}
+use Rattle.std.specs.Prelude.{filter, not, bytes_eq, is_some, All, MatchBool}
+use Rattle.std.specs.List.Sorted.{IsStrictlyIncreasing}
+use Rattle.std.proofs.lemmas.List.Elements.{Contains-get_or}
+use Rattle.places.proofs.Rising.{among_places}
+use Rattle.conflict.specs.steps.Rows.{places_outside}
 use Rattle.std.specs.List.{list_any}
-use Rattle.std.proofs.lemmas.Bool.{true≢false, cases_eq, cases_lt, or_cases, or_left, or_right, eq-eqb, eqb-true, false_from_ne_true}
+use Rattle.std.proofs.lemmas.Bool.{true≢false, cases_Bool, cases_eq, cases_lt, or_cases, or_left, or_right, eq-eqb, eqb-true, false_from_ne_true}
 use Rattle.std.proofs.lemmas.List.Folds.{list_any_at}
 use Rattle.std.proofs.lemmas.List.{get_or_append_left, get_or_at, get_or_past, get_or-set_same, get_or-set_other, length-append, length-set}
 use Rattle.base_types.specs.Names.{Name}
@@ -13,14 +17,14 @@ use Rattle.rules.specs.declared.history.Body.TheVariants.{New, Put, DropVersion}
 use Rattle.rules.specs.AttrLists.{Attr}
 use Rattle.rules.specs.Bodies.{are_at_odds, differ_on_a_key, is_drop_body, is_one_a_drop, keys_in, pairs_in}
 use Rattle.rules.proofs.Bodies.{differ_is, key_there}
-use Rattle.rules.proofs.Lists.{In, In-filter, In-filter_back, In-map_back, any_from, any_back, filter_agree, filter_inner}
+use Rattle.rules.proofs.Lists.{In, In-from_Contains, In-filter, In-filter_back, In-map_back, any_from, any_back, filter_agree, filter_inner}
 use Rattle.rules.proofs.Relation.{same_answer}
 use Rattle.rules.proofs.Reordered.{same_key_is, same_key_itself}
-use Rattle.places.specs.steps.PlaceSet.{has, with_place, places}
+use Rattle.places.specs.steps.PlaceSet.{has, with_place, with_places, places}
 use Rattle.places.specs.steps.Changes.{at, nothing}
-use Rattle.conflict.specs.steps.Indexes.{OfKey, KeyIndex, AreByKey, IsUnder, key_at, gives, of_key, is_drop_at, is_drop_or_gives, with_drop}
+use Rattle.conflict.specs.steps.Indexes.{OfKey, KeyIndex, AreByKey, AreWithin, IsUnder, key_at, gives, of_key, is_drop_at, with_drop}
 use Rattle.places.proofs.Places.{In-places, in_if_has, has_if_in, has-filter, below, left_next, put_next}
-use Rattle.places.proofs.WordPlaces.{has-with_place}
+use Rattle.places.proofs.WordPlaces.{has-with_place, has-with_all}
 use Rattle.places.proofs.ChangesAt.{at_in, at_push, place_of}
 
 pub any_key : (key : Bytes) (pairs : List Attr) → list_any (λ pair. bytes_eq key pair.0) pairs ≡ list_any (bytes_eq key) (map (λ pair. pair.0) pairs)
@@ -329,7 +333,7 @@ module _ (k : List Op) (index : KeyIndex) (w : AreByKey k index) where
 -- ---- which changes are left to be compared
 
 -- what is at odds with a put is a drop, or gives one of its keys a value
-at_odds_found : (object : Name) (version : List Name) (pairs : List Attr) (body : Body) → are_at_odds (Put object version pairs) body ≡ true → (is_drop_body body || list_any (λ pair. gives pair.0 body) pairs) ≡ true
+pub at_odds_found : (object : Name) (version : List Name) (pairs : List Attr) (body : Body) → are_at_odds (Put object version pairs) body ≡ true → (is_drop_body body || list_any (λ pair. gives pair.0 body) pairs) ≡ true
 at_odds_found object version pairs body e = elim (or_cases (differ_on_a_key (Put object version pairs) body) (is_one_a_drop (Put object version pairs) body) e) [
   | inl d ↦
       (let f = (differ_is (Put object version pairs) body).0 d in
@@ -344,17 +348,51 @@ at_odds_found object version pairs body e = elim (or_cases (differ_on_a_key (Put
     one_is object version pairs (Put other_object other_version other_pairs) e = absurd (true≢false (sym e))
     one_is object version pairs (DropVersion other_object other_version) e = refl
 
--- where all that are at odds with it are found, the places that are found lack none of them
-pub candidates_same : (k : List Op) (object : Name) (version : List Name) (pairs : List Attr) (found unknown candidates : List ℕ)
-    → ((p : ℕ) → In p unknown → is_drop_or_gives k pairs p ≡ true → has found p ≡ true) → candidates ≡ filter (has found) unknown
-    → filter (λ p. are_at_odds (Put object version pairs) (at k p).body) candidates ≡ filter (λ p. are_at_odds (Put object version pairs) (at k p).body) unknown
-candidates_same k object version pairs found unknown candidates all r =
-    let at_odds : ℕ → Bool = λ p. are_at_odds (Put object version pairs) (at k p).body in
-    ap (filter at_odds) r
-    ∙ filter_inner at_odds (has found) unknown (λ x m t. all x m (at_odds_found object version pairs (at k x).body t))
+pub all_within : (n : ℕ) (xs : List ℕ) → AreWithin n xs → All (λ x. x < n) xs
+all_within n xs low k d l = low (get_or xs k d) (has_if_in xs (get_or xs k d) (In-from_Contains (get_or xs k d) xs (Contains-get_or xs k d l)))
+
+filter_turned : (p q : ℕ → Bool) (xs : List ℕ) → filter p (filter q xs) ≡ filter q (filter p xs)
+filter_turned p q [] = refl
+filter_turned p q (x ∷ xs) = elim (cases_Bool (p x)) [
+  | inl a ↦ elim (cases_Bool (q x)) [ inl b ↦ rw (a, b, a) (ap (λ l. x ∷ l) (filter_turned p q xs)) | inr b ↦ rw (a, b) (filter_turned p q xs) ]
+  | inr a ↦ elim (cases_Bool (q x)) [ inl b ↦ rw (b, a) (filter_turned p q xs) | inr b ↦ rw (a, b) (filter_turned p q xs) ]
+]
+
+-- where all that are at odds are found, those found outside some places are all outside them
+pub candidates_same : (n : ℕ) (at_odds : ℕ → Bool) (found known candidates : List ℕ) → IsStrictlyIncreasing found → AreWithin n found
+    → ((p : ℕ) → p < n → at_odds p ≡ true → has found p ≡ true) → candidates ≡ filter (λ p. not (has known p)) found
+    → filter at_odds candidates ≡ filter at_odds (places_outside known n)
+candidates_same n at_odds found known candidates up low all r =
+    let outside : ℕ → Bool = λ p. not (has known p) in
+    let among : found ≡ filter (has found) (places n) = sym (among_places n found up (all_within n found low)) in
+    ap (filter at_odds) (r ∙ ap (filter outside) among)
+    ∙ ap (filter at_odds) (filter_turned outside (has found) (places n))
+    ∙ filter_inner at_odds (has found) (filter outside (places n)) (λ x m t. all x (below n x (In-filter_back outside x (places n) m).0) t)
 
 -- a creation is at odds with nothing
 pub new_at_odds : (kind : Bytes) (attrs : List Attr) (body : Body) → are_at_odds (New kind attrs) body ≡ false
 new_at_odds kind attrs (New m a) = refl
 new_at_odds kind attrs (Put o v p) = refl
 new_at_odds kind attrs (DropVersion o v) = refl
+
+-- ---- what is found is below the number of changes
+
+pub within_joined : (n : ℕ) (xs ys : List ℕ) → AreWithin n xs → AreWithin n ys → AreWithin n (with_places xs ys)
+within_joined n xs ys a b x h = elim (or_cases (has xs x) (has ys x) (sym (has-with_all xs ys x) ∙ h)) [ inl f ↦ a x f | inr f ↦ b x f ]
+
+pub within_and_one : (n p : ℕ) (xs : List ℕ) → AreWithin n xs → p < n → AreWithin n (with_place p xs)
+within_and_one n p xs a l x h = elim (or_cases (has xs x) (eqb p x) (sym (has-with_place p xs x) ∙ h)) [
+  | inl f ↦ a x f
+  | inr f ↦ (let e = eqb-true p x f in omega arith)
+]
+
+module _ (k : List Op) (index : KeyIndex) (w : AreByKey k index) where
+  pub puts_within : (i : ℕ) → i < length index.keys → AreWithin (length k) (key_at index.keys i).places
+  puts_within i l x h = (w.only (key_at index.keys i).key x (record { entry = i; within = l; of_it = refl; placed = h })).0
+
+  pub drops_within : AreWithin (length k) index.drops
+  drops_within x h =
+      let m = In-filter_back (is_drop_at k) x (places index.len) (in_if_has (filter (is_drop_at k) (places index.len)) x (sym (ap (λ (l : List ℕ). has l x) w.drops) ∙ h)) in
+      let b = below index.len x m.0 in
+      let long = w.within in
+      omega (arith, b, long)

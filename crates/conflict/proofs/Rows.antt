@@ -1,8 +1,8 @@
 -- The row of a change that comes after all others, and what is stored once it is added.
-use Rattle.std.proofs.Common.{◌≡◌, ℕ, ◌+◌, ◌^◌, ◌<◌, ◌≤◌, Bool, true, false, not, ◌&&◌, ◌||◌, List, [], ◌∷◌, ◌++◌, length, map, get_or, refl, sym, ap, ◌∙◌, subst, arith, inl, inr, eqb, cond}
+use Rattle.std.proofs.Common.{◌≡◌, ℕ, ◌+◌, ◌^◌, ◌<◌, Bool, true, false, not, ◌&&◌, ◌||◌, List, [], ◌∷◌, ◌++◌, length, map, get_or, refl, sym, ap, ◌∙◌, subst, arith, inl, inr, eqb, cond}
 use Rattle.std.specs.Prelude.{filter, nat_lt, Contains}
 use Rattle.std.specs.List.{list_any}
-use Rattle.std.proofs.lemmas.Bool.{true≢false, false_from_ne_true, or_cases, or_left, or_right, eqb-true, eq-eqb, cases_lt, cases_Bool}
+use Rattle.std.proofs.lemmas.Bool.{true≢false, false_from_ne_true, or_cases, or_left, or_right, eqb-true, eq-eqb, cases_Bool}
 use Rattle.std.proofs.lemmas.List.{length-append, map-append}
 use Rattle.std.proofs.lemmas.List.FromFn.{map-range_with_len_more, get_or-map-range_with_len, length-map-range_with_len}
 use Rattle.state_vector.specs.Vectors.{counts}
@@ -20,8 +20,8 @@ use Rattle.places.specs.steps.Relations.{IsRelation}
 use Rattle.conflict.specs.steps.Indexes.{SiteIndex, KeyIndex}
 use Rattle.conflict.specs.steps.Stored.{AreStored}
 use Rattle.places.specs.steps.Changes.{AreChangesOf, AreChangesOn, Added, IsAddition, at, places_of, base_places, new_conflicts}
-use Rattle.conflict.specs.steps.Rows.{earlier_conflicts, is_in_row, has_earlier_conflict, places_in_conflict}
-use Rattle.places.proofs.Places.{In-places, below, has-filter, has-filter_past, kept_next, left_next}
+use Rattle.conflict.specs.steps.Rows.{earlier_conflicts, is_in_row, has_earlier_conflict, places_with_earlier_conflict}
+use Rattle.places.proofs.Places.{In-places, below, has-filter, kept_next, left_next}
 use Rattle.places.proofs.ChangesAt.{at_in, place_of, one_place_each, at_push, at_last, has-places_of, any-places_of}
 use Rattle.conflict.proofs.Sited.{by_site_push}
 use Rattle.conflict.proofs.Keyed.{by_key_push}
@@ -168,13 +168,13 @@ module _ {object : Name} (k : List Op) (o : Op) (w : AreChangesOf object (k ++ o
       ∙ (λ i. map_agree (earlier_conflicts with_last) (earlier_conflicts k) (places (length k)) (λ p m. row_stays p (below (length k) p m)) i ++ last_row i ∷ [])
 
   -- the places of those in conflict with an earlier one
-  in_conflict_stay : filter (has_earlier_conflict with_last) (places (length k)) ≡ places_in_conflict k
+  in_conflict_stay : filter (has_earlier_conflict with_last) (places (length k)) ≡ places_with_earlier_conflict k
   in_conflict_stay = filter_agree (has_earlier_conflict with_last) (has_earlier_conflict k) (places (length k)) (λ p m. ap (λ (r : List ℕ). nat_lt 0 (length r)) (row_stays p (below (length k) p m)))
 
-  in_conflict_grow : cond (nat_lt 0 (length (new_conflicts k o))) (places_in_conflict k ++ length k ∷ []) (places_in_conflict k) ≡ places_in_conflict with_last
+  in_conflict_grow : cond (nat_lt 0 (length (new_conflicts k o))) (places_with_earlier_conflict k ++ length k ∷ []) (places_with_earlier_conflict k) ≡ places_with_earlier_conflict with_last
   in_conflict_grow =
       let last : has_earlier_conflict with_last (length k) ≡ nat_lt 0 (length (new_conflicts k o)) = ap (λ (r : List ℕ). nat_lt 0 (length r)) last_row in
-      let more : places_in_conflict with_last ≡ filter (has_earlier_conflict with_last) (places (length k + 1)) = ap (λ n. filter (has_earlier_conflict with_last) (places n)) one_more in
+      let more : places_with_earlier_conflict with_last ≡ filter (has_earlier_conflict with_last) (places (length k + 1)) = ap (λ n. filter (has_earlier_conflict with_last) (places n)) one_more in
       elim (cases_Bool (nat_lt 0 (length (new_conflicts k o)))) [
         | inl t ↦ rw t (sym (more ∙ kept_next (has_earlier_conflict with_last) (length k) (last ∙ t) ∙ ap (λ (l : List ℕ). l ++ length k ∷ []) in_conflict_stay))
         | inr t ↦ rw t (sym (more ∙ left_next (has_earlier_conflict with_last) (length k) (last ∙ t) ∙ in_conflict_stay))
@@ -194,15 +194,16 @@ module _ (k : List Op) (o : Op) (named : (x : Op) → Contains k x → is_op_nam
   pub few_with_one_more : {object : Name} → AreChangesOf object (k ++ o ∷ []) → length k + 1 < 2 ^ 32
   few_with_one_more w = omega (arith, few_after w, length-append k (o ∷ []))
 
-pub stored_push : {object : Name} (k : List Op) (bases rows : List (List ℕ)) (in_conflict : List ℕ) (sites : SiteIndex) (keys : KeyIndex) (a : Added) → AreStored object k bases rows in_conflict sites keys → IsAddition object k a → is_op_name a.op.name ≡ true
-    → AreStored object (k ++ a.op ∷ []) (bases ++ a.base ∷ []) (rows ++ a.row ∷ []) (cond (nat_lt 0 (length a.row)) (in_conflict ++ length k ∷ []) in_conflict) sites keys
-stored_push {object} k bases rows in_conflict sites keys a s w name = record {
+pub stored_push : {object : Name} (k : List Op) (bases rows : List (List ℕ)) (in_conflict conflicting : List ℕ) (sites : SiteIndex) (keys : KeyIndex) (a : Added) → AreStored object k bases rows in_conflict conflicting sites keys → IsAddition object k a → is_op_name a.op.name ≡ true
+    → AreStored object (k ++ a.op ∷ []) (bases ++ a.base ∷ []) (rows ++ a.row ∷ []) (cond (nat_lt 0 (length a.row)) (in_conflict ++ length k ∷ []) in_conflict) a.conflicting sites keys
+stored_push {object} k bases rows in_conflict conflicting sites keys a s w name = record {
   changes = w.changes;
   named = λ x m. all_named k a.op s.named name x (In-from_Contains x (k ++ a.op ∷ []) m);
   few = few_after k a.op s.named name w.changes.listed;
   bases_are = (λ i. s.bases_are i ++ w.base i ∷ []) ∙ sym (bases_grow k a.op w.changes.listed);
   rows_are = (λ i. s.rows_are i ++ w.row i ∷ []) ∙ sym (rows_grow k a.op w.changes.listed);
   in_conflict_are = (λ i. cond (nat_lt 0 (length (w.row i))) (s.in_conflict_are i ++ length k ∷ []) (s.in_conflict_are i)) ∙ in_conflict_grow k a.op w.changes.listed;
+  conflicting_are = w.conflicting;
   by_site = by_site_push k a.op sites s.by_site;
   by_key = by_key_push k a.op keys s.by_key;
 }
@@ -216,20 +217,6 @@ pub rows_length : (k : List Op) (rows : List (List ℕ)) → rows ≡ map (earli
 rows_length k rows e = ap length e ∙ length-map-range_with_len (earlier_conflicts k) 0 (length k)
 
 module _ {object : Name} {k : List Op} (w : AreChangesOn object k) where
-  -- the changes at two places, by the row of the later one
-  pub conflict_in_row : (i j : ℕ) → i < length k → i < j → has (earlier_conflicts k j) i ≡ conflict k (at k i) (at k j)
-  conflict_in_row i j l b = has-filter (λ e. conflict k (at k j) (at k e)) j i b ∙ conflict_symmetric k (at k j) (at k i)
-
-  pub conflict_in_own_row : (i j : ℕ) → i < length k → j ≤ i → has (earlier_conflicts k i) j ≡ conflict k (at k i) (at k j)
-  conflict_in_own_row i j l b = elim (cases_lt j i) [
-    | inl s ↦ has-filter (λ e. conflict k (at k i) (at k e)) i j s
-    | inr g ↦
-        (let e : j ≡ i = omega arith in
-        has-filter_past (λ z. conflict k (at k i) (at k z)) i j g
-        ∙ sym (never_alone w (at k i) (at_in k i l))
-        ∙ ap (λ z. conflict k (at k i) (at k z)) (sym e))
-  ]
-
   same_place : (i j : ℕ) → i < length k → j < length k → (at k i).name ≡ (at k j).name → i ≡ j
   same_place i j l m e = one_place_each k i j (once w.listed) l m (apart w.listed (at k i) (at k j) (at_in k i l) (at_in k j m) e)
 
@@ -252,18 +239,12 @@ module _ {object : Name} (k : List Op) (a : Added) (w : IsAddition object k a) (
   pub changes_with_addition : AreChangesOn object ops
   changes_with_addition = subst (AreChangesOn object) e w.changes
 
-  pub never_alone_with_addition : (i j : ℕ) → i < length ops → i ≡ j → false ≡ conflict ops (at ops i) (at ops j)
-  never_alone_with_addition i j l q = sym (never_alone changes_with_addition (at ops i) (at_in ops i l)) ∙ ap (λ n. conflict ops (at ops i) (at ops n)) q
-
   pub last_in_row : (i j : ℕ) → i ≡ length k → j < length k → has a.row j ≡ conflict ops (at ops i) (at ops j)
   last_in_row i j q l =
       ap (λ r. has r j) w.row
       ∙ has-filter (λ p. conflict with_addition a.op (at k p)) (length k) j l
       ∙ (λ t. conflict with_addition (sym (at_last k a.op) t) (sym (at_push k a.op j l) t))
       ∙ (λ t. conflict (e t) (at (e t) (sym q t)) (at (e t) j))
-
-  pub in_last_row : (i j : ℕ) → i < length k → j ≡ length k → has a.row i ≡ conflict ops (at ops i) (at ops j)
-  in_last_row i j l q = last_in_row j i q l ∙ conflict_symmetric ops (at ops j) (at ops i)
 
   pub conflict_stays : (i j : ℕ) → i < length k → j < length k → conflict k (at k i) (at k j) ≡ conflict ops (at ops i) (at ops j)
   conflict_stays i j l m =

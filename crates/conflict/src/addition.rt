@@ -19,6 +19,8 @@ pub struct Addition {
     op: SharedOp,
     base: PlaceSet,
     row: PlaceSet,
+    /// The places of all changes that are in conflict with some change, itself among them.
+    conflicting: PlaceSet,
 }
 
 impl Model for Addition {
@@ -27,14 +29,30 @@ impl Model for Addition {
     ghost Value = { Added };
 
     ghost view = { λ addition.
-        record { op = addition.op; base = addition.base; row = addition.row } };
+        record {
+          op = addition.op;
+          base = addition.base;
+          row = addition.row;
+          conflicting = addition.conflicting;
+        } };
 }
 
 impl Addition {
-    pub(crate) fn new(op: SharedOp, base: PlaceSet, row: PlaceSet) -> Addition
-        ensures { result ≡ record { op = op; base = base; row = row } }
+    pub(crate) fn new(
+        op: SharedOp,
+        base: PlaceSet,
+        row: PlaceSet,
+        conflicting: PlaceSet,
+    ) -> Addition
+        ensures { result
+            ≡ record { op = op; base = base; row = row; conflicting = conflicting } }
     {
-        Addition { op, base, row }
+        Addition {
+            op,
+            base,
+            row,
+            conflicting,
+        }
     }
 
     /// The change.
@@ -51,10 +69,17 @@ impl Addition {
         &self.row
     }
 
-    pub(crate) fn into_parts(self) -> (SharedOp, PlaceSet, PlaceSet)
-        ensures { result ≡ (self.op, self.base, self.row) }
+    /// The places of all changes that are in conflict with some change, with it.
+    pub(crate) fn conflicting(&self) -> &PlaceSet
+        ensures { result.now ≡ self.now.conflicting }
     {
-        (self.op, self.base, self.row)
+        &self.conflicting
+    }
+
+    pub(crate) fn into_parts(self) -> (SharedOp, PlaceSet, PlaceSet, PlaceSet)
+        ensures { result ≡ (self.op, self.base, self.row, self.conflicting) }
+    {
+        (self.op, self.base, self.row, self.conflicting)
     }
 }
 
@@ -112,17 +137,12 @@ impl<'a> Relation for WithAddition<'a> {
         }
     }
 
-    fn is_conflict(&self, i: u32, j: u32) -> bool {
-        let last = self.changes.len();
-        if i == j {
-            false
-        } else if i == last {
-            self.addition.row().has(j)
-        } else if j == last {
-            self.addition.row().has(i)
-        } else {
-            self.changes.is_conflict(i, j)
-        }
+    fn conflicts_of_last(&self) -> &PlaceSet {
+        self.addition.row()
+    }
+
+    fn in_conflict(&self) -> &PlaceSet {
+        self.addition.conflicting()
     }
 
     fn in_conflict_with(&self, alloc: Global, scope: &PlaceSet) -> Result<PlaceSet, NoMemory> {

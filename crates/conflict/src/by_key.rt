@@ -7,7 +7,7 @@ ghost use Rattle.rules.specs.declared.history.Op.{Op};
 ghost use Rattle.rules.specs.Bodies.{is_drop_body, pairs_in};
 ghost use Rattle.places.specs.steps.PlaceSet.{has, with_place};
 ghost use Rattle.places.specs.steps.Changes.{at};
-ghost use Rattle.conflict.specs.steps.Indexes.{gives, is_drop_at, is_drop_or_gives, key_at, of_key, with_drop, with_key_at, with_new_key, AreByKey, IsPlaceOf, IsUnder};
+ghost use Rattle.conflict.specs.steps.Indexes.{gives, is_drop_at, is_drop_or_gives, key_at, of_key, with_drop, with_key_at, with_new_key, AreByKey, AreWithin, IsPlaceOf, IsUnder};
 
 use base_types::{Key, NoMemory, Value};
 use places::PlaceSet;
@@ -299,9 +299,11 @@ impl ByKey {
     /// Adds the places under the key to a set: the indexed changes that give the key a value, and
     /// perhaps the next change. One look-up.
     fn insert_puts(&self, key: &Key, members: &mut PlaceSet) -> Result<(), NoMemory>
-        ensures { OnOk result ((ops : List Op) (place : ℕ) → AreByKey ops self.now
+        ensures puts { OnOk result ((ops : List Op) (place : ℕ) → AreByKey ops self.now
             → place < self.now.len
             → has members.new place ≡ (has members.old place || of_key ops key.now place)) }
+        ensures within { OnOk result ((ops : List Op) → AreByKey ops self.now
+            → AreWithin (length ops) members.old → AreWithin (length ops) members.new) }
     {
         match self.find(key) {
             Some(i) => members.insert_all(&self.keys[i].places),
@@ -312,8 +314,10 @@ impl ByKey {
     /// The places of the indexed changes that are drops or give one of the keys a value, and
     /// perhaps of the next change.
     fn drops_and_puts(&self, alloc: Global, pairs: &[(Key, Value)]) -> Result<PlaceSet, NoMemory>
-        ensures { IfOk result (λ found. (ops : List Op) (place : ℕ) → AreByKey ops self.now
+        ensures found { IfOk result (λ found. (ops : List Op) (place : ℕ) → AreByKey ops self.now
             → place < self.now.len → has found place ≡ is_drop_or_gives ops pairs.now place) }
+        ensures within { IfOk result (λ found. (ops : List Op) → AreByKey ops self.now
+            → AreWithin (length ops) found) }
     {
         let mut found = self.drops.copy(alloc)?;
         for pair in pairs {
@@ -328,6 +332,7 @@ impl ByKey {
             → has members.new place ≡ true) }
         ensures last { OnOk result ((place : ℕ) → self.now.len ≤ place → place < count
             → has members.new place ≡ true) }
+        ensures within { OnOk result (AreWithin count members.old → AreWithin count members.new) }
     {
         for place in self.len..count {
             members.insert(place)?;
@@ -343,9 +348,11 @@ impl ByKey {
         count: u32,
         pairs: &[(Key, Value)],
     ) -> Result<PlaceSet, NoMemory>
-        ensures { IfOk result (λ found. (ops : List Op) (place : ℕ) → AreByKey ops self.now
+        ensures found { IfOk result (λ found. (ops : List Op) (place : ℕ) → AreByKey ops self.now
             → place < count → is_drop_or_gives ops pairs.now place ≡ true
             → has found place ≡ true) }
+        ensures within { IfOk result (λ found. (ops : List Op) → AreByKey ops self.now
+            → length ops ≡ count → AreWithin count found) }
     {
         let mut found = self.drops_and_puts(alloc, pairs)?;
         self.insert_last(count, &mut found)?;

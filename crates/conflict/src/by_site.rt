@@ -62,12 +62,7 @@ impl SiteChanges {
 
     /// Adds the places of the changes that a vector counts to a set: all, or those before the first
     /// that it doesn't count.
-    fn insert_counted(
-        &self,
-        alloc: Global,
-        seen: &StateVector,
-        known: &mut PlaceSet,
-    ) -> Result<(), NoMemory>
+    fn insert_counted(&self, seen: &StateVector, known: &mut PlaceSet) -> Result<(), NoMemory>
         requires { IsRising self.now }
         ensures { OnOk result (known.new ≡ with_places known.old (counted_of seen.now self.now)) }
     {
@@ -79,9 +74,7 @@ impl SiteChanges {
         if counted == 0 {
             return Ok(());
         }
-        let earlier = PlaceSet::first_places(alloc, self.changes[counted].1)?;
-        let places = self.places.intersection(alloc, &earlier)?;
-        known.insert_all(&places)
+        known.insert_below(&self.places, self.changes[counted].1)
     }
 }
 
@@ -176,7 +169,7 @@ impl BySite {
     {
         let mut counted = PlaceSet::empty(alloc);
         for changes in &self.sites {
-            changes.insert_counted(alloc, seen, &mut counted)?;
+            changes.insert_counted(seen, &mut counted)?;
         }
         Ok(counted)
     }

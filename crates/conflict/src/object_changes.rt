@@ -1,11 +1,12 @@
 //! The changes of one object, and which of them conflict.
 
-ghost use Rattle.std.specs.Prelude.{◌≡◌, ◌<◌, [], ◌∷◌, ◌++◌, length, filter, nat_lt, bytes_eq, if◌then◌else◌, vec_capacity, vec_len, All, IsOk, IfOk, OnOk, OnErr};
+ghost use Rattle.std.specs.Prelude.{◌≡◌, ℕ, true, ◌<◌, [], ◌∷◌, ◌++◌, length, filter, nat_lt, bytes_eq, if◌then◌else◌, vec_capacity, vec_len, All, IsOk, IfOk, OnOk, OnErr};
 ghost use Rattle.std.specs.List.{list_any};
 ghost use Rattle.rules.specs.Bodies.{is_drop_body, keys_in};
 ghost use Rattle.places.specs.steps.PlaceSet.{has, places, with_place};
-ghost use Rattle.conflict.specs.steps.Rows.{at_odds_at, conflicts_below, direct_places, earlier_conflicts, is_in_row, with_those};
-ghost use Rattle.places.specs.steps.Changes.{at, base_places, is_conflict_of, new_conflicts, places_counted, AreChangesOn, IsAddition};
+ghost use Rattle.conflict.specs.steps.Rows.{at_odds_at, conflicts_below, direct_places, earlier_conflicts, is_in_row, places_outside, with_conflicts, with_those};
+ghost use Rattle.conflict.specs.steps.Indexes.{AreWithin};
+ghost use Rattle.places.specs.steps.Changes.{at, base_places, conflicting_places, is_conflict_of, new_conflicts, places_counted, AreChangesOn, IsAddition};
 
 use crate::by_key::ByKey;
 use crate::by_site::BySite;
@@ -29,6 +30,8 @@ pub struct ObjectChanges {
     rows: Vec<PlaceSet>,
     /// The places of the changes that are in conflict with an earlier one, in rising order.
     in_conflict: Vec<u32>,
+    /// The places of the changes that are in conflict with some change.
+    conflicting: PlaceSet,
     /// The places of the first changes by site; those of the puts by key, and of the drops. Since
     /// `commit` takes no memory, a change is in them only from the next `plan` on.
     sites: BySite,
@@ -52,7 +55,7 @@ impl Model for ObjectChanges {
     } };
 
     ghost invariant = { λ changes. AreStored changes.object changes.ops.items
-        changes.bases.items changes.rows.items changes.in_conflict.items
+        changes.bases.items changes.rows.items changes.in_conflict.items changes.conflicting
         changes.sites changes.keys };
 }
 
@@ -93,6 +96,7 @@ impl ObjectChanges {
             bases: Vec::new(alloc),
             rows: Vec::new(alloc),
             in_conflict: Vec::new(alloc),
+            conflicting: PlaceSet::empty(alloc),
             sites: BySite::new(alloc),
             keys: ByKey::new(alloc),
         })
@@ -134,8 +138,9 @@ impl ObjectChanges {
     {
         self.catch_up(alloc)?;
         let row = self.row(alloc, &op, &base, known)?;
+        let conflicting = self.conflicting_with(alloc, &row)?;
         self.reserve()?;
-        Ok(Addition::new(op, base, row))
+        Ok(Addition::new(op, base, row, conflicting))
     }
 
     /// Adds a change that was planned for these, without an allocation.
@@ -145,7 +150,7 @@ impl ObjectChanges {
         ensures object { self.new.object ≡ self.old.object }
         ensures ops { self.new.ops ≡ self.old.ops ++ addition.op ∷ [] }
     {
-        let (op, base, row) = addition.into_parts();
+        let (op, base, row, conflicting) = addition.into_parts();
         // That the name is in range is part of what stays true of the changes: so there are few of
         // them.
         let name = op.name;
@@ -157,6 +162,7 @@ impl ObjectChanges {
         self.bases.push_reserved(base);
         self.rows.push_reserved(row);
         push_if_in_conflict(&mut self.in_conflict, place, conflicts);
+        self.conflicting = conflicting;
     }
 
     /// These changes and one that was planned for them, as a relation.
@@ -258,19 +264,6 @@ impl ObjectChanges {
         &self.rows[place as usize]
     }
 
-    /// Do the changes at two places conflict?
-    fn are_in_conflict(&self, first: u32, second: u32) -> bool
-        requires first { first < length self.now.ops }
-        requires second { second < length self.now.ops }
-        ensures { result ≡ is_conflict_of self.now.ops first second }
-    {
-        if first < second {
-            self.row_at(second).has(first)
-        } else {
-            self.row_at(first).has(second)
-        }
-    }
-
     /// A set of places, and those of the other places whose changes are at odds with a change.
     fn with_those_at_odds(
         &self,
@@ -290,31 +283,39 @@ impl ObjectChanges {
         Ok(all)
     }
 
-    /// Those of some places whose changes may be at odds with a body. For a put they are the drops,
-    /// the puts of its keys, and the changes since the last `plan`. For a drop they are all places,
-    /// for a creation none. One look-up for each key of a put.
-    fn that_may_be_at_odds(
+    /// The places of the changes that may be at odds with a body. For a put they are the drops, the
+    /// puts of its keys, and the changes since the last `plan`. For a drop they are all places, for
+    /// a creation none. One look-up for each key of a put.
+    fn that_may_be_at_odds(&self, alloc: Global, body: &Body) -> Result<PlaceSet, NoMemory>
+        ensures within { IfOk result (AreWithin (length self.now.ops)) }
+        ensures all { IfOk result (λ found. (place : ℕ) → place < length self.now.ops
+            → at_odds_at self.now.ops body.now place ≡ true → has found place ≡ true) }
+    {
+        let count = self.ops.len() as u32;
+        match body {
+            Body::Put { pairs, .. } => self.keys.maybe_at_odds(alloc, count, pairs.pairs()),
+            Body::DropVersion { .. } => PlaceSet::first_places(alloc, count),
+            Body::New { .. } => Ok(PlaceSet::empty(alloc)),
+        }
+    }
+
+    /// Those of the changes that are not known which may be at odds with a body.
+    fn unknown_that_may_be_at_odds(
         &self,
         alloc: Global,
         body: &Body,
-        unknown: &PlaceSet,
+        known: &PlaceSet,
     ) -> Result<PlaceSet, NoMemory>
-        requires { All (λ place. place < length self.now.ops) unknown.now }
         ensures within { IfOk result (λ candidates.
             All (λ place. place < length self.now.ops) candidates) }
-        ensures same { IfOk result (λ candidates.
+        ensures same { let unknown = places_outside known.now (length self.now.ops)
+            in IfOk result (λ candidates.
             filter (at_odds_at self.now.ops body.now) candidates
-            ≡ filter (at_odds_at self.now.ops body.now) unknown.now) }
+            ≡ filter (at_odds_at self.now.ops body.now) unknown) }
     {
-        match body {
-            Body::Put { pairs, .. } => {
-                let count = self.ops.len() as u32;
-                let found = self.keys.maybe_at_odds(alloc, count, pairs.pairs())?;
-                unknown.intersection(alloc, &found)
-            }
-            Body::DropVersion { .. } => unknown.copy(alloc),
-            Body::New { .. } => Ok(PlaceSet::empty(alloc)),
-        }
+        let found = self.that_may_be_at_odds(alloc, body)?;
+        found.rises();
+        found.without(alloc, known)
     }
 
     /// The places of the changes that conflict directly with a change to be added: of the changes
@@ -335,9 +336,7 @@ impl ObjectChanges {
         if known.count() == self.ops.len() {
             return Ok(direct);
         }
-        let all = PlaceSet::first_places(alloc, self.ops.len() as u32)?;
-        let unknown = all.without(alloc, known)?;
-        let candidates = self.that_may_be_at_odds(alloc, &op.body, &unknown)?;
+        let candidates = self.unknown_that_may_be_at_odds(alloc, &op.body, known)?;
         let others = candidates.list(alloc)?;
         self.with_those_at_odds(direct, op, &others)
     }
@@ -359,6 +358,20 @@ impl ObjectChanges {
             return Ok(PlaceSet::empty(alloc));
         }
         union_of_rows(alloc, &self.rows, &self.in_conflict, scope)
+    }
+
+    /// The places of all changes that conflict with some change, once one is added that conflicts
+    /// with those of a row.
+    fn conflicting_with(&self, alloc: Global, row: &PlaceSet) -> Result<PlaceSet, NoMemory>
+        ensures { let place = length self.now.ops in IfOk result (λ all. all
+            ≡ with_conflicts row.now place (conflicting_places self.now.ops)) }
+    {
+        let mut all = self.conflicting.copy(alloc)?;
+        if row.lowest_place().is_some() {
+            all.insert_all(row)?;
+            all.insert(self.ops.len() as u32)?;
+        }
+        Ok(all)
     }
 
     /// Is the change at a place, or one of its base, at a place of a direct conflict?
@@ -432,8 +445,12 @@ impl Relation for ObjectChanges {
         self.change_at(i).name
     }
 
-    fn is_conflict(&self, i: u32, j: u32) -> bool {
-        self.are_in_conflict(i, j)
+    fn conflicts_of_last(&self) -> &PlaceSet {
+        self.row_at(self.len() - 1)
+    }
+
+    fn in_conflict(&self) -> &PlaceSet {
+        &self.conflicting
     }
 
     #[tactic(auto, using(crate::proofs::InConflict::all_in_conflict))]

@@ -3,3 +3,4 @@ pub mod Rising
 pub mod WordPlaces
 pub mod Counted
 pub mod ChangesAt
+pub mod Below

@@ -1,8 +1,9 @@
 -- Words of 64 bits, and the places that they have.
-use Rattle.std.proofs.Common.{◌≡◌, ℕ, zero, suc, ◌+◌, ◌*◌, ◌/◌, ◌%◌, ◌^◌, ◌<◌, ◌≤◌, min, max, drop, Bool, true, false, not, ◌&&◌, ◌||◌, List, [], ◌∷◌, ◌++◌, length, get_or, set, map, refl, sym, ap, ◌∙◌, inl, inr, arith, eqb, w64}
+use Rattle.std.proofs.Common.{◌≡◌, ℕ, zero, suc, ◌+◌, ◌*◌, ◌/◌, ◌%◌, ◌^◌, ◌<◌, ◌≤◌, min, max, drop, Bool, true, false, not, ◌&&◌, ◌||◌, List, [], ◌∷◌, length, get_or, set, map, refl, sym, ap, ◌∙◌, inl, inr, arith, eqb, w64}
+use Rattle.std.proofs.Math.ListN.{length-set}
 use Rattle.std.specs.Prelude.{filter, bit_and, bit_or, bit_xor}
 use Rattle.std.specs.Int.{bit_at}
-use Rattle.std.specs.Int.Bits.{or_zero_r}
+use Rattle.std.specs.Int.Bits.{or_zero_r, and_zero_r, xor_zero_r}
 use Rattle.std.specs.List.{list_any, range_with_len, refill}
 use Rattle.std.specs.List.Sorted.{IsStrictlyIncreasing}
 use Rattle.std.specs.Ordering.{nat_cmp}
@@ -12,13 +13,13 @@ use Rattle.std.proofs.lemmas.Bool.{true≢false, cases_Bool, cases_eq, cases_lt,
 use Rattle.std.proofs.lemmas.Cmp.{nat_cmp_total}
 use Rattle.std.proofs.lemmas.List.{get_or_past, take-append-le, take_all, get_or-set_same, get_or-set_other}
 use Rattle.std.proofs.lemmas.List.Kept.{IsStrictlyIncreasing-filter}
-use Rattle.std.proofs.lemmas.List.FromFn.{length-range_with_len, get_or-range_with_len, get_or-map-range_with_len, length-map-range_with_len, map-range_with_len_more}
+use Rattle.std.proofs.lemmas.List.FromFn.{length-range_with_len, get_or-range_with_len, get_or-map-range_with_len, length-map-range_with_len}
 use Rattle.std.proofs.lemmas.Nat.Bits.{bit_at_and, bit_at_or, bit_at_xor, bit_at-zero, bit_at-lt, bit_at_set_same, bit_at_set_other, same_from_bits, bit_at_above}
 use Rattle.rules.proofs.Lists.{In-filter, In-filter_back, In-range_back, any_from, any_back, all_from, all_back}
 use Rattle.rules.proofs.Relation.{same_answer}
 use Rattle.rules.proofs.Sorting.{Rises, rises_same}
 use Rattle.places.specs.steps.PlaceSet.{has, with_place, is_within, places, with_places}
-use Rattle.places.specs.steps.Words.{has_bit, places_in}
+use Rattle.places.specs.steps.Words.{common_word, has_bit, places_in, rest_word}
 use Rattle.places.proofs.Places.{has_if_in, in_if_has, has-filter, has-filter_past}
 
 -- ---- rising lists
@@ -173,26 +174,20 @@ bits_minus (suc zero) (suc zero) l m = refl
 bits_minus (suc zero) (suc (suc q)) l m = absurd (omega arith)
 bits_minus (suc (suc p)) q l m = absurd (omega arith)
 
+pub and_bits : (p q i : ℕ) → eqb (bit_at (bit_and p q) i) 1 ≡ (eqb (bit_at p i) 1 && eqb (bit_at q i) 1)
+and_bits p q i = ap (λ v. eqb v 1) (bit_at_and p q i) ∙ bits_and (bit_at p i) (bit_at q i) (bit_at-lt p i) (bit_at-lt q i)
+
+pub or_bits : (p q i : ℕ) → eqb (bit_at (bit_or p q) i) 1 ≡ (eqb (bit_at p i) 1 || eqb (bit_at q i) 1)
+or_bits p q i = ap (λ v. eqb v 1) (bit_at_or p q i) ∙ bits_or (bit_at p i) (bit_at q i) (bit_at-lt p i) (bit_at-lt q i)
+
 -- what words have that are made of two others word by word
 pub bits_of_both : (w a b : List ℕ) → ((k : ℕ) → get_or w k 0 ≡ bit_and (get_or a k 0) (get_or b k 0)) → (x : ℕ) → has_bit w x ≡ (has_bit a x && has_bit b x)
 unfolding has_bit
-bits_of_both w a b e x =
-    let p = get_or a (x / 64) 0 in
-    let q = get_or b (x / 64) 0 in
-    let i = x % 64 in
-    ap (λ v. eqb (bit_at v i) 1) (e (x / 64))
-    ∙ ap (λ v. eqb v 1) (bit_at_and p q i)
-    ∙ bits_and (bit_at p i) (bit_at q i) (bit_at-lt p i) (bit_at-lt q i)
+bits_of_both w a b e x = ap (λ v. eqb (bit_at v (x % 64)) 1) (e (x / 64)) ∙ and_bits (get_or a (x / 64) 0) (get_or b (x / 64) 0) (x % 64)
 
 pub bits_of_either : (w a b : List ℕ) → ((k : ℕ) → get_or w k 0 ≡ bit_or (get_or a k 0) (get_or b k 0)) → (x : ℕ) → has_bit w x ≡ (has_bit a x || has_bit b x)
 unfolding has_bit
-bits_of_either w a b e x =
-    let p = get_or a (x / 64) 0 in
-    let q = get_or b (x / 64) 0 in
-    let i = x % 64 in
-    ap (λ v. eqb (bit_at v i) 1) (e (x / 64))
-    ∙ ap (λ v. eqb v 1) (bit_at_or p q i)
-    ∙ bits_or (bit_at p i) (bit_at q i) (bit_at-lt p i) (bit_at-lt q i)
+bits_of_either w a b e x = ap (λ v. eqb (bit_at v (x % 64)) 1) (e (x / 64)) ∙ or_bits (get_or a (x / 64) 0) (get_or b (x / 64) 0) (x % 64)
 
 pub bits_of_minus : (w a b : List ℕ) → ((k : ℕ) → get_or w k 0 ≡ bit_xor (get_or a k 0) (bit_and (get_or a k 0) (get_or b k 0))) → (x : ℕ) → has_bit w x ≡ (has_bit a x && not (has_bit b x))
 unfolding has_bit
@@ -210,14 +205,6 @@ bits_of_minus w a b e x =
 -- words written back over as many
 pub written : (old new : List ℕ) → length new ≡ length old → refill (length old) old new ≡ new
 written old new e = take-append-le (length old) new (drop (length new) old) (omega arith) ∙ take_all (length old) new (omega arith)
-
--- words with the same words have the same places
-bits_agree : (w v : List ℕ) → ((k : ℕ) → get_or w k 0 ≡ get_or v k 0) → (x : ℕ) → has_bit w x ≡ has_bit v x
-unfolding has_bit
-bits_agree w v e x = ap (λ n. eqb (bit_at n (x % 64)) 1) (e (x / 64))
-
-pub places_in_agree : (w v : List ℕ) → ((k : ℕ) → get_or w k 0 ≡ get_or v k 0) → places_in w ≡ places_in v
-places_in_agree w v e = same_set (places_in w) (places_in v) (up_places_in w) (up_places_in v) (λ x. has-places_in w x ∙ bits_agree w v e x ∙ sym (has-places_in v x))
 
 -- a place put in
 module _ (w u : List ℕ) (p v : ℕ) (same : (k : ℕ) → get_or u k 0 ≡ get_or w k 0) (inside : p / 64 < length u) (here : v ≡ get_or u (p / 64) 0) where
@@ -324,32 +311,33 @@ mapped f n k z = elim (cases_lt k n) [
   | inr g ↦ get_or_past (map f (places n)) k 0 (let h = length-map-range_with_len f 0 n in omega arith) ∙ sym (z g)
 ]
 
+-- nothing is in common past the shorter one
+pub none_common : (a b : List ℕ) (k : ℕ) → min (length a) (length b) ≤ k → common_word a b k ≡ 0
+none_common a b k g = elim (cases_lt k (length a)) [
+  | inl l ↦ (let z = get_or_past b k 0 (omega arith) in ap (bit_and (get_or a k 0)) z ∙ and_zero_r (get_or a k 0))
+  | inr p ↦ (let z = get_or_past a k 0 p in rw z refl)
+]
+
 -- the words of the places of both
 abbrev pub common_words : List ℕ → List ℕ → List ℕ
-common_words a b = map (λ k. bit_and (get_or a k 0) (get_or b k 0)) (places (length a))
+common_words a b = map (common_word a b) (places (min (length a) (length b)))
 
-pub length-common_words : (a b : List ℕ) → length (common_words a b) ≡ length a
-length-common_words a b = length-map-range_with_len (λ k. bit_and (get_or a k 0) (get_or b k 0)) 0 (length a)
+pub length-common_words : (a b : List ℕ) → length (common_words a b) ≡ min (length a) (length b)
+length-common_words a b = length-map-range_with_len (common_word a b) 0 (min (length a) (length b))
 
-pub common_word : (a b : List ℕ) (k : ℕ) → k < length a → get_or (common_words a b) k 0 ≡ bit_and (get_or a k 0) (get_or b k 0)
-common_word a b k within = mapped (λ k. bit_and (get_or a k 0) (get_or b k 0)) (length a) k (λ past. absurd (omega (arith, past, within)))
+pub common_at : (a b : List ℕ) (k : ℕ) → get_or (common_words a b) k 0 ≡ common_word a b k
+common_at a b k = mapped (common_word a b) (min (length a) (length b)) k (none_common a b k)
 
 module _ (a b w : List ℕ) where
-  pub places_in_both : w ≡ common_words a b → places_in w ≡ filter (has (places_in b)) (places_in a)
+  pub places_in_both : ((k : ℕ) → get_or w k 0 ≡ common_word a b k) → places_in w ≡ filter (has (places_in b)) (places_in a)
   places_in_both e =
       same_set (places_in w) (filter (has (places_in b)) (places_in a)) (up_places_in w) (up_filter (has (places_in b)) (places_in a) (up_places_in a))
-      (λ x.
-      has-places_in w x
-      ∙ bits_of_both w a b (λ k. ap (λ v. get_or v k 0) e ∙ mapped (λ k. bit_and (get_or a k 0) (get_or b k 0)) (length a) k (λ g. let z = get_or_past a k 0 g in rw z refl)) x
-      ∙ sym (has-kept (has (places_in b)) (places_in a) x ∙ (λ i. has-places_in a x i && has-places_in b x i)))
+      (λ x. has-places_in w x ∙ bits_of_both w a b e x ∙ sym (has-kept (has (places_in b)) (places_in a) x ∙ (λ i. has-places_in a x i && has-places_in b x i)))
 
-  pub places_in_minus : w ≡ map (λ k. bit_xor (get_or a k 0) (bit_and (get_or a k 0) (get_or b k 0))) (places (length a)) → places_in w ≡ filter (λ x. not (has (places_in b) x)) (places_in a)
+  pub places_in_minus : ((k : ℕ) → get_or w k 0 ≡ rest_word a b k) → places_in w ≡ filter (λ x. not (has (places_in b) x)) (places_in a)
   places_in_minus e =
       same_set (places_in w) (filter (λ x. not (has (places_in b) x)) (places_in a)) (up_places_in w) (up_filter (λ x. not (has (places_in b) x)) (places_in a) (up_places_in a))
-      (λ x.
-      has-places_in w x
-      ∙ bits_of_minus w a b (λ k. ap (λ v. get_or v k 0) e ∙ mapped (λ k. bit_xor (get_or a k 0) (bit_and (get_or a k 0) (get_or b k 0))) (length a) k (λ g. let z = get_or_past a k 0 g in rw z refl)) x
-      ∙ sym (has-kept (λ x. not (has (places_in b) x)) (places_in a) x ∙ (λ i. has-places_in a x i && not (has-places_in b x i))))
+      (λ x. has-places_in w x ∙ bits_of_minus w a b e x ∙ sym (has-kept (λ x. not (has (places_in b) x)) (places_in a) x ∙ (λ i. has-places_in a x i && not (has-places_in b x i))))
 
   pub places_in_joined : ((k : ℕ) → k < length b → get_or w k 0 ≡ bit_or (get_or a k 0) (get_or b k 0)) → ((k : ℕ) → length b ≤ k → get_or w k 0 ≡ get_or a k 0) → places_in w ≡ with_places (places_in a) (places_in b)
   places_in_joined f g =
@@ -362,20 +350,75 @@ module _ (a b w : List ℕ) where
       ]) x
       ∙ sym (has-with_all (places_in a) (places_in b) x ∙ (λ i. has-places_in a x i || has-places_in b x i)))
 
--- one word more of words made one by one
-pub one_more : (f : ℕ → ℕ) (old new : List ℕ) (n v : ℕ) → old ≡ map f (places n) → v ≡ f n → new ≡ old ++ v ∷ [] → new ≡ map f (places (n + 1))
-one_more f old new n v e q p = p ∙ (λ i. e i ++ q i ∷ []) ∙ sym (map-range_with_len_more f 0 n n (omega arith))
-
 -- ---- what loops keep
 
--- the words below a place are joined, and the others are as they were
+-- the words below a place are joined, and the others are as they were, or those of the others
 pub record JoinedBelow (first others words : List ℕ) (at : ℕ) : Type 0 where
-  pub long : length others ≤ length words
-  pub few : length words ≤ 2 ^ 26
+  pub long : length words ≡ max (length first) (length others)
   pub joined : (k : ℕ) → k < at → get_or words k 0 ≡ bit_or (get_or first k 0) (get_or others k 0)
-  pub rest : (k : ℕ) → at ≤ k → get_or words k 0 ≡ get_or first k 0
+  pub rest : (k : ℕ) → at ≤ k → k < length first → get_or words k 0 ≡ get_or first k 0
+  pub added : (k : ℕ) → length first ≤ k → get_or words k 0 ≡ get_or others k 0
 
--- only zeros are left out
-pub record AreFront (all words : List ℕ) : Type 0 where
-  pub same : (k : ℕ) → get_or words k 0 ≡ get_or all k 0
-  pub few : length words ≤ length all
+module _ (first others words : List ℕ) (at : ℕ) where
+  pub joined_more : (at < min (length first) (length others)) → JoinedBelow first others words at
+      → (next : List ℕ) → next ≡ set words at (bit_or (get_or words at 0) (get_or others at 0)) → JoinedBelow first others next (at + 1)
+  joined_more l h next n =
+      let v : ℕ = bit_or (get_or words at 0) (get_or others at 0) in
+      let inside : at < length words = let g = h.long in omega arith in
+      let kept : (k : ℕ) → (k ≡ at → ⊥) → get_or next k 0 ≡ get_or words k 0 = λ k d. ap (λ (w : List ℕ). get_or w k 0) n ∙ get_or-set_other words at k v 0 d in
+      record {
+        long = ap length n ∙ length-set words at v ∙ h.long;
+        joined = λ k b. elim (cases_eq k at) [
+          | inl s ↦
+              ap (λ (w : List ℕ). get_or w k 0) n
+              ∙ ap (λ i. get_or (set words at v) i 0) s
+              ∙ get_or-set_same words at v 0 inside
+              ∙ ap (λ x. bit_or x (get_or others at 0)) (h.rest at (omega arith) (omega arith))
+              ∙ ap (λ i. bit_or (get_or first i 0) (get_or others i 0)) (sym s)
+          | inr d ↦ kept k d ∙ h.joined k (omega arith)
+        ];
+        rest = λ k a b. kept k (λ (s : k ≡ at). omega arith) ∙ h.rest k (omega arith) b;
+        added = λ k a. kept k (λ (s : k ≡ at). omega arith) ∙ h.added k a;
+      }
+
+  pub joined_all : min (length first) (length others) ≤ at → JoinedBelow first others words at
+      → ((k : ℕ) → k < length others → get_or words k 0 ≡ bit_or (get_or first k 0) (get_or others k 0)) × ((k : ℕ) → length others ≤ k → get_or words k 0 ≡ get_or first k 0)
+  joined_all l h = (
+    (λ k b. elim (cases_lt k at) [
+      | inl a ↦ h.joined k a
+      | inr a ↦ (let z = get_or_past first k 0 (omega arith) in h.added k (omega arith) ∙ ap (λ x. bit_or x (get_or others k 0)) (sym z))
+    ]),
+    (λ k b. elim (cases_lt k (length first)) [
+      | inl a ↦ elim (cases_lt k at) [
+        | inl c ↦ h.joined k c ∙ ap (bit_or (get_or first k 0)) (get_or_past others k 0 b) ∙ or_zero_r (get_or first k 0)
+        | inr c ↦ h.rest k c a
+      ]
+      | inr a ↦ h.added k a ∙ get_or_past others k 0 b ∙ sym (get_or_past first k 0 a)
+    ]),
+  )
+
+-- the second have all of the first from a word on
+pub record NoRestFrom (first second : List ℕ) (len : ℕ) : Type 0 where
+  pub within : len ≤ length first
+  pub none : (k : ℕ) → len ≤ k → rest_word first second k ≡ 0
+
+-- of as many of the first words as len, those below a place are made, and the others are as they were
+pub record MadeBelow (made : ℕ → ℕ) (first words : List ℕ) (len at : ℕ) : Type 0 where
+  pub long : length words ≡ len
+  pub done : (k : ℕ) → k < at → get_or words k 0 ≡ made k
+  pub rest : (k : ℕ) → at ≤ k → k < len → get_or words k 0 ≡ get_or first k 0
+
+module _ (made : ℕ → ℕ) (first words : List ℕ) (len : ℕ) where
+  pub made_all : (at : ℕ) → MadeBelow made first words len at → ((k : ℕ) → at ≤ k → k < len → get_or first k 0 ≡ made k) → ((k : ℕ) → len ≤ k → made k ≡ 0) → (k : ℕ) → get_or words k 0 ≡ made k
+  made_all at h same none k = elim (cases_lt k at) [
+    | inl l ↦ h.done k l
+    | inr g ↦ elim (cases_lt k len) [
+      | inl b ↦ h.rest k g b ∙ same k g b
+      | inr p ↦ get_or_past words k 0 (let n = h.long in omega arith) ∙ sym (none k p)
+    ]
+  ]
+
+pub all_rest_past : (first second : List ℕ) (k : ℕ) → length second ≤ k → get_or first k 0 ≡ rest_word first second k
+all_rest_past first second k l =
+    let z = get_or_past second k 0 l in
+    sym (ap (λ v. bit_xor (get_or first k 0) (bit_and (get_or first k 0) v)) z ∙ ap (bit_xor (get_or first k 0)) (and_zero_r (get_or first k 0)) ∙ xor_zero_r (get_or first k 0))

@@ -6,8 +6,8 @@ ghost use Rattle.std.specs.List.Sorted.{IsStrictlyIncreasing};
 ghost use Rattle.places.specs.steps.PlaceSet.{has, is_within, with_place, places, set_of, with_places, IsLowest};
 
 use crate::words::{
-    Words, count_bits, difference, first_places, has_bit, intersection, intersects, is_within,
-    join, list, list_common, lowest_place, set_bit,
+    Words, count_bits, difference, first_places, has_bit, intersects, is_within, join, join_below,
+    list, list_common, lowest_place, set_bit,
 };
 use base_types::NoMemory;
 use std::alloc::Global;
@@ -133,6 +133,18 @@ impl PlaceSet {
         join(&mut self.words, &other.words)
     }
 
+    /// Adds the places of another set that are below a bound. Takes 64 places at a time.
+    ///
+    /// # Errors
+    ///
+    /// `NoMemory` if an allocation failed. Some of the places may be added then.
+    pub fn insert_below(&mut self, other: &PlaceSet, bound: u32) -> Result<(), NoMemory>
+        ensures { OnOk result (self.new
+            ≡ with_places self.old (filter (has (places bound)) other.now)) }
+    {
+        join_below(&mut self.words, &other.words, bound)
+    }
+
     /// Returns an equal copy.
     ///
     /// # Errors
@@ -157,18 +169,6 @@ impl PlaceSet {
         ensures { result ≡ list_any (has other.now) self.now }
     {
         intersects(&self.words, &other.words)
-    }
-
-    /// The places that are in both sets. Takes 64 places at a time.
-    ///
-    /// # Errors
-    ///
-    /// `NoMemory` if an allocation failed.
-    pub fn intersection(&self, alloc: Global, other: &PlaceSet) -> Result<PlaceSet, NoMemory>
-        ensures { IfOk result (λ members. members ≡ filter (has other.now) self.now) }
-    {
-        let words = intersection(alloc, &self.words, &other.words)?;
-        Ok(PlaceSet { words })
     }
 
     /// Fills a list with the places that are in both sets, in increasing order. What the list held

@@ -1,10 +1,10 @@
 //! Relations of conflict between places.
 
-ghost use Rattle.std.specs.Prelude.{◌≡◌, ℕ, ◌<◌, Bool, filter, All, IfOk};
+ghost use Rattle.std.specs.Prelude.{◌≡◌, ◌-◌, ℕ, ◌<◌, Bool, filter, All, IfOk};
 ghost use Rattle.base_types.specs.Names.{Name};
 ghost use Rattle.rules.specs.Groups.{in_conflict_with};
 ghost use Rattle.places.specs.steps.PlaceSet.{places};
-ghost use Rattle.places.specs.steps.Relations.{IsRelation};
+ghost use Rattle.places.specs.steps.Relations.{places_in_conflict, IsRelation};
 
 use crate::PlaceSet;
 use base_types::{NoMemory, OpName};
@@ -32,11 +32,15 @@ pub trait Relation {
         requires { i < size self.now }
         ensures { result ≡ name_at self.now i };
 
-    /// Are the operations at two places in conflict?
-    fn is_conflict(&self, i: u32, j: u32) -> bool
-        requires first { i < size self.now }
-        requires second { j < size self.now }
-        ensures { result ≡ conflicts self.now i j };
+    /// The places of the operations that conflict with the last one.
+    fn conflicts_of_last(&self) -> &PlaceSet
+        requires { 0 < size self.now }
+        ensures { let last = size self.now - 1
+            in result.now ≡ filter (conflicts self.now last) (places last) };
+
+    /// The places of the operations that conflict with some operation.
+    fn in_conflict(&self) -> &PlaceSet
+        ensures { result.now ≡ places_in_conflict (conflicts self.now) (size self.now) };
 
     /// The places of the operations that conflict with an operation at one of the given places.
     ///

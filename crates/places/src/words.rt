@@ -3,7 +3,7 @@
 ghost use Rattle.std.specs.Prelude.{◌≡◌, ℕ, ◌≤◌, ◌^◌, max, slice_index, length, filter, not, IfOk, OnOk, OnErr};
 ghost use Rattle.std.specs.List.{list_any};
 ghost use Rattle.places.specs.steps.PlaceSet.{has, is_within, places, with_places, with_place, IsLowest};
-ghost use Rattle.places.specs.steps.Words.{has_bit, places_in};
+ghost use Rattle.places.specs.steps.Words.{common_word, has_bit, places_in, rest_word};
 
 use base_types::NoMemory;
 use smallvec::SmallVec;
@@ -68,36 +68,24 @@ pub(crate) fn is_within(first: &[u64], second: &[u64]) -> bool
 pub(crate) fn intersects(first: &[u64], second: &[u64]) -> bool
     ensures { result ≡ list_any (has (places_in second.now)) (places_in first.now) }
 {
-    for at in 0..first.len() {
-        if first[at] & word(second, at) != 0 {
+    for at in 0..first.len().min(second.len()) {
+        if first[at] & second[at] != 0 {
             return true;
         }
     }
     false
 }
 
-/// Removes the last words that are 0, which saves time later.
-fn trim(words: &mut Words)
-    ensures same { places_in words.new.items ≡ places_in words.old.items }
-    ensures few { length words.new.items ≤ length words.old.items }
+/// The number of words up to the last one of the first with a place that the second don't have.
+fn rest_len(first: &[u64], second: &[u64]) -> usize
+    ensures first { result ≤ length first.now }
+    ensures none { (k : ℕ) → result ≤ k → rest_word first.now second.now k ≡ 0 }
 {
-    while !words.is_empty() && words[words.len() - 1] == 0 {
-        words.pop();
+    let mut len = first.len();
+    while len > 0 && first[len - 1] & word(second, len - 1) == first[len - 1] {
+        len -= 1;
     }
-}
-
-/// The places of both.
-pub(crate) fn intersection(alloc: Global, first: &[u64], second: &[u64]) -> Result<Words, NoMemory>
-    ensures both { IfOk result (λ both. places_in both.items
-        ≡ filter (has (places_in second.now)) (places_in first.now)) }
-    ensures few { IfOk result (λ both. length both.items ≤ length first.now) }
-{
-    let mut both = Words::with_capacity(alloc, first.len())?;
-    for at in 0..first.len() {
-        both.push(first[at] & word(second, at))?;
-    }
-    trim(&mut both);
-    Ok(both)
+    len
 }
 
 /// The places of the first that the second don't have.
@@ -106,11 +94,11 @@ pub(crate) fn difference(alloc: Global, first: &[u64], second: &[u64]) -> Result
         ≡ filter (λ place. not (has (places_in second.now) place)) (places_in first.now)) }
     ensures few { IfOk result (λ others. length others.items ≤ length first.now) }
 {
-    let mut others = Words::with_capacity(alloc, first.len())?;
-    for at in 0..first.len() {
-        others.push(first[at] ^ (first[at] & word(second, at)))?;
+    let len = rest_len(first, second);
+    let mut others = Words::from_slice(alloc, &first[..len])?;
+    for at in 0..len.min(second.len()) {
+        others[at] ^= others[at] & second[at];
     }
-    trim(&mut others);
     Ok(others)
 }
 
@@ -123,10 +111,32 @@ pub(crate) fn join(words: &mut Words, others: &[u64]) -> Result<(), NoMemory>
     ensures few { length words.new.items ≤ 2 ^ 26 }
     ensures err { OnErr result (words.new.items ≡ words.old.items) }
 {
-    lengthen(words, others.len())?;
-    for at in 0..others.len() {
+    let len = words.len().min(others.len());
+    if len < others.len() {
+        words.extend_from_slice(&others[len..])?;
+    }
+    for at in 0..len {
         words[at] |= others[at];
     }
+    Ok(())
+}
+
+/// Adds those places of others that are below a bound.
+pub(crate) fn join_below(words: &mut Words, others: &[u64], bound: u32) -> Result<(), NoMemory>
+    requires own { length words.old.items ≤ 2 ^ 26 }
+    requires other { length others.now ≤ 2 ^ 26 }
+    ensures ok { OnOk result (places_in words.new.items
+        ≡ with_places (places_in words.old.items)
+        (filter (has (places bound)) (places_in others.now))) }
+    ensures few { length words.new.items ≤ 2 ^ 26 }
+{
+    let whole = (bound / 64) as usize;
+    if whole >= others.len() {
+        return join(words, others);
+    }
+    join(words, &others[..whole])?;
+    lengthen(words, whole + 1)?;
+    words[whole] |= others[whole] & ((1u64 << (bound % 64)) - 1);
     Ok(())
 }
 
@@ -141,8 +151,8 @@ pub(crate) fn list_common(
         ≡ filter (has (places_in second.now)) (places_in first.now)) }
 {
     list.clear();
-    for at in 0..first.len() {
-        let mut left = first[at] & word(second, at);
+    for at in 0..first.len().min(second.len()) {
+        let mut left = first[at] & second[at];
         while left != 0 {
             let bit = left.trailing_zeros();
             list.push(at as u32 * 64 + bit)?;

@@ -10,7 +10,6 @@ ghost use Rattle.places.specs.steps.PlaceSet.{places};
 ghost use Rattle.version_groups.specs.steps.Kept.{AreGroups};
 ghost use Rattle.places.specs.steps.Changes.{at, is_conflict_of};
 ghost use Rattle.shape.specs.steps.Kept.{version_at, AreGroupsOf};
-ghost use Rattle.version_ids.specs.steps.Scopes.{places_in_conflict};
 
 use attributes::attributes_of;
 use base_types::{NoMemory, VersionId};
@@ -19,7 +18,7 @@ use places::{PlaceSet, Relation};
 use rules::{AttrList, Body, Op, Shown, Version};
 use std::alloc::Global;
 use version_groups::Groups;
-use version_ids::{id_by, places_in_conflict};
+use version_ids::id_by;
 
 /// The identifiers of groups, in the order of the groups.
 fn listed_ids<R: Relation>(
@@ -32,12 +31,11 @@ fn listed_ids<R: Relation>(
         in let id_of = identifier (R.conflicts relation.now) (R.name_at relation.now) all
         in IfOk result (λ ids. ids.items ≡ map id_of groups.now.groups) }
 {
-    let conflicting = places_in_conflict(alloc, relation)?;
     let mut ids = Vec::with_capacity(alloc, groups.count())?;
     let mut scratch = Vec::new(alloc);
     for group in 0..groups.count() {
         let members = groups.members(group);
-        ids.push(id_by(alloc, relation, &conflicting, members, &mut scratch)?)?;
+        ids.push(id_by(alloc, relation, members, &mut scratch)?)?;
     }
     Ok(ids)
 }
@@ -83,23 +81,20 @@ fn shown_of(
     Ok(Shown::Attrs(AttrList::from_vec(attrs)))
 }
 
-/// A group as it is shown, by the places that are in conflict with some place.
+/// A group as it is shown.
 fn version_of(
     alloc: Global,
     creation: &Op,
     changes: &ObjectChanges,
-    conflicting: &PlaceSet,
     group: &PlaceSet,
     scratch: &mut Vec<u32>,
 ) -> Result<Version, NoMemory>
     requires creation { is_change_body creation.now.body ≡ false }
-    requires conflicting { conflicting.now
-        ≡ places_in_conflict (is_conflict_of changes.now.ops) (length changes.now.ops) }
     requires group { let all = places (length changes.now.ops)
         in Contains (groups_of (is_conflict_of changes.now.ops) all) group.now }
     ensures { IfOk result (λ version. version ≡ version_at creation.now changes.now.ops group.now) }
 {
-    let id = id_by(alloc, changes, conflicting, group, scratch)?;
+    let id = id_by(alloc, changes, group, scratch)?;
     let shown = shown_of(alloc, creation, changes, group)?;
     Ok(Version { id, shown })
 }
@@ -116,7 +111,6 @@ fn listed_versions(
     ensures { IfOk result (λ versions. versions.items
         ≡ map (version_at creation.now changes.now.ops) groups.now.groups) }
 {
-    let conflicting = places_in_conflict(alloc, changes)?;
     let mut versions = Vec::with_capacity(alloc, groups.count())?;
     let mut scratch = Vec::new(alloc);
     for group in 0..groups.count() {
@@ -124,7 +118,6 @@ fn listed_versions(
             alloc,
             creation,
             changes,
-            &conflicting,
             groups.members(group),
             &mut scratch,
         )?)?;

@@ -1,11 +1,11 @@
 //! One more place. Each group takes the place in, or stays. What of a group that stays is
 //! compatible with the place becomes a candidate for a new group.
 
-ghost use Rattle.std.specs.Prelude.{◌≡◌, ◌-◌, ◌<◌, map, filter, not, IfOk, OnOk, All};
+ghost use Rattle.std.specs.Prelude.{◌≡◌, ◌-◌, ◌<◌, map, IfOk, OnOk, All};
 ghost use Rattle.std.specs.List.{list_any};
-ghost use Rattle.places.specs.steps.PlaceSet.{has, is_within, places, with_place};
+ghost use Rattle.places.specs.steps.PlaceSet.{is_within, places, with_place};
 ghost use Rattle.version_groups.specs.steps.Kept.{AreGroups};
-ghost use Rattle.version_groups.specs.steps.Steps.{group_after, candidate, incompatible_groups, sift, next_groups, with_candidate, AreBelow};
+ghost use Rattle.version_groups.specs.steps.Steps.{group_after, candidate, incompatible_groups, is_none_of, sift, next_groups, with_candidate, AreBelow};
 
 use base_types::NoMemory;
 use places::{PlaceSet, Relation};
@@ -26,41 +26,21 @@ pub(crate) fn groups_with_last<R: Relation>(
         AreGroups (R.conflicts relation.now) (places (R.size relation.now)) next.items) }
 {
     let place = relation.len() - 1;
-    let compatible = compatible_places(alloc, relation, place)?;
-    step(alloc, kept, &compatible, place)
-}
-
-/// The places below one that are not in conflict with it.
-fn compatible_places<R: Relation>(
-    alloc: Global,
-    relation: &R,
-    place: u32,
-) -> Result<PlaceSet, NoMemory>
-    requires { place < R.size relation.now }
-    ensures { IfOk result (λ compatible. compatible
-        ≡ filter (λ other. not (R.conflicts relation.now place other)) (places place)) }
-{
-    // With the length of a relation comes that conflict goes both ways.
-    let _ = relation.len();
-    let mut one = PlaceSet::empty(alloc);
-    one.insert(place)?;
-    let conflicting = relation.in_conflict_with(alloc, &one)?;
-    let below = PlaceSet::first_places(alloc, place)?;
-    below.without(alloc, &conflicting)
+    step(alloc, kept, relation.conflicts_of_last(), place)
 }
 
 /// The groups with one place more.
 fn step(
     alloc: Global,
     kept: &[PlaceSet],
-    compatible: &PlaceSet,
+    conflicting: &PlaceSet,
     place: u32,
 ) -> Result<Vec<PlaceSet>, NoMemory>
     requires { All (AreBelow place) kept.now }
     ensures { IfOk result (λ next.
-        next.items ≡ next_groups (has compatible.now) place kept.now) }
+        next.items ≡ next_groups (is_none_of conflicting.now) place kept.now) }
 {
-    let (mut next, candidates) = groups_and_candidates(alloc, kept, compatible, place)?;
+    let (mut next, candidates) = groups_and_candidates(alloc, kept, conflicting, place)?;
     add_candidates(&mut next, candidates)?;
     Ok(next)
 }
@@ -74,44 +54,46 @@ fn with_place(alloc: Global, group: &PlaceSet, place: u32) -> Result<PlaceSet, N
     Ok(members)
 }
 
-/// What of a group is compatible with the place, and the place.
+/// What of a group has no conflict with the place, and the place.
 #[tactic(auto, using(crate::proofs::Pieces::candidate_is))]
 fn candidate_of(
     alloc: Global,
     group: &PlaceSet,
-    compatible: &PlaceSet,
+    conflicting: &PlaceSet,
     place: u32,
 ) -> Result<PlaceSet, NoMemory>
     requires { AreBelow place group.now }
     ensures { IfOk result (λ members.
-        members ≡ candidate (has compatible.now) place group.now) }
+        members ≡ candidate (is_none_of conflicting.now) place group.now) }
 {
-    let mut members = group.intersection(alloc, compatible)?;
+    let mut members = group.without(alloc, conflicting)?;
     members.insert(place)?;
     Ok(members)
 }
 
-/// Each group, with the place where they are compatible, and a candidate for each that isn't.
+/// Each group, with the place where nothing in it conflicts with the place, and a candidate for each
+/// other group.
 fn groups_and_candidates(
     alloc: Global,
     groups: &[PlaceSet],
-    compatible: &PlaceSet,
+    conflicting: &PlaceSet,
     place: u32,
 ) -> Result<(Vec<PlaceSet>, VecDeque<PlaceSet>), NoMemory>
     requires { All (AreBelow place) groups.now }
     ensures groups { IfOk result (λ both. both.0.items
-        ≡ map (group_after (has compatible.now) place) groups.now) }
-    ensures candidates { let is_compatible = has compatible.now in IfOk result (λ both. both.1.items
+        ≡ map (group_after (is_none_of conflicting.now) place) groups.now) }
+    ensures candidates { let is_compatible = is_none_of conflicting.now
+        in IfOk result (λ both. both.1.items
         ≡ map (candidate is_compatible place) (incompatible_groups is_compatible groups.now)) }
 {
     let mut next = Vec::with_capacity(alloc, groups.len())?;
     let mut candidates = VecDeque::new(alloc);
     for group in groups {
-        if group.is_subset(compatible) {
-            next.push(with_place(alloc, group, place)?)?;
-        } else {
+        if group.intersects(conflicting) {
             next.push(group.copy(alloc)?)?;
-            candidates.push_back(candidate_of(alloc, group, compatible, place)?)?;
+            candidates.push_back(candidate_of(alloc, group, conflicting, place)?)?;
+        } else {
+            next.push(with_place(alloc, group, place)?)?;
         }
     }
     Ok((next, candidates))

@@ -1,17 +1,17 @@
 -- Some of the places of a relation, gone over place by place.
-use Rattle.std.proofs.Common.{◌≡◌, ℕ, ◌+◌, ◌<◌, Bool, false, List, [], ◌∷◌, map, not, refl, sym, ap, ◌∙◌, subst, inl, inr, ◌&&◌, arith}
+use Rattle.std.proofs.Common.{◌≡◌, ℕ, ◌+◌, ◌<◌, Bool, false, List, [], ◌∷◌, length, map, not, refl, sym, ap, ◌∙◌, subst, inl, inr, ◌&&◌, arith}
 use Rattle.std.specs.Prelude.{All, filter}
 use Rattle.std.proofs.lemmas.Bool.{cases_Bool}
-use Rattle.std.proofs.lemmas.List.FromFn.{length-range_with_len, get_or-range_with_len}
+use Rattle.std.proofs.lemmas.List.Filters.{length-filter_both}
+use Rattle.std.proofs.lemmas.List.FromFn.{length-range_with_len}
 use Rattle.rules.proofs.Lists.{In, In-filter_back, filter_agree}
 use Rattle.rules.proofs.Once.{Once, Once-filter}
 use Rattle.places.specs.steps.PlaceSet.{has, places}
-use Rattle.places.proofs.Rising.{among_places, range_rises}
 use Rattle.places.proofs.Places.{Once-places, below, has-filter, all_below, skip_next}
 use Rattle.base_types.specs.Names.{Name, name_cmp}
 use Rattle.rules.specs.Lists.{sort_by}
 use Rattle.rules.specs.Groups.{identifier, in_conflict_with}
-use Rattle.version_ids.specs.steps.Scopes.{places_in_conflict, AreAmong}
+use Rattle.version_ids.specs.steps.Scopes.{AreAmong}
 
 pub low : (n : ℕ) (s : List ℕ) → AreAmong n s → (x : ℕ) → In x s → x < n
 low n s w x m = below n x (In-filter_back (has s) x (places n) (subst (λ l. In x l) (sym w) m)).0
@@ -42,12 +42,6 @@ kept_among n s group test w e = subst (AreAmong n) (sym e) (filtered_among n s w
 pub kept_low : (n : ℕ) (s kept listed : List ℕ) (test : ℕ → Bool) → AreAmong n s → kept ≡ filter test s → listed ≡ kept → All (λ place. place < n) listed
 kept_low n s kept listed test w e f = all_below (λ x. has s x && test x) n listed (f ∙ e ∙ sym (sifted n s w test))
 
-pub all_among : (n m : ℕ) (all : List ℕ) → m ≡ n → all ≡ places m → AreAmong n all
-all_among n m all q e = subst (AreAmong n) (sym (e ∙ ap places q)) (among_places n (places n) (range_rises 0 n) (λ k d l.
-    let h = length-range_with_len 0 n in
-    let p = get_or-range_with_len 0 n k d (omega (arith, h, l)) in
-    omega (arith, h, l, p)))
-
 -- ---- the loop
 
 -- a loop over the places, where the test doesn't keep the next one
@@ -66,12 +60,16 @@ left_compatible n s conflicting kept test w e f = f ∙ filter_agree (λ x. not 
 pub all_low : (n : ℕ) (s : List ℕ) → AreAmong n s → All (λ place. place < n) s
 all_low n s w = all_below (has s) n s (sym w)
 
--- all places, as many as the relation has
-pub all_places : (n m : ℕ) (all : List ℕ) → m ≡ n → all ≡ places m → All (λ place. place < n) all
-all_places n m all q e = all_low n all (all_among n m all q e)
-
-pub conflicting_with_all : (is_conflict : ℕ → ℕ → Bool) (n m : ℕ) (all conflicting : List ℕ) → m ≡ n → all ≡ places m → conflicting ≡ filter (in_conflict_with is_conflict all) (places n) → conflicting ≡ places_in_conflict is_conflict n
-conflicting_with_all is_conflict n m all conflicting q e f = f ∙ ap (λ l. filter (in_conflict_with is_conflict l) (places n)) (e ∙ ap places q)
+-- as many as there are, they are all
+pub whole : (n : ℕ) (s : List ℕ) → AreAmong n s → length s ≡ n → s ≡ places n
+whole n s w e = sym w ∙ kept_all (has s) (places n) (ap length w ∙ e ∙ sym (length-range_with_len 0 n))
+  where
+    kept_all : (p : ℕ → Bool) (xs : List ℕ) → length (filter p xs) ≡ length xs → filter p xs ≡ xs
+    kept_all p [] e = refl
+    kept_all p (x ∷ xs) e = elim (cases_Bool (p x)) [
+      | inl t ↦ (let kept : filter p (x ∷ xs) ≡ x ∷ filter p xs = rw t refl in let long = ap length kept in kept ∙ ap (λ l. x ∷ l) (kept_all p xs (omega (arith, e, long))))
+      | inr t ↦ (let left : filter p (x ∷ xs) ≡ filter p xs = rw t refl in let long = ap length left in let both = length-filter_both p (λ y. not (p y)) (λ y. refl) xs in absurd (omega (arith, e, long, both)))
+    ]
 
 -- the identifier, by the places that are in conflict with some
 pub identified : (is_conflict : ℕ → ℕ → Bool) (name : ℕ → Name) (n : ℕ) (scope s conflicting : List ℕ) (id : List Name) → AreAmong n s → conflicting ≡ filter (in_conflict_with is_conflict scope) (places n)

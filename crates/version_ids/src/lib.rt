@@ -7,7 +7,7 @@ ghost use Rattle.rules.specs.Groups.{in_conflict_with, identifier, group_named, 
 ghost use Rattle.rules.specs.Lists.{sort_by, HasNoRepeats};
 ghost use Rattle.places.specs.steps.PlaceSet.{has, places};
 ghost use Rattle.places.specs.steps.Relations.{IsRelation};
-ghost use Rattle.version_ids.specs.steps.Scopes.{places_in_conflict, AreAmong};
+ghost use Rattle.version_ids.specs.steps.Scopes.{AreAmong};
 
 use base_types::{NoMemory, OpName, VersionId};
 use places::{PlaceSet, Relation};
@@ -15,22 +15,8 @@ use std::alloc::Global;
 
 pub mod laws;
 
-/// The places that conflict with some place.
-///
-/// # Errors
-///
-/// `NoMemory` if an allocation failed.
-pub fn places_in_conflict<R: Relation>(alloc: Global, relation: &R) -> Result<PlaceSet, NoMemory>
-    ensures { IfOk result (λ conflicting.
-        conflicting ≡ places_in_conflict (R.conflicts relation.now) (R.size relation.now)) }
-{
-    let all = PlaceSet::first_places(alloc, relation.len())?;
-    relation.in_conflict_with(alloc, &all)
-}
-
 /// The identifier of a group: the names of its members that conflict with some place of the
-/// relation, in increasing order. `conflicting` are the places that conflict with some place; they
-/// serve all groups, and so does the memory of `scratch`, whatever it holds.
+/// relation, in increasing order. The memory of `scratch` serves all groups, whatever it holds.
 ///
 /// # Errors
 ///
@@ -39,18 +25,15 @@ pub fn places_in_conflict<R: Relation>(alloc: Global, relation: &R) -> Result<Pl
 pub fn id_by<R: Relation>(
     alloc: Global,
     relation: &R,
-    conflicting: &PlaceSet,
     group: &PlaceSet,
     scratch: &mut Vec<u32>,
 ) -> Result<VersionId, NoMemory>
-    requires conflicting { conflicting.now
-        ≡ places_in_conflict (R.conflicts relation.now) (R.size relation.now) }
-    requires group { All (λ place. place < R.size relation.now) group.now }
+    requires { All (λ place. place < R.size relation.now) group.now }
     ensures { let all = places (R.size relation.now) in IfOk result (λ id.
         id ≡ identifier (R.conflicts relation.now) (R.name_at relation.now) all group.now) }
 {
     group.rises();
-    id_of_conflicting(alloc, relation, conflicting, group, scratch)
+    id_of_conflicting(alloc, relation, relation.in_conflict(), group, scratch)
 }
 
 /// The group of the known places with this identifier, or `None` if none of their groups has it.
@@ -95,9 +78,13 @@ fn identifier_among<R: Relation>(
         (IsRelation (R.size relation.now) (R.name_at relation.now) (R.conflicts relation.now)) }
 {
     // With the length of a relation comes what it keeps.
-    let _ = relation.len();
+    let len = relation.len();
+    let mut scratch = Vec::new(alloc);
+    if scope.count() == len as usize {
+        return id_of_conflicting(alloc, relation, relation.in_conflict(), group, &mut scratch);
+    }
     let conflicting = relation.in_conflict_with(alloc, scope)?;
-    id_of_conflicting(alloc, relation, &conflicting, group, &mut Vec::new(alloc))
+    id_of_conflicting(alloc, relation, &conflicting, group, &mut scratch)
 }
 
 /// The rising list of the names of those members of a group that are among some places.

@@ -15,6 +15,7 @@ pub mod ReplyTexts
 pub mod Shallow
 pub mod Sent
 pub mod Tokens
+pub mod Digits
 pub mod RequestSteps
 pub mod BodySteps
 pub mod EntrySteps

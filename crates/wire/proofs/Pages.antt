@@ -1,5 +1,7 @@
 -- Texts of a record's entries, and the text of a page.
-use Rattle.std.proofs.Common.{◌≡◌, ℕ, zero, suc, ◌<◌, List, [], ◌∷◌, ◌++◌, length, get_or, map, take, drop, false, true, refl, ap, sym, ◌∙◌, append_assoc, subst, arith}
+use Rattle.std.proofs.Common.{◌≡◌, ℕ, zero, suc, ◌+◌, ◌<◌, List, [], ◌∷◌, ◌++◌, length, get_or, map, take, drop, false, true, refl, ap, sym, ◌∙◌, append_assoc, subst, arith}
+use Rattle.std.proofs.lemmas.Grind.{flat_map-append}
+use Rattle.std.proofs.lemmas.List.{append-nil, take_more}
 use Rattle.std.specs.List.{flat_map, join_by}
 use Rattle.std.specs.Prelude.{codes, decimal}
 use Rattle.json.specs.Print.{escape_byte}
@@ -39,6 +41,27 @@ texts_up_to (suc n) (t ∷ ts) (e ∷ es) h = (h.0, texts_up_to n ts es h.1)
 
 -- ---- a page
 
+-- the first text alone
+pub first_text : {X : Type 0} (text : X → List ℕ) (xs : List X) (at : ℕ) (x : X) → at < length xs → x ≡ get_or xs at x → at ≡ 0
+    → join_by text (44 ∷ []) (take (at + 1) xs) ≡ join_by text (44 ∷ []) (take at xs) ++ text x
+first_text text [] at x l e z = absurd (omega arith)
+first_text text (y ∷ ys) zero x l e z = append-nil (text y) ∙ ap text (sym e)
+first_text text (y ∷ ys) (suc at) x l e z = absurd (omega (arith, z))
+
+-- another text after a comma
+pub next_text : {X : Type 0} (text : X → List ℕ) (xs : List X) (at : ℕ) (x : X) → at < length xs → x ≡ get_or xs at x → 0 < at
+    → join_by text (44 ∷ []) (take (at + 1) xs) ≡ join_by text (44 ∷ []) (take at xs) ++ 44 ∷ text x
+next_text text [] at x l e z = absurd (omega arith)
+next_text text (y ∷ ys) zero x l e z = absurd (omega (arith, z))
+next_text {X} text (y ∷ ys) (suc at) x l e z =
+    let more : take (at + 1) ys ≡ take at ys ++ x ∷ [] = take_more ys at x (omega arith) ∙ ap (λ z. take at ys ++ z ∷ []) (sym e) in
+    let one : suc at + 1 ≡ suc (at + 1) = omega arith in
+    let after : X → List ℕ = λ z. 44 ∷ text z in
+    ap (λ n. join_by text (44 ∷ []) (take n (y ∷ ys))) one
+    ∙ ap (λ (zs : List X). text y ++ flat_map after zs) more
+    ∙ ap (λ (s : List ℕ). text y ++ s) (flat_map-append after (take at ys) (x ∷ []) ∙ ap (λ (s : List ℕ). flat_map after (take at ys) ++ s) (append-nil (44 ∷ text x)))
+    ∙ sym (append_assoc (text y) (flat_map after (take at ys)) (44 ∷ text x))
+
 module _ {X : Type 0} (text : X → List ℕ) where
   -- the items after others
   later : (xs : List X) (es : List Entry) → AreTexts (map text xs) es → length xs ≡ length es
@@ -69,7 +92,7 @@ module _ {X : Type 0} (text : X → List ℕ) where
   page_of_texts xs es h n = record { items = joined xs es h n; plain = all_plain xs es h n }
 
 -- the reply that gives the page
-abbrev reply_around : ℕ → ℕ → List ℕ → List ℕ
+abbrev pub reply_around : ℕ → ℕ → List ℕ → List ℕ
 reply_around at from text = codes "[\"entries\"," ++ (decimal at ++ 44 ∷ (decimal from ++ 44 ∷ 91 ∷ text))
 
 pub page_in_reply : (at from : ℕ) (text : List ℕ) (page : List Entry) → IsPageText text page → compact_text (reply_form (Entries at from page)) ≡ reply_around at from (text ++ 93 ∷ 93 ∷ [])

@@ -1,6 +1,7 @@
 //! The lists in replies. Contracts see each as the plain list of its members.
 
-ghost use Rattle.std.specs.Prelude.{◌≡◌, IfOk, IfSome, length, map, string_bytes};
+ghost use Rattle.std.specs.Prelude.{◌≡◌, ◌∷◌, [], IfOk, IfSome, length, map, string_bytes};
+ghost use Rattle.std.specs.List.{join_by};
 ghost use Rattle.std.specs.Arc.{arc_value};
 ghost use Rattle.wire.specs.steps.Pages.{AreTexts, IsPageText};
 
@@ -209,7 +210,7 @@ impl EntryList {
         requires all { length texts.now ≡ length entries.items }
         ensures { IfOk result (λ list. list ≡ map arc_value entries.items) }
     {
-        let text = texts.join(alloc, ",")?;
+        let text = join_texts(alloc, texts)?;
         Ok(EntryList {
             entries,
             text: Some(text),
@@ -232,6 +233,30 @@ impl EntryList {
             None => None,
         }
     }
+}
+
+/// How much room the texts take with a comma each.
+fn room_for(texts: &[String]) -> usize {
+    let mut room: usize = 0;
+    for text in texts {
+        room = room.saturating_add(text.len()).saturating_add(1);
+    }
+    room
+}
+
+/// The texts with commas between them, in one allocation.
+fn join_texts(alloc: Global, texts: &[String]) -> Result<String, NoMemory>
+    ensures { IfOk result (λ joined. string_bytes joined
+        ≡ join_by string_bytes (44 ∷ []) texts.now) }
+{
+    let mut joined = String::with_capacity(alloc, room_for(texts))?;
+    for at in 0..texts.len() {
+        if at > 0 {
+            joined.push_str(",")?;
+        }
+        joined.push_str(&texts[at])?;
+    }
+    Ok(joined)
 }
 
 impl PartialEq for EntryList {

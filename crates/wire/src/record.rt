@@ -12,8 +12,8 @@ use std::alloc::Global;
 use std::marker::Model;
 use std::sync::Arc;
 
-/// The entries of a room, and texts of the first of them. A page makes the texts that it needs, so
-/// an entry that is never on a page has none, and no text is made twice.
+/// The entries of a room, and texts of the first of them. A page makes the texts that it lacks and
+/// keeps them, unless it begins after the first entry without a text.
 #[derive(Drop)]
 pub struct Record {
     entries: Vec<Arc<Entry>>,
@@ -89,8 +89,8 @@ impl Record {
         self.entries.push_reserved(entry);
     }
 
-    /// At most `count` entries from a place on. They have their text if the entries before them
-    /// have theirs. Linear in the page.
+    /// At most `count` entries from a place on. The page has its text too, unless an entry before
+    /// the place has none. Linear in the page and its text.
     ///
     /// # Errors
     ///

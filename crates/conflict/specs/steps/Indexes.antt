@@ -30,6 +30,10 @@ abbrev pub IsPlaceOf : {C : Type 0} → (ℕ → C) → ℕ → C → Option ℕ
 IsPlaceOf class size c found =
     MatchOption found ((i : ℕ) → i < size → class i ≡ c → ⊥) (λ i. (i < size) × (class i ≡ c))
 
+-- these places are below n
+abbrev pub AreWithin : ℕ → List ℕ → Type 0
+AreWithin n xs = (x : ℕ) → has xs x ≡ true → x < n
+
 -- ---- by site
 
 -- the changes of a site: their numbers, each with its place, and their places

@@ -1,6 +1,6 @@
 -- The steps by which the conflicts of a change are found: cited by functions that are not public,
 -- and by what is stored.
-use Rattle.std.specs.Prelude.{ℕ, Bool, ◌&&◌, ◌||◌, List, [], ◌∷◌, ◌++◌, filter, length, nat_lt}
+use Rattle.std.specs.Prelude.{ℕ, Bool, not, ◌&&◌, ◌||◌, List, [], ◌∷◌, ◌++◌, filter, length, nat_lt}
 use Rattle.std.specs.Prelude.{if◌then◌else◌, slice_index_or}
 use Rattle.std.specs.List.{list_any}
 use Rattle.rules.specs.declared.history.Op.{Op}
@@ -22,12 +22,16 @@ abbrev pub has_earlier_conflict : List Op → ℕ → Bool
 has_earlier_conflict k place = nat_lt 0 (length (earlier_conflicts k place))
 
 -- the places of those that are in conflict with an earlier one
-abbrev pub places_in_conflict : List Op → List ℕ
-places_in_conflict k = filter (has_earlier_conflict k) (places (length k))
+abbrev pub places_with_earlier_conflict : List Op → List ℕ
+places_with_earlier_conflict k = filter (has_earlier_conflict k) (places (length k))
 
 -- is a body at odds with that of the change at a place?
 abbrev pub at_odds_at : List Op → Body → ℕ → Bool
 at_odds_at k body place = are_at_odds body (at k place).body
+
+-- those of the first n places that are not among these
+abbrev pub places_outside : List ℕ → ℕ → List ℕ
+places_outside xs n = filter (λ x. not (has xs x)) (places n)
 
 -- the places of the changes that are in direct conflict with one that is to be added
 abbrev pub direct_places : List Op → Op → List ℕ
@@ -60,6 +64,11 @@ abbrev pub with_rows : List ℕ → List (List ℕ) → List ℕ → List ℕ �
 with_rows scope rows set [] = set
 with_rows scope rows set (p ∷ ps) =
     with_rows scope rows (with_row scope (slice_index_or rows p []) p set) ps
+
+-- places with those of a row and the row's own place, if the row has any
+abbrev pub with_conflicts : List ℕ → ℕ → List ℕ → List ℕ
+with_conflicts [] place set = set
+with_conflicts (p ∷ ps) place set = with_place place (with_places set (p ∷ ps))
 
 -- places with those of a list that pass a test
 abbrev pub with_those : (ℕ → Bool) → List ℕ → List ℕ → List ℕ

@@ -4,20 +4,21 @@ use Rattle.base_types.specs.Names.{Name, is_op_name}
 use Rattle.rules.specs.declared.history.Op.{Op}
 use Rattle.places.specs.steps.PlaceSet.{places}
 use Rattle.conflict.specs.steps.Indexes.{SiteIndex, KeyIndex, AreBySite, AreByKey}
-use Rattle.places.specs.steps.Changes.{AreChangesOn, base_places}
-use Rattle.conflict.specs.steps.Rows.{earlier_conflicts, places_in_conflict}
+use Rattle.places.specs.steps.Changes.{AreChangesOn, base_places, conflicting_places}
+use Rattle.conflict.specs.steps.Rows.{earlier_conflicts, places_with_earlier_conflict}
 
 -- what is stored beside the changes: the places of each one's base, those of the earlier changes
--- that conflict with it, and at which places there are such; and the places of the first changes by
--- site and by key
+-- that conflict with it, and at which places there are such; the places of all that conflict with
+-- some change; and the places of the first changes by site and by key
 pub record AreStored (object : Name) (k : List Op) (bases rows : List (List ℕ))
-    (in_conflict : List ℕ) (sites : SiteIndex) (keys : KeyIndex) : Type 0 where
+    (in_conflict conflicting : List ℕ) (sites : SiteIndex) (keys : KeyIndex) : Type 0 where
   pub changes : AreChangesOn object k
   -- names are in range, so the changes are few
   pub named : (x : Op) → Contains k x → is_op_name x.name ≡ true
   pub few : length k < 2 ^ 32
   pub bases_are : bases ≡ map (base_places k) k
   pub rows_are : rows ≡ map (earlier_conflicts k) (places (length k))
-  pub in_conflict_are : in_conflict ≡ places_in_conflict k
+  pub in_conflict_are : in_conflict ≡ places_with_earlier_conflict k
+  pub conflicting_are : conflicting ≡ conflicting_places k
   pub by_site : AreBySite k sites
   pub by_key : AreByKey k keys

@@ -42,12 +42,12 @@ impl Drawing {
     }
 
     /// Prepares an operation that may come next in causal order. The drawing stays as it is.
-    /// `NoSuchObject`, `NoSuchVersion`, `Gone`, `ObjectFull`, `TooManyKeys` or `TooManyVersions`.
     ///
     /// # Errors
     ///
-    /// - `Refused` with the first refusal that applies. A creation gives `TooManyObjects`; a change
-    ///   gives
+    /// - `Refused` with the first refusal that applies. For a creation it is `TooManyObjects`. For a
+    ///   change it is `NoSuchObject`, `NoSuchVersion`, `Gone`, `ObjectFull`, `TooManyKeys` or
+    ///   `TooManyVersions`, in this order.
     /// - `NoMemory` if an allocation failed.
     pub fn plan(&mut self, alloc: Global, op: Op) -> Result<Addition, AddFault>
         requires { IsNext self.old.room op }

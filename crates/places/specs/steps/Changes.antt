@@ -9,6 +9,7 @@ use Rattle.rules.specs.declared.history.Body.TheVariants.{New}
 use Rattle.rules.specs.Operations.{IsHistory, IsCausallyOrdered, is_change_on, same_op}
 use Rattle.rules.specs.Conflicts.{base, conflict, members}
 use Rattle.places.specs.steps.PlaceSet.{places}
+use Rattle.places.specs.steps.Relations.{places_in_conflict}
 
 -- what a caller sees of the stored changes: their object, the changes in order of arrival, and for
 -- how many more there is memory
@@ -55,20 +56,27 @@ base_places k op = places_of k (members (base k op))
 abbrev pub is_conflict_of : List Op → ℕ → ℕ → Bool
 is_conflict_of k i j = conflict k (at k i) (at k j)
 
+-- the places of the changes that conflict with some change
+abbrev pub conflicting_places : List Op → List ℕ
+conflicting_places k = places_in_conflict (is_conflict_of k) (length k)
+
 -- the places of the changes that conflict with one that is to be added
 abbrev pub new_conflicts : List Op → Op → List ℕ
 new_conflicts k op = filter (λ place. conflict (k ++ op ∷ []) op (at k place)) (places (length k))
 
 -- ---- a change that is to be added
 
--- with the places of its base, and of the changes that conflict with it
+-- with the places of its base, of the changes that conflict with it, and of all that then conflict
+-- with some change
 pub record Added : Type 0 where
   pub op : Op
   pub base : List ℕ
   pub row : List ℕ
+  pub conflicting : List ℕ
 
 -- it may come next on the object, and its places are right
 pub record IsAddition (object : Name) (k : List Op) (a : Added) : Type 0 where
   pub changes : AreChangesOn object (k ++ a.op ∷ [])
   pub base : a.base ≡ base_places k a.op
   pub row : a.row ≡ new_conflicts k a.op
+  pub conflicting : a.conflicting ≡ conflicting_places (k ++ a.op ∷ [])

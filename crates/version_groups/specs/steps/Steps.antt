@@ -5,6 +5,10 @@ use Rattle.std.specs.Prelude.{◌++◌, map, filter}
 use Rattle.std.specs.List.{list_any, list_all}
 use Rattle.places.specs.steps.PlaceSet.{has, is_within}
 
+-- is a place none of these?
+abbrev pub is_none_of : List ℕ → ℕ → Bool
+is_none_of xs x = not (has xs x)
+
 -- the places of g are below n
 abbrev pub AreBelow : ℕ → List ℕ → Type 0
 AreBelow n g = (x : ℕ) → has g x ≡ true → x < n

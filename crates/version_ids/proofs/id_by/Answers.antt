@@ -8,4 +8,4 @@ pub returns : goal.returns
 returns g c =
     let n = g.R.Relation.size c.args.relation.now in
     IfOk-weaker c.id_of_conflicting.result _ _
-    (λ id e. identified (g.R.Relation.conflicts c.args.relation.now) (g.R.Relation.name_at c.args.relation.now) n (places n) c.args.group.now c.args.conflicting.now id (among_places n c.args.group.now c.rises.ensures c.requires.group) c.requires.conflicting e) c.id_of_conflicting.ensures
+    (λ id e. identified (g.R.Relation.conflicts c.args.relation.now) (g.R.Relation.name_at c.args.relation.now) n (places n) c.args.group.now c.in_conflict.result.now id (among_places n c.args.group.now c.rises.ensures c.requires) c.in_conflict.ensures e) c.id_of_conflicting.ensures

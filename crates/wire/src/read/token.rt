@@ -1,6 +1,7 @@
 //! Tokens: brackets, texts and numbers.
 
-ghost use Rattle.std.specs.Prelude.{◌≡◌, ℕ, ◌<◌, ◌==◌, ◌&&◌, Some, None, if◌then◌else◌, nat_le, IsTrue, length, option_and_then, option_map, slice_index};
+ghost use Rattle.std.specs.Prelude.{◌≡◌, ℕ, ◌<◌, ◌==◌, ◌&&◌, Some, None, if◌then◌else◌, nat_le, IfSome, IsTrue, length, option_and_then, option_map, slice_index};
+ghost use Rattle.std.specs.Str.Parse.{digits_value, IsNumeral};
 ghost use Rattle.json.specs.Json.{after_end_array};
 ghost use Rattle.json.specs.Reads.{token_of};
 ghost use Rattle.serde_json.specs.Find.{as_str, as_u64};
@@ -84,11 +85,32 @@ fn has_minus(digits: &[u8]) -> bool
     !digits.is_empty() && digits[0] == b'-'
 }
 
+/// The number of up to nine digits. `None` if another byte is among them, or there are none or more.
+fn short_natural(digits: &[u8]) -> Option<u32>
+    ensures number { IfSome result (λ number. number ≡ digits_value 10 digits.now) }
+    ensures digits { IfSome result (λ _. IsNumeral 10 digits.now) }
+{
+    if digits.is_empty() || digits.len() > 9 {
+        return None;
+    }
+    let mut number = 0;
+    for digit in digits {
+        if !digit.is_ascii_digit() {
+            return None;
+        }
+        number = number * 10 + u32::from(*digit - b'0');
+    }
+    Some(number)
+}
+
 /// The whole number from 0 that a number's text is. `None` if it is another number or does not fit.
 fn natural_in_text(text: &str) -> Option<u64>
     ensures { result ≡ option_and_then as_u64 (number_of text.now) }
 {
     let digits = text.as_bytes();
+    if let Some(number) = short_natural(digits) {
+        return Some(u64::from(number));
+    }
     if has_minus(digits) {
         None
     } else {
@@ -112,6 +134,9 @@ pub(super) fn integer_in_text(text: &str) -> Option<i64>
     ensures { result ≡ option_and_then integer_at (number_of text.now) }
 {
     let digits = text.as_bytes();
+    if let Some(number) = short_natural(digits) {
+        return Some(i64::from(number));
+    }
     if has_minus(digits) {
         below_zero(Numeral::scan(&digits[1..]).to_i64(true))
     } else {

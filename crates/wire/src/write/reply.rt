@@ -14,6 +14,7 @@ use crate::reply::Reply;
 use base_types::NoMemory;
 use json::Writer;
 use std::alloc::{AllocError, Global};
+use std::fmt::Write;
 
 impl Written for EntryList {
     ghost form = { λ entries. list_form (map entry_form entries) };
@@ -71,7 +72,10 @@ pub fn write_reply(alloc: Global, reply: &Reply) -> Result<String, NoMemory>
     compact(alloc, reply)
 }
 
-/// The text of a page of the record, from the text of its entries.
+/// The most bytes of a page's text that are not of its entries.
+const MOST_AROUND_ENTRIES: usize = 36;
+
+/// The text of a page of the record, from the text of its entries. One allocation.
 #[tactic(auto, unfolding(crate::specs::Texts::reply_text))]
 fn page_text(alloc: Global, at: u32, from: u32, entries: &str) -> Result<String, NoMemory>
     ensures text { (page : List Entry) → IsPageText entries.now page
@@ -79,5 +83,7 @@ fn page_text(alloc: Global, at: u32, from: u32, entries: &str) -> Result<String,
     ensures plain { (page : List Entry) → IsPageText entries.now page
         → IsPlain (reply_form (Entries at from page)) }
 {
-    Ok(format!(in alloc; "[\"entries\",{at},{from},[{entries}]]")?)
+    let mut text = String::with_capacity(alloc, entries.len() + MOST_AROUND_ENTRIES)?;
+    write!(text, "[\"entries\",{at},{from},[{entries}]]")?;
+    Ok(text)
 }

@@ -1,12 +1,16 @@
-use Rattle.std.proofs.Common.{◌∙◌, ap, get_or, arith, rules}
-use Rattle.std.specs.Prelude.{bit_and}
-use Rattle.places.proofs.WordPlaces.{intersects_yes, intersects_no}
+use Rattle.std.proofs.Common.{arith, rules, length, min, inl, inr}
+use Rattle.std.proofs.lemmas.Bool.{cases_lt}
+use Rattle.places.proofs.WordPlaces.{intersects_yes, intersects_no, none_common}
 use Rattle.places.proofs.words.intersects.Goals as goal
 
 pub returns-then-first-at-ne0 : goal.returns-then-first-at-ne0
-returns-then-first-at-ne0 c =
-    intersects_yes c.args.first.now c.args.second.now c.loop-at.at (search rules)
-    (λ e. c.if-first-at-ne0.true (ap (bit_and (get_or c.args.first.now c.loop-at.at 0)) c.word.ensures ∙ e))
+returns-then-first-at-ne0 c = intersects_yes c.args.first.now c.args.second.now c.loop-at.at (search rules) c.if-first-at-ne0.true
 
 pub returns : goal.returns
-returns c = intersects_no c.args.first.now c.args.second.now (λ k l. c.loop-at.invariant k (omega arith))
+returns c =
+    let first = c.args.first.now in
+    let second = c.args.second.now in
+    intersects_no first second (λ k l. elim (cases_lt k (min (length first) (length second))) [
+      | inl b ↦ c.loop-at.invariant k (omega arith)
+      | inr g ↦ none_common first second k g
+    ])

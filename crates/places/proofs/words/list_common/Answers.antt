@@ -1,9 +1,9 @@
-use Rattle.std.proofs.Common.{◌≡◌, ◌+◌, ◌*◌, ◌++◌, ℕ, List, get_or, length, map, sym, ap, ◌∙◌, refl, subst, arith, rules}
-use Rattle.std.specs.Prelude.{bit_and, filter}
+use Rattle.std.proofs.Common.{◌≡◌, ◌+◌, ◌*◌, ◌++◌, length, map, ◌∙◌, subst, arith, rules}
+use Rattle.std.specs.Prelude.{filter}
 use Rattle.places.specs.steps.PlaceSet.{places}
 use Rattle.places.specs.steps.Words.{has_bit}
 use Rattle.places.proofs.Counted.{bits_of, word_begun, word_done, next_smaller, place_pushed, all_places_in}
-use Rattle.places.proofs.WordPlaces.{common_words, common_word, length-common_words, places_in_both}
+use Rattle.places.proofs.WordPlaces.{common_words, common_at, length-common_words, places_in_both}
 use Rattle.places.proofs.words.list_common.Goals as goal
 
 pub loop-at-init : goal.loop-at-init
@@ -14,9 +14,7 @@ loop-left-init c =
     let first = c.args.first.now in
     let second = c.args.second.now in
     let at = c.loop-at.at in
-    let left : get_or (common_words first second) at 0 ≡ bit_and (get_or first at 0) c.word.result =
-    common_word first second at c.loop-at-test.true ∙ ap (bit_and (get_or first at 0)) (sym c.word.ensures) in
-    subst (λ w. c.loop-at.list.items ++ map (λ i. 64 * at + i) (bits_of w) ≡ filter (has_bit (common_words first second)) (places (64 * (at + 1)))) left
+    subst (λ w. c.loop-at.list.items ++ map (λ i. 64 * at + i) (bits_of w) ≡ filter (has_bit (common_words first second)) (places (64 * (at + 1)))) (common_at first second at)
     (word_begun (common_words first second) at c.loop-at.list.items c.loop-at.invariant)
 
 pub loop-left-smaller : goal.loop-left-smaller
@@ -34,4 +32,4 @@ returns c =
     let second = c.args.second.now in
     let all : c.loop-at.at ≡ length (common_words first second) = omega (arith, length-common_words first second) in
     all_places_in (common_words first second) c.loop-at.at c.loop-at.list.items all c.loop-at.invariant
-    ∙ places_in_both first second (common_words first second) refl
+    ∙ places_in_both first second (common_words first second) (common_at first second)

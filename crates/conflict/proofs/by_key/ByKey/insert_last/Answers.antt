@@ -1,4 +1,6 @@
-use Rattle.std.proofs.Common.{◌≡◌, ℕ, ◌∙◌, ◌||◌, ap, arith, eqb, inl, inr}
+use Rattle.std.proofs.Common.{◌≡◌, ℕ, ◌∙◌, ◌||◌, ap, sym, subst, arith, eqb, inl, inr}
+use Rattle.conflict.specs.steps.Indexes.{AreWithin}
+use Rattle.conflict.proofs.Keyed.{within_and_one}
 use Rattle.std.proofs.lemmas.Bool.{cases_lt, eq-eqb, or_left, or_right}
 use Rattle.places.specs.steps.PlaceSet.{has}
 use Rattle.places.proofs.WordPlaces.{has-with_place}
@@ -14,4 +16,5 @@ loop-place-preserved c =
         | inl l ↦ is q ∙ or_left (has before q) (eqb place q) (c.loop-place.invariant.1 q low l)
         | inr g ↦ is q ∙ or_right (has before q) (eqb place q) (eq-eqb place q (omega (arith, high, g)))
       ],
+      λ low. subst (AreWithin c.args.count) (sym c.in_ok-insert.ensures.ok) (within_and_one c.args.count place before (c.loop-place.invariant.2 low) c.loop-place-test.true),
     )

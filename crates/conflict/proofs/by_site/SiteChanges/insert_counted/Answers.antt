@@ -4,7 +4,7 @@ use Rattle.std.specs.Fn.{Called, ComputesKey}
 use Rattle.std.specs.List.Sorted.{IsNonDecreasingBy, IsPartitionedBy, IsPartitionPoint}
 use Rattle.std.proofs.lemmas.List.Sorted.{IsPartitionedBy-leb, IsPartitionPoint-from_clause}
 use Rattle.state_vector.specs.Vectors.{count_of}
-use Rattle.places.specs.steps.PlaceSet.{has, with_places}
+use Rattle.places.specs.steps.PlaceSet.{has, places, with_places}
 use Rattle.conflict.specs.steps.Indexes.{OfSite, IsRising, counted_of}
 use Rattle.conflict.proofs.Sited.{counted_whole, counted_none, counted_cut}
 use Rattle.conflict.proofs.by_site.SiteChanges.insert_counted.Goals as goal
@@ -55,10 +55,9 @@ returns c =
     let number : c.count-number.result ≡ count_of seen of.site = c.count-number.ensures ∙ ap (λ (o : OfSite). count_of seen o.site) c.self.view_is in
     let within : i < length of.changes = omega (arith, ap length changes, c.deref.ensures.len, c.len.ensures, c.if-counted-len.false, c.partition_point-counted.ensures.bound) in
     let first : c.index.result.now ≡ get_or of.changes i c.index.result.now = c.index.ensures ∙ ap (λ (o : OfSite). get_or o.changes i c.index.result.now) c.self.view_is in
-    let some : c.in_ok-places.places ≡ counted_of seen of =
-    c.in_ok-places.ensures
-    ∙ (λ j. filter (has (c.in_ok-earlier.ensures j)) (ap (λ (o : OfSite). o.places) c.self.view_is j))
+    let some : filter (has (places c.index.result.now.1)) c.self.inside.places ≡ counted_of seen of =
+    ap (λ (o : OfSite). filter (has (places c.index.result.now.1)) o.places) c.self.view_is
     ∙ counted_cut of c.requires c.count-number.result i (point of c.count-number.result i c.deref.result.now changes c.requires c.partition_point-counted.ensures.partitioned (λ a r f k. search (rules, of_calls)))
     c.index.result.now c.index.result.now.1 within (ap (λ (s : ℕ × ℕ). s.1) first)
     ∙ ap (λ n. map (λ (s : ℕ × ℕ). s.1) (filter (λ (s : ℕ × ℕ). nat_le s.0 n) of.changes)) number in
-    subst (λ (l : List ℕ). OnOk c.insert_all-2.result (c.insert_all-2.new.self ≡ with_places c.args.known.now l)) some c.insert_all-2.ensures.ok
+    subst (λ (l : List ℕ). OnOk c.insert_below.result (c.insert_below.new.self ≡ with_places c.args.known.now l)) some c.insert_below.ensures

@@ -8,5 +8,5 @@ use Rattle.wire.proofs.lists.EntryList.with_texts.Goals as goal
 pub invariant_of-result : goal.invariant_of-result
 invariant_of-result c =
     let entries = map arc_value c.args.entries.items in
-    subst (λ text. IsPageText text entries) (sym c.in_ok-text.ensures.ok)
+    subst (λ text. IsPageText text entries) (sym c.in_ok-text.ensures)
     (page_of_texts string_bytes c.args.texts.now entries c.requires.texts (c.requires.all ∙ sym (length-map c.args.entries.items arc_value)))

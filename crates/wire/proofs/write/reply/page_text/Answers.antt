@@ -1,8 +1,10 @@
-use Rattle.std.proofs.Common.{sym, ◌∙◌}
+use Rattle.std.proofs.Common.{◌++◌, ◌∷◌, [], List, ℕ, ap, sym, ◌∙◌}
 use Rattle.wire.specs.Texts.{reply_text}
-use Rattle.wire.proofs.Pages.{page_in_reply}
+use Rattle.wire.proofs.Pages.{page_in_reply, reply_around}
 use Rattle.wire.proofs.write.reply.page_text.Goals as goal
 
 pub returns-clause-text : goal.returns-clause-text
 unfolding reply_text
-returns-clause-text c page h = c.in_ok-format.ensures.ok ∙ sym (page_in_reply c.args.at c.args.from c.args.entries.now page h)
+returns-clause-text c page h =
+    c.in_ok-write.ensures.bytes ∙ ap (λ (front : List ℕ). front ++ reply_around c.args.at c.args.from (c.args.entries.now ++ 93 ∷ 93 ∷ [])) c.in_ok-text.ensures.bytes
+    ∙ sym (page_in_reply c.args.at c.args.from c.args.entries.now page h)

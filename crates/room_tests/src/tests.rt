@@ -5,6 +5,7 @@ mod interrupted;
 mod kept;
 mod one_room;
 mod replicas;
+mod requests;
 mod scripts;
 
 use rules::{LimitValues, Limits};

@@ -25,16 +25,15 @@ fn batch(rt: &(impl Abort + AllocGlobal), line: &str) -> [Arc<Entry>; 1] {
     [Arc::new(rt.alloc(), entry).expect(rt, "memory")]
 }
 
-/// Asserts that after a loss of power the record has so many entries, whatever follows them.
-fn restores(rt: &(impl Abort + AllocGlobal), journal: &Memory, count: usize) {
+/// Asserts that after a loss of power so many bytes are restored, whatever follows them.
+fn restores(rt: &(impl Abort + AllocGlobal), journal: &Memory, kept: usize) {
     for tail in TAILS.split('\n') {
         let left = journal.lose_power(rt.alloc(), tail.as_bytes());
         let restored = restore(rt.alloc(), &left.expect(rt, "memory"));
-        let is_kept = match restored.expect(rt, "memory") {
-            Restored::Room { room, .. } => room.entries().len() == count,
-            Restored::Bad(_) => false,
-        };
-        assert!(rt; is_kept, "{count} entries and {tail}");
+        match restored.expect(rt, "memory") {
+            Restored::Room { room: _, whole } => assert_eq!(rt; whole, kept, "before {tail}"),
+            Restored::Bad(number) => panic!(rt; "line {number} is bad"),
+        }
     }
 }
 
@@ -48,17 +47,19 @@ fn fails_after(rt: &(impl Abort + AllocGlobal), after: u32) {
         leaves: 7,
     };
     let mut journal = Memory::new(Vec::new(rt.alloc()), failures);
+    let mut kept: usize = 0;
     for (place, line) in RECORD.lines().enumerate() {
         let entries = batch(rt, line);
         if append(rt.alloc(), &mut journal, &entries).is_err() {
             assert_eq!(rt; place, after as usize / 2);
-            restores(rt, &journal, place);
+            restores(rt, &journal, kept);
             journal.cut().expect(rt, "a cut");
             let again = append(rt.alloc(), &mut journal, &entries);
             again.expect(rt, "an append");
         }
+        kept = kept.saturating_add(line.len()).saturating_add(1);
     }
-    restores(rt, &journal, 6);
+    restores(rt, &journal, RECORD.len());
     assert_eq!(rt; journal.bytes(), RECORD.as_bytes());
 }
 

@@ -15,17 +15,32 @@ use std::thread::Threads;
 /// The server's close of 1011.
 const AT_FAULT: &[u8] = b"\x88\x02\x03\xf3";
 
-/// What a session that comes back to the first room asks, and one in the other room.
-const ASKED_BACK: &str = "[\"back\",\"r\",1]\n[\"leave\"]";
+/// What a session asks that comes back to the first room.
+const ASKED_BACK: &str = r#"["back","r",1]
+["leave"]"#;
 
-const ASKED_ELSEWHERE: &str = "[\"join\",\"s\"]\n[\"leave\"]";
+/// What one asks in the other room.
+const ASKED_ELSEWHERE: &str = r#"what
+["join","none"]
+["join","s"]
+["show",[1,1]]
+["back","s",1]
+["leave"]
+["back","s",2]"#;
 
-/// What the latter is answered, and the record of its room.
-const ANSWERED_ELSEWHERE: &str = "[\"joined\",0,1]\n[\"left\",1]";
+/// What it is answered. Four of the replies are the room's, and are to be kept.
+const ANSWERED_ELSEWHERE: &str = r#"["no",0,1,"bad-message"]
+["no",0,4,"no-such-room"]
+["joined",0,1]
+["no",1,11,"no-such-object"]
+["no",0,3,"already-joined"]
+["left",1]
+["no",1,19,"no-such-site"]"#;
 
 const RECORD_ELSEWHERE: &str = "[\"join\",1]\n";
 
-/// What the former is answered, where the room has so many entries, all of its one site.
+/// What the session is answered that comes back to a room with so many entries, all of its one
+/// site.
 fn answered_back(rt: &(impl Abort + AllocGlobal), entries: usize) -> String {
     let made = entries.saturating_sub(1);
     let replies = format!(in rt.alloc(); "[\"back\",{entries},1,{made}]\n[\"left\",{entries}]");
@@ -108,7 +123,7 @@ fn serve_talks<R: Threads + Wait + Sync + Abort + AllocGlobal>(
     }
     let expected = records_of(rt, number.min(ENTRIES), RECORD_ELSEWHERE);
     assert_eq!(rt; records.as_slice(), expected.as_bytes());
-    assert_eq!(rt; told.asked(), (number as u64).saturating_add(4));
+    assert_eq!(rt; told.asked(), (number as u64).saturating_add(6));
     sink.into_inner()
 }
 

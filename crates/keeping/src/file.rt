@@ -14,7 +14,7 @@ pub use kept::Kept;
 use record_file::append;
 use room_lock::{News, Prefix, RoomLedger};
 use rules::Entry;
-use sessions::KeepFault;
+use keeper::KeepFault;
 use std::alloc::Global;
 use std::fs::OpenFile;
 use std::io::Write;

@@ -7,7 +7,7 @@ use crate::room::KeptRoom;
 use base_types::NoMemory;
 use journal::Journal;
 use room_lock::{Prefix, RoomLedger, Rooms};
-use sessions::{KeepFault, Keeper};
+use keeper::{KeepFault, Keeper};
 use std::alloc::Global;
 use std::sync::Wait;
 

@@ -7,7 +7,7 @@ ghost use Rattle.keeping.specs.steps.Turns.{IfTold};
 use crate::file::{Kept, RoomFile};
 use journal::Journal;
 use room_lock::{CallFault, Prefix, RoomLedger, Rooms};
-use sessions::KeepFault;
+use keeper::KeepFault;
 use std::alloc::Global;
 use std::sync::{Condvar, Mutex, Wait};
 

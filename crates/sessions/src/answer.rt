@@ -8,7 +8,7 @@ ghost use Rattle.sessions.specs.Turns.{IsKept};
 
 use crate::cause::Cause;
 use crate::host::Host;
-use crate::keeper::{KeepFault, Keeper};
+use keeper::{KeepFault, Keeper};
 use crate::observer::{Addition, Observer};
 use room_lock::{Prefix, RoomLedger};
 use std::sync::Wait;

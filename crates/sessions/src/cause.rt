@@ -4,7 +4,7 @@ ghost use Rattle.std.specs.Prelude.{◌≡◌, ◌≢◌};
 ghost use Rattle.sessions.specs.steps.Causes.{cause_of_stream};
 ghost use Rattle.sessions.specs.declared.cause.Cause.TheVariants as cause;
 
-use crate::keeper::KeepFault;
+use keeper::KeepFault;
 use base_types::NoMemory;
 use room_lock::CallFault;
 use thiserror::Error;

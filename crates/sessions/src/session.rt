@@ -12,7 +12,7 @@ ghost use Rattle.sessions.specs.Turns.{MayStand};
 use crate::answer::{Answer, Answered};
 use crate::cause::Cause;
 use crate::host::Host;
-use crate::keeper::Keeper;
+use keeper::Keeper;
 use crate::observer::Observer;
 use base_types::{NoMemory, RoomName};
 use room_lock::{Entrance, Pass, RoomLedger};

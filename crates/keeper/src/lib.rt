@@ -1,4 +1,5 @@
-//! Keeping what replies report of rooms.
+//! The trait of what keeps rooms: a reply is sent when the keeper has kept what it reports.
+#![tactic(auto)]
 
 ghost use Rattle.std.specs.Prelude.{IfOk};
 

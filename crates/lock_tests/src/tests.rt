@@ -14,7 +14,8 @@ use room_lock::{Entrance, NewRooms, Pass, RoomLedger, Rooms};
 use rules::Limits;
 use std::process::Abort;
 use std::sync::Wait;
-use wire::{Request, Scratch, read_request, write_reply};
+use wire::{Request, write_reply};
+use wire_reader::{Scratch, read_request};
 
 /// The creation of a rectangle as a site's first operation, which has seen nothing.
 const CREATION: &str = r#"["new",1,[],"rect",[["x",0]]]"#;

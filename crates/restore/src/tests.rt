@@ -5,7 +5,7 @@ use rules::Entry;
 use std::alloc::Global;
 use std::sync::Arc;
 use std::test::Fail;
-use wire::read_entry;
+use wire_reader::read_entry;
 
 const RECORD: &str =
     "[\"join\",1]\n[\"new\",[1,1],[],\"rect\",[[\"x\",0]]]\n[\"join\",2]\n[\"put\",[1,2],[[1,1]],[1,1],[],[[\"x\",5]]]\n[\"put\",[2,1],[[1,1]],[1,1],[],[[\"x\",9]]]\n[\"drop\",[2,2],[[1,1],[2,1]],[1,1],[]]\n";

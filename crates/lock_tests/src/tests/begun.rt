@@ -11,7 +11,7 @@ use rules::Limits;
 use std::marker::Brand;
 use std::process::Abort;
 use std::sync::Wait;
-use wire::read_entry;
+use wire_reader::read_entry;
 
 /// The room with the entry of this line added.
 fn with_line(rt: &(impl Abort + AllocGlobal), mut state: RoomState, line: &str) -> RoomState

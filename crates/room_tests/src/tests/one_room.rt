@@ -5,7 +5,8 @@ use room_core::{Limits, RoomState};
 use rules::{Attrs, Body, LimitValues};
 use state_vector::StateVector;
 use std::process::Abort;
-use wire::{Reply, Request, Scratch, read_request, write_reply};
+use wire::{Reply, Request, write_reply};
+use wire_reader::{Scratch, read_request};
 
 /// What is asked of a room with one site as a site that hasn't joined.
 const NOT_JOINED: &str = r#"0 ["leave"] => ["no",0,2,"not-joined"]

@@ -8,7 +8,8 @@ use base_types::OpName;
 use late_join::{FeedFault, Limits, Replica, TakeFault};
 use rules::{Entry, LimitValues};
 use std::process::Abort;
-use wire::{read_entry, write_reply};
+use wire::write_reply;
+use wire_reader::read_entry;
 
 /// Lines that a replica of these limits answers one after the other.
 pub struct Example {

@@ -6,7 +6,7 @@ mod requests;
 
 use base_types::NoMemory;
 use std::process::Abort;
-use wire::ReadFault;
+use wire_reader::ReadFault;
 
 /// What was read of this text is a value.
 fn is_read<T: Drop>(rt: &impl Abort, read: Result<T, ReadFault>, text: &str) {

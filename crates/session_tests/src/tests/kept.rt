@@ -19,7 +19,7 @@ use std::sync::Wait;
 use std::sync::atomic::{AtomicU64, Ordering};
 use std::thread::Threads;
 use tungstenite::Duplex;
-use wire::Scratch;
+use wire_reader::Scratch;
 
 /// The rooms that are asked.
 const NAMES: [&str; 2] = ["r", "s"];

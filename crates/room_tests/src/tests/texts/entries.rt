@@ -2,7 +2,8 @@
 
 use super::{between, is_bad, is_read, is_text};
 use std::process::Abort;
-use wire::{read_entry, write_entry};
+use wire::write_entry;
+use wire_reader::read_entry;
 
 fn is_entry_again(rt: &(impl Abort + AllocGlobal), text: &str) {
     let entry = read_entry(rt.alloc(), text.as_bytes()).expect(rt, "an entry");

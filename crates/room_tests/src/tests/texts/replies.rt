@@ -2,7 +2,8 @@
 
 use super::{between, is_bad, is_read, is_text};
 use std::process::Abort;
-use wire::{read_reply, write_reply};
+use wire::write_reply;
+use wire_reader::read_reply;
 
 fn is_reply_again(rt: &(impl Abort + AllocGlobal), text: &str) {
     let reply = read_reply(rt.alloc(), text.as_bytes()).expect(rt, "a reply");

@@ -2,7 +2,8 @@
 
 use super::{between, is_bad, is_read, is_text};
 use std::process::Abort;
-use wire::{ReadFault, Request, Scratch, read_request, write_request};
+use wire::{Request, write_request};
+use wire_reader::{ReadFault, Scratch, read_request};
 
 /// Reads a request with new memory.
 fn read(rt: &impl AllocGlobal, bytes: &[u8]) -> Result<Request, ReadFault> {

@@ -1,7 +1,7 @@
 //! The fault of a command for each fault of a layer below.
 
 ghost use Rattle.std.specs.Prelude.{◌≡◌};
-ghost use Rattle.commands.specs.Faults.{of_rooms, of_script};
+ghost use Rattle.commands.specs.steps.Faults.{of_rooms, of_script};
 
 use command_fault::Fault;
 use room_core::RoomsFault;

@@ -251,8 +251,7 @@ where
     fn serve(self, names: &[&'w str]) -> Result<(), Fault> {
         let rooms = room_names(self.alloc, names)?;
         let tallies = empty_tallies(self.alloc, names)?;
-        let planned =
-            NewRooms::plan(self.alloc, rooms, Limits::full()).map_err(fault_of_rooms)?;
+        let planned = NewRooms::plan(self.alloc, rooms, Limits::full()).map_err(fault_of_rooms)?;
         serve_in_memory::<Brand, R, W>(self, planned, &tallies)
     }
 
@@ -267,8 +266,9 @@ where
         let (states, files) = folder.read(rt, alloc, names)?;
         let tallies = tallies_of(alloc, names, &states)?;
         let journals = folder.settle(rt, alloc, files)?;
-        let planned = NewRooms::with_records(alloc, rooms, Limits::full(), states)
-            .map_err(fault_of_rooms)?;
+        let planned = NewRooms::with_records(alloc, rooms, Limits::full(), states).map_err(
+            fault_of_rooms,
+        )?;
         serve_in_files::<Brand, R, W>(self, planned, &tallies, journals)
     }
 

@@ -5,7 +5,8 @@ mod interrupted;
 mod migrating;
 mod scripts;
 
-use commands::{Fault, script_over};
+use command_fault::Fault;
+use commands::script_over;
 use std::io;
 use std::io::{ErrorKind, Read, Write};
 

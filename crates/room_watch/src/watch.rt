@@ -2,7 +2,7 @@
 
 use base_types::{MAX_SITE, NoMemory, OpName, RoomName};
 use byte_streams::Uninterrupted;
-use commands::Fault;
+use command_fault::Fault;
 use late_join::{FeedFault, Replica, TakeFault};
 use rules::{Limits, Refusal};
 use std::alloc::{AllocError, Global};

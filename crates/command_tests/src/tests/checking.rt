@@ -2,7 +2,8 @@
 
 use super::{Closed, Failing, Flushing, Outcome};
 use byte_streams::Uninterrupted;
-use commands::{Fault, check_over, read_up_to};
+use command_fault::{Fault, read_up_to};
+use commands::check_over;
 use std::io;
 use std::io::{ErrorKind, Read};
 

@@ -1,7 +1,8 @@
 #!/usr/bin/env python3
 """Measures `grace check`, and prints a Markdown table: seconds of processor time and the peak of memory, for a record
 and its transcripts. The lines are in the order of the answers, site by site, and merged at random. `grace script`
-answers the requests. Each check must print `holds`. Run it from anywhere. It builds the program first if necessary."""
+answers the requests. Each check must print `holds`. Run it from anywhere. It measures the
+program that `./test` proved."""
 
 import json
 import pathlib

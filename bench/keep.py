@@ -3,7 +3,7 @@
 second with clients all in one room and each in a room of its own. Beside them it has the lines a second of
 bench/group_commit.c, which only writes and syncs lines of the same length on the same disk. The two take turns, so that
 a slower period of the disk affects both. Each figure is the median of the runs; the last column is the first figure by
-the second. Run it from anywhere. It builds the program first if necessary."""
+the second. Run it from anywhere. It measures the program that `./test` proved."""
 
 import pathlib
 import shutil

@@ -3,7 +3,8 @@
 without the program's start, and the peak of memory. Each figure is the least of the runs. With `--against PROGRAM` a
 second build runs the same scripts in turn. It must print the same bytes, and its figures are in further columns. With
 `--old-form` the scripts write puts of one key as `set`, for a build without puts. Scripts with other changes are then
-left out, and only the number of answers is compared. Run it from anywhere. It builds the program first if necessary."""
+left out, and only the number of answers is compared. Run it from anywhere. It measures the
+program that `./test` proved."""
 
 import json
 import pathlib

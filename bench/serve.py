@@ -3,7 +3,7 @@
 one room. It has puts a second, the median and 99th percentile of the time to a reply, and the server's processor time a
 put. The clients are bench/load.rs, which `rustc` compiles. They share the cores with the server, so the figures are for
 one machine that runs both. Each run has a fresh server. Times are the median of the runs; processor time is that of all
-runs. Run it from anywhere. It builds the program first if necessary."""
+runs. Run it from anywhere. It measures the program that `./test` proved."""
 
 import collections
 import contextlib

@@ -48,9 +48,20 @@ def words_of(doc, runs):
 
 
 def program_of(options):
-    """The program to measure, also for `Server`. Builds it if it is not current."""
+    """The program to measure, also for `Server`: the one that `--program` or GRACE names, otherwise the proved one. Ends
+    with a line if there is no proved program of the sources as they are."""
     if options.program:
         os.environ["GRACE"] = str(options.program.resolve())
+    return use_proved_program()
+
+
+def use_proved_program():
+    """Has GRACE name the proved program, unless it names one already. Returns the path."""
+    if not os.environ.get("GRACE"):
+        found = subprocess.run([ROOT / "build", "--proved"], stdout=subprocess.PIPE, text=True)
+        if found.returncode:
+            sys.exit(found.returncode)
+        os.environ["GRACE"] = found.stdout.rstrip("\n")
     return serving.program()
 
 

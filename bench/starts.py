@@ -1,8 +1,8 @@
 #!/usr/bin/env python3
 """Measures how long `grace serve --keep` takes to start over full records, and prints a Markdown table. The time is
 from the start of the program to its line `listening ..`, the median of the runs, with one room and with 64. Each record
-has 16,384 entries: a join, 512 objects and puts on them. Run it from anywhere. It builds the program first if
-necessary."""
+has 16,384 entries: a join, 512 objects and puts on them. Run it from anywhere. It measures the
+program that `./test` proved."""
 
 import json
 import pathlib

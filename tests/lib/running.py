@@ -16,8 +16,7 @@ import traceback
 from lib import serving
 
 TESTS = pathlib.Path(__file__).resolve().parent.parent
-# The time limit of a test. With the proved program most take less than a second; the unproved one needs minutes for a
-# full room.
+# The time limit of a test. Most take less than a second.
 SECONDS = 300
 
 # The command-line options, with their defaults.

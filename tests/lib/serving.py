@@ -61,17 +61,18 @@ def expect_equal(what, actual, expected):
 
 @functools.cache
 def program():
-    """The program's path: the one that the variable GRACE names, or the repository's own. Builds that one if it is not
-    current."""
+    """The program's path: the one that the variable GRACE names, or the one that `./grace` runs. Builds the latter if it
+    is not current."""
     if os.environ.get("GRACE"):
         return pathlib.Path(os.environ["GRACE"]).resolve()
-    subprocess.run([ROOT / "grace", "--version"], stdin=subprocess.DEVNULL, stdout=subprocess.DEVNULL, check=True)
-    return ROOT / "crates/grace/out/grace"
+    built = subprocess.run([ROOT / "build"], stdin=subprocess.DEVNULL, stdout=subprocess.PIPE, check=True, text=True)
+    return pathlib.Path(built.stdout.rstrip("\n"))
 
 
 def needs_program():
     """Skips the test if there is no program. It does not build one."""
-    if not os.environ.get("GRACE") and not (ROOT / "crates/grace/out/grace").exists():
+    built = ROOT / "out/proved/grace", ROOT / "out/unproved/grace"
+    if not os.environ.get("GRACE") and not any(program.exists() for program in built):
         raise Skipped("no program is built, and GRACE names none")
 
 

@@ -16,5 +16,5 @@ def test_session_of_readme():
     if not found:
         raise CheckFailed("README.md has no session with its output")
     words = shlex.split(found[1].replace("\\\n", " "))
-    expect_equal("the command", (words[:2], words[-4:]), (["printf", r"%s\n"], ["|", "./try", "script", "r"]))
+    expect_equal("the command", (words[:2], words[-4:]), (["printf", r"%s\n"], ["|", "./grace", "script", "r"]))
     expect_answers(["r"], words[2:-4], textwrap.dedent(found[2]).splitlines())

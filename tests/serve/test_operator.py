@@ -145,8 +145,7 @@ def test_entries(start, added, count):
     with tempfile.TemporaryDirectory() as folder:
         file = pathlib.Path(folder) / "r.record"
         file.write_text("".join(f"{compact(entry)}\n" for entry in record_of(start)))
-        # The unproved program reads the file in half a minute.
-        with Server(1, 2, keep=folder, report=1, patience=100) as server:
+        with Server(1, 2, keep=folder, report=1) as server:
             await_report(server, report_of(server, 0, 0, "0/2", {"r": (1, start, 32)}))
             client = server.client()
             client.expect_reply('["back","r",1]', f'["back",{start},1,{start - 1}]')

@@ -7,7 +7,7 @@ ghost use Rattle.command_line.specs.steps.Mistakes.{AsksForText};
 
 use clap::Error;
 use clap::error::ErrorKind;
-use commands::Fault;
+use command_fault::Fault;
 use std::alloc::Global;
 use std::io::Write;
 

@@ -9,9 +9,10 @@ use Rattle.base_types.specs.declared.fault.NameFault.{NameFault}
 use Rattle.base_types.specs.declared.fault.NameFault.TheVariants as name
 use Rattle.room_core.specs.declared.fault.RoomsFault.{RoomsFault}
 use Rattle.room_core.specs.declared.fault.RoomsFault.TheVariants as rooms
-use Rattle.commands.specs.declared.fault.Fault.{Fault}
-use Rattle.commands.specs.declared.fault.Fault.TheVariants.{BadRoomName, RoomNamedTwice, NoMemory}
-use Rattle.commands.specs.Faults.{of_name, of_rooms}
+use Rattle.command_fault.specs.declared.fault.Fault.{Fault}
+use Rattle.command_fault.specs.declared.fault.Fault.TheVariants.{BadRoomName, RoomNamedTwice, NoMemory}
+use Rattle.command_fault.specs.Faults.{of_name}
+use Rattle.commands.specs.steps.Faults.{of_rooms}
 use Rattle.commands.specs.Service.{MayEnd}
 
 -- one member fails

@@ -8,8 +8,8 @@ use Rattle.history_check.specs.declared.verdict.Verdict.{Verdict}
 use Rattle.history_check.specs.declared.verdict.Verdict.TheVariants.{Holds, BadRecord}
 use Rattle.history_check.specs.declared.verdict.Verdict.TheVariants.{BadTranscript, WrongReply}
 use Rattle.history_check.specs.Verdicts.{AreTrue, IsVerdict}
-use Rattle.commands.specs.declared.fault.Fault.{Fault}
-use Rattle.commands.specs.Faults.{status_of}
+use Rattle.command_fault.specs.declared.fault.Fault.{Fault}
+use Rattle.command_fault.specs.Faults.{status_of}
 use Rattle.commands.specs.Ends.{Ends}
 
 -- a text, a number, and LF

@@ -1,5 +1,5 @@
 pub mod Names
-pub mod Faults
+pub mod steps
 pub mod Service
 pub mod Checks
 pub mod Ends

@@ -7,8 +7,8 @@ use Rattle.wire.specs.Lines.{lines_of}
 use Rattle.history_check.specs.declared.migration.Migrated.{Migrated}
 use Rattle.history_check.specs.declared.migration.Migrated.TheVariants.{Text, BadRecord}
 use Rattle.history_check.specs.Migration.{IsMigrated}
-use Rattle.commands.specs.declared.fault.Fault.{Fault}
-use Rattle.commands.specs.Faults.{status_of}
+use Rattle.command_fault.specs.declared.fault.Fault.{Fault}
+use Rattle.command_fault.specs.Faults.{status_of}
 use Rattle.commands.specs.Checks.{numbered_line}
 use Rattle.commands.specs.Ends.{Ends}
 

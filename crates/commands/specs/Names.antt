@@ -4,8 +4,8 @@ use Rattle.std.specs.Borrow.{Bor}
 use Rattle.std.specs.List.{list_all}
 use Rattle.base_types.specs.Texts.{is_room_name}
 use Rattle.base_types.specs.Repeats.{first_repeat}
-use Rattle.commands.specs.declared.fault.Fault.{Fault}
-use Rattle.commands.specs.declared.fault.Fault.TheVariants.{BadRoomName, RoomNamedTwice}
+use Rattle.command_fault.specs.declared.fault.Fault.{Fault}
+use Rattle.command_fault.specs.declared.fault.Fault.TheVariants.{BadRoomName, RoomNamedTwice}
 
 -- the bytes of each
 abbrev pub texts_of : List (Bor (List ℕ)) → List (List ℕ)

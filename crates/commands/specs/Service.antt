@@ -4,8 +4,8 @@ use Rattle.rules.specs.Limits.{full_limits}
 use Rattle.world.specs.State.{WorldState, new_world}
 use Rattle.byte_streams.specs.Prefixes.{AppendsPrefix}
 use Rattle.world.specs.Script.{AnswersScript, output_of}
-use Rattle.commands.specs.declared.fault.Fault.{Fault}
-use Rattle.commands.specs.declared.fault.Fault.TheVariants.{Input, Output, NoMemory}
+use Rattle.command_fault.specs.declared.fault.Fault.{Fault}
+use Rattle.command_fault.specs.declared.fault.Fault.TheVariants.{Input, Output, NoMemory}
 use Rattle.commands.specs.Names.{mistake_in}
 
 -- rooms of these names with full limits and empty records

@@ -8,45 +8,13 @@ ghost use Rattle.commands.specs.Checks.{Checks, OfReaders, OfSome, Tells, TellsP
 ghost use Rattle.commands.specs.Checks.{verdict_line};
 ghost use Rattle.commands.specs.Ends.{EndsEarly};
 
-use crate::fault::Fault;
-use byte_streams::{Uninterrupted, read_buffer, write_out};
+use byte_streams::{Uninterrupted, write_out};
+use command_fault::{Fault, MAX_FILE_LEN, read_up_to};
 use history_check::{Verdict, check};
 use std::alloc::Global;
 use std::fs::File;
 use std::io::{Read, Write};
 use std::rt::Files;
-
-/// The most bytes of a file that is read whole: 1 GiB.
-pub const MAX_FILE_LEN: usize = 1_073_741_824;
-
-/// Reads all remaining bytes, at most `limit`.
-///
-/// # Errors
-/// `Input` if there are more than `limit` bytes, or if a read failed.
-/// `NoMemory` if an allocation failed.
-pub fn read_up_to<R: Read>(alloc: Global, input: &mut R, limit: usize) -> Result<Vec<u8>, Fault>
-    ensures all { IfOk result (λ bytes. IfSome (R.remaining input.old) (λ all. bytes.items ≡ all)) }
-    ensures most { IfOk result (λ bytes. length bytes.items ≤ limit) }
-    ensures end { OnOk result (IsAtEnd (R.remaining input.new)) }
-    ensures fault { IfErr result (λ fault. (fault ≡ Fault.Input) ⊎ (fault ≡ Fault.NoMemory)) }
-{
-    let mut buffer = read_buffer(alloc)?;
-    let piece = buffer.as_mut_slice();
-    let mut bytes = Vec::new(alloc);
-    for _ in 0..u64::MAX {
-        match input.read(piece) {
-            Ok(0) => return Ok(bytes),
-            Ok(count) => {
-                if count > limit - bytes.len() {
-                    return Err(Fault::Input);
-                }
-                bytes.extend_from_slice(&piece[..count])?;
-            }
-            Err(_fault) => return Err(Fault::Input),
-        }
-    }
-    Err(Fault::Input)
-}
 
 /// Reads all bytes of a file, at most `MAX_FILE_LEN`.
 pub(crate) fn read_whole<R: Read>(alloc: Global, input: &mut R) -> Result<Vec<u8>, Fault>

@@ -1,5 +1,5 @@
 //! The commands `script`, `check` and `migrate`, which need only readers and writers. Also what
-//! every command shares: the fault that ends it early, and parsing the names of rooms.
+//! `serve` shares with them: parsing the names of rooms, and the fault when rooms cannot be made.
 #![tactic(auto)]
 
 mod checking;
@@ -8,7 +8,7 @@ pub mod laws;
 mod migrating;
 mod script;
 
-pub use checking::{MAX_FILE_LEN, check_at, check_over, read_up_to};
-pub use fault::Fault;
+pub use checking::{check_at, check_over};
+pub use fault::fault_of_rooms;
 pub use migrating::{migrate_at, migrate_over};
 pub use script::{room_names, script_over};

@@ -9,7 +9,7 @@ ghost use Rattle.commands.specs.Migrations.{Migrates, OfReader, OfSome, Tells, T
 ghost use Rattle.commands.specs.Migrations.{end_status, told_text};
 
 use crate::checking::{read_at, read_whole, write_line};
-use crate::fault::Fault;
+use command_fault::Fault;
 use history_check::{Migrated, migrate};
 use std::alloc::Global;
 use std::io::{Read, Write};

@@ -6,8 +6,9 @@ ghost use Rattle.base_types.specs.Texts.{is_room_name};
 ghost use Rattle.commands.specs.Names.{texts_of, mistake_in};
 ghost use Rattle.commands.specs.Service.{IsStatus, MayEnd, Serves, ServesPrefix};
 
-use crate::fault::Fault;
+use crate::fault::{fault_of_rooms, fault_of_script};
 use base_types::RoomName;
+use command_fault::Fault;
 use rules::Limits;
 use std::alloc::Global;
 use std::io::{Read, Write};
@@ -46,9 +47,8 @@ fn script<R: Read, W: Write>(
     ensures fault { IfErr result (MayEnd (texts_of names.now)) }
 {
     let rooms = room_names(alloc, names)?;
-    let mut world = World::new(alloc, &rooms, Limits::full())?;
-    world.script(alloc, input, output)?;
-    Ok(())
+    let mut world = World::new(alloc, &rooms, Limits::full()).map_err(fault_of_rooms)?;
+    world.script(alloc, input, output).map_err(fault_of_script)
 }
 
 /// Answers a script in rooms of these names with full limits, and returns the exit status:

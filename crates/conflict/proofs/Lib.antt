@@ -1,10 +1,4 @@
-pub mod InConflict
-pub mod Growth
-pub mod Indexed
-pub mod Sited
-pub mod Keyed
-pub mod Rows
-pub mod Direct
+pub mod Candidates
 pub mod Images
 pub mod NamedGroup
 pub mod ObjectGroups

@@ -1,3 +1,1 @@
-pub mod Rows
-pub mod Indexes
-pub mod Stored
+pub mod Indexed

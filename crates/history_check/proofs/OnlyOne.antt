@@ -10,7 +10,7 @@ use Rattle.rules.specs.Limits.{full_limits}
 use Rattle.rules.specs.Records.{admits, IsLegalAfter}
 use Rattle.rules.proofs.Records.{admitted_at}
 use Rattle.wire.specs.Lines.{lines_of}
-use Rattle.wire.specs.steps.Reads.{entry_read}
+use Rattle.wire_reader.specs.steps.Reads.{entry_read}
 use Rattle.transcript.specs.declared.line.TranscriptLine.{TranscriptLine}
 use Rattle.transcript.specs.Lines.{is_join}
 use Rattle.transcript.specs.steps.Reads.{line_read}

@@ -10,11 +10,11 @@ mod kept;
 
 use base_types::NoMemory;
 use journal::{Journal, JournalFault, Synced};
+use keeper::KeepFault;
 pub use kept::Kept;
 use record_file::append;
 use room_lock::{News, Prefix, RoomLedger};
 use rules::Entry;
-use sessions::KeepFault;
 use std::alloc::Global;
 use std::fs::OpenFile;
 use std::io::Write;

@@ -6,8 +6,8 @@ use crate::file::{Kept, RoomFile};
 use crate::room::KeptRoom;
 use base_types::NoMemory;
 use journal::Journal;
+use keeper::{KeepFault, Keeper};
 use room_lock::{Prefix, RoomLedger, Rooms};
-use sessions::{KeepFault, Keeper};
 use std::alloc::Global;
 use std::sync::Wait;
 

@@ -6,8 +6,8 @@ ghost use Rattle.keeping.specs.steps.Turns.{IfTold};
 
 use crate::file::{Kept, RoomFile};
 use journal::Journal;
+use keeper::KeepFault;
 use room_lock::{CallFault, Prefix, RoomLedger, Rooms};
-use sessions::KeepFault;
 use std::alloc::Global;
 use std::sync::{Condvar, Mutex, Wait};
 

@@ -8,7 +8,7 @@ use base_types::NoMemory;
 use drawing::AddFault;
 use rules::Refusal;
 use thiserror::Error;
-use wire::ReadFault;
+use wire_reader::ReadFault;
 
 /// Why an entry is not taken: the first variant that applies, in this order. `NoMemory` may replace
 /// any of them. The replica is unchanged.

@@ -25,7 +25,8 @@ use rules::{Entry, Limits, Op, Refusal};
 use std::alloc::Global;
 use std::marker::Model;
 use std::sync::Arc;
-use wire::{Reply, read_reply};
+use wire::Reply;
+use wire_reader::read_reply;
 
 /// The page that was fed: `count` entries from place `from` on, of a record with `at` entries.
 /// Places count from 0.

@@ -4,3 +4,6 @@ pub mod WordPlaces
 pub mod Counted
 pub mod ChangesAt
 pub mod Below
+pub mod Growth
+pub mod Filters
+pub mod Outcomes

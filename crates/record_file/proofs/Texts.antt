@@ -12,8 +12,8 @@ use Rattle.serde_json.specs.Data.{Num, unsigned, negative, float, Data, null, bo
 use Rattle.serde_json.specs.Written.{number_text, comma_if, compact_text, items_text, members_text}
 use Rattle.rules.specs.declared.history.Entry.{Entry}
 use Rattle.wire.specs.Form.{entry_form, IsEntryText}
-use Rattle.wire.specs.steps.Reads.{entry_read}
-use Rattle.wire.proofs.EntryTexts.{entries_by_form}
+use Rattle.wire_reader.specs.steps.Reads.{entry_read}
+use Rattle.wire_reader.proofs.EntryTexts.{entries_by_form}
 use Rattle.record_file.specs.RecordText.{AreLines, IsOneLine, entry_line, record_text}
 use Rattle.record_file.proofs.Lines.{goes_on, line_whole, line_lines, one_line_append}
 

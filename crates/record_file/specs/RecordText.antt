@@ -4,7 +4,7 @@ use Rattle.serde_json.specs.Written.{compact_text}
 use Rattle.rules.specs.declared.history.Entry.{Entry}
 use Rattle.wire.specs.Form.{entry_form}
 use Rattle.wire.specs.Lines.{ends_line, lines_of}
-use Rattle.wire.specs.steps.Reads.{entry_read}
+use Rattle.wire_reader.specs.steps.Reads.{entry_read}
 
 -- the compact text of an entry, and an LF
 abbrev pub entry_line : Entry → List ℕ

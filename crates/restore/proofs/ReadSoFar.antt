@@ -7,7 +7,7 @@ use Rattle.rules.specs.Limits.{full_limits}
 use Rattle.rules.specs.Records.{admits}
 use Rattle.rules.proofs.Records.{legal_push}
 use Rattle.wire.specs.Lines.{lines_of}
-use Rattle.wire.specs.steps.Reads.{entry_read}
+use Rattle.wire_reader.specs.steps.Reads.{entry_read}
 use Rattle.room_core.specs.Room.{Room, empty_room}
 use Rattle.restore.specs.Records.{AreRecord, IsBadRecord}
 use Rattle.restore.specs.steps.Readings.{Takes}

@@ -7,7 +7,7 @@ use Rattle.rules.specs.declared.history.Entry.{Entry}
 use Rattle.rules.specs.Limits.{full_limits}
 use Rattle.rules.specs.Records.{admits, IsLegal, IsLegalAfter}
 use Rattle.wire.specs.Lines.{lines_of}
-use Rattle.wire.specs.steps.Reads.{entry_read}
+use Rattle.wire_reader.specs.steps.Reads.{entry_read}
 use Rattle.record_file.specs.RecordText.{AreLines, whole_part}
 use Rattle.record_file.proofs.Lines.{stays}
 use Rattle.restore.specs.declared.restored.Restored.{Restored}

@@ -1,8 +1,7 @@
 //! Why `grace serve` ends early, with its line on standard error and its exit status.
 
 use base_types::NoMemory;
-use commands::Fault;
-use room_core::RoomsFault;
+use command_fault::Fault;
 use std::alloc::{AllocError, AllocFailed};
 use std::io::Write;
 use thiserror::Error;
@@ -51,12 +50,6 @@ impl EarlyEnd<'_> {
 impl From<Fault> for EarlyEnd<'_> {
     fn from(fault: Fault) -> Self {
         EarlyEnd::Fault(fault)
-    }
-}
-
-impl From<RoomsFault> for EarlyEnd<'_> {
-    fn from(fault: RoomsFault) -> Self {
-        EarlyEnd::Fault(Fault::from(fault))
     }
 }
 

@@ -6,7 +6,7 @@ ghost use Rattle.rules.specs.Limits.{full_limits};
 
 use crate::early_end::EarlyEnd;
 use byte_streams::Uninterrupted;
-use commands::{Fault, MAX_FILE_LEN, read_up_to};
+use command_fault::{Fault, MAX_FILE_LEN, read_up_to};
 use journal::Synced;
 use log::{Log, error, info, warn};
 use restore::{Restored, restore};

@@ -1,10 +1,12 @@
 //! Creating rooms.
 
 ghost use Rattle.std.specs.Prelude.{◌≡◌, ◌+◌, ◌*◌, ◌≤◌, ◌^◌, ◌++◌, ◌∷◌, [], ◌↔◌, ℕ, All, IfErr};
-ghost use Rattle.std.specs.Prelude.{IfOk, IsErrOf, OnOk, None, Some, bytes_eq, length, map};
+ghost use Rattle.std.specs.Prelude.{◌<◌, IfOk, IsErrOf, OnOk, None, Some, bytes_eq, length, map};
+ghost use Rattle.std.specs.Prelude.{slice_get};
 ghost use Rattle.indexmap.specs.IndexMap.{get, keys};
 ghost use Rattle.base_types.specs.Repeats.{first_repeat};
 ghost use Rattle.room_core.specs.declared.fault.RoomsFault.TheVariants as rooms_fault;
+ghost use Rattle.rules.specs.declared.limits.TheConstants.Limits.{MAX_ENTRIES};
 ghost use Rattle.room_lock.specs.steps.Planned.{IsLedgerOf, book_of, prefixes_from, record_of};
 
 use crate::ledger::RoomLedger;
@@ -19,7 +21,7 @@ use room_core::{RoomState, RoomsFault};
 use rules::Limits;
 use std::alloc::Global;
 use std::marker::Model;
-use std::sync::ledger::Blank;
+use std::sync::ledger::{Blank, Share};
 use std::sync::{Mutex, Wait};
 
 /// The most rooms. The amount of one ledger suffices for as many full records.
@@ -204,15 +206,66 @@ fn make<P: RoomLedger>(
     // Without the book a share grows only by what another share gives.
     drop(book);
     let mut rooms = IndexMap::new(alloc);
+    let begun = begin_rooms(rt, alloc, news, names, &mut rooms, &mut rest)?;
+    Ok((Rooms { rooms }, begun))
+}
+
+/// Creates a room under each name, in no rooms so far. Returns the records that they begin with.
+fn begin_rooms<P: RoomLedger>(
+    rt: &impl Wait,
+    alloc: Global,
+    news: Vec<NewRoom>,
+    names: &[RoomName],
+    rooms: &mut IndexMap<RoomName, CachePadded<Mutex<Room<P>>>>,
+    rest: &mut Share<P>,
+) -> Result<Vec<Prefix<P>>, NoMemory>
+    // The limits and the histories are those that the ledger's type names.
+    requires limits { All (λ room. room.limits ≡ P.limits) news.items }
+    requires histories { (map book_of news.items ≡ P.books)
+        × (length news.items ≡ length names.now) }
+    requires empty { keys rooms.old ≡ [] }
+    // The rest suffices for full records, and no name occurs twice.
+    requires parts { (SPARE_PARTS + 1) * length names.now < rest.old.parts }
+    requires amount { MAX_ENTRIES * length names.now ≤ rest.old.amount }
+    requires few { length names.now ≤ 2 ^ 49 }
+    requires apart { first_repeat bytes_eq names.now ≡ None }
+    ensures rooms { OnOk result (keys rooms.new ≡ names.now) }
+    ensures begun { IfOk result (λ begun.
+        begun.items ≡ prefixes_from 0 (map record_of news.items)) }
+{
     let mut begun = Vec::with_capacity(alloc, names.len())?;
     for new in news {
-        let place = rooms.len();
-        let name = names[place].copy(alloc)?;
-        let room = Room::new(rt, alloc, new, place, &mut rest)?;
-        begun.push(room.prefix())?;
-        insert_new(&mut rooms, name, CachePadded::new(Mutex::new(room)))?;
+        let name = names[rooms.len()].copy(alloc)?;
+        begun.push(begin_room(rt, alloc, new, name, rooms, rest)?)?;
     }
-    Ok((Rooms { rooms }, begun))
+    Ok(begun)
+}
+
+/// Creates a room under a new name, behind those that are there. Returns the record that it begins
+/// with.
+fn begin_room<P: RoomLedger>(
+    rt: &impl Wait,
+    alloc: Global,
+    new: NewRoom,
+    name: RoomName,
+    rooms: &mut IndexMap<RoomName, CachePadded<Mutex<Room<P>>>>,
+    rest: &mut Share<P>,
+) -> Result<Prefix<P>, NoMemory>
+    requires limits { new.limits ≡ P.limits }
+    requires history { slice_get P.books (length rooms.old.entries) ≡ Some new.book }
+    requires name { get bytes_eq rooms.old name ≡ None }
+    requires parts { SPARE_PARTS + 1 < rest.old.parts }
+    requires amount { MAX_ENTRIES ≤ rest.old.amount }
+    ensures rooms { OnOk result (keys rooms.new ≡ keys rooms.old ++ name ∷ []) }
+    ensures begun { IfOk result (λ begun.
+        begun ≡ record { place = length rooms.old.entries; entries = new.entries }) }
+    ensures parts { OnOk result (rest.new.parts + (SPARE_PARTS + 1) ≡ rest.old.parts) }
+    ensures amount { OnOk result (rest.new.amount + MAX_ENTRIES ≡ rest.old.amount) }
+{
+    let room = Room::new(rt, alloc, new, rooms.len(), rest)?;
+    let begun = room.prefix();
+    insert_new(rooms, name, CachePadded::new(Mutex::new(room)))?;
+    Ok(begun)
 }
 
 /// Appends a room under a new name.

@@ -337,16 +337,16 @@ impl<P: RoomLedger> Room<P> {
             place: _,
             shelf,
         } = self;
-        show_size(&state);
+        let entries = state.into_entries();
         let Some(parts) = all_parts(alloc, shelf)? else {
             return Err(CloseFault::Missing { room: name });
         };
-        if added_together(parts.as_slice()) != state.entries().len() as u128 {
+        if added_together(parts.as_slice()) != entries.len() as u128 {
             return Err(CloseFault::Missing { room: name });
         }
         Ok(RoomRecord {
             room: name,
-            entries: state.into_entries(),
+            entries,
             parts,
         })
     }

@@ -2,7 +2,7 @@
 
 use base_types::{MAX_SITE, NoMemory, OpName, RoomName};
 use byte_streams::Uninterrupted;
-use commands::Fault;
+use command_fault::Fault;
 use late_join::{FeedFault, Replica, TakeFault};
 use rules::{Limits, Refusal};
 use std::alloc::{AllocError, Global};
@@ -14,7 +14,8 @@ use tungstenite::handshake::client::request_of;
 use tungstenite::{
     CloseCode, CloseFrame, Error, HandshakeError, MaskKeys, Message, Utf8Bytes, WebSocket, client,
 };
-use wire::{ReadFault, Reply, Request, read_reply, write_reply, write_request};
+use wire::{Reply, Request, write_reply, write_request};
+use wire_reader::{ReadFault, read_reply};
 
 /// The most messages without text that are skipped while a reply is awaited.
 const MAX_PASSED_OVER: u32 = 1_000_000;

@@ -4,8 +4,9 @@ ghost use Rattle.std.specs.Prelude.{◌≡◌, ◌↔◌, IsNone};
 
 use crate::serve::Service;
 use clap::ArgMatches;
+use command_fault::Fault;
 use command_line::{grace, show_error};
-use commands::{Fault, check_at, migrate_at, script_over};
+use commands::{check_at, migrate_at, script_over};
 use log::Log;
 use room_watch::watch_at;
 use std::alloc::Global;

@@ -9,14 +9,16 @@ use crate::accept::Accepted;
 use crate::server_observer::ServerObserver;
 use crate::tally::{Tally, empty_tallies, tallies_of};
 use base_types::repeated_name;
-use commands::{Fault, room_names};
+use command_fault::Fault;
+use commands::{fault_of_rooms, room_names};
 use journal::Synced;
+use keeper::{Forgets, Keeper};
 use keeping::{Keeping, RoomFile};
 use log::{Log, warn};
 use room_folder::{EarlyEnd, Folder};
 use room_lock::{NewRooms, RoomLedger, Rooms};
 use rules::Limits;
-use sessions::{Forgets, Keeper, ServeFault, serve_streams};
+use sessions::{ServeFault, serve_streams};
 use std::alloc::{AllocError, Global};
 use std::fs::File;
 use std::io::Write;
@@ -250,7 +252,7 @@ where
     fn serve(self, names: &[&'w str]) -> Result<(), Fault> {
         let rooms = room_names(self.alloc, names)?;
         let tallies = empty_tallies(self.alloc, names)?;
-        let planned = NewRooms::plan(self.alloc, rooms, Limits::full())?;
+        let planned = NewRooms::plan(self.alloc, rooms, Limits::full()).map_err(fault_of_rooms)?;
         serve_in_memory::<Brand, R, W>(self, planned, &tallies)
     }
 
@@ -265,7 +267,9 @@ where
         let (states, files) = folder.read(rt, alloc, names)?;
         let tallies = tallies_of(alloc, names, &states)?;
         let journals = folder.settle(rt, alloc, files)?;
-        let planned = NewRooms::with_records(alloc, rooms, Limits::full(), states)?;
+        let planned = NewRooms::with_records(alloc, rooms, Limits::full(), states).map_err(
+            fault_of_rooms,
+        )?;
         serve_in_files::<Brand, R, W>(self, planned, &tallies, journals)
     }
 

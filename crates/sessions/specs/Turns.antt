@@ -12,7 +12,7 @@ use Rattle.wire.specs.declared.request.Request.TheVariants.{Join, Back, Leave}
 use Rattle.wire.specs.declared.reply.Reply.{Reply}
 use Rattle.wire.specs.declared.reply.Reply.TheVariants.{No}
 use Rattle.wire.specs.Texts.{reply_text}
-use Rattle.wire.specs.steps.Reads.{request_read}
+use Rattle.wire_reader.specs.steps.Reads.{request_read}
 use Rattle.room_lock.specs.Passes.{PassView, PrefixView, prefix_of}
 use Rattle.room_lock.specs.Told.{IsBack, IsBackRefusalOver, IsCall, IsJoin, IsLeaveOver}
 use Rattle.room_lock.specs.Told.{IsRefusalOver}

@@ -4,8 +4,8 @@ ghost use Rattle.std.specs.Prelude.{◌≡◌, ◌≢◌};
 ghost use Rattle.sessions.specs.steps.Causes.{cause_of_stream};
 ghost use Rattle.sessions.specs.declared.cause.Cause.TheVariants as cause;
 
-use crate::keeper::KeepFault;
 use base_types::NoMemory;
+use keeper::KeepFault;
 use room_lock::CallFault;
 use thiserror::Error;
 use tungstenite::Error as StreamError;

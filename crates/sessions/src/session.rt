@@ -12,14 +12,15 @@ ghost use Rattle.sessions.specs.Turns.{MayStand};
 use crate::answer::{Answer, Answered};
 use crate::cause::Cause;
 use crate::host::Host;
-use crate::keeper::Keeper;
 use crate::observer::Observer;
 use base_types::{NoMemory, RoomName};
+use keeper::Keeper;
 use room_lock::{Entrance, Pass, RoomLedger};
 use std::alloc::Global;
 use std::marker::Model;
 use std::sync::Wait;
-use wire::{ReadFault, Refusal, Request, Scratch, read_request};
+use wire::{Refusal, Request};
+use wire_reader::{ReadFault, Scratch, read_request};
 
 /// A session, with its pass if it is in a room. It cannot be dropped: `end` hands the pass back.
 pub struct Session<P: RoomLedger> {

@@ -5,11 +5,11 @@ use Rattle.serde_json.specs.Data.{Data}
 use Rattle.base_types.specs.declared.op_name.TheConstants.{MAX_SITE}
 use Rattle.wire.specs.declared.request.Request.{Request}
 use Rattle.wire.specs.declared.reply.Reply.{Reply}
-use Rattle.wire.specs.steps.Exchanges.{Exchange, exchange_at, exchange_in}
-use Rattle.wire.specs.steps.Reading.{◌>>=◌, items_in, whole_in, field_at, end_at}
-use Rattle.wire.specs.steps.Requests.{request_of}
-use Rattle.wire.specs.steps.Replies.{reply_of}
-use Rattle.wire.specs.steps.Reads.{json_of, text_in}
+use Rattle.wire_reader.specs.steps.Exchanges.{Exchange, exchange_at, exchange_in}
+use Rattle.wire_reader.specs.steps.Reading.{◌>>=◌, items_in, whole_in, field_at, end_at}
+use Rattle.wire_reader.specs.steps.Requests.{request_of}
+use Rattle.wire_reader.specs.steps.Replies.{reply_of}
+use Rattle.wire_reader.specs.steps.Reads.{json_of, text_in}
 use Rattle.transcript.specs.declared.line.TranscriptLine.{TranscriptLine}
 use Rattle.transcript.specs.steps.Reads.{line_with, line_at, line_of, line_read}
 

@@ -7,14 +7,14 @@ use Rattle.base_types.specs.declared.op_name.TheConstants.{MAX_SITE}
 use Rattle.wire.specs.declared.request.Request.{Request}
 use Rattle.wire.specs.declared.reply.Reply.{Reply}
 use Rattle.wire.specs.Form.{list_form, whole_form}
-use Rattle.wire.specs.steps.Reading.{items_in, whole_in, field_at, end_at}
-use Rattle.wire.specs.steps.Requests.{request_of}
-use Rattle.wire.specs.steps.Replies.{reply_of}
-use Rattle.wire.proofs.Exact.{ReadsForms, bind_some, items_take, items_again, exact_end, field_some}
-use Rattle.wire.proofs.PartForms.{exact_site}
-use Rattle.wire.proofs.Requests.{reads_requests}
-use Rattle.wire.proofs.Replies.{reads_replies}
-use Rattle.wire.proofs.ByForm.{texts_by_form, one_value}
+use Rattle.wire_reader.specs.steps.Reading.{items_in, whole_in, field_at, end_at}
+use Rattle.wire_reader.specs.steps.Requests.{request_of}
+use Rattle.wire_reader.specs.steps.Replies.{reply_of}
+use Rattle.wire_reader.proofs.Exact.{ReadsForms, bind_some, items_take, items_again, exact_end, field_some}
+use Rattle.wire_reader.proofs.PartForms.{exact_site}
+use Rattle.wire_reader.proofs.Requests.{reads_requests}
+use Rattle.wire_reader.proofs.Replies.{reads_replies}
+use Rattle.wire_reader.proofs.ByForm.{texts_by_form, one_value}
 use Rattle.transcript.specs.declared.line.TranscriptLine.{TranscriptLine}
 use Rattle.transcript.specs.Lines.{go_together, IsLineForm, IsLine, IsLineText}
 use Rattle.transcript.specs.steps.Reads.{line_with, line_at, line_of, line_read}

@@ -1,7 +1,7 @@
 //! A line of a transcript.
 
 ghost use Rattle.std.specs.Prelude.{◌≡◌, ◌≤◌};
-ghost use Rattle.wire.specs.steps.Reading.{Gives};
+ghost use Rattle.wire_reader.specs.steps.Reading.{Gives};
 ghost use Rattle.rules.specs.declared.limits.TheConstants.Limits.{MAX_ENTRIES};
 ghost use Rattle.transcript.specs.Lines.{adds, at_of, entries_after, is_join, is_joined};
 ghost use Rattle.transcript.specs.Lines.{is_returned, is_answer, go_together};
@@ -9,7 +9,8 @@ ghost use Rattle.transcript.specs.steps.Reads.{line_with};
 ghost use Rattle.transcript.specs.steps.Reads.{line_read};
 
 use std::alloc::Global;
-use wire::{ReadFault, Reply, Request, read_exchange};
+use wire::{Reply, Request};
+use wire_reader::{ReadFault, read_exchange};
 
 /// A request of a site, and the reply to it.
 #[derive(Drop)]

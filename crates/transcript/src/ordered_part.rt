@@ -11,7 +11,7 @@ use crate::order::Order;
 use base_types::NoMemory;
 use std::alloc::Global;
 use std::marker::Model;
-use wire::if_in_form;
+use wire_reader::if_in_form;
 
 /// The first lines of a transcript, and whether reading stopped before its end.
 #[derive(Drop)]

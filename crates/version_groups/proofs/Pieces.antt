@@ -7,7 +7,8 @@ use Rattle.std.proofs.lemmas.List.Elements.{filter-append}
 use Rattle.rules.proofs.Lists.{In-filter_back}
 use Rattle.places.proofs.Places.{below, with_place_last, in_if_has, has_if_in}
 use Rattle.places.specs.steps.PlaceSet.{has, with_place}
-use Rattle.version_groups.specs.steps.Steps.{AreBelow, group_after, candidate, incompatible_groups, is_none_of}
+use Rattle.places.specs.steps.PlaceSet.{AreBelow}
+use Rattle.version_groups.specs.steps.Steps.{group_after, candidate, incompatible_groups, is_none_of}
 
 -- what a test keeps of places below n is below n
 filtered_below : (p : ℕ → Bool) (n : ℕ) (g : List ℕ) → AreBelow n g → AreBelow n (filter p g)

@@ -5,7 +5,8 @@ ghost use Rattle.std.specs.Prelude.{◌≡◌, ◌-◌, ◌<◌, map, IfOk, OnOk
 ghost use Rattle.std.specs.List.{list_any};
 ghost use Rattle.places.specs.steps.PlaceSet.{is_within, places, with_place};
 ghost use Rattle.version_groups.specs.steps.Kept.{AreGroups};
-ghost use Rattle.version_groups.specs.steps.Steps.{group_after, candidate, incompatible_groups, is_none_of, sift, next_groups, with_candidate, AreBelow};
+ghost use Rattle.version_groups.specs.steps.Steps.{group_after, candidate, incompatible_groups, is_none_of, sift, next_groups, with_candidate};
+ghost use Rattle.places.specs.steps.PlaceSet.{AreBelow};
 
 use base_types::NoMemory;
 use places::{PlaceSet, Relation};

@@ -1,12 +1,3 @@
-pub mod Reading
-pub mod Bodies
-pub mod Requests
-pub mod Entries
-pub mod Replies
 pub mod Equality
-pub mod Faults
 pub mod Sending
 pub mod Pages
-pub mod Reads
-pub mod Streams
-pub mod Exchanges

@@ -1,54 +1,10 @@
-//! Laws of the JSON forms. Each function has an empty body: its contract is the law.
+//! The law of the JSON forms. The function has an empty body: its contract is the law.
 
-ghost use Rattle.std.specs.Prelude.{◌≡◌, ◌↔◌, List, ℕ, ℤ, Some};
+ghost use Rattle.std.specs.Prelude.{◌≡◌, ◌↔◌, ℤ, Some};
 ghost use Rattle.serde_json.specs.Find.{as_i64, of_integer};
 ghost use Rattle.serde_json.specs.View.{number_view};
 ghost use Rattle.serde_json.specs.declared.number.Number.{Number};
-ghost use Rattle.rules.specs.declared.history.Entry.{Entry};
-ghost use Rattle.wire.specs.declared.request.Request.{Request};
-ghost use Rattle.wire.specs.declared.reply.Reply.{Reply};
-ghost use Rattle.wire.specs.Form.{IsNumber, IsRequestText, IsEntryText, IsReplyText};
-ghost use Rattle.wire.specs.steps.Reads.{request_read, entry_read, reply_read};
-
-/// Bytes are a text of at most one request.
-#[tactic(auto, using(crate::proofs::RequestTexts::one_request))]
-pub fn one_request()
-    ensures { (bytes : List ℕ) (p q : Request)
-        → IsRequestText bytes p → IsRequestText bytes q → p ≡ q }
-{}
-
-/// The request that bytes are read as is the one that they are a text of.
-#[tactic(auto, using(crate::proofs::RequestTexts::requests_by_form))]
-pub fn requests_by_form()
-    ensures { (bytes : List ℕ) (q : Request) →
-        (request_read bytes ≡ Some q) ↔ IsRequestText bytes q }
-{}
-
-/// Bytes are a text of at most one entry.
-#[tactic(auto, using(crate::proofs::EntryTexts::one_entry))]
-pub fn one_entry()
-    ensures { (bytes : List ℕ) (p q : Entry)
-        → IsEntryText bytes p → IsEntryText bytes q → p ≡ q }
-{}
-
-/// The entry that bytes are read as is the one that they are a text of.
-#[tactic(auto, using(crate::proofs::EntryTexts::entries_by_form))]
-pub fn entries_by_form()
-    ensures { (bytes : List ℕ) (e : Entry) → (entry_read bytes ≡ Some e) ↔ IsEntryText bytes e }
-{}
-
-/// Bytes are a text of at most one reply.
-#[tactic(auto, using(crate::proofs::ReplyTexts::one_reply))]
-pub fn one_reply()
-    ensures { (bytes : List ℕ) (p q : Reply)
-        → IsReplyText bytes p → IsReplyText bytes q → p ≡ q }
-{}
-
-/// The reply that bytes are read as is the one that they are a text of.
-#[tactic(auto, using(crate::proofs::ReplyTexts::replies_by_form))]
-pub fn replies_by_form()
-    ensures { (bytes : List ℕ) (r : Reply) → (reply_read bytes ≡ Some r) ↔ IsReplyText bytes r }
-{}
+ghost use Rattle.wire.specs.Form.{IsNumber};
 
 /// A JSON number has the form of a whole number in the range of i64 exactly where `as_i64` gives
 /// that number.

@@ -7,7 +7,7 @@ use Rattle.std.proofs.lemmas.List.{get_or-set_same, get_or-set_other, length-map
 use Rattle.wire.specs.declared.request.Request.{Request}
 use Rattle.wire.specs.declared.reply.Reply.{Reply}
 use Rattle.wire.specs.Entering.{room_to_enter}
-use Rattle.wire.specs.steps.Reads.{request_read}
+use Rattle.wire_reader.specs.steps.Reads.{request_read}
 use Rattle.room_core.specs.Room.{Room, with_entry}
 use Rattle.room_core.specs.Answers.{Outcome}
 use Rattle.world.specs.declared.seats.Seat.{Seat}

@@ -9,7 +9,7 @@ use Rattle.rules.specs.declared.refusal.Refusal.TheVariants.{BadMessage}
 use Rattle.wire.specs.Lines.{lines_of, onto_first}
 use Rattle.wire.specs.declared.reply.Reply.TheVariants.{No}
 use Rattle.wire.specs.Texts.{reply_text}
-use Rattle.wire.specs.steps.Reads.{request_read, reply_read}
+use Rattle.wire_reader.specs.steps.Reads.{request_read, reply_read}
 use Rattle.room_core.specs.Shown.{HasObject}
 use Rattle.world.specs.Alone.{Message, message_of, Alone, answer_to, after_reply, use_after, alone_reply, alone_after}
 use Rattle.world.specs.Rooms.{Rooms, named_place, lone_answer, owner_from, owner_of, reply_at, after_at, reply_to, rooms_after}

@@ -4,10 +4,10 @@ use Rattle.wire.specs.declared.request.Request.{Request}
 use Rattle.wire.specs.declared.reply.Reply.{Reply}
 use Rattle.wire.specs.Form.{IsRequest, IsReply, IsReplyText}
 use Rattle.wire.specs.Texts.{reply_text}
-use Rattle.wire.specs.steps.Reads.{request_read, reply_read}
+use Rattle.wire_reader.specs.steps.Reads.{request_read, reply_read}
 use Rattle.world.specs.steps.Steps.{IsTextFor}
-use Rattle.wire.proofs.RequestTexts.{requests_by_form}
-use Rattle.wire.proofs.ReplyTexts.{replies_by_form}
+use Rattle.wire_reader.proofs.RequestTexts.{requests_by_form}
+use Rattle.wire_reader.proofs.ReplyTexts.{replies_by_form}
 
 pub read_back : (bytes : List ℕ) (reply : Reply) → IsReply reply → (IsReply reply → IsReplyText bytes reply) → reply_read bytes ≡ Some reply
 read_back bytes reply range is_text = (replies_by_form bytes reply).1 (is_text range)

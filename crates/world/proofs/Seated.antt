@@ -2,7 +2,7 @@
 use Rattle.std.proofs.Common.{◌≡◌, ℕ, inl, inr, Bool, true, false, cond, eqb, List, [], ◌∷◌, get_or, zero, suc, Option, Some, None, refl, sym, ap, subst, ◌∙◌}
 use Rattle.std.proofs.lemmas.Bool.{eq-eqb, eqb-true, eqb-false}
 use Rattle.rules.specs.declared.limits.LimitValues.{LimitValues}
-use Rattle.wire.specs.steps.Reads.{request_read}
+use Rattle.wire_reader.specs.steps.Reads.{request_read}
 use Rattle.room_core.specs.Room.{Room, with_entry}
 use Rattle.room_core.specs.Answers.{Outcome, has_site}
 use Rattle.world.specs.Alone.{Alone, Message, after_move, use_after_move, move_of, no_site, alone_answer, alone_after, alone_end}

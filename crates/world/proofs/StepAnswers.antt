@@ -10,7 +10,7 @@ use Rattle.rules.specs.Records.{IsLegal}
 use Rattle.wire.specs.declared.request.Request.{Request}
 use Rattle.wire.specs.declared.reply.Reply.TheVariants.{Versions, No}
 use Rattle.wire.specs.Texts.{reply_text}
-use Rattle.wire.specs.steps.Reads.{request_read, reply_read}
+use Rattle.wire_reader.specs.steps.Reads.{request_read, reply_read}
 use Rattle.room_core.specs.Room.{Room, with_entry}
 use Rattle.room_core.specs.Answers.{Outcome}
 use Rattle.room_core.specs.Shown.{HasObject}

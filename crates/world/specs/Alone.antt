@@ -7,7 +7,7 @@ use Rattle.wire.specs.declared.request.Request.TheVariants.{Join, Back}
 use Rattle.wire.specs.declared.reply.Reply.{Reply}
 use Rattle.wire.specs.declared.reply.Reply.TheVariants.{Joined, Returned, Left, No}
 use Rattle.wire.specs.Texts.{reply_text}
-use Rattle.wire.specs.steps.Reads.{request_read}
+use Rattle.wire_reader.specs.steps.Reads.{request_read}
 use Rattle.room_core.specs.Room.{Room, with_entry}
 use Rattle.room_core.specs.Answers.{Outcome, reply_alone, join_answer, back_reply, answer}
 

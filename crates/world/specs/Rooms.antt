@@ -8,7 +8,7 @@ use Rattle.wire.specs.declared.reply.Reply.{Reply}
 use Rattle.wire.specs.declared.reply.Reply.TheVariants.{No}
 use Rattle.wire.specs.Entering.{room_to_enter}
 use Rattle.wire.specs.Texts.{reply_text}
-use Rattle.wire.specs.steps.Reads.{request_read}
+use Rattle.wire_reader.specs.steps.Reads.{request_read}
 use Rattle.world.specs.Alone.{Message, Alone, after_reply, alone_reply, alone_after}
 
 -- the place of the first room of this name

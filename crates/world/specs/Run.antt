@@ -1,7 +1,7 @@
 -- Messages one after the other, and the replies to them.
 use Rattle.std.specs.Prelude.{ℕ, ◌≡◌, List, [], ◌∷◌, map, length, Option, Some, None}
 use Rattle.wire.specs.Texts.{reply_text}
-use Rattle.wire.specs.steps.Reads.{reply_read}
+use Rattle.wire_reader.specs.steps.Reads.{reply_read}
 use Rattle.world.specs.Alone.{Message, alone_texts, alone_end}
 use Rattle.world.specs.Rooms.{owners, at_room, at_none, lone_reply, reply_to, rooms_after}
 use Rattle.world.specs.State.{WorldState, names_of, alone_at, rooms_of}

@@ -4,7 +4,7 @@ use Rattle.base_types.specs.Names.{Name}
 use Rattle.base_types.specs.Texts.{Bytes}
 use Rattle.rules.specs.declared.version.Version.{Version}
 use Rattle.wire.specs.declared.reply.Reply.TheVariants.{Versions}
-use Rattle.wire.specs.steps.Reads.{reply_read}
+use Rattle.wire_reader.specs.steps.Reads.{reply_read}
 use Rattle.room_core.specs.Shown.{HasObject}
 use Rattle.world.specs.Alone.{Message}
 use Rattle.world.specs.Rooms.{Rooms, owner_of, rooms_after}

@@ -5,7 +5,7 @@ ghost use Rattle.std.specs.Prelude.{◌≡◌, ◌↔◌, ℕ, map, option_map, 
 ghost use Rattle.std.specs.Arc.{arc_value};
 ghost use Rattle.base_types.specs.Repeats.{first_repeat};
 ghost use Rattle.rules.specs.declared.refusal.Refusal.{Refusal};
-ghost use Rattle.wire.specs.steps.Reads.{request_read};
+ghost use Rattle.wire_reader.specs.steps.Reads.{request_read};
 ghost use Rattle.wire.specs.declared.reply.Reply.TheVariants.{No};
 ghost use Rattle.wire.specs.Entering.{room_to_enter};
 ghost use Rattle.world.specs.Alone.{message_of};
@@ -31,7 +31,8 @@ use std::alloc::Global;
 use std::collections::BTreeMap;
 use std::marker::Model;
 use std::sync::Arc;
-use wire::{Refusal, Reply, Request, Scratch, if_in_form, read_request, write_reply};
+use wire::{Refusal, Reply, Request, write_reply};
+use wire_reader::{Scratch, if_in_form, read_request};
 
 /// Rooms, and the sessions that are in them.
 #[derive(Drop)]

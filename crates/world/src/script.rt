@@ -18,7 +18,7 @@ use itoa::Buffer;
 use memchr::memchr;
 use std::alloc::Global;
 use std::io::{Read, Write};
-use wire::Scratch;
+use wire_reader::Scratch;
 
 /// How many bytes of a line are kept: a session, a space and one byte more than a request has.
 const LINE_LIMIT: usize = 16396;

@@ -1,11 +1,11 @@
 -- The effect of a page of a record on a replica.
 use Rattle.std.specs.Prelude.{◌≡◌, ◌≢◌, ℕ, ◌<◌, List, Some, length, take, slice_get}
 use Rattle.rules.specs.declared.history.Entry.{Entry}
-use Rattle.wire.specs.declared.fault.ReadFault.{ReadFault}
-use Rattle.wire.specs.declared.fault.ReadFault.TheVariants.{Bad}
-use Rattle.wire.specs.declared.fault.ReadFault.TheVariants as read_fault
+use Rattle.wire_reader.specs.declared.fault.ReadFault.{ReadFault}
+use Rattle.wire_reader.specs.declared.fault.ReadFault.TheVariants.{Bad}
+use Rattle.wire_reader.specs.declared.fault.ReadFault.TheVariants as read_fault
 use Rattle.wire.specs.declared.reply.Reply.TheVariants.{Entries}
-use Rattle.wire.specs.steps.Reads.{reply_read}
+use Rattle.wire_reader.specs.steps.Reads.{reply_read}
 use Rattle.late_join.specs.declared.fault.TakeFault.{TakeFault}
 use Rattle.late_join.specs.declared.fault.TakeFault.TheVariants as take_fault
 use Rattle.late_join.specs.declared.fault.FeedFault.{FeedFault}

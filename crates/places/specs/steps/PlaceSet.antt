@@ -1,5 +1,5 @@
 -- Sets of places, as rising lists.
-use Rattle.std.specs.Prelude.{◌≡◌, ◌≤◌, ℕ, Bool, true, Option, List, [], ◌∷◌, nat_lt, ◌==◌}
+use Rattle.std.specs.Prelude.{◌≡◌, ◌<◌, ◌≤◌, ℕ, Bool, true, Option, List, [], ◌∷◌, nat_lt, ◌==◌}
 use Rattle.std.specs.Prelude.{if◌then◌else◌, All, MatchOption}
 use Rattle.std.specs.List.{list_any, list_all, range_with_len}
 
@@ -10,6 +10,10 @@ places n = range_with_len 0 n
 -- is x among the places?
 abbrev pub has : List ℕ → ℕ → Bool
 has xs x = list_any (λ y. y == x) xs
+
+-- these places are below n
+abbrev pub AreBelow : ℕ → List ℕ → Type 0
+AreBelow n xs = (x : ℕ) → has xs x ≡ true → x < n
 
 -- is each place of a in b?
 abbrev pub is_within : List ℕ → List ℕ → Bool

@@ -3,7 +3,7 @@ use Rattle.std.specs.Prelude.{◌≡◌, ℕ, Bool, true, false, List, Some}
 use Rattle.rules.specs.declared.history.Entry.{Entry}
 use Rattle.rules.specs.Limits.{full_limits}
 use Rattle.rules.specs.Records.{admits}
-use Rattle.wire.specs.steps.Reads.{entry_read}
+use Rattle.wire_reader.specs.steps.Reads.{entry_read}
 use Rattle.room_core.specs.Room.{Room, with_entry}
 use Rattle.restore.specs.declared.record.Reading.{Reading}
 use Rattle.restore.specs.declared.record.Reading.TheVariants as reading

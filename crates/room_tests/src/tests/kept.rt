@@ -6,7 +6,7 @@ use restore::{Restored, restore};
 use rules::Entry;
 use std::process::Abort;
 use std::sync::Arc;
-use wire::read_entry;
+use wire_reader::read_entry;
 
 const RECORD: &str = r#"["join",1]
 ["new",[1,1],[],"rect",[["x",0]]]

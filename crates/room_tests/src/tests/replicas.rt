@@ -8,7 +8,8 @@ use base_types::OpName;
 use late_join::{FeedFault, Replica, TakeFault};
 use rules::{Entry, Limits};
 use std::process::Abort;
-use wire::{read_entry, write_reply};
+use wire::write_reply;
+use wire_reader::read_entry;
 
 fn replica_of(rt: &(impl Abort + AllocGlobal), limits: Limits) -> Replica {
     Replica::new(rt.alloc(), limits).expect(rt, "memory")

@@ -1,7 +1,8 @@
 //! Requests are written as they were read. The program itself writes few of them.
 
 use std::process::Abort;
-use wire::{Scratch, read_request, write_request};
+use wire::write_request;
+use wire_reader::{Scratch, read_request};
 
 /// A request of each form, in compact text.
 const REQUESTS: &str = r#"["join","a-9"]

@@ -1,6 +1,6 @@
 -- The program's fault for each fault of watching.
-use Rattle.commands.specs.declared.fault.Fault.{Fault}
-use Rattle.commands.specs.declared.fault.Fault.TheVariants.{Session, Output, NoMemory}
+use Rattle.command_fault.specs.declared.fault.Fault.{Fault}
+use Rattle.command_fault.specs.declared.fault.Fault.TheVariants.{Session, Output, NoMemory}
 use Rattle.room_watch.specs.declared.watch.WatchFault.{WatchFault}
 use Rattle.room_watch.specs.declared.watch.WatchFault.TheVariants as watching
 

@@ -1,6 +1,6 @@
 -- The program's fault for each fault of serving.
-use Rattle.commands.specs.declared.fault.Fault.{Fault}
-use Rattle.commands.specs.declared.fault.Fault.TheVariants.{NoWorker, RoomsTorn, Output, NoMemory}
+use Rattle.command_fault.specs.declared.fault.Fault.{Fault}
+use Rattle.command_fault.specs.declared.fault.Fault.TheVariants.{NoWorker, RoomsTorn, Output, NoMemory}
 use Rattle.sessions.specs.declared.streams.ServeFault.{ServeFault}
 use Rattle.sessions.specs.declared.streams.ServeFault.TheVariants as serving
 

@@ -1,6 +1,6 @@
 -- One place more, as the code goes: o is the place, and `compatible` tells which of those before it
 -- are not in conflict with it.
-use Rattle.std.specs.Prelude.{◌≡◌, ℕ, ◌<◌, Bool, true, not, ◌||◌, if◌then◌else◌, List, [], ◌∷◌}
+use Rattle.std.specs.Prelude.{ℕ, Bool, not, ◌||◌, if◌then◌else◌, List, [], ◌∷◌}
 use Rattle.std.specs.Prelude.{◌++◌, map, filter}
 use Rattle.std.specs.List.{list_any, list_all}
 use Rattle.places.specs.steps.PlaceSet.{has, is_within}
@@ -8,10 +8,6 @@ use Rattle.places.specs.steps.PlaceSet.{has, is_within}
 -- is a place none of these?
 abbrev pub is_none_of : List ℕ → ℕ → Bool
 is_none_of xs x = not (has xs x)
-
--- the places of g are below n
-abbrev pub AreBelow : ℕ → List ℕ → Type 0
-AreBelow n g = (x : ℕ) → has g x ≡ true → x < n
 
 -- a group in which nothing conflicts with o, with o; another as it is
 abbrev pub group_after : (ℕ → Bool) → ℕ → List ℕ → List ℕ

@@ -3,7 +3,7 @@ use Rattle.std.specs.Prelude.{ℕ, ◌≡◌, Bool, List, Option, Some, None, op
 use Rattle.wire.specs.declared.request.Request.{Request}
 use Rattle.wire.specs.declared.reply.Reply.{Reply}
 use Rattle.wire.specs.Texts.{reply_text}
-use Rattle.wire.specs.steps.Reads.{reply_read}
+use Rattle.wire_reader.specs.steps.Reads.{reply_read}
 use Rattle.room_core.specs.Room.{Room}
 use Rattle.room_core.specs.Answers.{Outcome, answer}
 use Rattle.world.specs.declared.seats.Seat.{Seat}

@@ -1,4 +1,4 @@
-use Rattle.conflict.proofs.Growth.{changes_on_object}
+use Rattle.places.proofs.Growth.{changes_on_object}
 use Rattle.conflict.proofs.laws.the_changes_of_a_history_can_be_added.Goals as goal
 
 pub returns : goal.returns

@@ -1,6 +1,6 @@
 use Rattle.std.proofs.Common.{◌≡◌, Ok, subst}
 use Rattle.std.specs.Prelude.{IfSome}
-use Rattle.wire.specs.steps.Reading.{Gives}
+use Rattle.wire_reader.specs.steps.Reading.{Gives}
 use Rattle.transcript.specs.steps.Reads.{line_read}
 use Rattle.transcript.proofs.LineTexts.{line_fits}
 use Rattle.transcript.proofs.ordered_part.next_line.Goals as goal

@@ -1,6 +1,7 @@
 use Rattle.std.proofs.Common.{not, sym, refl, ap, ◌∙◌, subst}
 use Rattle.std.proofs.lemmas.List.Elements.{All-get_or}
-use Rattle.version_groups.specs.steps.Steps.{AreBelow, group_after, candidate, is_none_of}
+use Rattle.places.specs.steps.PlaceSet.{AreBelow}
+use Rattle.version_groups.specs.steps.Steps.{group_after, candidate, is_none_of}
 use Rattle.version_groups.proofs.Pieces.{map_more, candidates_more, candidates_stay, group_with_place, group_without_place, none_of_all}
 use Rattle.version_groups.proofs.step.groups_and_candidates.Goals.{then-intersects+in_ok-copy+in_ok-push+in_ok-candidate_of+in_ok-push_back, else-intersects+in_ok-with_place+in_ok-push-2}
 use Rattle.version_groups.proofs.step.groups_and_candidates.Goals as goal

@@ -1,6 +1,6 @@
 use Rattle.std.proofs.Common.{◌≡◌, Some, None, sym, refl, ◌∙◌, string_bytes}
 use Rattle.std.proofs.lemmas.Result.{on_err_weaker, IfOk-weaker}
-use Rattle.wire.specs.steps.Reads.{request_read}
+use Rattle.wire_reader.specs.steps.Reads.{request_read}
 use Rattle.world.specs.Alone.{message_of}
 use Rattle.world.specs.State.{names_of, seat_of}
 use Rattle.world.specs.steps.Steps.{asker_of}

@@ -1,8 +1,8 @@
 use Rattle.std.proofs.Common.{subst, sym, List}
 use Rattle.rules.specs.declared.history.Op.{Op}
-use Rattle.conflict.specs.steps.Indexes.{AreInOrder}
-use Rattle.conflict.proofs.Sited.{in_order}
+use Rattle.changes_by_site.specs.steps.Indexes.{AreInOrder}
+use Rattle.changes_by_site.proofs.Sited.{in_order}
 use Rattle.conflict.proofs.object_changes.ObjectChanges.known_places.Goals as goal
 
 pub known_places-requires-clause-order : goal.known_places-requires-clause-order
-known_places-requires-clause-order c = subst (λ (k : List Op). AreInOrder k) (sym c.deref.ensures.value) (in_order c.self.invariant.changes.listed)
+known_places-requires-clause-order c = subst (λ (k : List Op). AreInOrder k) (sym c.ops.ensures.changes) (in_order c.ops.ensures.object.listed)

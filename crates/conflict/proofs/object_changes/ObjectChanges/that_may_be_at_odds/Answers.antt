@@ -6,12 +6,13 @@ use Rattle.rules.specs.Bodies.{are_at_odds}
 use Rattle.places.specs.steps.PlaceSet.{has, places}
 use Rattle.places.specs.steps.Changes.{at, Changes}
 use Rattle.places.proofs.Places.{In-places, below, has_if_in, in_if_has}
-use Rattle.conflict.specs.steps.Indexes.{AreByKey, AreWithin, is_drop_or_gives}
-use Rattle.conflict.proofs.Keyed.{at_odds_found}
+use Rattle.changes_by_key.specs.steps.Indexes.{AreByKey, is_drop_or_gives}
+use Rattle.places.specs.steps.PlaceSet.{AreBelow}
+use Rattle.conflict.proofs.Candidates.{at_odds_found}
 use Rattle.conflict.proofs.object_changes.ObjectChanges.that_may_be_at_odds.Goals as goal
 
 -- the first places are those below
-first_within : (n m : ℕ) (found : List ℕ) → m ≡ n → found ≡ places m → AreWithin n found
+first_within : (n m : ℕ) (found : List ℕ) → m ≡ n → found ≡ places m → AreBelow n found
 first_within n m found e f x h = below n x (in_if_has (places n) x (sym (ap (λ (l : List ℕ). has l x) (f ∙ ap places e)) ∙ h))
 
 first_has : (n m : ℕ) (found : List ℕ) → m ≡ n → found ≡ places m → (x : ℕ) → x < n → has found x ≡ true
@@ -22,15 +23,15 @@ returns-in-Put-clause-within c =
     let k = c.args.self.now.ops in
     let index = c.self.inside.keys in
     let by_key : AreByKey k index = subst (λ (s : Changes). AreByKey s.ops index) c.self.view_is c.self.invariant.by_key in
-    let size : c.len-count.result ≡ length k = omega (arith, c.len-count.ensures, c.self.inside.ops.ok, ap (λ (s : Changes). length s.ops) c.self.view_is) in
-    IfOk-weaker c.maybe_at_odds.result _ _ (λ found h. subst (λ n. AreWithin n found) size (h k by_key (sym size))) c.maybe_at_odds.ensures.within
+    let size : c.len-count.result ≡ length k = omega (arith, c.len-count.ensures, ap length c.ops.ensures.changes, ap (λ (s : Changes). length s.ops) c.self.view_is) in
+    IfOk-weaker c.maybe_at_odds.result _ _ (λ found h. subst (λ n. AreBelow n found) size (h k by_key (sym size))) c.maybe_at_odds.ensures.within
 
 pub returns-in-Put-clause-all : goal.returns-in-Put-clause-all
 returns-in-Put-clause-all c =
     let k = c.args.self.now.ops in
     let index = c.self.inside.keys in
     let by_key : AreByKey k index = subst (λ (s : Changes). AreByKey s.ops index) c.self.view_is c.self.invariant.by_key in
-    let size : c.len-count.result ≡ length k = omega (arith, c.len-count.ensures, c.self.inside.ops.ok, ap (λ (s : Changes). length s.ops) c.self.view_is) in
+    let size : c.len-count.result ≡ length k = omega (arith, c.len-count.ensures, ap length c.ops.ensures.changes, ap (λ (s : Changes). length s.ops) c.self.view_is) in
     IfOk-weaker c.maybe_at_odds.result _ _
     (λ found h p l t. h k p by_key (omega (arith, size, l))
     (ap (λ (pairs : List Attr). is_drop_or_gives k pairs p) c.pairs.ensures.pairs
@@ -38,10 +39,10 @@ returns-in-Put-clause-all c =
 
 pub returns-in-DropVersion-clause-within : goal.returns-in-DropVersion-clause-within
 returns-in-DropVersion-clause-within c =
-    let size : c.len-count.result ≡ length c.args.self.now.ops = omega (arith, c.len-count.ensures, c.self.inside.ops.ok, ap (λ (s : Changes). length s.ops) c.self.view_is) in
+    let size : c.len-count.result ≡ length c.args.self.now.ops = omega (arith, c.len-count.ensures, ap length c.ops.ensures.changes, ap (λ (s : Changes). length s.ops) c.self.view_is) in
     IfOk-weaker c.first_places.result _ _ (λ found e. first_within (length c.args.self.now.ops) c.len-count.result found size e) c.first_places.ensures
 
 pub returns-in-DropVersion-clause-all : goal.returns-in-DropVersion-clause-all
 returns-in-DropVersion-clause-all c =
-    let size : c.len-count.result ≡ length c.args.self.now.ops = omega (arith, c.len-count.ensures, c.self.inside.ops.ok, ap (λ (s : Changes). length s.ops) c.self.view_is) in
+    let size : c.len-count.result ≡ length c.args.self.now.ops = omega (arith, c.len-count.ensures, ap length c.ops.ensures.changes, ap (λ (s : Changes). length s.ops) c.self.view_is) in
     IfOk-weaker c.first_places.result _ _ (λ found e p l t. first_has (length c.args.self.now.ops) c.len-count.result found size e p l) c.first_places.ensures

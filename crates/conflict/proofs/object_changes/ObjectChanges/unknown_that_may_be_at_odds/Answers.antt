@@ -3,8 +3,8 @@ use Rattle.std.specs.Prelude.{All, not}
 use Rattle.std.proofs.lemmas.Result.{IfOk-weaker}
 use Rattle.std.proofs.lemmas.List.Elements.{All-filter}
 use Rattle.places.specs.steps.PlaceSet.{has}
-use Rattle.conflict.specs.steps.Rows.{at_odds_at}
-use Rattle.conflict.proofs.Keyed.{all_within, candidates_same}
+use Rattle.conflict_rows.specs.steps.Rows.{at_odds_at}
+use Rattle.conflict.proofs.Candidates.{all_within, candidates_same}
 use Rattle.conflict.proofs.object_changes.ObjectChanges.unknown_that_may_be_at_odds.Goals as goal
 
 pub returns-clause-within : goal.returns-clause-within

@@ -18,10 +18,10 @@ returns-clause-closed g c =
     let full : map Some parts ≡ c.self.inside.shelf.items = subst (λ all. MatchOption all (Contains c.self.inside.shelf.items None) (λ (parts : _). map Some parts.items ≡ c.self.inside.shelf.items)) c.in-Some.is c.in_ok-parts.ensures in
     let slice : c.as_slice.result.now ≡ parts = c.as_slice.ensures.value in
     let sum : c.added_together.result ≡ sum_by share_of parts = c.added_together.ensures.sum ∙ ap (sum_by share_of) slice in
-    let counted = ap length c.entries.ensures.entries in
-    let seen = length-map c.entries.result.now arc_value in
-    let whole : sum_by share_of parts ≡ length r = omega (arith, sum, c.if-added_together-entries.false, counted, seen) in
-    let legal = subst (λ (l : LimitValues). IsLegal l r) c.self.invariant.limits_are c.show_size.ensures.legal in
+    let counted = ap length c.into_entries-entries.ensures.entries in
+    let seen = length-map c.into_entries-entries.result.items arc_value in
+    let whole : sum_by share_of parts ≡ length r = omega (arith, sum, c.if-added_together-len.false, counted, seen) in
+    let legal = subst (λ (l : LimitValues). IsLegal l r) c.self.invariant.limits_are c.into_entries-entries.ensures.legal in
     subst (λ (l : List Entry). IsClosed limits l parts) (ap (λ v. v.entries) c.self.view_is)
     (closed_by limits c.self.inside.place r c.self.inside.shelf.items parts legal c.self.invariant.shelved full (subst (All HasItsEntries) slice c.added_together.ensures.own) whole)
 
@@ -33,14 +33,14 @@ returns-in_default-clause-missing g c =
     let not_all = absent_one r shelf absent in
     inr (refl, subst (λ (room : Placed). ¬ (IsComplete room.entries room.shelf)) c.self.view_is not_all)
 
-pub returns-then-added_together-entries-clause-missing : goal.returns-then-added_together-entries-clause-missing
-returns-then-added_together-entries-clause-missing g c =
+pub returns-then-added_together-len-clause-missing : goal.returns-then-added_together-len-clause-missing
+returns-then-added_together-len-clause-missing g c =
     let r = c.self.inside.state.room.entries in
     let shelf = c.self.inside.shelf.items in
     let parts = c.in-Some.parts.items in
     let full : map Some parts ≡ shelf = subst (λ all. MatchOption all (Contains shelf None) (λ (parts : _). map Some parts.items ≡ shelf)) c.in-Some.is c.in_ok-parts.ensures in
     let sum : c.added_together.result ≡ sum_by share_of parts = c.added_together.ensures.sum ∙ ap (sum_by share_of) c.as_slice.ensures.value in
-    let counted = ap length c.entries.ensures.entries in
-    let seen = length-map c.entries.result.now arc_value in
-    let other : ¬ (sum_by share_of parts ≡ length r) = λ whole. c.if-added_together-entries.true (omega (arith, sum, counted, seen, whole)) in
+    let counted = ap length c.into_entries-entries.ensures.entries in
+    let seen = length-map c.into_entries-entries.result.items arc_value in
+    let other : ¬ (sum_by share_of parts ≡ length r) = λ whole. c.if-added_together-len.true (omega (arith, sum, counted, seen, whole)) in
     inr (refl, subst (λ (room : Placed). ¬ (IsComplete room.entries room.shelf)) c.self.view_is (other_sum r shelf parts full other))

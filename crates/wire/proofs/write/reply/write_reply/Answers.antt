@@ -8,9 +8,9 @@ use Rattle.wire.specs.declared.reply.Reply.TheVariants.{Entries}
 use Rattle.wire.specs.Form.{reply_form, IsReply, IsReplyText}
 use Rattle.wire.specs.Texts.{reply_text}
 use Rattle.wire.specs.steps.Sending.{IsPlain}
-use Rattle.wire.proofs.Replies.{written_reply}
 use Rattle.wire.proofs.Sent.{compact_again}
 use Rattle.wire.proofs.Shallow.{shallow_reply}
+use Rattle.wire.proofs.Written.{written_reply}
 use Rattle.wire.proofs.write.reply.write_reply.Goals as goal
 
 is_text : (reply : Reply) (bytes : List ℕ) → IsUtf8 bytes → read bytes ≡ Some (reply_form reply) → IsReply reply → IsReplyText bytes reply

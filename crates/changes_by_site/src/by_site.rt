@@ -1,0 +1,199 @@
+//! The places of changes by their sites.
+
+ghost use Rattle.std.specs.Prelude.{◌≡◌, ℕ, ◌+◌, ◌<◌, ◌^◌, [], ◌∷◌, length, IfOk, OnOk, OnErr};
+ghost use Rattle.places.specs.steps.PlaceSet.{with_places};
+ghost use Rattle.places.specs.steps.Changes.{places_counted};
+ghost use Rattle.changes_by_site.specs.steps.Indexes.{counted_of, site_at, with_counted, with_new_site, with_change, with_change_at, AreBySite, AreInOrder, IsRising};
+ghost use Rattle.places.specs.steps.Lookups.{IsPlaceOf};
+
+use base_types::{NoMemory, OpName};
+use places::PlaceSet;
+use rules::SharedOp;
+use state_vector::StateVector;
+use std::alloc::Global;
+use std::marker::Model;
+
+/// The changes of one site on an object.
+#[derive(Drop)]
+struct SiteChanges {
+    site: u32,
+    /// The number of each and its place, in order of arrival.
+    changes: Vec<(u32, u32)>,
+    places: PlaceSet,
+}
+
+impl Model for SiteChanges {
+    ghost use Rattle.changes_by_site.specs.steps.Indexes.{OfSite};
+
+    ghost Value = { OfSite };
+
+    ghost view = { λ of. record {
+      site = of.site;
+      changes = of.changes.items;
+      places = of.places;
+    } };
+}
+
+impl SiteChanges {
+    /// The site with its first change.
+    fn of_one(alloc: Global, name: OpName, place: u32) -> Result<SiteChanges, NoMemory>
+        ensures { IfOk result (λ of. of
+            ≡ record { site = name.0; changes = (name.1, place) ∷ []; places = place ∷ [] }) }
+    {
+        let mut changes = Vec::new(alloc);
+        changes.push((name.seq(), place))?;
+        let places = PlaceSet::from_places(alloc, &[place])?;
+        Ok(SiteChanges {
+            site: name.site(),
+            changes,
+            places,
+        })
+    }
+
+    /// Adds the next change. `NoMemory` leaves all as it is.
+    fn add(&mut self, number: u32, place: u32) -> Result<(), NoMemory>
+        ensures ok { OnOk result (self.new ≡ with_change number place self.old) }
+        ensures err { OnErr result (self.new ≡ self.old) }
+    {
+        self.changes.reserve(1)?;
+        self.places.insert(place)?;
+        self.changes.push_reserved((number, place));
+        Ok(())
+    }
+
+    /// Adds the places of the changes that a vector counts to a set: all, or those before the first
+    /// that it doesn't count.
+    fn insert_counted(&self, seen: &StateVector, known: &mut PlaceSet) -> Result<(), NoMemory>
+        requires { IsRising self.now }
+        ensures { OnOk result (known.new ≡ with_places known.old (counted_of seen.now self.now)) }
+    {
+        let number = seen.count(self.site);
+        let counted = self.changes.partition_point(|change| change.0 <= number);
+        if counted == self.changes.len() {
+            return known.insert_all(&self.places);
+        }
+        if counted == 0 {
+            return Ok(());
+        }
+        known.insert_below(&self.places, self.changes[counted].1)
+    }
+}
+
+/// The first `len` changes of an object, by site.
+#[derive(Drop)]
+pub struct BySite {
+    len: u32,
+    sites: Vec<SiteChanges>,
+}
+
+impl Model for BySite {
+    ghost use Rattle.changes_by_site.specs.steps.Indexes.{SiteIndex};
+
+    ghost Value = { SiteIndex };
+
+    ghost view = { λ index. record { len = index.len; sites = index.sites.items } };
+}
+
+impl BySite {
+    pub fn new(alloc: Global) -> BySite
+        ensures { result ≡ record { len = 0; sites = [] } }
+    {
+        BySite {
+            len: 0,
+            sites: Vec::new(alloc),
+        }
+    }
+
+    /// The place of the site in the index, if it is there.
+    fn find(&self, site: u32) -> Option<usize>
+        ensures { let count = length self.now.sites
+            in IsPlaceOf (λ i. (site_at self.now.sites i).site) count site result }
+    {
+        self.sites.iter().position(|changes| changes.site == site)
+    }
+
+    /// Adds the next change under the site at this place of the index.
+    fn grow(&mut self, i: usize, number: u32) -> Result<(), NoMemory>
+        requires there { i < length self.old.sites }
+        requires few { self.old.len + 1 < 2 ^ 32 }
+        ensures ok { OnOk result (self.new ≡ with_change_at i number self.old) }
+        ensures err { OnErr result (self.new ≡ self.old) }
+    {
+        self.sites[i].add(number, self.len)?;
+        self.len += 1;
+        Ok(())
+    }
+
+    /// Adds the next change, the first of its site.
+    fn begin(&mut self, alloc: Global, name: OpName) -> Result<(), NoMemory>
+        requires few { self.old.len + 1 < 2 ^ 32 }
+        ensures ok { OnOk result (self.new ≡ with_new_site name self.old) }
+        ensures err { OnErr result (self.new ≡ self.old) }
+    {
+        let changes = SiteChanges::of_one(alloc, name, self.len)?;
+        self.sites.push(changes)?;
+        self.len += 1;
+        Ok(())
+    }
+
+    /// Adds the next change.
+    fn add(&mut self, alloc: Global, ops: &[SharedOp]) -> Result<(), NoMemory>
+        requires more { self.old.len < length ops.now }
+        requires few { length ops.now < 2 ^ 32 }
+        requires sites { AreBySite ops.now self.old }
+        ensures sites { AreBySite ops.now self.new }
+        ensures len { OnOk result (self.new.len ≡ self.old.len + 1) }
+    {
+        let name = ops[self.len as usize].name;
+        match self.find(name.site()) {
+            Some(i) => self.grow(i, name.seq()),
+            None => self.begin(alloc, name),
+        }
+    }
+
+    /// Adds the changes that are not in the index yet. After `NoMemory` some of them are added.
+    pub fn catch_up(&mut self, alloc: Global, ops: &[SharedOp]) -> Result<(), NoMemory>
+        requires few { length ops.now < 2 ^ 32 }
+        requires sites { AreBySite ops.now self.old }
+        ensures { AreBySite ops.now self.new }
+    {
+        while (self.len as usize) < ops.len() {
+            self.add(alloc, ops)?;
+        }
+        Ok(())
+    }
+
+    /// The places of the indexed changes that a vector counts. One look-up a site.
+    fn counted_places(&self, alloc: Global, seen: &StateVector) -> Result<PlaceSet, NoMemory>
+        requires { (i : ℕ) → i < length self.now.sites → IsRising (site_at self.now.sites i) }
+        ensures { IfOk result (λ counted. counted ≡ with_counted seen.now [] self.now.sites) }
+    {
+        let mut counted = PlaceSet::empty(alloc);
+        for changes in &self.sites {
+            changes.insert_counted(seen, &mut counted)?;
+        }
+        Ok(counted)
+    }
+
+    /// The places of the changes that a vector counts: the indexed ones by site, then the others
+    /// one by one.
+    pub fn known_places(
+        &self,
+        alloc: Global,
+        ops: &[SharedOp],
+        seen: &StateVector,
+    ) -> Result<PlaceSet, NoMemory>
+        requires few { length ops.now < 2 ^ 32 }
+        requires sites { AreBySite ops.now self.now }
+        requires order { AreInOrder ops.now }
+        ensures { IfOk result (λ known. known ≡ places_counted ops.now seen.now) }
+    {
+        let mut known = self.counted_places(alloc, seen)?;
+        for place in self.len..ops.len() as u32 {
+            if seen.has(ops[place as usize].name) {
+                known.insert(place)?;
+            }
+        }
+        Ok(known)
+    }
+}

@@ -1,0 +1,6 @@
+//! The changes of one object by the sites that they come from: which of them a vector counts.
+#![tactic(auto)]
+
+mod by_site;
+
+pub use by_site::BySite;

@@ -1,0 +1,41 @@
+//! Reading input whole.
+
+ghost use Rattle.std.specs.Prelude.{◌≡◌, ◌≤◌, ◌⊎◌, IfErr, IfOk, IfSome, OnOk, length};
+ghost use Rattle.std.specs.Io.KnownBytes.{IsAtEnd};
+
+use crate::fault::Fault;
+use byte_streams::read_buffer;
+use std::alloc::Global;
+use std::io::Read;
+
+/// The most bytes of a file that is read whole: 1 GiB.
+pub const MAX_FILE_LEN: usize = 1_073_741_824;
+
+/// Reads all remaining bytes, at most `limit`.
+///
+/// # Errors
+/// `Input` if there are more than `limit` bytes, or if a read failed.
+/// `NoMemory` if an allocation failed.
+pub fn read_up_to<R: Read>(alloc: Global, input: &mut R, limit: usize) -> Result<Vec<u8>, Fault>
+    ensures all { IfOk result (λ bytes. IfSome (R.remaining input.old) (λ all. bytes.items ≡ all)) }
+    ensures most { IfOk result (λ bytes. length bytes.items ≤ limit) }
+    ensures end { OnOk result (IsAtEnd (R.remaining input.new)) }
+    ensures fault { IfErr result (λ fault. (fault ≡ Fault.Input) ⊎ (fault ≡ Fault.NoMemory)) }
+{
+    let mut buffer = read_buffer(alloc)?;
+    let piece = buffer.as_mut_slice();
+    let mut bytes = Vec::new(alloc);
+    for _ in 0..u64::MAX {
+        match input.read(piece) {
+            Ok(0) => return Ok(bytes),
+            Ok(count) => {
+                if count > limit - bytes.len() {
+                    return Err(Fault::Input);
+                }
+                bytes.extend_from_slice(&piece[..count])?;
+            }
+            Err(_fault) => return Err(Fault::Input),
+        }
+    }
+    Err(Fault::Input)
+}

@@ -1,9 +1,0 @@
-use Rattle.std.proofs.Common.{◌≡◌}
-use Rattle.std.specs.Prelude.{filter}
-use Rattle.state_vector.specs.Vectors.{counts}
-use Rattle.places.specs.steps.PlaceSet.{places}
-use Rattle.places.specs.steps.Changes.{at}
-use Rattle.conflict.proofs.by_site.BySite.known_places.Given as goal
-
-abbrev pub invariant-loop-place : goal.invariant-loop-place
-invariant-loop-place l = l.known ≡ filter (λ place. counts l.seen (at l.ops place).name) (places l.place)

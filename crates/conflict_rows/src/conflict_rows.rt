@@ -1,0 +1,382 @@
+//! The changes of one object with their bases and their conflicts.
+
+ghost use Rattle.std.specs.Prelude.{◌≡◌, true, ◌<◌, ◌^◌, [], ◌∷◌, ◌++◌, length, filter, nat_lt, if◌then◌else◌, vec_capacity, vec_len, All, IfOk, OnOk};
+ghost use Rattle.std.specs.List.{list_any};
+ghost use Rattle.places.specs.steps.PlaceSet.{has, places, with_place};
+ghost use Rattle.conflict_rows.specs.steps.Rows.{at_odds_at, conflicts_below, direct_places, earlier_conflicts, is_in_row, places_outside, with_conflicts, with_those};
+ghost use Rattle.places.specs.steps.Changes.{at, base_places, conflicting_places, is_conflict_of, new_conflicts, places_counted, AreChangesOn, IsAddition};
+
+use crate::joins::union_of_rows;
+use crate::{Addition, WithAddition};
+use base_types::{NoMemory, OpName};
+use places::{PlaceSet, Relation};
+use rules::{Op, SharedOp};
+use std::alloc::Global;
+use std::marker::Model;
+
+/// The changes of one object in order of arrival, by their places, which count from 0. Each has the
+/// places of its base. Its conflicts with earlier changes are computed once, before it is added.
+#[derive(Drop)]
+pub struct ConflictRows {
+    object: OpName,
+    ops: Vec<SharedOp>,
+    bases: Vec<PlaceSet>,
+    /// For each change the places of the earlier ones that it is in conflict with.
+    rows: Vec<PlaceSet>,
+    /// The places of the changes that are in conflict with an earlier one, in rising order.
+    late: Vec<u32>,
+    /// The places of the changes that are in conflict with some change.
+    conflicting: PlaceSet,
+}
+
+impl Model for ConflictRows {
+    ghost use Rattle.std.specs.Prelude.{◌-◌, min, vec_capacity, vec_len};
+    ghost use Rattle.places.specs.steps.Changes.{Changes};
+    ghost use Rattle.conflict_rows.specs.steps.Stored.{AreStored};
+
+    ghost Value = { Changes };
+
+    ghost view = { λ changes. record {
+      object = changes.object;
+      ops = changes.ops.items;
+      spare = min (vec_capacity changes.ops - vec_len changes.ops)
+          (min (vec_capacity changes.bases - vec_len changes.bases)
+          (min (vec_capacity changes.rows - vec_len changes.rows)
+          (vec_capacity changes.late - vec_len changes.late)));
+    } };
+
+    ghost invariant = { λ changes. AreStored changes.object changes.ops.items
+        changes.bases.items changes.rows.items changes.late.items changes.conflicting };
+}
+
+/// Appends a place if its change conflicts with earlier ones. No allocation.
+fn push_if_late(late: &mut Vec<u32>, place: u32, conflicts: usize)
+    requires { vec_len late.old < vec_capacity late.old }
+    ensures { late.new.items
+        ≡ (if nat_lt 0 conflicts then late.old.items ++ place ∷ [] else late.old.items) }
+{
+    if conflicts > 0 {
+        late.push_reserved(place);
+    }
+}
+
+/// Adds a place if `is_in` is true.
+fn insert_if(members: &mut PlaceSet, place: u32, is_in: bool) -> Result<(), NoMemory>
+    ensures { OnOk result (members.new
+        ≡ (if is_in then with_place place members.old else members.old)) }
+{
+    if is_in {
+        members.insert(place)?;
+    }
+    Ok(())
+}
+
+impl ConflictRows {
+    /// No changes of an object, without an allocation.
+    pub fn new(alloc: Global, object: OpName) -> ConflictRows
+        ensures object { result.object ≡ object }
+        ensures none { result.ops ≡ [] }
+    {
+        ConflictRows {
+            object,
+            ops: Vec::new(alloc),
+            bases: Vec::new(alloc),
+            rows: Vec::new(alloc),
+            late: Vec::new(alloc),
+            conflicting: PlaceSet::empty(alloc),
+        }
+    }
+
+    /// Computes what is needed to add a change of the object, and takes the memory for it. So
+    /// `commit` can't fail. The changes stay as they are.
+    ///
+    /// The change precedes none of these in causal order, and knows no other changes of the object.
+    /// The caller gives the places of its base and of the changes that it knows. It also gives
+    /// candidates: of the others at least those at odds with it.
+    ///
+    /// Looks at each change that conflicts with an earlier one, at all changes from its first
+    /// direct conflict on, and at the candidates. Everything else takes 64 places at a time.
+    ///
+    /// # Errors
+    ///
+    /// `NoMemory` if an allocation failed.
+    pub fn plan(
+        &mut self,
+        alloc: Global,
+        op: SharedOp,
+        base: PlaceSet,
+        known: &PlaceSet,
+        candidates: &PlaceSet,
+    ) -> Result<Addition, NoMemory>
+        // What is known of the change.
+        requires changes { AreChangesOn self.old.object (self.old.ops ++ op ∷ []) }
+        requires base { base ≡ base_places self.old.ops op }
+        requires known { known.now ≡ places_counted self.old.ops op.seen }
+        requires within { All (λ place. place < length self.old.ops) candidates.now }
+        requires at_odds { let unknown = places_outside known.now (length self.old.ops)
+            in filter (at_odds_at self.old.ops op.body) candidates.now
+            ≡ filter (at_odds_at self.old.ops op.body) unknown }
+        // What is planned.
+        ensures op { IfOk result (λ addition. addition.op ≡ op) }
+        ensures ready { IfOk result (λ addition.
+            IsAddition self.new.object self.new.ops addition) }
+        ensures spare { OnOk result (0 < self.new.spare) }
+        // The changes stay as they are.
+        ensures object { self.new.object ≡ self.old.object }
+        ensures ops { self.new.ops ≡ self.old.ops }
+    {
+        let row = self.row(alloc, &op, &base, known, candidates)?;
+        let conflicting = self.conflicting_with(alloc, &row)?;
+        self.reserve()?;
+        Ok(Addition::new(op, base, row, conflicting))
+    }
+
+    /// Adds a change that was planned for these, without an allocation.
+    pub fn commit(&mut self, addition: Addition)
+        requires ready { IsAddition self.old.object self.old.ops addition }
+        requires spare { 0 < self.old.spare }
+        ensures object { self.new.object ≡ self.old.object }
+        ensures ops { self.new.ops ≡ self.old.ops ++ addition.op ∷ [] }
+    {
+        let (op, base, row, conflicting) = addition.into_parts();
+        // That the name is in range is part of what stays true of the changes: so there are few of
+        // them.
+        let name = op.name;
+        let _ = name.site();
+        let _ = name.seq();
+        let place = self.ops.len() as u32;
+        let conflicts = row.count();
+        self.ops.push_reserved(op);
+        self.bases.push_reserved(base);
+        self.rows.push_reserved(row);
+        push_if_late(&mut self.late, place, conflicts);
+        self.conflicting = conflicting;
+    }
+
+    /// These changes and one that was planned for them, as a relation.
+    pub fn with<'a>(&'a self, addition: &'a Addition) -> WithAddition<'a>
+        requires { IsAddition self.now.object self.now.ops addition.now }
+        ensures { result ≡ self.now.ops ++ addition.now.op ∷ [] }
+    {
+        // What stays true of the changes, and the range of the name: there are few, also with one
+        // more.
+        let _ = &self.ops;
+        let name = addition.op().name;
+        let _ = name.site();
+        let _ = name.seq();
+        WithAddition::new(self, addition)
+    }
+
+    /// The places of the base of the change at a place.
+    pub fn base(&self, i: u32) -> &PlaceSet
+        requires { i < length self.now.ops }
+        ensures { result.now ≡ base_places self.now.ops (at self.now.ops i) }
+    {
+        &self.bases[i as usize]
+    }
+
+    /// The changes in the order in which they were added. They are all changes of the object in
+    /// some history, in causal order, and each has a base.
+    pub fn ops(&self) -> &[SharedOp]
+        ensures changes { result.now ≡ self.now.ops }
+        ensures object { AreChangesOn self.now.object self.now.ops }
+        ensures few { length self.now.ops < 2 ^ 32 }
+    {
+        self.ops.as_slice()
+    }
+
+    /// Takes the memory for one more change. The changes stay as they are.
+    fn reserve(&mut self) -> Result<(), NoMemory>
+        ensures spare { OnOk result (0 < self.new.spare) }
+        ensures object { self.new.object ≡ self.old.object }
+        ensures ops { self.new.ops ≡ self.old.ops }
+    {
+        self.ops.reserve(1)?;
+        self.bases.reserve(1)?;
+        self.rows.reserve(1)?;
+        self.late.reserve(1)?;
+        Ok(())
+    }
+
+    /// The change at a place.
+    fn change_at(&self, place: u32) -> &Op
+        requires { place < length self.now.ops }
+        ensures { result.now ≡ at self.now.ops place }
+    {
+        &self.ops[place as usize]
+    }
+
+    /// The lower places whose changes conflict with the change at a place.
+    fn row_at(&self, place: u32) -> &PlaceSet
+        requires { place < length self.now.ops }
+        ensures row { result.now ≡ earlier_conflicts self.now.ops place }
+        ensures changes { AreChangesOn self.now.object self.now.ops }
+    {
+        &self.rows[place as usize]
+    }
+
+    /// A set of places, and those of the other places whose changes are at odds with a change.
+    fn with_those_at_odds(
+        &self,
+        direct: PlaceSet,
+        op: &Op,
+        places: &[u32],
+    ) -> Result<PlaceSet, NoMemory>
+        requires { All (λ place. place < length self.now.ops) places.now }
+        ensures { IfOk result (λ all. all
+            ≡ with_those (at_odds_at self.now.ops op.now.body) direct places.now) }
+    {
+        let mut all = direct;
+        for place in places {
+            let at_odds = op.body.is_at_odds(&self.change_at(*place).body);
+            insert_if(&mut all, *place, at_odds)?;
+        }
+        Ok(all)
+    }
+
+    /// The places of the changes that conflict directly with a change to be added: of the changes
+    /// that it knows those outside its base, and of the others those at odds with it.
+    fn direct_conflicts(
+        &self,
+        alloc: Global,
+        op: &Op,
+        based: &PlaceSet,
+        known: &PlaceSet,
+        candidates: &PlaceSet,
+    ) -> Result<PlaceSet, NoMemory>
+        requires changes { AreChangesOn self.now.object (self.now.ops ++ op.now ∷ []) }
+        requires base { based.now ≡ base_places self.now.ops op.now }
+        requires known { known.now ≡ places_counted self.now.ops op.now.seen }
+        requires within { All (λ place. place < length self.now.ops) candidates.now }
+        requires at_odds { let unknown = places_outside known.now (length self.now.ops)
+            in filter (at_odds_at self.now.ops op.now.body) candidates.now
+            ≡ filter (at_odds_at self.now.ops op.now.body) unknown }
+        ensures { IfOk result (λ direct. direct ≡ direct_places self.now.ops op.now) }
+    {
+        let direct = known.without(alloc, based)?;
+        let others = candidates.list(alloc)?;
+        self.with_those_at_odds(direct, op, &others)
+    }
+
+    /// The places of the changes that conflict with a change at one of the given places.
+    pub(crate) fn conflicting_places(
+        &self,
+        alloc: Global,
+        scope: &PlaceSet,
+    ) -> Result<PlaceSet, NoMemory>
+        ensures { let count = length self.now.ops in IfOk result (λ conflicting. conflicting
+            ≡ filter (conflicts_below (is_conflict_of self.now.ops) scope.now count)
+            (places count)) }
+    {
+        let Some(lowest) = scope.lowest_place() else {
+            return Ok(PlaceSet::empty(alloc));
+        };
+        if lowest >= self.ops.len() as u32 {
+            return Ok(PlaceSet::empty(alloc));
+        }
+        union_of_rows(alloc, &self.rows, &self.late, scope)
+    }
+
+    /// The places of all changes that conflict with some change, once one is added that conflicts
+    /// with those of a row.
+    fn conflicting_with(&self, alloc: Global, row: &PlaceSet) -> Result<PlaceSet, NoMemory>
+        ensures { let place = length self.now.ops in IfOk result (λ all. all
+            ≡ with_conflicts row.now place (conflicting_places self.now.ops)) }
+    {
+        let mut all = self.conflicting.copy(alloc)?;
+        if row.lowest_place().is_some() {
+            all.insert_all(row)?;
+            all.insert(self.ops.len() as u32)?;
+        }
+        Ok(all)
+    }
+
+    /// Is the change at a place, or one of its base, at a place of a direct conflict?
+    fn has_direct_conflict(&self, direct: &PlaceSet, place: u32) -> bool
+        requires { place < length self.now.ops }
+        ensures { let base = base_places self.now.ops (at self.now.ops place)
+            in result ≡ list_any (has (place ∷ base)) direct.now }
+    {
+        direct.has(place) || direct.intersects(self.base(place))
+    }
+
+    /// The places of the changes that conflict with a change to be added, by its direct conflicts
+    /// and its base. No change is based on a later one. So below the lowest direct conflict only
+    /// those conflict that its base conflicts with.
+    fn row_from(
+        &self,
+        alloc: Global,
+        direct: &PlaceSet,
+        based: &PlaceSet,
+    ) -> Result<PlaceSet, NoMemory>
+        requires { All (λ other. other < length self.now.ops) based.now }
+        ensures { let all = places (length self.now.ops) in IfOk result (λ row.
+            row ≡ filter (is_in_row self.now.ops direct.now based.now) all) }
+    {
+        let mut row = self.conflicting_places(alloc, based)?;
+        let Some(lowest) = direct.lowest_place() else {
+            return Ok(row);
+        };
+        for place in lowest..self.ops.len() as u32 {
+            let has_direct = self.has_direct_conflict(direct, place);
+            insert_if(&mut row, place, has_direct)?;
+        }
+        Ok(row)
+    }
+
+    /// The places of the changes that conflict with a change to be added, by its base and what it
+    /// knows.
+    fn row(
+        &self,
+        alloc: Global,
+        op: &Op,
+        based: &PlaceSet,
+        known: &PlaceSet,
+        candidates: &PlaceSet,
+    ) -> Result<PlaceSet, NoMemory>
+        requires changes { AreChangesOn self.now.object (self.now.ops ++ op.now ∷ []) }
+        requires base { based.now ≡ base_places self.now.ops op.now }
+        requires known { known.now ≡ places_counted self.now.ops op.now.seen }
+        requires within { All (λ place. place < length self.now.ops) candidates.now }
+        requires at_odds { let unknown = places_outside known.now (length self.now.ops)
+            in filter (at_odds_at self.now.ops op.now.body) candidates.now
+            ≡ filter (at_odds_at self.now.ops op.now.body) unknown }
+        ensures { IfOk result (λ row. row ≡ new_conflicts self.now.ops op.now) }
+    {
+        let direct = self.direct_conflicts(alloc, op, based, known, candidates)?;
+        self.row_from(alloc, &direct, based)
+    }
+}
+
+impl Relation for ConflictRows {
+    ghost use Rattle.std.specs.Prelude.{length};
+    ghost use Rattle.rules.specs.Conflicts.{conflict};
+    ghost use Rattle.places.specs.steps.Changes.{at};
+
+    ghost size = { λ changes. length changes.ops };
+
+    ghost name_at = { λ changes i. (at changes.ops i).name };
+
+    ghost conflicts = { λ changes i j. conflict changes.ops (at changes.ops i) (at changes.ops j) };
+
+    fn len(&self) -> u32 {
+        self.ops.len() as u32
+    }
+
+    fn name(&self, i: u32) -> OpName {
+        self.change_at(i).name
+    }
+
+    fn conflicts_of_last(&self) -> &PlaceSet {
+        self.row_at(self.len() - 1)
+    }
+
+    fn in_conflict(&self) -> &PlaceSet {
+        &self.conflicting
+    }
+
+    #[tactic(auto, using(crate::proofs::InConflict::all_in_conflict))]
+    fn in_conflict_with(&self, alloc: Global, scope: &PlaceSet) -> Result<PlaceSet, NoMemory> {
+        self.conflicting_places(alloc, scope)
+    }
+}

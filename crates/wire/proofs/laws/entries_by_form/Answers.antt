@@ -1,5 +1,0 @@
-use Rattle.wire.proofs.EntryTexts as entries
-use Rattle.wire.proofs.laws.entries_by_form.Goals as goal
-
-pub returns : goal.returns
-returns c = entries.entries_by_form

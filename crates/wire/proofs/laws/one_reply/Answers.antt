@@ -1,5 +1,0 @@
-use Rattle.wire.proofs.ReplyTexts as replies
-use Rattle.wire.proofs.laws.one_reply.Goals as goal
-
-pub returns : goal.returns
-returns c = replies.one_reply

@@ -1,6 +1,0 @@
-use Rattle.wire.specs.steps.Replies.{at_in}
-use Rattle.wire.proofs.read.reply.at_of.Goals as goal
-
-pub returns : goal.returns
-unfolding at_in
-returns c = c.whole_of.ensures

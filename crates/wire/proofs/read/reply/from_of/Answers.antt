@@ -1,4 +1,0 @@
-use Rattle.wire.proofs.read.reply.from_of.Goals as goal
-
-pub returns : goal.returns
-returns c = c.whole_of.ensures

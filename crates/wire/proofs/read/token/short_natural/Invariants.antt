@@ -1,5 +1,0 @@
-use Rattle.wire.proofs.Digits.{DigitsRead}
-use Rattle.wire.proofs.read.token.short_natural.Given as goal
-
-abbrev pub invariant-loop-digit : goal.invariant-loop-digit
-invariant-loop-digit l = DigitsRead l.digits l.number l.digit-index

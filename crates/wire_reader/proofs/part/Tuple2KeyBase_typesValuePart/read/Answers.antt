@@ -1,0 +1,37 @@
+use Rattle.std.proofs.Common.{◌-◌, ◌<◌, refl, arith}
+use Rattle.wire_reader.proofs.Tokens.{two_steps, field_steps, end_steps, failed}
+use Rattle.wire_reader.specs.steps.Reading.{attr_in}
+use Rattle.wire_reader.proofs.part.Tuple2KeyBase_typesValuePart.read.Goals as goal
+
+pub returns-in_err-open_list : goal.returns-in_err-open_list
+unfolding attr_in
+returns-in_err-open_list c n h =
+    let deep : 0 < n = omega arith in
+    failed (λ x. x) c.from_residual.result _ _ _ _ c.from_residual.ensures.1 c.in_err-open_list.ensures (λ none. rw (two_steps _ _ n _ deep, none) refl)
+
+pub returns-in_err-key : goal.returns-in_err-key
+unfolding attr_in
+returns-in_err-key c n h =
+    let deep : 0 < n = omega arith in
+    failed (λ x. x) c.from_residual-in_err-key.result _ _ _ _ c.from_residual-in_err-key.ensures.1 (c.in_err-key.ensures (n - 1))
+    (λ none. rw (two_steps _ _ n _ deep, c.in_ok-open_list.ensures, field_steps, none) refl)
+
+pub returns-in_err-held : goal.returns-in_err-held
+unfolding attr_in
+returns-in_err-held c n h =
+    let deep : 0 < n = omega arith in
+    failed (λ x. x) c.from_residual-in_err-held.result _ _ _ _ c.from_residual-in_err-held.ensures.1 (c.in_err-held.ensures (n - 1))
+    (λ none. rw (two_steps _ _ n _ deep, c.in_ok-open_list.ensures, field_steps, c.in_ok-key.ensures (n - 1), field_steps, none) refl)
+
+pub returns-in_err-close_list : goal.returns-in_err-close_list
+unfolding attr_in
+returns-in_err-close_list c n h =
+    let deep : 0 < n = omega arith in
+    failed (λ x. x) c.from_residual-in_err-close_list.result _ _ _ _ c.from_residual-in_err-close_list.ensures.1 c.in_err-close_list.ensures
+    (λ none. rw (two_steps _ _ n _ deep, c.in_ok-open_list.ensures, field_steps, c.in_ok-key.ensures (n - 1), field_steps, c.in_ok-held.ensures (n - 1), end_steps, none) refl)
+
+pub returns : goal.returns
+unfolding attr_in
+returns c n h =
+    let deep : 0 < n = omega arith in
+    rw (two_steps _ _ n _ deep, c.in_ok-open_list.ensures, field_steps, c.in_ok-key.ensures (n - 1), field_steps, c.in_ok-held.ensures (n - 1), end_steps, c.in_ok-close_list.ensures) refl

@@ -1,0 +1,9 @@
+pub mod Reading
+pub mod Bodies
+pub mod Requests
+pub mod Entries
+pub mod Replies
+pub mod Faults
+pub mod Reads
+pub mod Streams
+pub mod Exchanges

@@ -1,0 +1,21 @@
+//! Requests, replies and entries of a record from JSON. A put of one pair is also read from its old
+//! form, which begins with the word `set`.
+#![tactic(auto)]
+
+mod body;
+mod entry;
+mod exchange;
+mod fault;
+pub mod laws;
+mod part;
+mod reply;
+mod request;
+mod rising;
+mod token;
+
+pub use entry::read_entry;
+pub use exchange::read_exchange;
+pub use fault::{ReadFault, if_in_form};
+pub use json::Scratch;
+pub use reply::read_reply;
+pub use request::read_request;

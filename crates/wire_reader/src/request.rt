@@ -1,0 +1,138 @@
+//! Requests from JSON.
+
+ghost use Rattle.std.specs.Prelude.{◌≡◌, ◌≤◌, ℕ, IfOk, IsErrOf, Some, None};
+ghost use Rattle.wire.specs.declared.request.Request.{Request as AnyRequest};
+ghost use Rattle.wire.specs.Form.{IsRequestText};
+ghost use Rattle.wire_reader.specs.steps.Reading.{Gives};
+ghost use Rattle.wire_reader.specs.steps.Requests.{join_at, back_at, change_at, show_at, list_at, pull_at, leave_at, request_of};
+ghost use Rattle.wire_reader.specs.steps.Reads.{request_read};
+ghost use Rattle.wire_reader.specs.steps.Streams.{rest_in, Takes};
+
+use crate::body::operation_of;
+use crate::fault::ReadFault;
+use crate::part::{Part, name_of, read_text, room_of};
+use crate::token::{Seq, close_list, whole_of, word_of};
+use base_types::MAX_SITE;
+use json::{Reader, Scratch};
+use std::alloc::Global;
+use wire::{MAX_FROM, MAX_REQUEST_LEN, Request};
+
+fn join_of(alloc: Global, reader: &mut Reader<'_>) -> Result<Request, ReadFault>
+    ensures { (n : ℕ) → Takes (λ request. request) result
+        (rest_in join_at n reader.old) reader.new }
+{
+    let room = room_of(alloc, reader)?;
+    close_list(reader)?;
+    Ok(Request::Join { room })
+}
+
+fn back_of(alloc: Global, reader: &mut Reader<'_>) -> Result<Request, ReadFault>
+    ensures { (n : ℕ) → Takes (λ request. request) result
+        (rest_in back_at n reader.old) reader.new }
+{
+    let room = room_of(alloc, reader)?;
+    let site = whole_of(reader, 1, MAX_SITE)?;
+    close_list(reader)?;
+    Ok(Request::Back { room, site })
+}
+
+fn change_of(alloc: Global, word: &str, reader: &mut Reader<'_>) -> Result<Request, ReadFault>
+    ensures { (n : ℕ) → 2 ≤ n → Takes (λ request. request) result
+        (rest_in (change_at word.now) n reader.old) reader.new }
+{
+    let (Seq(seq), seen, body) = operation_of(alloc, word, reader)?;
+    Ok(Request::Change { seq, seen, body })
+}
+
+fn show_of(reader: &mut Reader<'_>) -> Result<Request, ReadFault>
+    ensures { (n : ℕ) → 1 ≤ n → Takes (λ request. request) result
+        (rest_in show_at n reader.old) reader.new }
+{
+    let object = name_of(reader)?;
+    close_list(reader)?;
+    Ok(Request::Show { object })
+}
+
+fn list_of(reader: &mut Reader<'_>) -> Result<Request, ReadFault>
+    ensures { (n : ℕ) → Takes (λ request. request) result
+        (rest_in list_at n reader.old) reader.new }
+{
+    let from = whole_of(reader, 0, MAX_FROM)?;
+    close_list(reader)?;
+    Ok(Request::List { from })
+}
+
+fn pull_of(reader: &mut Reader<'_>) -> Result<Request, ReadFault>
+    ensures { (n : ℕ) → Takes (λ request. request) result
+        (rest_in pull_at n reader.old) reader.new }
+{
+    let from = whole_of(reader, 0, MAX_FROM)?;
+    close_list(reader)?;
+    Ok(Request::Pull { from })
+}
+
+fn leave_of(reader: &mut Reader<'_>) -> Result<Request, ReadFault>
+    ensures { (n : ℕ) → Takes (λ request. request) result
+        (rest_in leave_at n reader.old) reader.new }
+{
+    close_list(reader)?;
+    Ok(Request::Leave)
+}
+
+impl Part for Request {
+    ghost Seen = { AnyRequest };
+
+    ghost seen = { λ request. request };
+
+    ghost read_in = { request_of };
+
+    ghost levels = { 3 };
+
+    fn read(alloc: Global, reader: &mut Reader<'_>) -> Result<Request, ReadFault> {
+        let word = word_of(reader)?;
+        match word {
+            "join" => join_of(alloc, reader),
+            "back" => back_of(alloc, reader),
+            "show" => show_of(reader),
+            "list" => list_of(reader),
+            "pull" => pull_of(reader),
+            "leave" => leave_of(reader),
+            _ => change_of(alloc, word, reader),
+        }
+    }
+}
+
+#[tactic(auto, unfolding(crate::specs::steps::Reads::request_read))]
+fn request_in_bytes(
+    alloc: Global,
+    scratch: &mut Scratch,
+    bytes: &[u8],
+) -> Result<Request, ReadFault>
+    ensures { Gives (λ request. request) result (request_read bytes.now) }
+{
+    if bytes.len() > MAX_REQUEST_LEN {
+        return Err(ReadFault::Bad);
+    }
+    read_text(alloc, scratch, bytes)
+}
+
+/// Reads a request from bytes: at most 16,384 bytes of UTF-8 that are one JSON value, a form of the
+/// request. Linear in the bytes. Nothing that the scratch holds counts. A caller that reads many
+/// requests should keep it between them, because a new one costs as much as a short request.
+///
+/// # Errors
+///
+/// - `Bad` if they are not such a text.
+/// - `NoMemory` if an allocation failed.
+pub fn read_request(
+    alloc: Global,
+    scratch: &mut Scratch,
+    bytes: &[u8],
+) -> Result<Request, ReadFault>
+    ensures ok { IfOk result (IsRequestText bytes.now) }
+    ensures bad { IsErrOf result ReadFault.Bad → (q : AnyRequest) → ¬ IsRequestText bytes.now q }
+    ensures value { IfOk result (λ request. request_read bytes.now ≡ Some request) }
+    ensures none { IsErrOf result ReadFault.Bad → request_read bytes.now ≡ None }
+{
+    request_in_bytes(alloc, scratch, bytes)
+}

@@ -149,11 +149,11 @@ def test_single_bytes():
     expect_equal("the end", watched(TALK, piece=1), (0, SHOWN, ""))
 
 
-def test_cut_at_each_byte():
-    """The server hangs up after each number of bytes. The program reports that. It has shown nothing if the page is not
+def test_cut():
+    """The server hangs up after 0, 3, 6, .. bytes. The program reports that. It has shown nothing if the page is not
     complete, otherwise everything."""
     outputs = []
-    for most in itertools.count():
+    for most in itertools.count(0, 3):
         status, output, errors = watched(TALK, most=most)
         outputs.append(output)
         if status == 0:

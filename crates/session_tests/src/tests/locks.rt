@@ -3,7 +3,7 @@
 ghost use Rattle.room_lock.specs.steps.Planned.{IsLedgerOf};
 
 use super::{plan_rooms, room_name};
-use base_types::NoMemory;
+use base_types::{NoMemory, RoomName};
 use room_lock::{CloseFault, Entrance, NewRooms, Pass, RoomLedger, Rooms};
 use std::marker::Brand;
 use std::process::Abort;
@@ -64,11 +64,11 @@ fn joins<P: RoomLedger>(
     is_held
 }
 
-/// Returns how the rooms are closed after that.
-fn close_after_loss<
+/// The room whose pass is missing when the rooms are closed after that.
+fn missing_room<
     P: RoomLedger + Send + Sync,
     R: Threads + Wait + Clock + Sync + Abort + AllocGlobal,
->(rt: &R, planned: NewRooms) -> CloseFault
+>(rt: &R, planned: NewRooms) -> RoomName
     requires { IsLedgerOf planned P.name P.parts P.limits P.books }
 {
     let (rooms, _begun) = Rooms::<P>::new(rt, rt.alloc(), planned).expect(rt, "rooms");
@@ -83,13 +83,14 @@ fn close_after_loss<
     let sites = rooms.with(rt, &room_name(rt, "s"), |room| room.sites());
     assert_eq!(rt; sites, Some(1));
     match rooms.close(rt.alloc()) {
-        Ok(_) => panic!(rt; "a close without a pass"),
-        Err(fault) => fault,
+        Ok(_records) => panic!(rt; "a close without a pass"),
+        Err(CloseFault::Missing { room }) => room,
+        Err(CloseFault::NoMemory) => panic!(rt; "no memory"),
     }
 }
 
 #[test]
 fn rooms_have_locks_of_their_own(rt: HostRuntime) {
-    let fault = close_after_loss::<Brand, _>(&rt, plan_rooms(&rt, "r s"));
-    assert!(rt; matches!(fault, CloseFault::Missing { room } if room.text() == "s"));
+    let room = missing_room::<Brand, _>(&rt, plan_rooms(&rt, "r s"));
+    assert_eq!(rt; room.text(), "s");
 }

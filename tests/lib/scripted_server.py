@@ -57,25 +57,30 @@ class ScriptedServer:
                 self.answer_all()
         except ConnectionError:
             pass
-        except (CheckFailed, TimeoutError) as fault:
+        except Exception as fault:
             self.fault = fault
 
     def answer_all(self):
         """Answers the handshake and each message, until the client ends the connection, the session is closed or no
         bytes are left."""
-        data = b""
-        while not data.endswith(b"\r\n\r\n"):
-            data += self.received()
-        key = re.search(rb"(?i)\r\nsec-websocket-key: *(\S+)", data)[1].decode()
-        has_more = self.send(HEAD.format(accepted(key)).encode())
+        has_more = self.send(HEAD.format(accepted(self.read_key())).encode())
         reader = FrameReader()
-        while has_more and reader.end is None and (data := self.received()):
+        while has_more and reader.end is None and (data := self.client.recv(65536)):
             for opcode, payload in reader.feed(data):
                 has_more = has_more and self.send(self.answer_to(opcode, payload))
 
-    def received(self):
-        """Waits for more bytes. Returns none at the end."""
-        return self.client.recv(65536)
+    def read_key(self):
+        """Reads the client's head. Returns its key."""
+        data = b""
+        while not data.endswith(b"\r\n\r\n"):
+            part = self.client.recv(65536)
+            if not part:
+                raise CheckFailed(f"the client's head ends early: {data!r:.200}")
+            data += part
+        found = re.search(rb"(?i)\r\nsec-websocket-key: *(\S+)", data)
+        if not found:
+            raise CheckFailed(f"the client's head has no key: {data!r:.200}")
+        return found[1].decode()
 
     def answer_to(self, opcode, payload):
         """Returns the frame that answers this message or close, or nothing when no reply is left."""

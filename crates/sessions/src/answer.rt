@@ -67,12 +67,12 @@ impl<P: RoomLedger> Answer<P> {
     /// since it stands whatever follows. The text is created before the wait, so that no thread
     /// waits in vain.
     pub(crate) fn keep<R: Wait, O: Observer, K: Keeper<P>>(
-        self,
+        &self,
         host: &Host<'_, P, R, O, K>,
     ) -> Result<Answered<K::Receipt>, Cause>
         ensures text { IfOk result (λ answered.
-            string_bytes answered.text ≡ reply_text self.reply) }
-        ensures kept { IfOk result (λ answered. IsKept K.shows self.told answered.receipt) }
+            string_bytes answered.text ≡ reply_text self.now.reply) }
+        ensures kept { IfOk result (λ answered. IsKept K.shows self.now.told answered.receipt) }
         ensures cause { IfErr result (λ why. (why ≡ cause.NoMemory) ⊎ (why ≡ cause.NotKept)) }
     {
         self.tell_growth(host.observer);

@@ -23,7 +23,7 @@ returns-in-Put-clause-within c =
     let k = c.args.self.now.ops in
     let index = c.self.inside.keys in
     let by_key : AreByKey k index = subst (λ (s : Changes). AreByKey s.ops index) c.self.view_is c.self.invariant.by_key in
-    let size : c.len-count.result ≡ length k = omega (arith, c.len-count.ensures, ap length c.ops.ensures.changes, ap (λ (s : Changes). length s.ops) c.self.view_is) in
+    let size : length c.ops.result.now ≡ length k = ap length c.ops.ensures.changes ∙ ap (λ (s : Changes). length s.ops) c.self.view_is in
     IfOk-weaker c.maybe_at_odds.result _ _ (λ found h. subst (λ n. AreBelow n found) size (h k by_key (sym size))) c.maybe_at_odds.ensures.within
 
 pub returns-in-Put-clause-all : goal.returns-in-Put-clause-all
@@ -31,7 +31,7 @@ returns-in-Put-clause-all c =
     let k = c.args.self.now.ops in
     let index = c.self.inside.keys in
     let by_key : AreByKey k index = subst (λ (s : Changes). AreByKey s.ops index) c.self.view_is c.self.invariant.by_key in
-    let size : c.len-count.result ≡ length k = omega (arith, c.len-count.ensures, ap length c.ops.ensures.changes, ap (λ (s : Changes). length s.ops) c.self.view_is) in
+    let size : length c.ops.result.now ≡ length k = ap length c.ops.ensures.changes ∙ ap (λ (s : Changes). length s.ops) c.self.view_is in
     IfOk-weaker c.maybe_at_odds.result _ _
     (λ found h p l t. h k p by_key (omega (arith, size, l))
     (ap (λ (pairs : List Attr). is_drop_or_gives k pairs p) c.pairs.ensures.pairs
@@ -39,10 +39,10 @@ returns-in-Put-clause-all c =
 
 pub returns-in-DropVersion-clause-within : goal.returns-in-DropVersion-clause-within
 returns-in-DropVersion-clause-within c =
-    let size : c.len-count.result ≡ length c.args.self.now.ops = omega (arith, c.len-count.ensures, ap length c.ops.ensures.changes, ap (λ (s : Changes). length s.ops) c.self.view_is) in
-    IfOk-weaker c.first_places.result _ _ (λ found e. first_within (length c.args.self.now.ops) c.len-count.result found size e) c.first_places.ensures
+    let size : length c.ops.result.now ≡ length c.args.self.now.ops = ap length c.ops.ensures.changes ∙ ap (λ (s : Changes). length s.ops) c.self.view_is in
+    IfOk-weaker c.first_places.result _ _ (λ found e. first_within (length c.args.self.now.ops) (length c.ops.result.now) found size e) c.first_places.ensures
 
 pub returns-in-DropVersion-clause-all : goal.returns-in-DropVersion-clause-all
 returns-in-DropVersion-clause-all c =
-    let size : c.len-count.result ≡ length c.args.self.now.ops = omega (arith, c.len-count.ensures, ap length c.ops.ensures.changes, ap (λ (s : Changes). length s.ops) c.self.view_is) in
-    IfOk-weaker c.first_places.result _ _ (λ found e p l t. first_has (length c.args.self.now.ops) c.len-count.result found size e p l) c.first_places.ensures
+    let size : length c.ops.result.now ≡ length c.args.self.now.ops = ap length c.ops.ensures.changes ∙ ap (λ (s : Changes). length s.ops) c.self.view_is in
+    IfOk-weaker c.first_places.result _ _ (λ found e p l t. first_has (length c.args.self.now.ops) (length c.ops.result.now) found size e p l) c.first_places.ensures

@@ -1,4 +1,4 @@
-//! Tests of the public calls of `room_core`, `late_join`, `restore`, `world`, `commands` and
+//! Tests of the public calls of `journal`, `room_core`, `late_join`, `world`, `commands` and
 //! `byte_streams`, of what no run of the program reaches: small limits, replicas, and streams and
 //! journals that fail.
 #![tactic(auto)]

@@ -1,4 +1,4 @@
-//! Rooms, replicas of them, what is kept of them, and the commands over them.
+//! Rooms, replicas of them, records in journals, scripts and commands.
 
 mod commands;
 mod interrupted;

@@ -143,6 +143,8 @@ def draw_all(client, site=None):
     ("permanently", errno.EIO, "LASTS"),
     ("once", errno.EIO),
     ("once, after half of its bytes", errno.EIO, "SHORT"),
+    ("with a quota that is used up, once", errno.EDQUOT),
+    ("with a file that is too large, once", errno.EFBIG),
     ("with a full disk, once", errno.ENOSPC),
     ("with a full disk, permanently, after half of its bytes", errno.ENOSPC, "LASTS", "SHORT"),
 ])

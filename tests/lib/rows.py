@@ -96,6 +96,17 @@ PAGES = TWO_VERSIONS + """
 2 ["leave"] -> ["left",5]
 2 ["join","r"] -> ["joined",5,3]
 """
+PAGES_OF_THE_RECORD = """
+1 ["join","r"] -> ["joined",0,1]
+1 ["new",1,[],"rect",[["x",5]]] -> ["made",1,[1,1]]
+1 ["pull",1] -> ["entries",2,1,[["new",[1,1],[],"rect",[["x",5]]]]]
+1 ["pull",0] -> ["entries",2,0,[["join",1],["new",[1,1],[],"rect",[["x",5]]]]]
+1 ["pull",1] -> ["entries",2,1,[["new",[1,1],[],"rect",[["x",5]]]]]
+2 ["join","r"] -> ["joined",2,2]
+1 ["pull",0] -> ["entries",3,0,[["join",1],["new",[1,1],[],"rect",[["x",5]]],["join",2]]]
+1 ["pull",2] -> ["entries",3,2,[["join",2]]]
+1 ["pull",3] -> ["entries",3,3,[]]
+"""
 REPLACED = ONE_PUT + """
 1 ["put",3,[[1,2]],[1,1],[],[["x",6]]] -> ["taken",4,[[]]]
 2 ["put",1,[[1,1]],[1,1],[],[["x",5]]] -> ["taken",5,[[[1,3]],[[2,1]]]]
@@ -264,6 +275,25 @@ BACK_IN_TWO_ROOMS = TWO_ROOMS + """
 5 ["show",[2,1]] -> ["no",2,11,"no-such-object"]
 3 ["show",[2,1]] -> ["versions",3,[2,1],"rect",[[[],[]]]]
 """
+THREE_SIZES = """
+1 ["join","b"] -> ["joined",0,1]
+2 ["join","b"] -> ["joined",1,2]
+3 ["join","b"] -> ["joined",2,3]
+4 ["join","c"] -> ["joined",0,1]
+3 ["new",1,[],"rect",[["x",0]]] -> ["made",3,[3,1]]
+4 ["list",0] -> ["objects",1,0,0,[]]
+1 ["list",0] -> ["objects",4,0,1,[[[3,1],"rect"]]]
+5 ["back","a",1] -> ["no",0,19,"no-such-site"]
+5 ["back","b",2] -> ["no",4,20,"site-in-use"]
+2 ["leave"] -> ["left",4]
+4 ["leave"] -> ["left",1]
+2 ["back","c",1] -> ["back",1,1,0]
+4 ["back","b",2] -> ["back",4,2,0]
+4 ["show",[3,1]] -> ["versions",4,[3,1],"rect",[[[],[["x",0]]]]]
+2 ["show",[3,1]] -> ["no",1,11,"no-such-object"]
+5 ["join","a"] -> ["joined",0,1]
+5 ["pull",0] -> ["entries",1,0,[["join",1]]]
+"""
 
 TWO_KEYS = ONE_PUT + """
 2 ["put",1,[[1,1]],[1,1],[],[["x",5],["fill","red"]]] -> ["taken",4,[[]]]
@@ -328,6 +358,7 @@ ROWS = [
     ("no such room, and in no room", NOT_THERE),
     ("bad messages and refusals", NO_REQUESTS),
     ("pages, leaving and joining anew", PAGES),
+    ("pages of the record, and the same ones again", PAGES_OF_THE_RECORD),
     ("a value that was replaced", REPLACED),
     ("letters of all kinds", OTHER_LETTERS),
     ("two that agree against one", TWO_AGAINST_ONE),
@@ -352,6 +383,7 @@ ROWS = [
     ("clients come back as sites that nobody is in as", BACK),
     ("clients that can't come back", NOT_BACK),
     ("clients come back to two rooms", BACK_IN_TWO_ROOMS),
+    ("rooms of three sizes", THREE_SIZES),
 ]
 
 
@@ -365,4 +397,4 @@ def lines_of(rows):
 
 def rooms_of(rows):
     """Returns the rooms that the clients use."""
-    return ["a", "b"] if '"a"' in rows else ["r"]
+    return [room for room in "abcr" if f'"{room}"' in rows]

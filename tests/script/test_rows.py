@@ -48,8 +48,8 @@ def test_no_last_break():
 
 def test_no_utf8():
     """Bytes that are not UTF-8 are not a request."""
-    result = run("script", "r", stdin=b'1 \xff\n1 ["join","\xc3"]\n')
-    expect_equal("the answers", result, (0, '1 ["no",0,1,"bad-message"]\n' * 2, ""))
+    result = run("script", "r", stdin=b'1 \xff\n1 ["join","\xc3"]\n1 ["new",1,[],"rect",[["x","\xff"]]]\n')
+    expect_equal("the answers", result, (0, '1 ["no",0,1,"bad-message"]\n' * 3, ""))
 
 
 def test_long_lines():

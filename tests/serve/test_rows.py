@@ -18,3 +18,12 @@ def test_rows(rows, opcode):
         for client, request, reply in lines_of(rows):
             clients[client - 1].expect_reply(request, reply, opcode)
         server.finish()
+
+
+def test_white_space():
+    """A message may have any white space of JSON, also line feeds."""
+    with Server() as server:
+        client = server.client()
+        client.expect_reply('[\r\n"join",\t"r" ]', '["joined",0,1]')
+        client.expect_reply('["show",\n[ 1 ,\t1 ]\r]', '["no",1,11,"no-such-object"]')
+        server.finish()

@@ -12,6 +12,3 @@ pub use fault::JournalFault;
 pub use file::Synced;
 pub use journal::Journal;
 pub use memory::Memory;
-
-#[cfg(test)]
-mod tests;

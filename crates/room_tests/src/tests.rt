@@ -1,5 +1,32 @@
-//! Rooms, and the texts that they take and give.
+//! Rooms, replicas of them, what is kept of them, and the commands over them.
 
+mod commands;
+mod interrupted;
+mod kept;
 mod one_room;
 mod replicas;
-mod texts;
+mod requests;
+mod scripts;
+
+use rules::{LimitValues, Limits};
+use std::process::Abort;
+
+/// The limits that these words name, and the full ones otherwise.
+fn limits_of(rt: &impl Abort, words: &str) -> Limits {
+    let mut values = LimitValues::FULL;
+    for word in words.split_whitespace() {
+        let (name, count) = word.split_once(':').expect(rt, "a limit");
+        let count = count.parse().expect(rt, "a number");
+        match name {
+            "joins" => values.joins = count,
+            "entries" => values.entries = count,
+            "objects" => values.objects = count,
+            "changes" => values.changes = count,
+            "keys" => values.keys = count,
+            "versions" => values.versions = count,
+            "page" => values.page = count,
+            _ => panic!(rt; "no limit"),
+        }
+    }
+    Limits::new(values).expect(rt, "limits")
+}

@@ -1,5 +1,5 @@
-//! Tests of the public calls of `sessions`, and of `room_watch`. Sessions run over memory, one by
-//! one and by workers. Their streams fail, or give and take little at a time.
+//! Tests of the public calls of `sessions`, `room_lock` and `room_watch`, of what no run of the
+//! program reaches: streams and keepers that fail at each call, a lock that is held, a lost pass.
 #![tactic(auto)]
 
 #[cfg(test)]

@@ -1,38 +1,18 @@
-//! Replicas: the worked rows, every order of a record, and pages.
+//! Replicas: rows of entries and pages with their answers, in small limits too.
 
-mod orders;
 mod rows;
 
-use self::rows::{EXAMPLES, LIMITED, PAGES};
+use self::rows::{CREATED, PUTS, ROWS, SHOWN};
+use super::limits_of;
 use base_types::OpName;
-use late_join::{FeedFault, Limits, Replica, TakeFault};
-use rules::{Entry, LimitValues};
+use late_join::{FeedFault, Replica, TakeFault};
+use rules::{Entry, Limits};
 use std::process::Abort;
 use wire::write_reply;
 use wire_reader::read_entry;
 
-/// Lines that a replica of these limits answers one after the other.
-pub struct Example {
-    pub name: &'static str,
-    pub limits: LimitValues,
-    /// The lines have five forms.
-    ///
-    /// - ENTRY => ANSWER: the answer is taken, repeat, early or the word of a refusal.
-    /// - page REPLY => ANSWER: a page is fed. The answer gives its place, its length and the
-    ///   record's length, or the place that was not taken and why.
-    /// - SITE SEQ => REPLY: the object of that name is shown.
-    /// - count => ENTRIES: how many entries were taken.
-    /// - objects => NAMES: the names of the objects.
-    pub parts: &'static [&'static str],
-}
-
-fn replica_of(rt: &(impl Abort + AllocGlobal), limits: LimitValues) -> Replica {
-    let limits = Limits::new(limits);
-    Replica::new(rt.alloc(), limits.expect(rt, "limits")).expect(rt, "memory")
-}
-
-fn entry_of(rt: &(impl Abort + AllocGlobal), text: &str) -> Entry {
-    read_entry(rt.alloc(), text.as_bytes()).expect(rt, "an entry")
+fn replica_of(rt: &(impl Abort + AllocGlobal), limits: Limits) -> Replica {
+    Replica::new(rt.alloc(), limits).expect(rt, "memory")
 }
 
 fn word_of(outcome: Result<(), TakeFault>) -> &'static str {
@@ -45,10 +25,10 @@ fn word_of(outcome: Result<(), TakeFault>) -> &'static str {
     }
 }
 
-fn shown(rt: &(impl Abort + AllocGlobal), replica: &Replica, site: u32, seq: u32) -> String {
-    let object = OpName::new(site, seq).expect(rt, "a name");
-    let reply = replica.show(rt.alloc(), object).expect(rt, "memory");
-    write_reply(rt.alloc(), &reply).expect(rt, "memory")
+/// What is answered to an entry.
+fn taken(rt: &(impl Abort + AllocGlobal), replica: &mut Replica, entry: &str) -> &'static str {
+    let entry = read_entry(rt.alloc(), entry.as_bytes()).expect(rt, "an entry");
+    word_of(replica.take(rt.alloc(), entry))
 }
 
 /// What is answered to a page.
@@ -73,17 +53,13 @@ fn names(rt: &(impl Abort + AllocGlobal), replica: &Replica) -> String {
     text
 }
 
-/// Does the replica show the object of this name so?
-fn shows(
-    rt: &(impl Abort + AllocGlobal),
-    replica: &Replica,
-    site: &str,
-    seq: &str,
-    expected: &str,
-) -> bool {
+/// What is shown of the object of this name.
+fn shown(rt: &(impl Abort + AllocGlobal), replica: &Replica, site: &str, seq: &str) -> String {
     let site = site.parse().expect(rt, "a site");
     let seq = seq.parse().expect(rt, "a number");
-    shown(rt, replica, site, seq).as_str() == expected
+    let object = OpName::new(site, seq).expect(rt, "a name");
+    let reply = replica.show(rt.alloc(), object).expect(rt, "memory");
+    write_reply(rt.alloc(), &reply).expect(rt, "memory")
 }
 
 /// Does the replica answer the line as the line says?
@@ -91,55 +67,48 @@ fn answers(rt: &(impl Abort + AllocGlobal), replica: &mut Replica, line: &str) -
     let (asked, expected) = line.split_once(" => ").expect(rt, "an arrow");
     match asked.split_once(' ') {
         Some(("page", page)) => fed(rt, replica, page).as_str() == expected,
-        Some((site, seq)) => shows(rt, replica, site, seq, expected),
+        Some((site, seq)) => shown(rt, replica, site, seq).as_str() == expected,
         None if asked == "count" => expected.parse() == Ok(replica.count_taken()),
         None if asked == "objects" => names(rt, replica).as_str() == expected,
-        None => word_of(replica.take(rt.alloc(), entry_of(rt, asked))) == expected,
+        None => taken(rt, replica, asked) == expected,
     }
 }
 
-fn holds(rt: &(impl Abort + AllocGlobal), example: &Example) -> bool {
-    let mut replica = replica_of(rt, example.limits);
-    for part in example.parts {
-        for line in part.lines() {
-            if !answers(rt, &mut replica, line) {
-                return false;
-            }
+/// The lines that a line stands for.
+fn lines_of(line: &str) -> &str {
+    match line {
+        "CREATED" => CREATED,
+        "PUTS" => PUTS,
+        "SHOWN" => SHOWN,
+        _ => line,
+    }
+}
+
+fn holds(rt: &(impl Abort + AllocGlobal), example: &str) {
+    let (head, lines) = example.split_once('\n').expect(rt, "lines");
+    let (_name, limits) = head.split_once(" | ").unwrap_or((head, ""));
+    let mut replica = replica_of(rt, limits_of(rt, limits));
+    for line in lines.lines() {
+        for line in lines_of(line).lines() {
+            assert!(rt; answers(rt, &mut replica, line), "{head}: {line}");
         }
     }
-    true
 }
 
 #[test]
 fn replicas_answer(rt: HostRuntime) {
-    for example in EXAMPLES {
-        assert!(rt; holds(&rt, example), "{}", example.name);
-    }
-}
-
-#[test]
-fn limits_are_kept(rt: HostRuntime) {
-    for example in LIMITED {
-        assert!(rt; holds(&rt, example), "{}", example.name);
-    }
-}
-
-#[test]
-fn pages_are_fed(rt: HostRuntime) {
-    for example in PAGES {
-        assert!(rt; holds(&rt, example), "{}", example.name);
+    for example in ROWS.split("\n\n") {
+        holds(&rt, example);
     }
 }
 
 // No text of an entry has such a site.
 #[test]
 fn sites_out_of_range(rt: HostRuntime) {
-    let mut replica = replica_of(&rt, LimitValues::FULL);
+    let mut replica = replica_of(&rt, Limits::full());
     for site in [0, 257, 4294967295] {
-        assert_eq!(rt;
-            word_of(replica.take(rt.alloc(), Entry::Join(site))),
-            "room-full"
-        );
+        let outcome = replica.take(rt.alloc(), Entry::Join(site));
+        assert_eq!(rt; word_of(outcome), "room-full");
     }
     assert_eq!(rt; replica.count_taken(), 0);
 }

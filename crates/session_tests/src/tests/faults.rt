@@ -4,7 +4,8 @@ use std::io;
 use std::io::{ErrorKind, Read, Write};
 use std::sync::atomic::{AtomicU64, Ordering};
 
-/// The reads, writes and flushes of a reader and a writer, counted together, of which one fails.
+/// What was done with a reader and a writer. Their reads, writes and flushes are counted together,
+/// and one of these calls fails.
 #[derive(Drop)]
 pub(super) struct Calls {
     made: AtomicU64,
@@ -12,9 +13,16 @@ pub(super) struct Calls {
     fails: u64,
     reads: AtomicU64,
     given: AtomicU64,
+    taken: AtomicU64,
+    /// How many writes took something else than was expected.
+    others: AtomicU64,
     flushes: AtomicU64,
     /// The writes since the last flush.
     unflushed: AtomicU64,
+}
+
+fn read(counter: &AtomicU64) -> usize {
+    usize::try_from(counter.load(Ordering::SeqCst)).unwrap_or(usize::MAX)
 }
 
 impl Calls {
@@ -25,28 +33,16 @@ impl Calls {
             fails,
             reads: AtomicU64::new(0),
             given: AtomicU64::new(0),
+            taken: AtomicU64::new(0),
+            others: AtomicU64::new(0),
             flushes: AtomicU64::new(0),
             unflushed: AtomicU64::new(0),
         }
     }
 
-    /// Counts a call, and tells whether it fails.
-    fn fails_now(&self) -> bool {
-        self.made.fetch_add(1, Ordering::SeqCst).wrapping_add(1) == self.fails
-    }
-
-    /// Counts a write or a flush, which may fail.
-    fn write(&self) -> io::Result<()> {
-        if self.fails_now() {
-            return Err(io::Error::from(ErrorKind::BrokenPipe));
-        }
-        Ok(())
-    }
-
-    /// Counts a read, which may fail.
-    fn read(&self) -> io::Result<()> {
-        self.reads.fetch_add(1, Ordering::SeqCst);
-        if self.fails_now() {
+    /// Counts a call, which may fail.
+    fn count(&self) -> io::Result<()> {
+        if self.made.fetch_add(1, Ordering::SeqCst).wrapping_add(1) == self.fails {
             return Err(io::Error::from(ErrorKind::ConnectionReset));
         }
         Ok(())
@@ -58,27 +54,35 @@ impl Calls {
     }
 
     /// How many reads there were, with one that failed.
-    pub(super) fn reads(&self) -> u64 {
-        self.reads.load(Ordering::SeqCst)
-    }
-
-    /// Returns whether there was one flush, and no write after it.
-    pub(super) fn end_with_the_only_flush(&self) -> bool {
-        self.flushes.load(Ordering::SeqCst) == 1 && self.unflushed.load(Ordering::SeqCst) == 0
+    pub(super) fn reads(&self) -> usize {
+        read(&self.reads)
     }
 
     /// How many parts were given whole.
     pub(super) fn given(&self) -> usize {
-        usize::try_from(self.given.load(Ordering::SeqCst)).unwrap_or(usize::MAX)
+        read(&self.given)
+    }
+
+    /// How many bytes were taken, or `None` if they are not those that were expected.
+    pub(super) fn taken(&self) -> Option<usize> {
+        match read(&self.others) {
+            0 => Some(read(&self.taken)),
+            _ => None,
+        }
+    }
+
+    /// Returns whether there was one flush, and no write after it.
+    pub(super) fn end_with_the_only_flush(&self) -> bool {
+        read(&self.flushes) == 1 && read(&self.unflushed) == 0
     }
 }
 
 /// A reader that gives a part at a read, where there is room for it.
 #[derive(Drop)]
 pub(super) struct Parts<'a> {
-    pub(super) part: &'a [u8],
-    pub(super) parts: &'a [Vec<u8>],
-    pub(super) calls: &'a Calls,
+    part: &'a [u8],
+    parts: &'a [Vec<u8>],
+    calls: &'a Calls,
 }
 
 impl<'a> Parts<'a> {
@@ -93,7 +97,8 @@ impl<'a> Parts<'a> {
 
 impl Read for Parts<'_> {
     fn read(&mut self, buf: &mut [u8]) -> io::Result<usize> {
-        self.calls.read()?;
+        self.calls.reads.fetch_add(1, Ordering::SeqCst);
+        self.calls.count()?;
         if self.part.is_empty()
             && let Some((first, others)) = self.parts.split_first()
         {
@@ -110,25 +115,36 @@ impl Read for Parts<'_> {
     }
 }
 
-/// A writer to another one, which takes at most so many bytes at a write.
+/// A writer that compares what it takes with what is expected. It takes at most so many bytes at a
+/// write.
 #[derive(Drop)]
-pub(super) struct Sparing<'a, W> {
-    pub(super) inner: W,
+pub(super) struct Expecting<'a> {
+    pub(super) expected: &'a [u8],
     pub(super) most: usize,
     pub(super) calls: &'a Calls,
 }
 
-impl<W: Write> Write for Sparing<'_, W> {
+impl Write for Expecting<'_> {
     fn write(&mut self, bytes: &[u8]) -> io::Result<usize> {
-        self.calls.write()?;
+        self.calls.count()?;
         self.calls.unflushed.fetch_add(1, Ordering::SeqCst);
-        self.inner.write(&bytes[..bytes.len().min(self.most)])
+        let taken = &bytes[..bytes.len().min(self.most)];
+        match self.expected.strip_prefix(taken) {
+            Some(rest) => self.expected = rest,
+            None => {
+                self.calls.others.fetch_add(1, Ordering::SeqCst);
+            }
+        }
+        self.calls
+            .taken
+            .fetch_add(taken.len() as u64, Ordering::SeqCst);
+        Ok(taken.len())
     }
 
     fn flush(&mut self) -> io::Result<()> {
-        self.calls.write()?;
+        self.calls.count()?;
         self.calls.flushes.fetch_add(1, Ordering::SeqCst);
         self.calls.unflushed.store(0, Ordering::SeqCst);
-        self.inner.flush()
+        Ok(())
     }
 }

@@ -1,342 +1,383 @@
-//! Sessions whose stream fails once, or gives and takes single bytes: `serve_one` and
-//! `serve_streams`.
+//! Sessions and records whose streams fail once, or give and take single bytes.
 
 ghost use Rattle.room_lock.specs.steps.Planned.{IsLedgerOf};
 
-use super::faults::{Calls, Parts, Sparing};
-use super::{
-    ANSWERED, ASKED, Counting, ENTRIES, FIRST, RECORD, answer_frames, arrival, asked_parts,
-    bytewise, copy_of, frames_of, plan_rooms, text_frame,
-};
+use super::faults::{Calls, Expecting, Parts};
+use super::{CLOSE, CLOSED, add_part, add_reply, add_request, bytewise, plan_rooms};
+use base_types::RoomName;
+use keeper::{KeepFault, Keeper};
 use log::sink::Locked;
 use log::{LevelFilter, Log, Logged};
-use room_lock::{NewRooms, RoomLedger, Rooms};
-use sessions::{Cause, Forgets, Host, ServeFault, serve_one, serve_streams};
+use room_lock::{NewRooms, Prefix, RoomLedger, Rooms};
+use sessions::{Arrival, Cause, Client, Observer, ServeFault, serve_streams};
+use std::alloc::Global;
+use std::io::{Read, Write};
 use std::marker::Brand;
 use std::process::Abort;
 use std::sync::Wait;
+use std::sync::atomic::{AtomicU64, Ordering};
 use std::thread::Threads;
 use tungstenite::Duplex;
 
-/// What came of a session, and of its room.
-#[derive(Drop)]
-struct Outcome {
-    cause: Cause,
-    /// How many calls the room has answered.
-    answered: usize,
-    entries: usize,
-    output: Vec<u8>,
+/// The head of a request that asks for a WebSocket, with the key of RFC 6455, section 1.3.
+const HEAD: &str =
+    "GET / HTTP/1.1\r\nHost: localhost\r\nUpgrade: websocket\r\nConnection: Upgrade\r\nSec-WebSocket-Key: dGhlIHNhbXBsZSBub25jZQ==\r\nSec-WebSocket-Version: 13\r\n\r\n";
+
+/// The head of the server's answer to it. RFC 6455, section 4.2.2, has the value of the last field.
+pub(super) const ACCEPTED: &str =
+    "HTTP/1.1 101 Switching Protocols\r\nconnection: Upgrade\r\nupgrade: websocket\r\nsec-websocket-accept: s3pPLMBiTxaQ9kYGzzhZRbK+xOo=\r\n\r\n";
+
+/// What a session asks.
+pub(super) const ASKED: &str = r#"["join","r"]
+["new",1,[],"rect",[["x",0]]]
+["put",2,[[1,1]],[1,1],[],[["x",5]]]
+["leave"]"#;
+
+/// What it is answered, where nobody else is in the room.
+pub(super) const ANSWERED: &str = r#"["joined",0,1]
+["made",1,[1,1]]
+["taken",2,[[]]]
+["left",3]"#;
+
+/// The lines of the room's record then.
+pub(super) const RECORD: &str = r#"["join",1]
+["new",[1,1],[],"rect",[["x",0]]]
+["put",[1,2],[[1,1]],[1,1],[],[["x",5]]]"#;
+
+/// How many of the replies come with an entry of the record.
+pub(super) const ENTRIES: usize = 3;
+
+/// Streams, and the number of workers that serve them.
+pub(super) struct Streams<S> {
+    pub(super) all: Vec<Arrival<S>>,
+    pub(super) workers: u32,
 }
 
-fn run_session_in<P: RoomLedger>(
-    rt: &(impl Wait + Abort + AllocGlobal),
-    planned: NewRooms,
-    parts: &[Vec<u8>],
+/// The stream of a session that sends these parts, and is to be answered so. It takes so many bytes
+/// at a write. No address is known.
+pub(super) fn stream<'a>(
+    parts: &'a [Vec<u8>],
+    expected: &'a [u8],
     most: usize,
-    calls: &Calls,
-) -> Outcome
-    requires { IsLedgerOf planned P.name P.parts P.limits P.books }
-{
-    let (rooms, _begun) = Rooms::<P>::new(rt, rt.alloc(), planned).expect(rt, "rooms");
-    let observer = Counting::new();
-    let mut output = Vec::new(rt.alloc());
-    let stream = Duplex {
-        reader: Parts::new(parts, calls),
-        writer: Sparing {
-            inner: &mut output,
-            most,
-            calls,
+    calls: &'a Calls,
+) -> Arrival<Duplex<Parts<'a>, Expecting<'a>>> {
+    Arrival {
+        stream: Duplex {
+            reader: Parts::new(parts, calls),
+            writer: Expecting {
+                expected,
+                most,
+                calls,
+            },
         },
-    };
-    let host = Host {
-        rt,
-        alloc: rt.alloc(),
-        rooms: &rooms,
-        observer: &observer,
-        keeper: &Forgets,
-    };
-    let cause = serve_one(&host, FIRST, stream);
-    let records = rooms.close(rt.alloc()).expect(rt, "all passes");
-    assert_eq!(rt; records.len(), 1);
-    Outcome {
-        cause,
-        answered: observer.count(),
-        entries: records[0].entries.len(),
-        output,
+        address: None,
     }
 }
 
-/// What comes of a session by a stream that takes so many bytes at a write. The room is `r`, and it
-/// is closed, so the session's pass was handed back.
-fn run_session(
-    rt: &(impl Wait + Abort + AllocGlobal),
+fn serve_in<P, R, S, W>(
+    rt: &R,
+    planned: NewRooms,
+    streams: Streams<S>,
+    told: &Told,
+    output: &mut W,
+) -> Result<(), ServeFault>
+where
+    P: RoomLedger + Send + Sync,
+    R: Threads + Wait + Log + Sync + Abort + AllocGlobal,
+    S: Read + Write + Drop + Send,
+    W: Write,
+    requires { IsLedgerOf planned P.name P.parts P.limits P.books }
+{
+    let (rooms, _begun) = Rooms::<P>::new(rt, rt.alloc(), planned).expect(rt, "rooms");
+    let Streams { all, workers } = streams;
+    serve_streams(
+        rt,
+        rt.alloc(),
+        rooms,
+        all.into_iter(),
+        workers,
+        told,
+        told,
+        output,
+    )
+}
+
+/// Serves the streams to the end, in the rooms `r` and `s`, and writes the records.
+pub(super) fn serve<R, S, W>(
+    rt: &R,
+    streams: Streams<S>,
+    told: &Told,
+    output: &mut W,
+) -> Result<(), ServeFault>
+where
+    R: Threads + Wait + Log + Sync + Abort + AllocGlobal,
+    S: Read + Write + Drop + Send,
+    W: Write,
+{
+    serve_in::<Brand, R, S, W>(rt, plan_rooms(rt, "r s"), streams, told, output)
+}
+
+/// An observer that counts the calls that rooms have answered, and a keeper that counts the replies
+/// that it is asked for.
+#[derive(Drop)]
+pub(super) struct Told {
+    answered: AtomicU64,
+    asked: AtomicU64,
+    /// The reply that is not kept, counted from 1, and why.
+    fails: Option<(u64, KeepFault)>,
+}
+
+impl Told {
+    pub(super) fn new(fails: Option<(u64, KeepFault)>) -> Told {
+        Told {
+            answered: AtomicU64::new(0),
+            asked: AtomicU64::new(0),
+            fails,
+        }
+    }
+
+    fn answered(&self) -> usize {
+        usize::try_from(self.answered.load(Ordering::SeqCst)).unwrap_or(usize::MAX)
+    }
+
+    /// How many replies were to be kept.
+    pub(super) fn asked(&self) -> u64 {
+        self.asked.load(Ordering::SeqCst)
+    }
+}
+
+impl Observer for Told {
+    fn before_call(&self, _session: u32) {}
+
+    fn after_call(&self, _session: u32) {
+        self.answered.fetch_add(1, Ordering::SeqCst);
+    }
+
+    fn after_session(&self, _client: &Client, _room: Option<&RoomName>, _cause: Cause) {}
+}
+
+impl<P: RoomLedger> Keeper<P> for Told {
+    type Receipt = ();
+
+    ghost shows = { λ _ told. Unit {0} };
+
+    fn keep(
+        &self,
+        _rt: &impl Wait,
+        _alloc: Global,
+        _rooms: &Rooms<P>,
+        _told: &Prefix<P>,
+    ) -> Result<(), KeepFault> {
+        let asked = self.asked.fetch_add(1, Ordering::SeqCst).wrapping_add(1);
+        match self.fails {
+            Some((number, fault)) if number == asked => Err(fault),
+            _ => Ok(()),
+        }
+    }
+}
+
+/// What a session sends: the head of its request, then a frame for each line, then a close.
+pub(super) fn asked_parts(rt: &(impl Abort + AllocGlobal), lines: &str) -> Vec<Vec<u8>> {
+    let mut parts = Vec::new(rt.alloc());
+    add_part(rt, &mut parts, HEAD.as_bytes());
+    for words in lines.lines() {
+        let mut frame = Vec::new(rt.alloc());
+        add_request(rt, &mut frame, words);
+        parts.push(frame).expect(rt, "memory");
+    }
+    add_part(rt, &mut parts, CLOSE);
+    parts
+}
+
+/// What the server sends: the head of its answer, a frame for each line, and a close.
+pub(super) fn answer_bytes(rt: &(impl Abort + AllocGlobal), lines: &str, close: &[u8]) -> Vec<u8> {
+    let head = ACCEPTED.as_bytes().to_vec(rt.alloc());
+    let mut bytes = head.expect(rt, "memory");
+    for words in lines.lines() {
+        add_reply(rt, &mut bytes, words);
+    }
+    bytes.extend_from_slice(close).expect(rt, "memory");
+    bytes
+}
+
+/// The record of room `r` with so many of the entries, and that of `s`, whose entries are these.
+pub(super) fn records_of(rt: &(impl Abort + AllocGlobal), entries: usize, others: &str) -> String {
+    let mut lines = format!(in rt.alloc(); "room r {entries}\n").expect(rt, "memory");
+    for line in RECORD.lines().take(entries) {
+        writeln!(lines, "{line}").expect(rt, "memory");
+    }
+    let count = others.lines().count();
+    write!(lines, "room s {count}\n{others}").expect(rt, "memory");
+    lines
+}
+
+/// What came of serving one stream.
+#[derive(Drop)]
+struct Served {
+    /// How many calls the rooms have answered.
+    answered: usize,
+    records: Vec<u8>,
+    warnings: Vec<u8>,
+}
+
+/// What comes of a session that sends these parts, over a stream that takes so many bytes at a
+/// write.
+fn serve_alone<R: Threads + Wait + Sync + Abort + AllocGlobal>(
+    rt: &R,
     parts: &[Vec<u8>],
     most: usize,
     calls: &Calls,
-) -> Outcome {
-    run_session_in::<Brand>(rt, plan_rooms(rt, &["r"]), parts, most, calls)
+) -> Served {
+    let sink = Locked::new(rt, Vec::new(rt.alloc()));
+    let logged = Logged::new(rt, LevelFilter::Warn, &sink);
+    let expected = answer_bytes(rt, ANSWERED, CLOSED);
+    let mut all = Vec::new(rt.alloc());
+    all.push(stream(parts, &expected, most, calls))
+        .expect(rt, "memory");
+    let told = Told::new(None);
+    let mut records = Vec::new(rt.alloc());
+    let end = serve(&logged, Streams { all, workers: 1 }, &told, &mut records);
+    assert!(rt; end.is_ok());
+    Served {
+        answered: told.answered(),
+        records,
+        warnings: sink.into_inner(),
+    }
 }
 
-/// Did the session end well, with all that it was to be answered?
-fn is_whole(rt: &(impl Abort + AllocGlobal), outcome: &Outcome) -> bool {
-    outcome.cause == Cause::Closed
-        && outcome.entries == ENTRIES
-        && frames_of(&outcome.output) == answer_frames(rt).as_slice()
-}
-
-/// How many replies that come with an entry were sent whole.
-fn entries_told(rt: &(impl Abort + AllocGlobal), output: &[u8]) -> usize {
-    let mut rest = frames_of(output);
+/// How many replies that come with an entry were sent whole, of so many bytes that were sent.
+fn entries_told(sent: usize) -> usize {
+    let mut end = ACCEPTED.len();
     let mut told: usize = 0;
     for words in ANSWERED.lines().take(ENTRIES) {
-        match rest.strip_prefix(text_frame(rt, words).as_slice()) {
-            Some(others) => rest = others,
-            None => return told,
+        end = end.saturating_add(words.len()).saturating_add(2);
+        if end <= sent {
+            told = told.saturating_add(1);
         }
-        told = told.saturating_add(1);
     }
     told
 }
 
-/// Checks a session whose stream has failed: why it ended, and the room's record. The room has an
-/// entry for each call that added one, whether or not its reply was sent.
-fn look_at(rt: &(impl Abort + AllocGlobal), run: &Outcome, calls: &Calls, fails: u64) {
-    // The head of the request is one part, each message another, the close the last.
-    let asked = calls.given().saturating_sub(1);
+/// Is this the warning about a session that failed after it asked so much? There is none if it
+/// closed.
+fn is_warning(warnings: &[u8], calls: &Calls, asked: usize) -> bool {
     if calls.reads() < 2 {
-        assert_eq!(rt; run.cause, Cause::HandshakeFailed, "call {fails}");
-    } else if asked <= ANSWERED.lines().count() {
-        assert_eq!(rt; run.cause, Cause::StreamFault, "call {fails}");
-    } else {
-        let ended = matches!(run.cause, Cause::StreamFault | Cause::Closed);
-        assert!(rt; ended, "call {fails}");
+        return warnings.ends_with("session 1: handshake failed\n".as_bytes());
     }
-    assert!(rt; run.answered <= asked, "call {fails}");
-    assert_eq!(rt; run.entries, run.answered.min(ENTRIES), "call {fails}");
-    assert!(rt;
-        run.entries >= entries_told(rt, &run.output),
-        "call {fails}"
-    );
+    let is_closed = asked > ANSWERED.lines().count() && warnings.is_empty();
+    is_closed || warnings.ends_with(": stream fault\n".as_bytes())
 }
 
-/// Looks at a session whose stream fails at this call; false where there is no such call.
-fn fails_at(
-    rt: &(impl Wait + Abort + AllocGlobal),
-    parts: &[Vec<u8>],
-    whole: &[u8],
-    fails: u64,
-) -> bool {
-    let calls = Calls::failing(fails);
-    let run = run_session(rt, parts, usize::MAX, &calls);
-    if !calls.have_failed() {
-        return false;
-    }
-    look_at(rt, &run, &calls, fails);
-    assert!(rt; whole.starts_with(&run.output), "call {fails}");
-    true
+/// Looks at a session whose stream has failed: its warning, what it was sent, and the room's record.
+/// The room has an entry for each call that added one, whether or not its reply was sent.
+fn look_at(rt: &(impl Abort + AllocGlobal), run: &Served, calls: &Calls, fails: u64) {
+    // The head of the request is one part, each message another, the close the last.
+    let asked = calls.given().saturating_sub(1);
+    assert!(rt; is_warning(&run.warnings, calls, asked), "call {fails}");
+    assert!(rt; run.answered <= asked, "call {fails}");
+    let entries = run.answered.min(ENTRIES);
+    let records = records_of(rt, entries, "");
+    assert_eq!(rt; run.records.as_slice(), records.as_bytes(), "call {fails}");
+    let sent = calls.taken().expect(rt, "the replies");
+    assert!(rt; entries >= entries_told(sent), "call {fails}");
 }
 
 #[test]
 fn a_session_fails_at_each_call(rt: HostRuntime) {
     let parts = asked_parts(&rt, ASKED);
-    let whole = run_session(&rt, &parts, usize::MAX, &Calls::failing(0));
-    assert!(rt; is_whole(&rt, &whole));
     let mut failed = 0;
     for fails in 1..1_000 {
-        if !fails_at(&rt, &parts, &whole.output, fails) {
+        let calls = Calls::failing(fails);
+        let run = serve_alone(&rt, &parts, usize::MAX, &calls);
+        if !calls.have_failed() {
+            assert!(rt; is_whole(&rt, &run, &calls));
             break;
         }
+        look_at(&rt, &run, &calls, fails);
         failed = fails;
     }
     // The head, four messages and a close are read, and each is answered by a write and a flush.
     assert!(rt; failed >= 18);
 }
 
+/// Did the session end well, with all that it was to be answered?
+fn is_whole(rt: &(impl Abort + AllocGlobal), run: &Served, calls: &Calls) -> bool {
+    let sent = answer_bytes(rt, ANSWERED, CLOSED).len();
+    run.warnings.is_empty()
+        && run.records.as_slice() == records_of(rt, ENTRIES, "").as_bytes()
+        && calls.taken() == Some(sent)
+}
+
 /// A head that comes in single bytes is not answered; behind one that comes whole, single bytes
 /// are.
 #[test]
 fn a_session_in_single_bytes(rt: HostRuntime) {
-    let parts = bytewise(&rt, &asked_parts(&rt, ASKED), 0);
-    let run = run_session(&rt, &parts, 1, &Calls::failing(0));
-    assert_eq!(rt; run.cause, Cause::HandshakeFailed);
-    assert!(rt; run.entries == 0 && run.output.is_empty());
-    let parts = bytewise(&rt, &asked_parts(&rt, ASKED), 1);
-    let run = run_session(&rt, &parts, 1, &Calls::failing(0));
-    assert!(rt; is_whole(&rt, &run));
-}
-
-/// What came of serving one stream to the end and writing the record.
-#[derive(Drop)]
-struct Served {
-    end: Result<(), ServeFault>,
-    /// How many calls the room has answered.
-    answered: usize,
-    output: Vec<u8>,
-}
-
-fn run_streams_in<
-    P: RoomLedger + Send + Sync,
-    R: Threads + Wait + Log + Sync + Abort + AllocGlobal,
->(
-    rt: &R,
-    planned: NewRooms,
-    parts: &[Vec<u8>],
-    most: usize,
-    stream_calls: &Calls,
-    output_calls: &Calls,
-) -> Served
-    requires { IsLedgerOf planned P.name P.parts P.limits P.books }
-{
-    let (rooms, _begun) = Rooms::<P>::new(rt, rt.alloc(), planned).expect(rt, "rooms");
-    let observer = Counting::new();
-    let stream = Duplex {
-        reader: Parts::new(parts, stream_calls),
-        writer: Sparing {
-            inner: Vec::new(rt.alloc()),
-            most,
-            calls: stream_calls,
-        },
-    };
-    let mut streams = Vec::new(rt.alloc());
-    streams.push(arrival(stream)).expect(rt, "memory");
-    let streams = streams.into_iter();
-    let mut output = Vec::new(rt.alloc());
-    let mut writer = Sparing {
-        inner: &mut output,
-        most,
-        calls: output_calls,
-    };
-    let end = serve_streams(
-        rt,
-        rt.alloc(),
-        rooms,
-        streams,
-        1,
-        &observer,
-        &Forgets,
-        &mut writer,
-    );
-    Served {
-        end,
-        answered: observer.count(),
-        output,
-    }
-}
-
-/// What comes of serving a stream and writing the record, which take so many bytes at a write.
-fn run_streams<R: Threads + Wait + Log + Sync + Abort + AllocGlobal>(
-    rt: &R,
-    parts: &[Vec<u8>],
-    most: usize,
-    stream_calls: &Calls,
-    output_calls: &Calls,
-) -> Served {
-    let planned = plan_rooms(rt, &["r"]);
-    run_streams_in::<Brand, R>(rt, planned, parts, most, stream_calls, output_calls)
-}
-
-/// The lines that tell a record of so many of the entries.
-fn record_of(rt: &(impl Abort + AllocGlobal), entries: usize) -> String {
-    let mut lines = format!(in rt.alloc(); "room r {entries}\n").expect(rt, "memory");
-    for line in RECORD.lines().take(entries) {
-        writeln!(lines, "{line}").expect(rt, "memory");
-    }
-    lines
-}
-
-/// Looks at the record after a session whose stream fails at this call; false where there is no
-/// such call.
-fn tells_after<R: Threads + Wait + Log + Sync + Abort + AllocGlobal>(
-    rt: &R,
-    parts: &[Vec<u8>],
-    fails: u64,
-) -> bool {
-    let calls = Calls::failing(fails);
-    let run = run_streams(rt, parts, usize::MAX, &calls, &Calls::failing(0));
-    let record = record_of(rt, run.answered.min(ENTRIES));
-    assert!(rt; run.end.is_ok(), "call {fails}");
-    assert_eq!(rt; run.output.as_slice(), record.as_bytes(), "call {fails}");
-    assert!(rt; run.answered < calls.given().max(1), "call {fails}");
-    calls.have_failed()
-}
-
-#[test]
-fn records_after_a_stream_that_fails_at_each_call(rt: HostRuntime) {
-    let sink = Locked::new(rt, Vec::new(rt.alloc()));
-    let logged = Logged::new(rt, LevelFilter::Warn, &sink);
-    let parts = asked_parts(&rt, ASKED);
-    let mut failed = 0;
-    for fails in 1..1_000 {
-        if !tells_after(&logged, &parts, fails) {
-            break;
-        }
-        failed = fails;
-    }
-    assert!(rt; failed >= 18);
-    // Each of these sessions was warned of in a line, and the last one was not.
-    let warnings = sink.into_inner();
-    let lines = warnings.iter().filter(|byte| **byte == b'\n').count();
-    assert_eq!(rt; lines as u64, failed);
-}
-
-#[test]
-fn a_session_that_fails_is_warned_of(rt: HostRuntime) {
-    let sink = Locked::new(rt, Vec::new(rt.alloc()));
-    let logged = Logged::new(rt, LevelFilter::Warn, &sink);
-    let mut parts = Vec::new(rt.alloc());
-    parts
-        .push(copy_of(&rt, "GET / HTTP/1.1\r\n\r\n".as_bytes()))
-        .expect(&rt, "memory");
+    let asked = asked_parts(&rt, ASKED);
     let calls = Calls::failing(0);
-    let run = run_streams(&logged, &parts, usize::MAX, &calls, &calls);
-    assert!(rt; run.end.is_ok());
-    assert_eq!(rt; run.output.as_slice(), "room r 0\n".as_bytes());
-    assert_eq!(rt;
-        sink.into_inner().as_slice(),
-        "[WARN  sessions::warning_observer] session 1: handshake failed\n".as_bytes()
+    let run = serve_alone(&rt, &bytewise(&rt, &asked, 0), 1, &calls);
+    assert!(rt;
+        run.warnings
+            .ends_with("session 1: handshake failed\n".as_bytes())
     );
+    assert!(rt; run.answered == 0 && calls.taken() == Some(0));
+    let calls = Calls::failing(0);
+    let run = serve_alone(&rt, &bytewise(&rt, &asked, 1), 1, &calls);
+    assert!(rt; is_whole(&rt, &run, &calls));
 }
 
-/// Looks at what is written to an output that fails at this call; false where there is no such
-/// call.
-fn tells_front<R: Threads + Wait + Log + Sync + Abort + AllocGlobal>(
+/// Serves a session, and writes the records by these calls and so many bytes at a write. Returns
+/// how it ended.
+fn write_records<R: Threads + Wait + Log + Sync + Abort + AllocGlobal>(
     rt: &R,
-    parts: &[Vec<u8>],
-    whole: &[u8],
-    fails: u64,
-) -> bool {
-    let calls = Calls::failing(fails);
-    let run = run_streams(rt, parts, usize::MAX, &Calls::failing(0), &calls);
-    if !calls.have_failed() {
-        assert!(rt; run.end.is_ok());
-        assert_eq!(rt; run.output.as_slice(), whole);
-        assert!(rt; calls.end_with_the_only_flush());
-        return false;
-    }
-    assert_eq!(rt; run.end.err(), Some(ServeFault::Write), "call {fails}");
-    assert!(rt; whole.starts_with(&run.output), "call {fails}");
-    true
+    workers: u32,
+    most: usize,
+    calls: &Calls,
+) -> Result<(), ServeFault> {
+    let parts = asked_parts(rt, ASKED);
+    let replies = answer_bytes(rt, ANSWERED, CLOSED);
+    let stream_calls = Calls::failing(0);
+    let mut all = Vec::new(rt.alloc());
+    all.push(stream(&parts, &replies, usize::MAX, &stream_calls))
+        .expect(rt, "memory");
+    let records = records_of(rt, ENTRIES, "");
+    let mut output = Expecting {
+        expected: records.as_bytes(),
+        most,
+        calls,
+    };
+    serve(rt, Streams { all, workers }, &Told::new(None), &mut output)
 }
 
 #[test]
 fn records_on_an_output_that_fails_at_each_call(rt: HostRuntime) {
-    let parts = asked_parts(&rt, ASKED);
-    let whole = record_of(&rt, ENTRIES);
+    let whole = Some(records_of(&rt, ENTRIES, "").len());
     let mut failed = 0;
     for fails in 1..1_000 {
-        if !tells_front(&rt, &parts, whole.as_bytes(), fails) {
+        let calls = Calls::failing(fails);
+        let end = write_records(&rt, 1, usize::MAX, &calls);
+        if !calls.have_failed() {
+            assert!(rt; end.is_ok() && calls.taken() == whole);
+            assert!(rt; calls.end_with_the_only_flush());
             break;
         }
+        assert_eq!(rt; end.err(), Some(ServeFault::Write), "call {fails}");
+        assert!(rt; calls.taken().is_some(), "call {fails}");
         failed = fails;
     }
-    // A line for the room and for each entry is written, and they are flushed once.
-    assert_eq!(rt; failed, 5);
+    // A line for each room and for each entry is written, and they are flushed once.
+    assert_eq!(rt; failed, 6);
 }
 
 #[test]
 fn records_in_single_bytes(rt: HostRuntime) {
-    let parts = bytewise(&rt, &asked_parts(&rt, ASKED), 1);
-    let run = run_streams(&rt, &parts, 1, &Calls::failing(0), &Calls::failing(0));
-    assert!(rt; run.end.is_ok());
-    assert_eq!(rt; run.output.as_slice(), record_of(&rt, ENTRIES).as_bytes());
+    let calls = Calls::failing(0);
+    assert!(rt; write_records(&rt, 1, 1, &calls).is_ok());
+    assert_eq!(rt; calls.taken(), Some(records_of(&rt, ENTRIES, "").len()));
+}
+
+#[test]
+fn no_worker(rt: HostRuntime) {
+    let calls = Calls::failing(0);
+    let end = write_records(&rt, 0, 1, &calls);
+    assert_eq!(rt; end.err(), Some(ServeFault::NoWorker));
 }

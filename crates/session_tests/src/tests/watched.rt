@@ -1,8 +1,8 @@
 //! `watch_over` against the bytes of a server, over a stream and to an output that fail once, or
-//! give and take single bytes.
+//! take single bytes.
 
-use super::faults::{Calls, Parts, Sparing};
-use super::{CLOSE, CLOSED, bytewise, copy_of, frames_of, masked_frame, room_name, text_frame};
+use super::faults::{Calls, Expecting, Parts};
+use super::{CLOSE, CLOSED, add_part, add_reply, add_request, room_name};
 use room_watch::{WatchFault, watch_over};
 use std::io;
 use std::process::Abort;
@@ -19,7 +19,11 @@ impl RandomSource for Zeros {
     }
 }
 
-/// The server's head for that key, by RFC 6455, section 4.2.2.
+/// The client's head with that key.
+const HEAD: &str =
+    "GET / HTTP/1.1\r\nHost: localhost\r\nConnection: Upgrade\r\nUpgrade: websocket\r\nSec-WebSocket-Version: 13\r\nSec-WebSocket-Key: AAAAAAAAAAAAAAAAAAAAAA==\r\n\r\n";
+
+/// The server's head for it, by RFC 6455, section 4.2.2.
 const ACCEPTED: &str =
     "HTTP/1.1 101 Switching Protocols\r\nUpgrade: websocket\r\nConnection: Upgrade\r\nSec-WebSocket-Accept: ICX+Yqv66kxgM0FcWaLWlFLwTAI=\r\n\r\n";
 
@@ -37,119 +41,103 @@ const ANSWERED: &str = r#"["no",2,20,"site-in-use"]
 ["entries",3,0,[["join",1],["new",[1,1],[],"rect",[["x",0]]],["join",2]]]
 ["left",3]"#;
 
-/// What it asks where the second site isn't in.
-const ASKED_BACK: &str = r#"["back","r",1]
-["back","r",2]
-["pull",0]
-["leave"]"#;
-
-/// What it is answered then in that room, when a second site has joined and left.
-const ANSWERED_BACK: &str = r#"["no",3,20,"site-in-use"]
-["back",3,2,0]
-["entries",3,0,[["join",1],["new",[1,1],[],"rect",[["x",0]]],["join",2]]]
-["left",3]"#;
-
 /// What it writes then.
 const SHOWN: &str = "[\"versions\",3,[1,1],\"rect\",[[[],[[\"x\",0]]]]]\n";
 
 /// What the server sends: the head of its response, a frame for each reply, and a close.
-fn answer_parts(rt: &(impl Abort + AllocGlobal), answered: &str) -> Vec<Vec<u8>> {
+fn answer_parts(rt: &(impl Abort + AllocGlobal)) -> Vec<Vec<u8>> {
     let mut parts = Vec::new(rt.alloc());
-    parts
-        .push(copy_of(rt, ACCEPTED.as_bytes()))
-        .expect(rt, "memory");
-    for words in answered.lines() {
-        parts.push(text_frame(rt, words)).expect(rt, "memory");
+    add_part(rt, &mut parts, ACCEPTED.as_bytes());
+    for words in ANSWERED.lines() {
+        let mut frame = Vec::new(rt.alloc());
+        add_reply(rt, &mut frame, words);
+        parts.push(frame).expect(rt, "memory");
     }
-    parts.push(copy_of(rt, CLOSED)).expect(rt, "memory");
+    add_part(rt, &mut parts, CLOSED);
     parts
 }
 
-/// The frames of these requests.
-fn request_frames(rt: &(impl Abort + AllocGlobal), asked: &str) -> Vec<u8> {
-    let mut frames = Vec::new(rt.alloc());
-    for words in asked.lines() {
-        frames
-            .extend_from_slice(&masked_frame(rt, 1, words))
-            .expect(rt, "memory");
+/// What the client sends: its head, a frame for each request, and a close.
+fn asked_bytes(rt: &(impl Abort + AllocGlobal)) -> Vec<u8> {
+    let mut bytes = HEAD.as_bytes().to_vec(rt.alloc()).expect(rt, "memory");
+    for words in ASKED.lines() {
+        add_request(rt, &mut bytes, words);
     }
-    frames
-}
-
-/// The frames that who watches sends where all goes well.
-fn asked_frames(rt: &(impl Abort + AllocGlobal), asked: &str) -> Vec<u8> {
-    let mut frames = request_frames(rt, asked);
-    frames.extend_from_slice(CLOSE).expect(rt, "memory");
-    frames
-}
-
-/// How watching ended, what was sent, and what was written.
-#[derive(Drop)]
-struct Watched {
-    end: Result<(), WatchFault>,
-    sent: Vec<u8>,
-    output: Vec<u8>,
+    bytes.extend_from_slice(CLOSE).expect(rt, "memory");
+    bytes
 }
 
 /// Watches over a stream and to an output that take so many bytes at a write.
 fn watch(
     rt: &(impl Abort + AllocGlobal),
-    parts: &[Vec<u8>],
     most: usize,
     stream_calls: &Calls,
     output_calls: &Calls,
-) -> Watched {
-    let (mut sent, mut output) = (Vec::new(rt.alloc()), Vec::new(rt.alloc()));
+) -> Result<(), WatchFault> {
+    let (parts, asked) = (answer_parts(rt), asked_bytes(rt));
     let stream = Duplex {
-        reader: Parts::new(parts, stream_calls),
-        writer: Sparing {
-            inner: &mut sent,
+        reader: Parts::new(&parts, stream_calls),
+        writer: Expecting {
+            expected: &asked,
             most,
             calls: stream_calls,
         },
     };
-    let mut writer = Sparing {
-        inner: &mut output,
+    let mut writer = Expecting {
+        expected: SHOWN.as_bytes(),
         most,
         calls: output_calls,
     };
     let name = room_name(rt, "r");
-    let end = watch_over(&Zeros, rt.alloc(), stream, &name, &mut writer);
-    Watched { end, sent, output }
+    watch_over(&Zeros, rt.alloc(), stream, &name, &mut writer)
 }
 
-/// Did it end well, with all that was to be sent and written?
-fn is_whole(rt: &(impl Abort + AllocGlobal), watched: &Watched, asked: &str) -> bool {
-    watched.end.is_ok()
-        && watched.output.as_slice() == SHOWN.as_bytes()
-        && frames_of(&watched.sent) == asked_frames(rt, asked).as_slice()
+/// Was all sent and written that was to be?
+fn is_whole(
+    rt: &(impl Abort + AllocGlobal),
+    end: Result<(), WatchFault>,
+    stream: &Calls,
+    output: &Calls,
+) -> bool {
+    end.is_ok()
+        && stream.taken() == Some(asked_bytes(rt).len())
+        && output.taken() == Some(SHOWN.len())
 }
 
-/// Looks at watching over a stream that fails at this call; false where there is no such call.
-fn fails_at(rt: &(impl Abort + AllocGlobal), parts: &[Vec<u8>], fails: u64) -> bool {
-    let calls = Calls::failing(fails);
-    let run = watch(rt, parts, usize::MAX, &calls, &Calls::failing(0));
-    if !calls.have_failed() {
-        assert!(rt; is_whole(rt, &run, ASKED));
+/// Watches over a stream that fails at this call. Returns whether there is such a call.
+fn stream_fails_at(rt: &(impl Abort + AllocGlobal), fails: u64) -> bool {
+    let (stream, output) = (Calls::failing(fails), Calls::failing(0));
+    let end = watch(rt, usize::MAX, &stream, &output);
+    if !stream.have_failed() {
+        assert!(rt; is_whole(rt, end, &stream, &output));
         return false;
     }
-    assert_eq!(rt; run.end.err(), Some(WatchFault::Session), "call {fails}");
-    assert!(rt;
-        asked_frames(rt, ASKED).starts_with(frames_of(&run.sent)),
-        "call {fails}"
-    );
+    assert_eq!(rt; end.err(), Some(WatchFault::Session), "call {fails}");
+    assert!(rt; stream.taken().is_some(), "call {fails}");
     // The page is the fifth part: before it nothing is shown, and from then on all.
-    let shown = if calls.given() < 5 { "" } else { SHOWN };
-    assert_eq!(rt; run.output.as_slice(), shown.as_bytes(), "call {fails}");
+    let shown = if stream.given() < 5 { 0 } else { SHOWN.len() };
+    assert_eq!(rt; output.taken(), Some(shown), "call {fails}");
+    true
+}
+
+/// Watches to an output that fails at this call. Returns whether there is such a call.
+fn output_fails_at(rt: &(impl Abort + AllocGlobal), fails: u64) -> bool {
+    let (stream, output) = (Calls::failing(0), Calls::failing(fails));
+    let end = watch(rt, usize::MAX, &stream, &output);
+    if !output.have_failed() {
+        assert!(rt; is_whole(rt, end, &stream, &output));
+        return false;
+    }
+    assert_eq!(rt; end.err(), Some(WatchFault::Write), "call {fails}");
+    assert!(rt; output.taken().is_some(), "call {fails}");
     true
 }
 
 #[test]
 fn watching_fails_at_each_call_of_the_stream(rt: HostRuntime) {
-    let parts = answer_parts(&rt, ANSWERED);
     let mut failed = 0;
     for fails in 1..1_000 {
-        if !fails_at(&rt, &parts, fails) {
+        if !stream_fails_at(&rt, fails) {
             break;
         }
         failed = fails;
@@ -158,25 +146,11 @@ fn watching_fails_at_each_call_of_the_stream(rt: HostRuntime) {
     assert!(rt; failed >= 21);
 }
 
-/// Looks at watching to an output that fails at this call; false where there is no such call.
-fn output_fails_at(rt: &(impl Abort + AllocGlobal), parts: &[Vec<u8>], fails: u64) -> bool {
-    let calls = Calls::failing(fails);
-    let run = watch(rt, parts, usize::MAX, &Calls::failing(0), &calls);
-    if !calls.have_failed() {
-        assert!(rt; is_whole(rt, &run, ASKED));
-        return false;
-    }
-    assert_eq!(rt; run.end.err(), Some(WatchFault::Write), "call {fails}");
-    assert!(rt; SHOWN.as_bytes().starts_with(&run.output), "call {fails}");
-    true
-}
-
 #[test]
 fn watching_fails_at_each_call_of_the_output(rt: HostRuntime) {
-    let parts = answer_parts(&rt, ANSWERED);
     let mut failed = 0;
     for fails in 1..1_000 {
-        if !output_fails_at(&rt, &parts, fails) {
+        if !output_fails_at(&rt, fails) {
             break;
         }
         failed = fails;
@@ -187,62 +161,7 @@ fn watching_fails_at_each_call_of_the_output(rt: HostRuntime) {
 
 #[test]
 fn watching_in_single_bytes(rt: HostRuntime) {
-    let parts = bytewise(&rt, &answer_parts(&rt, ANSWERED), 1);
-    let run = watch(&rt, &parts, 1, &Calls::failing(0), &Calls::failing(0));
-    assert!(rt; is_whole(&rt, &run, ASKED));
-}
-
-/// Watches over a stream that nothing fails.
-fn watch_well(rt: &(impl Abort + AllocGlobal), answered: &str) -> Watched {
-    let parts = answer_parts(rt, answered);
-    watch(
-        rt,
-        &parts,
-        usize::MAX,
-        &Calls::failing(0),
-        &Calls::failing(0),
-    )
-}
-
-#[test]
-fn watching_as_a_site_that_left(rt: HostRuntime) {
-    let run = watch_well(&rt, ANSWERED_BACK);
-    assert!(rt; is_whole(&rt, &run, ASKED_BACK));
-}
-
-#[test]
-fn no_room_is_watched_that_is_not_there(rt: HostRuntime) {
-    let run = watch_well(&rt, r#"["no",0,4,"no-such-room"]"#);
-    assert_eq!(rt; run.end.err(), Some(WatchFault::Session));
-    assert!(rt; run.output.is_empty());
-    let frames = request_frames(&rt, r#"["back","r",1]"#);
-    assert_eq!(rt; frames_of(&run.sent), frames.as_slice());
-}
-
-/// What it asks in a full room that nobody has left.
-fn asked_in_vain(rt: &(impl Abort + AllocGlobal)) -> String {
-    let mut asked = String::new(rt.alloc());
-    for site in 1..=256 {
-        let line = format!(in rt.alloc(); "[\"back\",\"r\",{site}]\n").expect(rt, "memory");
-        asked.push_str(&line).expect(rt, "memory");
-    }
-    asked.push_str(r#"["join","r"]"#).expect(rt, "memory");
-    asked
-}
-
-#[test]
-fn each_site_is_asked_for_once(rt: HostRuntime) {
-    let mut answered = String::new(rt.alloc());
-    for _site in 1..=256 {
-        answered
-            .push_str("[\"no\",256,20,\"site-in-use\"]\n")
-            .expect(&rt, "memory");
-    }
-    answered
-        .push_str(r#"["no",256,5,"room-full"]"#)
-        .expect(&rt, "memory");
-    let run = watch_well(&rt, &answered);
-    assert_eq!(rt; run.end.err(), Some(WatchFault::Session));
-    let frames = request_frames(&rt, &asked_in_vain(&rt));
-    assert_eq!(rt; frames_of(&run.sent), frames.as_slice());
+    let (stream, output) = (Calls::failing(0), Calls::failing(0));
+    let end = watch(&rt, 1, &stream, &output);
+    assert!(rt; is_whole(&rt, end, &stream, &output));
 }

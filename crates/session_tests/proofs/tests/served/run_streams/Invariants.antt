@@ -1,8 +1,0 @@
-use Rattle.session_tests.proofs.tests.served.run_streams.Given as goal
-
--- the ledger is that of the planned rooms
-abbrev pub ghosts-run_streams_in-P-Ledger : goal.ghosts-run_streams_in-P-Ledger
-ghosts-run_streams_in-P-Ledger g a = record { name = a.planned.name; parts = a.planned.parts }
-
-abbrev pub ghosts-run_streams_in-P-RoomLedger : goal.ghosts-run_streams_in-P-RoomLedger
-ghosts-run_streams_in-P-RoomLedger g a = record { limits = a.planned.limits; books = a.planned.books }

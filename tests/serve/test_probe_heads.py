@@ -1,0 +1,83 @@
+"""The heads of probes, and heads that differ from them in one place."""
+
+import socket
+
+from lib.serving import CheckFailed, Server, expect_equal
+from lib.websocket_client import SECONDS
+
+ANSWER = (
+    b"HTTP/1.1 200 OK\r\nContent-Type: text/plain\r\nContent-Length: 3\r\nCache-Control: no-store\r\n"
+    b"Connection: close\r\n\r\nok\n"
+)
+PROBES = [
+    b"GET /health HTTP/1.1\r\n\r\n",
+    b"GET /health HTTP/1.1\r\nHost: localhost:7000\r\nUser-Agent: curl/8.5.0\r\nAccept: */*\r\n\r\n",
+    b"GET /health HTTP/1.0\r\n\r\n",
+    b"GET /health HTTP/1.1\r\nX-Upgrade: websocket\r\n\r\n",
+]
+OTHERS = [
+    b"GET /healthy HTTP/1.1\r\n\r\n",
+    b"GET /health/ HTTP/1.1\r\n\r\n",
+    b"GET / HTTP/1.1\r\n\r\n",
+    b"POST /health HTTP/1.1\r\n\r\n",
+    b"get /health HTTP/1.1\r\n\r\n",
+    b"GET  /health HTTP/1.1\r\n\r\n",
+]
+# Heads that begin as that of a probe: one that asks for a WebSocket, and some that are not complete.
+BEGUN = [
+    b"GET /health HTTP/1.1\r\nHost: localhost\r\nuPGRADE: websocket\r\n\r\n",
+    *(PROBES[1][:count] for count in range(8, len(PROBES[1]), 9)),
+    PROBES[1][:-1],
+]
+
+
+def answer_to(server, head):
+    """Connects and sends this head. Returns all that the server sends until the connection ends."""
+    with socket.create_connection(server.address, SECONDS) as client:
+        client.sendall(head)
+        received = b""
+        while data := client.recv(4096):
+            received += data
+        return received
+
+
+def expect_no_answer_yet(client):
+    """Expects that the client has received nothing."""
+    client.socket.setblocking(False)
+    try:
+        raise CheckFailed(f"unexpected answer {client.socket.recv(4096)!r}")
+    except BlockingIOError:
+        pass
+
+
+def test_probes():
+    """A probe is answered, whatever its other fields are. It is no session: the only one comes after them."""
+    with Server(1, 1) as server:
+        for head in PROBES:
+            expect_equal(f"the answer to {head!r}", answer_to(server, head), ANSWER)
+        server.client().expect_reply('["join","r"]', '["joined",0,1]')
+        server.finish()
+
+
+def test_other_heads():
+    """Other heads are sessions, which fail without an answer."""
+    with Server(len(OTHERS) + 1, 1) as server:
+        for head in OTHERS:
+            client = server.connect()
+            client.send(head)
+            client.expect_end()
+            expect_equal(f"the answer to {head!r}", bytes(client.received), b"")
+        server.client()
+        server.finish(dict.fromkeys(range(1, len(OTHERS) + 1), "handshake failed"))
+
+
+def test_heads_at_a_busy_server():
+    """While the only worker is taken, the server answers each probe, and no other head. It looks at connections in
+    order, so it has seen the other head once it answers the probe after it."""
+    with Server(100, 1) as server:
+        server.client().expect_reply('["join","r"]', '["joined",0,1]')
+        for place, head in enumerate([*OTHERS, *BEGUN]):
+            client = server.connect()
+            client.send(head)
+            expect_equal("the answer to a probe", answer_to(server, PROBES[place % len(PROBES)]), ANSWER)
+            expect_no_answer_yet(client)

@@ -47,7 +47,10 @@ fn script<R: Read, W: Write>(
     ensures fault { IfErr result (MayEnd (texts_of names.now)) }
 {
     let rooms = room_names(alloc, names)?;
-    let mut world = World::new(alloc, &rooms, Limits::full()).map_err(fault_of_rooms)?;
+    let mut world = match World::new(alloc, &rooms, Limits::full()) {
+        Ok(world) => world,
+        Err(fault) => return Err(fault_of_rooms(fault)),
+    };
     world.script(alloc, input, output).map_err(fault_of_script)
 }
 

@@ -251,9 +251,11 @@ fn begin_room<P: RoomLedger>(
     rooms: &mut IndexMap<RoomName, CachePadded<Mutex<Room<P>>>>,
     rest: &mut Share<P>,
 ) -> Result<Prefix<P>, NoMemory>
+    // The limits and the history are those that the ledger's type names.
     requires limits { new.limits ≡ P.limits }
     requires history { slice_get P.books (length rooms.old.entries) ≡ Some new.book }
     requires name { get bytes_eq rooms.old name ≡ None }
+    // The room takes its share and its parts from the rest.
     requires parts { SPARE_PARTS + 1 < rest.old.parts }
     requires amount { MAX_ENTRIES ≤ rest.old.amount }
     ensures rooms { OnOk result (keys rooms.new ≡ keys rooms.old ++ name ∷ []) }

@@ -1,6 +1,6 @@
 //! Rooms, replicas of them, records in journals, scripts and commands.
 
-mod commands;
+mod checks;
 mod interrupted;
 mod kept;
 mod one_room;

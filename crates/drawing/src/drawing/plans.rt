@@ -109,9 +109,9 @@ impl Drawing {
             return Err(AddFault::Refused(Refusal::NoSuchObject));
         }
         let op = SharedOp::new(alloc, op)?;
+        let (entry, shared) = (op.entry()?, op.share()?);
         self.reserve_operation(op.name.site())?;
-        let (place, planned) = self.plan_at_object(alloc, op.share()?)?;
-        let entry = op.entry()?;
+        let (place, planned) = self.plan_at_object(alloc, shared)?;
         Ok(Addition {
             entry,
             part: Part::Change(place, op, planned),

@@ -10,10 +10,9 @@ mod kept;
 
 use base_types::NoMemory;
 use journal::{Journal, JournalFault, Synced};
-use keeper::KeepFault;
 pub use kept::Kept;
 use record_file::append;
-use room_lock::{News, Prefix, RoomLedger};
+use room_lock::{KeepFault, News, Prefix, RoomLedger};
 use rules::Entry;
 use std::alloc::Global;
 use std::fs::OpenFile;

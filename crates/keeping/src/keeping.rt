@@ -6,8 +6,7 @@ use crate::file::{Kept, RoomFile};
 use crate::room::KeptRoom;
 use base_types::NoMemory;
 use journal::Journal;
-use keeper::{KeepFault, Keeper};
-use room_lock::{Prefix, RoomLedger, Rooms};
+use room_lock::{KeepFault, Keeper, Prefix, RoomLedger, Rooms};
 use std::alloc::Global;
 use std::sync::Wait;
 

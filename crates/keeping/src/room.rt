@@ -6,8 +6,7 @@ ghost use Rattle.keeping.specs.steps.Turns.{IfTold};
 
 use crate::file::{Kept, RoomFile};
 use journal::Journal;
-use keeper::KeepFault;
-use room_lock::{CallFault, Prefix, RoomLedger, Rooms};
+use room_lock::{CallFault, KeepFault, Prefix, RoomLedger, Rooms};
 use std::alloc::Global;
 use std::sync::{Condvar, Mutex, Wait};
 

@@ -1,11 +1,13 @@
 //! Rooms behind locks. Threads call them through passes. Each room has one record, and each of its
 //! passes has seen a prefix of it. A room keeps the parts of the sites that no session is in as.
+//! Also the trait of what keeps the records of rooms.
 #![tactic(auto)]
 
 mod account;
 mod closing;
 mod entrance;
 mod fault;
+mod keeper;
 pub mod laws;
 mod ledger;
 mod making;
@@ -20,6 +22,7 @@ mod shelf;
 
 pub use entrance::Entrance;
 pub use fault::{CloseFault, RoomRecord};
+pub use keeper::{Forgets, KeepFault, Keeper};
 pub use ledger::RoomLedger;
 pub use making::NewRooms;
 pub use part::Part;

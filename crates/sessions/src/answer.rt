@@ -9,8 +9,7 @@ ghost use Rattle.sessions.specs.Turns.{IsKept};
 use crate::cause::Cause;
 use crate::host::Host;
 use crate::observer::{Addition, Observer};
-use keeper::{KeepFault, Keeper};
-use room_lock::{Prefix, RoomLedger};
+use room_lock::{KeepFault, Keeper, Prefix, RoomLedger};
 use std::sync::Wait;
 use wire::{Refusal, Reply, write_reply};
 

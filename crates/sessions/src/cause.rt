@@ -5,8 +5,7 @@ ghost use Rattle.sessions.specs.steps.Causes.{cause_of_stream};
 ghost use Rattle.sessions.specs.declared.cause.Cause.TheVariants as cause;
 
 use base_types::NoMemory;
-use keeper::KeepFault;
-use room_lock::CallFault;
+use room_lock::{CallFault, KeepFault};
 use thiserror::Error;
 use tungstenite::Error as StreamError;
 

@@ -5,9 +5,9 @@ use super::faults::Calls;
 use super::served::{
     ANSWERED, ASKED, ENTRIES, Streams, Told, answer_bytes, asked_parts, records_of, serve, stream,
 };
-use keeper::KeepFault;
 use log::sink::Locked;
 use log::{LevelFilter, Logged};
+use room_lock::KeepFault;
 use std::process::Abort;
 use std::sync::Wait;
 use std::thread::Threads;

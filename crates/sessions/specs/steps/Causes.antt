@@ -8,9 +8,9 @@ use Rattle.room_core.specs.declared.fault.CallFault.TheVariants.{NoMemory as Cal
 use Rattle.sessions.specs.declared.cause.Cause.{Cause}
 use Rattle.sessions.specs.declared.cause.Cause.TheVariants.{Closed, HandshakeFailed, StreamFault}
 use Rattle.sessions.specs.declared.cause.Cause.TheVariants.{Torn, NoMemory, NotKept}
-use Rattle.keeper.specs.declared.KeepFault.{KeepFault}
-use Rattle.keeper.specs.declared.KeepFault.TheVariants.{NotKept as KeepNotKept}
-use Rattle.keeper.specs.declared.KeepFault.TheVariants.{NoMemory as KeepNoMemory}
+use Rattle.room_lock.specs.declared.keeper.KeepFault.{KeepFault}
+use Rattle.room_lock.specs.declared.keeper.KeepFault.TheVariants.{NotKept as KeepNotKept}
+use Rattle.room_lock.specs.declared.keeper.KeepFault.TheVariants.{NoMemory as KeepNoMemory}
 
 abbrev pub cause_of_call : CallFault → Cause
 cause_of_call (CallTorn place) = Torn

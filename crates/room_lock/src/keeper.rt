@@ -1,9 +1,10 @@
 //! The trait of what keeps rooms: a reply is sent when the keeper has kept what it reports.
-#![tactic(auto)]
 
 ghost use Rattle.std.specs.Prelude.{IfOk};
 
-use room_lock::{Prefix, RoomLedger, Rooms};
+use crate::ledger::RoomLedger;
+use crate::prefix::Prefix;
+use crate::rooms::Rooms;
 use std::alloc::Global;
 use std::sync::Wait;
 use thiserror::Error;

@@ -26,9 +26,9 @@ sys.path.append(str(pathlib.Path(__file__).resolve().parent.parent / "tests"))
 from lib.tree_copy import copy_tree
 
 PROGRAMS = {
-    "threads": ("lock_bench", "base_types state_vector rules wire room_core room_lock"),
-    "sites": ("site_bench", "base_types state_vector rules wire room_lock"),
-    "replicas": ("replica_bench", "base_types state_vector rules wire room_core late_join"),
+    "threads": ("lock_bench", "base_types rules wire room_core room_lock"),
+    "sites": ("site_bench", "base_types rules wire room_lock"),
+    "replicas": ("replica_bench", "base_types rules wire room_core late_join"),
 }
 
 

@@ -1,3 +1,5 @@
 pub mod Choices
 pub mod Labels
 pub mod Repeats
+pub mod Vectors
+mod Merged

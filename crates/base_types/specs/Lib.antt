@@ -3,4 +3,5 @@ pub mod Texts
 pub mod Values
 pub mod VersionIds
 pub mod Repeats
+pub mod Vectors
 pub mod steps

@@ -1,10 +1,12 @@
-//! Names of operations, labels, values and version identifiers: the data types of all crates above.
+//! Names of operations, labels, values, version identifiers and state vectors: the data types of
+//! all crates above.
 #![tactic(auto)]
 
 mod fault;
 mod label;
 mod op_name;
 mod room_name;
+mod state_vector;
 mod text;
 mod value;
 mod version_id;
@@ -13,5 +15,6 @@ pub use fault::{ListFault, NameFault, NoMemory};
 pub use label::{Key, Kind, Label, RoomName};
 pub use op_name::{MAX_SEQ, MAX_SITE, OpName};
 pub use room_name::repeated_name;
+pub use state_vector::{SitePairs, StateVector, VectorFault};
 pub use value::{MAX_VALUE_LEN, Value, ValueText};
 pub use version_id::VersionId;

@@ -8,9 +8,8 @@ ghost use Rattle.rules.specs.Operations.{IsHistory, operation};
 ghost use Rattle.rules.specs.Admission.{count_at_site, is_ahead, is_not_closed, causal_refusal};
 ghost use Rattle.causal.specs.steps.Index.{at_number, places_of, has_fewer, lacks, knows, lacks_beyond};
 
-use base_types::{MAX_SITE, NoMemory, OpName};
+use base_types::{MAX_SITE, NoMemory, OpName, StateVector};
 use rules::{Op, Refusal, SharedOp};
-use state_vector::StateVector;
 use std::alloc::Global;
 use std::marker::Model;
 use thiserror::Error;

@@ -7,7 +7,7 @@ use Rattle.std.proofs.lemmas.Bool.{true≢false, cases_Bool, cases_eq, cases_lt,
 use Rattle.std.proofs.lemmas.List.{get_or_append_left, get_or_at, get_or_default, get_or-map, get_or-set_same, get_or-set_other, length-append, length-map, length-set, map_push}
 use Rattle.std.proofs.lemmas.List.Kept.{AllPairs-from_increasing}
 use Rattle.base_types.specs.Names.{Name}
-use Rattle.state_vector.specs.Vectors.{Vector, count_of, counts}
+use Rattle.base_types.specs.Vectors.{Vector, count_of, counts}
 use Rattle.rules.specs.declared.history.Op.{Op}
 use Rattle.rules.proofs.Lists.{In, In-from_Contains, Contains-from_In, In-filter, In-filter_back, any_from, any_back, filter_agree}
 use Rattle.rules.proofs.Relation.{same_answer}

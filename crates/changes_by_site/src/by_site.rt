@@ -6,10 +6,9 @@ ghost use Rattle.places.specs.steps.Changes.{places_counted};
 ghost use Rattle.changes_by_site.specs.steps.Indexes.{counted_of, site_at, with_counted, with_new_site, with_change, with_change_at, AreBySite, AreInOrder, IsRising};
 ghost use Rattle.places.specs.steps.Lookups.{IsPlaceOf};
 
-use base_types::{NoMemory, OpName};
+use base_types::{NoMemory, OpName, StateVector};
 use places::PlaceSet;
 use rules::SharedOp;
-use state_vector::StateVector;
 use std::alloc::Global;
 use std::marker::Model;
 

@@ -7,13 +7,12 @@ ghost use Rattle.places.specs.steps.PlaceSet.{has, AreBelow};
 ghost use Rattle.conflict_rows.specs.steps.Rows.{at_odds_at, places_outside};
 ghost use Rattle.places.specs.steps.Changes.{at, base_places, places_counted, AreChangesOn, IsAddition};
 
-use base_types::{Key, NoMemory, OpName};
+use base_types::{Key, NoMemory, OpName, StateVector};
 use changes_by_key::ByKey;
 use changes_by_site::BySite;
 use conflict_rows::{Addition, ConflictRows, WithAddition};
 use places::{PlaceSet, Relation};
 use rules::{Body, Op, SharedOp};
-use state_vector::StateVector;
 use std::alloc::Global;
 use std::marker::Model;
 

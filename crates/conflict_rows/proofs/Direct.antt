@@ -6,7 +6,7 @@ use Rattle.std.proofs.lemmas.Bool.{and_right, true≢false, cases_Bool, cases_lt
 use Rattle.std.proofs.lemmas.List.{nil_from_length}
 use Rattle.std.proofs.lemmas.List.Filters.{length-filter_both}
 use Rattle.std.proofs.lemmas.List.FromFn.{length-range_with_len}
-use Rattle.state_vector.specs.Vectors.{counts}
+use Rattle.base_types.specs.Vectors.{counts}
 use Rattle.base_types.specs.Names.{Name}
 use Rattle.rules.specs.declared.history.Op.{Op}
 use Rattle.rules.specs.Bodies.{are_at_odds}

@@ -13,7 +13,7 @@ use Rattle.rules.specs.Conflicts.{has_object}
 use Rattle.rules.specs.Records.{operations, objects}
 use Rattle.rules.proofs.Counted.{same_name-true}
 use Rattle.rules.proofs.Lists.{Contains-from_In, find_agree, find_is}
-use Rattle.state_vector.specs.Vectors.{counts}
+use Rattle.base_types.specs.Vectors.{counts}
 use Rattle.shape.specs.steps.Objects.{Object, Stored, IsOf}
 use Rattle.drawing.specs.steps.Objects.{object_with_changes, objects_with_changes, without_spare}
 use Rattle.drawing.proofs.WithChanges.{objects_with_changes_at, same_name-sym}

@@ -4,7 +4,7 @@ use Rattle.std.specs.Prelude.{Bool, IfErr, Option, Result, Ok, Err, is_some}
 use Rattle.std.specs.Result.{IsErrAnd}
 use Rattle.std.specs.Map.{lookup}
 use Rattle.base_types.specs.Names.{Name, same_name}
-use Rattle.state_vector.specs.Vectors.{counts}
+use Rattle.base_types.specs.Vectors.{counts}
 use Rattle.rules.specs.declared.history.Op.{Op}
 use Rattle.rules.specs.declared.refusal.Refusal.{Refusal}
 use Rattle.rules.specs.declared.refusal.Refusal.TheVariants.{NoSuchObject, TooManyObjects}

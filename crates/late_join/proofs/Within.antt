@@ -4,7 +4,7 @@ use Rattle.std.specs.Prelude.{filter, is_none}
 use Rattle.std.proofs.lemmas.Bool.{true≢false, cases_Bool, and_parts, leb-false, eqb-true, cases_lt, lt-ltb}
 use Rattle.std.proofs.lemmas.List.{append-nil, length_push}
 use Rattle.base_types.specs.Names.{Name}
-use Rattle.state_vector.specs.Vectors.{is_vector}
+use Rattle.base_types.specs.Vectors.{is_vector}
 use Rattle.rules.specs.declared.history.Op.{Op}
 use Rattle.rules.specs.declared.history.Entry.{Entry}
 use Rattle.rules.specs.declared.history.Entry.TheVariants.{Join, Operation}

@@ -4,7 +4,7 @@ use Rattle.std.specs.Prelude.{Option, Some, ◌==◌, nat_le, nat_lt, length, is
 use Rattle.std.specs.Prelude.{option_map, if◌then◌else◌}
 use Rattle.std.specs.List.{list_any}
 use Rattle.std.specs.List.Sorted.{IsPermutation}
-use Rattle.state_vector.specs.Vectors.{is_vector}
+use Rattle.base_types.specs.Vectors.{is_vector}
 use Rattle.rules.specs.declared.history.Op.{Op}
 use Rattle.rules.specs.declared.history.Entry.{Entry}
 use Rattle.rules.specs.declared.history.Entry.TheVariants.{Join, Operation}

@@ -2,7 +2,7 @@
 
 ghost use Rattle.std.specs.Prelude.{◌≡◌, List, true, false};
 ghost use Rattle.base_types.specs.Names.{Name};
-ghost use Rattle.state_vector.specs.Vectors.{is_vector};
+ghost use Rattle.base_types.specs.Vectors.{is_vector};
 ghost use Rattle.rules.specs.declared.history.Op.{Op};
 ghost use Rattle.rules.specs.declared.history.Entry.{Entry};
 ghost use Rattle.rules.specs.declared.history.Entry.TheVariants.{Operation};

@@ -8,7 +8,7 @@ ghost use Rattle.rules.specs.declared.history.Entry.TheVariants.{Join, Operation
 ghost use Rattle.rules.specs.Operations.{name_of};
 ghost use Rattle.rules.specs.Admission.{count_at_site, has_wrong_seq};
 ghost use Rattle.rules.specs.Records.{operations, objects};
-ghost use Rattle.state_vector.specs.Vectors.{is_vector};
+ghost use Rattle.base_types.specs.Vectors.{is_vector};
 ghost use Rattle.drawing.specs.Shown.{shown};
 ghost use Rattle.late_join.specs.declared.fault.TakeFault.TheVariants.{NoMemory as WantOfMemory};
 ghost use Rattle.late_join.specs.Taking.{has_joined, is_early, is_repeat, lacks_another};

@@ -5,7 +5,7 @@
 ghost use Rattle.std.specs.Prelude.{◌≡◌, ◌↔◌, All, IsTrue, true};
 ghost use Rattle.std.specs.Arc.{arc_value};
 ghost use Rattle.base_types.specs.Names.{is_op_name};
-ghost use Rattle.state_vector.specs.Vectors.{is_vector};
+ghost use Rattle.base_types.specs.Vectors.{is_vector};
 ghost use Rattle.wire.specs.Form.{IsAttr, IsBody, IsEntry, IsId, IsValue};
 
 use base_types::{Key, MAX_SITE, OpName, Value, VersionId};

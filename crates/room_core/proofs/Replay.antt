@@ -11,7 +11,7 @@ use Rattle.rules.specs.Admission.{causal_conditions, causal_refusal, first_that_
 use Rattle.rules.specs.Records.{is_join, is_placed, operations, order_conditions, refusal, sites}
 use Rattle.rules.proofs.Conditions.{not_first, room_for_join}
 use Rattle.rules.proofs.Records.{legal_push, sites-join, sites-operation}
-use Rattle.state_vector.specs.Vectors.{is_vector}
+use Rattle.base_types.specs.Vectors.{is_vector}
 use Rattle.shape.proofs.Refusals.{first_of_front, front_passed}
 use Rattle.base_types.specs.Names.{Name}
 use Rattle.rules.specs.Bodies.{is_change_body}

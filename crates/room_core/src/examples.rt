@@ -1,7 +1,7 @@
 //! Worked examples of answers, which the check computes from the definitions. Each function has an
 //! empty body. The records are those of `rules::examples`, in which a room draws one rectangle.
 
-#![tactic(auto, unfolding(state_vector::specs::Vectors::vector_fault, rules::specs::Operations::known, rules::specs::Operations::changes_on, rules::specs::Groups::groups_of, rules::specs::Groups::group_named, rules::specs::Groups::identifier, rules::specs::Conflicts::base, rules::specs::Conflicts::conflict, rules::specs::Versions::attributes, rules::specs::Versions::groups, rules::specs::Versions::shown_of, rules::specs::Versions::version_of, rules::specs::Versions::versions, rules::specs::Records::refusal, crate::specs::Answers::answer))]
+#![tactic(auto, unfolding(base_types::specs::Vectors::vector_fault, rules::specs::Operations::known, rules::specs::Operations::changes_on, rules::specs::Groups::groups_of, rules::specs::Groups::group_named, rules::specs::Groups::identifier, rules::specs::Conflicts::base, rules::specs::Conflicts::conflict, rules::specs::Versions::attributes, rules::specs::Versions::groups, rules::specs::Versions::shown_of, rules::specs::Versions::version_of, rules::specs::Versions::versions, rules::specs::Records::refusal, crate::specs::Answers::answer))]
 
 ghost use Rattle.std.specs.Prelude.{◌≡◌, [], ◌∷◌, Some, None, codes, true, false};
 ghost use Rattle.rules.specs.declared.history.Body.TheVariants.{Put, DropVersion};

@@ -4,8 +4,8 @@ use Rattle.std.specs.Prelude.{Contains, is_some}
 use Rattle.std.specs.List.{range_with_len}
 use Rattle.std.proofs.lemmas.Bool.{cases_Bool, true≢false, eqb-true, eq-eqb, ne_eqb, leb-true, le-leb, cases_eq}
 use Rattle.base_types.specs.Names.{Name, same_name}
-use Rattle.state_vector.specs.Vectors.{Vector, counts, count_of, covers, is_vector}
-use Rattle.state_vector.proofs.Vectors.{RisesAbove, rises}
+use Rattle.base_types.specs.Vectors.{Vector, counts, count_of, covers, is_vector}
+use Rattle.base_types.proofs.Vectors.{RisesAbove, rises}
 use Rattle.rules.specs.declared.history.Op.{Op}
 use Rattle.rules.specs.steps.Equality.{same_name-Decides}
 use Rattle.rules.specs.Operations.{operation}

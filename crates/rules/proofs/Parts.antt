@@ -4,7 +4,7 @@ use Rattle.std.specs.Prelude.{IsTrue, Contains, filter, is_some}
 use Rattle.std.proofs.lemmas.Bool.{true≢false, and_parts, or_cases, or_left, or_right}
 use Rattle.std.proofs.lemmas.List.Elements.{Contains-append_left, Contains-push_cases}
 use Rattle.base_types.specs.Names.{Name}
-use Rattle.state_vector.specs.Vectors.{counts}
+use Rattle.base_types.specs.Vectors.{counts}
 use Rattle.rules.specs.declared.history.Op.{Op}
 use Rattle.rules.specs.Bodies.{is_change_body}
 use Rattle.rules.specs.Groups.{groups_of}

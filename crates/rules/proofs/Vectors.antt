@@ -2,8 +2,8 @@
 use Rattle.std.proofs.Common.{◌≡◌, ℕ, ◌+◌, ◌<◌, ◌≤◌, true, false, eqb, List, [], ◌∷◌, refl, sym, ◌∙◌, arith, inl, inr}
 use Rattle.std.specs.Prelude.{IsTrue, Contains}
 use Rattle.std.proofs.lemmas.Bool.{eq-eqb, ne_eqb, leb-true, le-leb, cases_eq, cases_order}
-use Rattle.state_vector.specs.Vectors.{Vector, count_of}
-use Rattle.state_vector.proofs.Vectors.{RisesAbove, above_all, rises}
+use Rattle.base_types.specs.Vectors.{Vector, count_of}
+use Rattle.base_types.proofs.Vectors.{RisesAbove, above_all, rises}
 use Rattle.rules.specs.declared.history.Op.{Op}
 use Rattle.rules.specs.Operations.{IsHistory, before}
 use Rattle.rules.specs.Conflicts.{total}

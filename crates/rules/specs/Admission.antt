@@ -3,7 +3,7 @@ use Rattle.std.specs.Prelude.{ℕ, ◌+◌, Bool, not, ◌&&◌, List, [], ◌�
 use Rattle.std.specs.Prelude.{is_some, option_map, map, flat_map}
 use Rattle.std.specs.List.{list_any, range_with_len}
 use Rattle.base_types.specs.Names.{Name}
-use Rattle.state_vector.specs.Vectors.{Vector, count_of, counts, covers}
+use Rattle.base_types.specs.Vectors.{Vector, count_of, counts, covers}
 use Rattle.rules.specs.declared.history.Op.{Op}
 use Rattle.rules.specs.declared.refusal.Refusal.{Refusal}
 use Rattle.rules.specs.declared.refusal.Refusal.TheVariants.{WrongSeq, OwnCount, Ahead, NotClosed}

@@ -4,7 +4,7 @@
 use Rattle.std.specs.Prelude.{◌≡◌, ℕ, zero, suc, ◌+◌, Bool, true, false, not, ◌&&◌, ◌||◌, List, []}
 use Rattle.std.specs.Prelude.{◌∷◌, Option, Some, None, Contains, is_some}
 use Rattle.std.specs.List.{list_any}
-use Rattle.state_vector.specs.Vectors.{Vector}
+use Rattle.base_types.specs.Vectors.{Vector}
 use Rattle.rules.specs.declared.history.Op.{Op}
 use Rattle.rules.specs.Bodies.{is_change_body, version_in, are_at_odds}
 use Rattle.rules.specs.Operations.{before, concurrent, holds_drop, known, name_of, object_of}

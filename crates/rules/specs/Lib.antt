@@ -2,7 +2,7 @@ pub use Rattle.base_types.specs.Names
 pub use Rattle.base_types.specs.Texts
 pub use Rattle.base_types.specs.Values
 pub use Rattle.base_types.specs.VersionIds
-pub use Rattle.state_vector.specs.Vectors
+pub use Rattle.base_types.specs.Vectors
 pub mod AttrLists
 pub mod Limits
 pub mod Refusals

@@ -5,7 +5,7 @@ use Rattle.std.specs.List.{list_any}
 use Rattle.std.specs.declared.cmp.Ordering.{Ordering}
 use Rattle.std.specs.Ordering.{on}
 use Rattle.base_types.specs.Names.{Name, name_cmp, same_name}
-use Rattle.state_vector.specs.Vectors.{count_of, counts, is_vector}
+use Rattle.base_types.specs.Vectors.{count_of, counts, is_vector}
 use Rattle.rules.specs.declared.history.Op.{Op}
 use Rattle.rules.specs.Bodies.{is_change_body, is_drop_body, object_in}
 use Rattle.rules.specs.Lists.{HasNoRepeats, sort_by}

@@ -2,7 +2,7 @@
 use Rattle.std.specs.Prelude.{◌≡◌, ◌↔◌, Contains, ℕ, ◌+◌, Bool, true, false, not, ◌&&◌, List, []}
 use Rattle.std.specs.Prelude.{◌∷◌, ◌++◌, Option, Some, None, ◌==◌, nat_le, nat_lt, filter}
 use Rattle.std.specs.Prelude.{filter_map, count_by, length, is_none, if◌then◌else◌}
-use Rattle.state_vector.specs.Vectors.{is_vector}
+use Rattle.base_types.specs.Vectors.{is_vector}
 use Rattle.rules.specs.declared.history.Op.{Op}
 use Rattle.rules.specs.declared.history.Entry.{Entry}
 use Rattle.rules.specs.declared.history.Entry.TheVariants.{Join, Operation}

@@ -2,7 +2,7 @@
 //! In each example a room draws one rectangle, which site 1 creates. `specs/Examples.antt` has the
 //! records.
 
-#![tactic(auto, unfolding(state_vector::specs::Vectors::vector_fault, crate::specs::Operations::known, crate::specs::Operations::changes_on, crate::specs::Groups::groups_of, crate::specs::Groups::group_named, crate::specs::Groups::identifier, crate::specs::Conflicts::base, crate::specs::Conflicts::conflict, crate::specs::Versions::attributes, crate::specs::Versions::groups, crate::specs::Versions::shown_of, crate::specs::Versions::version_of, crate::specs::Versions::versions, crate::specs::Records::refusal))]
+#![tactic(auto, unfolding(base_types::specs::Vectors::vector_fault, crate::specs::Operations::known, crate::specs::Operations::changes_on, crate::specs::Groups::groups_of, crate::specs::Groups::group_named, crate::specs::Groups::identifier, crate::specs::Conflicts::base, crate::specs::Conflicts::conflict, crate::specs::Versions::attributes, crate::specs::Versions::groups, crate::specs::Versions::shown_of, crate::specs::Versions::version_of, crate::specs::Versions::versions, crate::specs::Records::refusal))]
 
 ghost use Rattle.std.specs.Prelude.{◌≡◌, [], ◌∷◌, Some, None};
 ghost use Rattle.rules.specs.declared.refusal.Refusal.TheVariants.{WrongSeq, OwnCount, Ahead, NotClosed, NoSuchObject, NoSuchVersion, Gone, ObjectFull, TooManyKeys, TooManyVersions};

@@ -5,8 +5,7 @@ ghost use Rattle.rules.specs.Bodies.{are_at_odds};
 
 use crate::attrs::Attrs;
 use crate::pairs::Pairs;
-use base_types::{Kind, NoMemory, OpName, VersionId};
-use state_vector::StateVector;
+use base_types::{Kind, NoMemory, OpName, StateVector, VersionId};
 use std::alloc::Global;
 
 /// What an operation does.

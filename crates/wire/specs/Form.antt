@@ -11,7 +11,7 @@ use Rattle.base_types.specs.VersionIds.{names_rise}
 use Rattle.base_types.specs.Texts.{is_room_name, is_key, is_kind, is_value_text}
 use Rattle.base_types.specs.declared.value.Value.{Value}
 use Rattle.base_types.specs.declared.value.Value.TheVariants.{Number, Text}
-use Rattle.state_vector.specs.Vectors.{Vector, is_vector}
+use Rattle.base_types.specs.Vectors.{Vector, is_vector}
 use Rattle.rules.specs.AttrLists.{Attr, are_attrs, are_pairs}
 use Rattle.rules.specs.declared.limits.TheConstants.Limits.{MAX_ENTRIES}
 use Rattle.wire.specs.declared.request.TheConstants.{MAX_FROM, MAX_REQUEST_LEN}

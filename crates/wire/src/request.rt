@@ -2,9 +2,8 @@
 
 ghost use Rattle.std.specs.Prelude.{◌≡◌, option_map, IfOk};
 
-use base_types::{NoMemory, OpName, RoomName};
+use base_types::{NoMemory, OpName, RoomName, StateVector};
 use rules::Body;
-use state_vector::StateVector;
 use std::alloc::Global;
 
 /// The greatest length of a request's text, in bytes.

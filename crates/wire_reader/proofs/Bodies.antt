@@ -1,7 +1,7 @@
 -- The reader of operations is exact.
 use Rattle.std.proofs.Common.{◌≡◌, ◌⊎◌, inl, inr, ℕ, true, List, [], ◌∷◌, codes, Option, Some, refl, ap, ◌∙◌}
 use Rattle.serde_json.specs.Data.{Data, string}
-use Rattle.state_vector.specs.Vectors.{Vector, is_vector}
+use Rattle.base_types.specs.Vectors.{Vector, is_vector}
 use Rattle.rules.specs.AttrLists.{Attr, are_pairs, pairs_fault}
 use Rattle.rules.specs.declared.history.Body.{Body}
 use Rattle.rules.specs.declared.history.Body.TheVariants.{New, Put, DropVersion}

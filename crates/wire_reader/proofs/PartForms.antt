@@ -14,9 +14,9 @@ use Rattle.base_types.specs.VersionIds.{names_rise}
 use Rattle.base_types.specs.Texts.{is_room_name, is_key, is_kind, is_value_text}
 use Rattle.base_types.specs.declared.value.Value.{Value}
 use Rattle.base_types.specs.declared.value.Value.TheVariants.{Number, Text}
-use Rattle.state_vector.specs.Vectors.{is_vector, vector_fault, fault_after, pair_fault}
-use Rattle.state_vector.specs.declared.VectorFault.{VectorFault}
-use Rattle.state_vector.specs.declared.VectorFault.TheVariants.{OutOfRange}
+use Rattle.base_types.specs.Vectors.{is_vector, vector_fault, fault_after, pair_fault}
+use Rattle.base_types.specs.declared.state_vector.VectorFault.{VectorFault}
+use Rattle.base_types.specs.declared.state_vector.VectorFault.TheVariants.{OutOfRange}
 use Rattle.rules.specs.AttrLists.{Attr, are_attrs, are_pairs}
 use Rattle.wire.specs.Form.{whole_form, name_form, names_form, value_form, attr_form, attrs_form, is_from, is_at, IsValue, IsAttr, IsId, AreAttrs, ArePairs}
 use Rattle.wire_reader.specs.steps.Reading.{◌>>=◌, whole_in, pair_in, name_in, room_in, seen_in, id_in, key_in, kind_in, value_in, attr_in, attrs_in, pairs_in, integer_in}

@@ -2,7 +2,7 @@
 use Rattle.std.proofs.Common.{◌≡◌, inl, ℕ, Option, List, [], ◌∷◌, codes, Some, refl, subst, ◌∙◌}
 use Rattle.serde_json.specs.Data.{Data, string}
 use Rattle.base_types.specs.declared.op_name.TheConstants.{MAX_SEQ}
-use Rattle.state_vector.specs.Vectors.{Vector}
+use Rattle.base_types.specs.Vectors.{Vector}
 use Rattle.rules.specs.declared.history.Body.{Body}
 use Rattle.rules.specs.declared.history.Body.TheVariants.{New, Put, DropVersion}
 use Rattle.wire.specs.declared.request.Request.{Request}

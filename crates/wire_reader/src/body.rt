@@ -7,9 +7,9 @@ ghost use Rattle.wire_reader.specs.steps.Streams.{rest_in, Takes};
 use crate::fault::ReadFault;
 use crate::part::{Part, attrs_of, id_of, key_of, kind_of, name_of, pairs_of, seen_of, value_of};
 use crate::token::close_list;
+use base_types::StateVector;
 use json::Reader;
 use rules::{Body, Pairs};
-use state_vector::StateVector;
 use std::alloc::Global;
 
 fn new_of(alloc: Global, reader: &mut Reader<'_>) -> Result<Body, ReadFault>

@@ -3,8 +3,7 @@
 ghost use Rattle.std.specs.Prelude.{◌≡◌, Err, IfNone, IfOk, IfSome, Ok, OnErr};
 ghost use Rattle.wire_reader.specs.declared.fault.ReadFault.TheVariants.{Bad, NoMemory};
 
-use base_types::{ListFault, NameFault};
-use state_vector::VectorFault;
+use base_types::{ListFault, NameFault, VectorFault};
 use std::alloc::{AllocError, AllocFailed};
 use thiserror::Error;
 

@@ -10,16 +10,15 @@ ghost use Rattle.wire_reader.specs.steps.Streams.{next_in, rest_in, fronted, val
 ghost use Rattle.base_types.specs.Names.{is_op_name};
 ghost use Rattle.base_types.specs.Texts.{is_key, is_kind, is_room_name};
 ghost use Rattle.base_types.specs.VersionIds.{names_rise};
-ghost use Rattle.state_vector.specs.Vectors.{is_vector};
+ghost use Rattle.base_types.specs.Vectors.{is_vector};
 ghost use Rattle.rules.specs.AttrLists.{Attr, are_attrs, are_pairs};
 ghost use Rattle.base_types.specs.declared.op_name.TheConstants.{MAX_SEQ};
 
 use crate::fault::ReadFault;
 use crate::token::{Seq, close_list, integer_in_text, open_list, text_of, whole_of};
-use base_types::{Key, Kind, MAX_SEQ, OpName, RoomName, VersionId};
+use base_types::{Key, Kind, MAX_SEQ, OpName, RoomName, SitePairs, StateVector, VersionId};
 use json::{Reader, Scratch, Token};
 use rules::{Attrs, Pairs};
-use state_vector::{SitePairs, StateVector};
 use std::alloc::Global;
 
 /// Two numbers. Whoever takes them tests their ranges.

@@ -6,7 +6,7 @@ use Rattle.std.specs.Option.{option_map_or}
 use Rattle.std.specs.List.{list_any}
 use Rattle.base_types.specs.Names.{Name, same_name}
 use Rattle.base_types.specs.declared.op_name.TheConstants.{MAX_SITE, MAX_SEQ}
-use Rattle.state_vector.specs.Vectors.{Vector, counts, covers}
+use Rattle.base_types.specs.Vectors.{Vector, counts, covers}
 use Rattle.rules.specs.declared.history.Op.{Op}
 use Rattle.rules.specs.Operations.{IsHistory, operation}
 use Rattle.rules.specs.Admission.{count_at_site}

@@ -3,7 +3,7 @@ use Rattle.std.specs.Prelude.{◌≡◌, ℕ, ◌+◌, ◌<◌, ◌≤◌, set, 
 use Rattle.std.specs.Prelude.{nat_le, map, filter, length, slice_index_or}
 use Rattle.std.specs.List.Sorted.{IsNonDecreasingBy}
 use Rattle.base_types.specs.Names.{Name}
-use Rattle.state_vector.specs.Vectors.{Vector, count_of}
+use Rattle.base_types.specs.Vectors.{Vector, count_of}
 use Rattle.rules.specs.declared.history.Op.{Op}
 use Rattle.places.specs.steps.PlaceSet.{places, with_place, with_places}
 use Rattle.places.specs.steps.Changes.{at}

@@ -4,7 +4,7 @@ use Rattle.std.specs.Prelude.{if◌then◌else◌}
 use Rattle.std.specs.List.{position}
 use Rattle.std.specs.Map.{lookup, keys_of}
 use Rattle.base_types.specs.Names.{Name, same_name}
-use Rattle.state_vector.specs.Vectors.{is_vector}
+use Rattle.base_types.specs.Vectors.{is_vector}
 use Rattle.rules.specs.declared.history.Op.{Op}
 use Rattle.rules.specs.declared.history.Entry.{Entry}
 use Rattle.rules.specs.declared.history.Entry.TheVariants.{Join, Operation}

@@ -5,7 +5,7 @@ ghost use Rattle.base_types.specs.Names.{is_site};
 ghost use Rattle.rules.specs.declared.history.Entry.TheVariants.{Join};
 ghost use Rattle.rules.specs.Bodies.{is_change_body};
 ghost use Rattle.rules.specs.Operations.{object_of};
-ghost use Rattle.state_vector.specs.Vectors.{counts};
+ghost use Rattle.base_types.specs.Vectors.{counts};
 ghost use Rattle.shape.specs.steps.Planned.{IsPlanned};
 ghost use Rattle.drawing.specs.steps.Additions.{HasShape, IsNext, IsPlanFor, IsReady, body_refusal};
 ghost use Rattle.drawing.specs.Shown.{ids_with};

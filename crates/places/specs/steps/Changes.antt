@@ -3,7 +3,7 @@ use Rattle.std.specs.Prelude.{◌≡◌, ℕ, Bool, true, List, [], ◌∷◌, �
 use Rattle.std.specs.Prelude.{slice_index_or, Contains, is_some}
 use Rattle.std.specs.List.{list_any}
 use Rattle.base_types.specs.Names.{Name}
-use Rattle.state_vector.specs.Vectors.{Vector, counts}
+use Rattle.base_types.specs.Vectors.{Vector, counts}
 use Rattle.rules.specs.declared.history.Op.{Op}
 use Rattle.rules.specs.declared.history.Body.TheVariants.{New}
 use Rattle.rules.specs.Operations.{IsHistory, IsCausallyOrdered, is_change_on, same_op}

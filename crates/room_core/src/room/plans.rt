@@ -14,10 +14,9 @@ ghost use Rattle.room_core.specs.steps.Plans.{entry_added, outcome, order_refusa
 
 use super::RoomState;
 use crate::planned::Planned;
-use base_types::{NoMemory, OpName};
+use base_types::{NoMemory, OpName, StateVector};
 use drawing::{AddFault, Addition};
 use rules::{Body, Op, Refusal};
-use state_vector::StateVector;
 use std::alloc::Global;
 use wire::{IdList, Reply};
 

@@ -1,10 +1,9 @@
 //! What a room answers that no script reaches.
 
 use super::limits_of;
-use base_types::Kind;
+use base_types::{Kind, StateVector};
 use room_core::RoomState;
 use rules::{Attrs, Body, Limits};
-use state_vector::StateVector;
 use std::process::Abort;
 use wire::{Reply, Request, write_reply};
 

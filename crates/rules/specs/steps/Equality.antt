@@ -7,7 +7,7 @@ use Rattle.std.proofs.lemmas.Slice.Eq.{bytes_eq-Decides, slice_eq-Decides}
 use Rattle.base_types.specs.Names.{Name, same_name}
 use Rattle.base_types.specs.VersionIds.{same_names}
 use Rattle.base_types.specs.Values.{same_value, same_value-Decides}
-use Rattle.state_vector.specs.Vectors.{Vector, same_pairs}
+use Rattle.base_types.specs.Vectors.{Vector, same_pairs}
 use Rattle.rules.specs.AttrLists.{Attr, same_attrs}
 use Rattle.rules.specs.steps.Shared.{held}
 use Rattle.rules.specs.Bodies.{object_in, version_in, pairs_in, kind_in, initial_in}

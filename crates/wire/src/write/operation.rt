@@ -5,9 +5,9 @@ ghost use Rattle.wire.specs.Form.{body_form, operation_form};
 ghost use Rattle.wire.specs.steps.Sending.{Sends};
 
 use super::part::Written;
+use base_types::StateVector;
 use json::Writer;
 use rules::Body;
-use state_vector::StateVector;
 use std::alloc::AllocError;
 
 /// Sends an operation: its name or its number, what its author had seen, and what it does.

@@ -1,7 +1,7 @@
 -- What the reader of operations reads of what follows a word.
 use Rattle.std.specs.Prelude.{List, [], ◌∷◌, codes, Option, Some}
 use Rattle.serde_json.specs.Data.{Data}
-use Rattle.state_vector.specs.Vectors.{Vector}
+use Rattle.base_types.specs.Vectors.{Vector}
 use Rattle.rules.specs.declared.history.Body.{Body}
 use Rattle.rules.specs.declared.history.Body.TheVariants.{New, Put, DropVersion}
 use Rattle.wire_reader.specs.steps.Reading.{◌>>=◌, end_at, field_at, seen_in, kind_in, attrs_in}

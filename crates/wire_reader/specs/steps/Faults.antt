@@ -3,8 +3,8 @@ use Rattle.base_types.specs.declared.fault.NameFault.{NameFault}
 use Rattle.base_types.specs.declared.fault.NameFault.TheVariants as name
 use Rattle.base_types.specs.declared.fault.ListFault.{ListFault}
 use Rattle.base_types.specs.declared.fault.ListFault.TheVariants as list
-use Rattle.state_vector.specs.declared.VectorFault.{VectorFault}
-use Rattle.state_vector.specs.declared.VectorFault.TheVariants as vector
+use Rattle.base_types.specs.declared.state_vector.VectorFault.{VectorFault}
+use Rattle.base_types.specs.declared.state_vector.VectorFault.TheVariants as vector
 use Rattle.std.specs.Prelude.{◌≡◌}
 use Rattle.serde_json.specs.declared.error.Error.{Error}
 use Rattle.serde_json.specs.Errors.{IsMemory}

@@ -1,6 +1,6 @@
 use Rattle.std.proofs.Common.{◌≡◌, ◌∙◌, sym, ap, ℕ, Bool}
 use Rattle.std.proofs.lemmas.List.{get_or_default}
-use Rattle.state_vector.specs.Vectors.{counts}
+use Rattle.base_types.specs.Vectors.{counts}
 use Rattle.rules.specs.declared.history.Op.{Op}
 use Rattle.std.specs.Prelude.{filter}
 use Rattle.places.specs.steps.PlaceSet.{places}

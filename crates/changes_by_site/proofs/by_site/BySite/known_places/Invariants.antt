@@ -1,6 +1,6 @@
 use Rattle.std.proofs.Common.{◌≡◌}
 use Rattle.std.specs.Prelude.{filter}
-use Rattle.state_vector.specs.Vectors.{counts}
+use Rattle.base_types.specs.Vectors.{counts}
 use Rattle.places.specs.steps.PlaceSet.{places}
 use Rattle.places.specs.steps.Changes.{at}
 use Rattle.changes_by_site.proofs.by_site.BySite.known_places.Given as goal

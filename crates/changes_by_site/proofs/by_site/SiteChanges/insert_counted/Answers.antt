@@ -3,7 +3,7 @@ use Rattle.std.specs.Prelude.{OnOk, nat_le, filter}
 use Rattle.std.specs.Fn.{Called, ComputesKey}
 use Rattle.std.specs.List.Sorted.{IsNonDecreasingBy, IsPartitionedBy, IsPartitionPoint}
 use Rattle.std.proofs.lemmas.List.Sorted.{IsPartitionedBy-leb, IsPartitionPoint-from_clause}
-use Rattle.state_vector.specs.Vectors.{count_of}
+use Rattle.base_types.specs.Vectors.{count_of}
 use Rattle.places.specs.steps.PlaceSet.{has, places, with_places}
 use Rattle.changes_by_site.specs.steps.Indexes.{OfSite, IsRising, counted_of}
 use Rattle.changes_by_site.proofs.Sited.{counted_whole, counted_none, counted_cut}

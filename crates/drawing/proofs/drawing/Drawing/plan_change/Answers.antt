@@ -1,5 +1,5 @@
 use Rattle.std.proofs.Common.{sym, ap, ◌∙◌}
-use Rattle.state_vector.specs.Vectors.{counts}
+use Rattle.base_types.specs.Vectors.{counts}
 use Rattle.drawing.proofs.Refused.{not_counted}
 use Rattle.drawing.proofs.drawing.Drawing.plan_change.Goals as goal
 

@@ -1,18 +1,18 @@
 //! State vectors: maps from sites to counts. An operation carries one to say which operations its
 //! author had seen (Sun and Chen, ACM TOCHI 9(1), 2002).
-#![tactic(auto)]
 
 ghost use Rattle.std.specs.Prelude.{◌≡◌, ℕ, List, [], true, false, ◌<◌, length, IfOk, OnErr};
 ghost use Rattle.std.specs.List.{HoldsAt};
 ghost use Rattle.std.specs.Result.{result_err};
 ghost use Rattle.base_types.specs.steps.Faults.{FailsBy, OnFault};
-ghost use Rattle.state_vector.specs.Vectors.{count_of, counts, covers, same_pairs};
-ghost use Rattle.state_vector.specs.Vectors.{pair_fault, vector_fault, is_vector};
-ghost use Rattle.state_vector.specs.declared.VectorFault.TheVariants as vector_fault_of;
+ghost use Rattle.base_types.specs.Vectors.{count_of, counts, covers, same_pairs};
+ghost use Rattle.base_types.specs.Vectors.{pair_fault, vector_fault, is_vector};
+ghost use Rattle.base_types.specs.declared.state_vector.VectorFault.TheVariants as vector_fault_of;
 ghost use Rattle.std.specs.Cmp.Rules.{comparing};
 ghost use Rattle.std.proofs.Common.{rules};
 
-use base_types::{MAX_SEQ, MAX_SITE, NoMemory, OpName};
+use crate::fault::NoMemory;
+use crate::op_name::{MAX_SEQ, MAX_SITE, OpName};
 use smallvec::SmallVec;
 use std::alloc::{AllocError, Global};
 use std::marker::Model;

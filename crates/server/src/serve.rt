@@ -251,8 +251,10 @@ where
     fn serve(self, names: &[&'w str]) -> Result<(), Fault> {
         let rooms = room_names(self.alloc, names)?;
         let tallies = empty_tallies(self.alloc, names)?;
-        let planned = NewRooms::plan(self.alloc, rooms, Limits::full()).map_err(fault_of_rooms)?;
-        serve_in_memory::<Brand, R, W>(self, planned, &tallies)
+        match NewRooms::plan(self.alloc, rooms, Limits::full()) {
+            Ok(planned) => serve_in_memory::<Brand, R, W>(self, planned, &tallies),
+            Err(fault) => Err(fault_of_rooms(fault)),
+        }
     }
 
     /// Serves in rooms of these names with full limits, which this folder keeps.
@@ -266,10 +268,10 @@ where
         let (states, files) = folder.read(rt, alloc, names)?;
         let tallies = tallies_of(alloc, names, &states)?;
         let journals = folder.settle(rt, alloc, files)?;
-        let planned = NewRooms::with_records(alloc, rooms, Limits::full(), states).map_err(
-            fault_of_rooms,
-        )?;
-        serve_in_files::<Brand, R, W>(self, planned, &tallies, journals)
+        match NewRooms::with_records(alloc, rooms, Limits::full(), states) {
+            Ok(planned) => serve_in_files::<Brand, R, W>(self, planned, &tallies, journals),
+            Err(fault) => Err(EarlyEnd::Fault(fault_of_rooms(fault))),
+        }
     }
 
     /// Serves in rooms of these names with full limits, and returns the exit status:

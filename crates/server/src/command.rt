@@ -55,6 +55,28 @@ fn service_of<'a, 'w, R, W>(
     })
 }
 
+/// Runs `grace serve` with these options.
+fn run_serve<H, W, E>(
+    rt: &H,
+    alloc: Global,
+    words: &ArgMatches,
+    output: &mut W,
+    errors: &mut E,
+) -> u8
+where
+    H: Files<File = File> + Threads + Wait + Clock + Log + Net + RandomSource + Sync,
+    H::Stream: Send,
+    W: Write,
+    E: Write,
+{
+    let names = words.get_strs("ROOM").unwrap_or(&[]);
+    match (service_of(rt, alloc, words, output), words.get_str("keep")) {
+        (Some(service), Some(dir)) => service.run_kept(dir, names, errors),
+        (Some(service), None) => service.run(names, errors),
+        (None, _) => 2,
+    }
+}
+
 /// Runs the command that was parsed.
 fn run_read<H, R, W, E>(
     rt: &H,
@@ -76,14 +98,7 @@ where
             let names = words.get_strs("ROOM").unwrap_or(&[]);
             script_over(alloc, names, input, output, errors)
         }
-        Some(("serve", words)) => {
-            let names = words.get_strs("ROOM").unwrap_or(&[]);
-            match (service_of(rt, alloc, words, output), words.get_str("keep")) {
-                (Some(service), Some(dir)) => service.run_kept(dir, names, errors),
-                (Some(service), None) => service.run(names, errors),
-                (None, _) => 2,
-            }
-        }
+        Some(("serve", words)) => run_serve(rt, alloc, words, output, errors),
         Some(("watch", words)) => match (words.get_str("ADDRESS"), words.get_str("ROOM")) {
             (Some(address), Some(room)) => watch_at(rt, alloc, address, room, output, errors),
             _ => 2,

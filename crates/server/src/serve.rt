@@ -64,6 +64,14 @@ pub(crate) struct Service<'a, 'w, R, W> {
     pub(crate) output: &'a mut W,
 }
 
+/// Writes a line to the output at once.
+fn write_line<W: Write>(output: &mut W, line: &str) -> Result<(), Fault> {
+    if output.write_all(line.as_bytes()).is_err() || output.flush().is_err() {
+        return Err(Fault::Output);
+    }
+    Ok(())
+}
+
 /// The line that reports the address: the host as it was given, and the port that the system chose.
 fn listening_line<L: OpenListener>(
     alloc: Global,
@@ -94,21 +102,23 @@ where
         K: Keeper<P> + Sync,
         K::Receipt: Send,
     {
-        let (rt, alloc) = (self.rt, self.alloc);
-        let listener = match TcpListener::bind(rt, self.address) {
-            Ok(listener) => listener,
-            Err(why) => return Err(Fault::CannotListen(why)),
-        };
+        let listener = self.listen()?;
         if !self.is_kept {
-            warn!(rt; "rooms are in memory only; --keep DIR keeps them");
+            warn!(self.rt; "rooms are in memory only; --keep DIR keeps them");
         }
-        let observer = ServerObserver::new(rt, tallies, self.sessions, self.workers);
+        let observer = ServerObserver::new(self.rt, tallies, self.sessions, self.workers);
         observer.begin();
-        let line = listening_line(alloc, self.address, &listener)?;
-        if self.output.write_all(line.as_bytes()).is_err() || self.output.flush().is_err() {
-            return Err(Fault::Output);
-        }
+        let line = listening_line(self.alloc, self.address, &listener)?;
+        write_line(self.output, &line)?;
         self.serve_listening(rooms, &listener, &observer, keeper)
+    }
+
+    /// Listens on the address.
+    fn listen(&self) -> Result<R::Listener, Fault> {
+        match TcpListener::bind(self.rt, self.address) {
+            Ok(listener) => Ok(listener),
+            Err(why) => Err(Fault::CannotListen(why)),
+        }
     }
 
     /// Serves what the listener accepts.

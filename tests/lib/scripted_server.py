@@ -67,7 +67,7 @@ class ScriptedServer:
         reader = FrameReader()
         while has_more and reader.end is None and (data := self.client.recv(65536)):
             for opcode, payload in reader.feed(data):
-                has_more = has_more and self.send(self.answer_to(opcode, payload))
+                has_more = has_more and self.send(self.answer_to(opcode, payload), self.piece)
 
     def read_key(self):
         """Reads the client's head. Returns its key."""
@@ -91,10 +91,10 @@ class ScriptedServer:
         self.requests.append(payload.decode())
         return frame(TEXT, self.replies.pop(0).encode(), masked=False) if self.replies else b""
 
-    def send(self, data):
-        """Sends as many of these bytes as are left. Returns whether it sent all."""
+    def send(self, data, piece=None):
+        """Sends as many of these bytes as are left, in pieces of this size or in one. Returns whether it sent all."""
         count = len(data) if self.left is None else min(len(data), self.left)
-        size = self.piece or count or 1
+        size = piece or count or 1
         for place in range(0, count, size):
             self.client.sendall(data[place : min(place + size, count)])
         if self.left is not None:

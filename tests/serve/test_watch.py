@@ -145,7 +145,7 @@ def test_each_causal_order():
 
 
 def test_single_bytes():
-    """The server's bytes may arrive one by one."""
+    """The bytes of the server's frames may arrive one by one. In a head `tungstenite` takes that for an attack."""
     expect_equal("the end", watched(TALK, piece=1), (0, SHOWN, ""))
 
 

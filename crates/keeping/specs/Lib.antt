@@ -1,4 +1,5 @@
 pub use Rattle.record_file.specs.RecordText
+pub use Rattle.restore.specs.Restoring
 pub mod Kept
 pub mod Tails
 pub mod steps

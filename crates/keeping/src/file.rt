@@ -1,22 +1,24 @@
 //! A room's file.
 
-ghost use Rattle.std.specs.Prelude.{◌≡◌, ◌++◌, OnErr, OnOk, IfOk, IfSome, false, true, map};
-ghost use Rattle.std.specs.Prelude.{option_map, take, length};
+ghost use Rattle.std.specs.Prelude.{◌≡◌, ◌++◌, Err, OnErr, OnOk, IfOk, IfSome, Some, false, true};
+ghost use Rattle.std.specs.Prelude.{map, option_map, slice_get};
 ghost use Rattle.std.specs.Arc.{arc_value};
 ghost use Rattle.record_file.specs.RecordText.{AreLines, record_text};
-ghost use Rattle.keeping.specs.Tails.{is_clean};
+ghost use Rattle.room_lock.specs.declared.keeper.KeepFault.TheVariants as keep_fault;
+ghost use Rattle.room_lock.specs.steps.Planned.{prefixes_from};
+ghost use Rattle.keeping.specs.declared.file.Tail.TheVariants.{Nothing, Broken};
+ghost use Rattle.keeping.specs.Tails.{fault_of, is_clean, tail_after};
 
 mod kept;
 
 use base_types::NoMemory;
-use journal::{Journal, JournalFault, Synced};
+use journal::{Journal, JournalFault};
 pub use kept::Kept;
 use record_file::append;
-use room_lock::{KeepFault, News, Prefix, RoomLedger};
+use restore::RestoredFile;
+use room_lock::{KeepFault, News, Prefix, RoomLedger, Rooms};
 use rules::Entry;
 use std::alloc::Global;
-use std::fs::OpenFile;
-use std::io::Write;
 use std::marker::Model;
 use std::sync::Arc;
 
@@ -33,7 +35,7 @@ enum Tail {
 }
 
 /// A room's file, open for appending. Contracts see the prefix of the room's record that the file
-/// keeps.
+/// keeps, and what may follow it in the file.
 #[derive(Drop)]
 pub struct RoomFile<P: RoomLedger, J: Journal> {
     journal: J,
@@ -42,28 +44,27 @@ pub struct RoomFile<P: RoomLedger, J: Journal> {
 }
 
 impl<P: RoomLedger, J: Journal> Model for RoomFile<P, J> {
-    ghost use Rattle.room_lock.specs.Passes.{PrefixView};
     ghost use Rattle.keeping.specs.Kept.{IsInFile};
-    ghost use Rattle.keeping.specs.Tails.{is_clean};
+    ghost use Rattle.keeping.specs.Tails.{RoomFileView, is_clean};
 
-    ghost Value = { PrefixView };
+    ghost Value = { RoomFileView };
 
-    ghost view = { λ f. f.kept };
+    ghost view = { λ f. record { kept = f.kept; tail = f.tail } };
 
     ghost invariant = { λ f.
         IsInFile (J.held f.journal) (J.kept f.journal) f.kept.entries (is_clean f.tail) };
 }
 
 impl<P: RoomLedger, J: Journal> RoomFile<P, J> {
-    /// The file of a room that begins with the record that was read from it. Its whole lines are
-    /// these entries, and all of it is on the disk.
-    pub fn open(journal: J, begun: &Prefix<P>) -> RoomFile<P, J>
-        requires synced { J.held journal ≡ J.kept journal }
-        requires lines { IfSome (J.kept journal) (λ bytes. AreLines bytes begun.now.entries) }
-        ensures { result ≡ begun.now }
+    /// The file of one of these rooms, which begins with the record that was restored from it.
+    pub fn open(_rooms: &Rooms<P>, begun: &Prefix<P>, file: RestoredFile<J>) -> RoomFile<P, J>
+        // The file has the name of the room, and the room begins with the file's record:
+        requires name { slice_get _rooms.now begun.now.place ≡ Some file.name }
+        requires begun { begun.now.entries ≡ file.entries }
+        ensures { result ≡ record { kept = begun.now; tail = Nothing } }
     {
         RoomFile {
-            journal,
+            journal: file.into_journal(),
             kept: Kept::of(begun),
             tail: Tail::Nothing,
         }
@@ -71,13 +72,15 @@ impl<P: RoomLedger, J: Journal> RoomFile<P, J> {
 
     /// The receipt for what the file keeps.
     pub fn receipt(&self) -> &Kept<P>
-        ensures { result.now ≡ self.now }
+        ensures { result.now ≡ self.now.kept }
     {
         &self.kept
     }
 
     /// Returns whether the file holds only what it keeps.
-    pub fn is_clean(&self) -> bool {
+    pub fn is_clean(&self) -> bool
+        ensures { result ≡ is_clean self.now.tail }
+    {
         self.tail == Tail::Nothing
     }
 
@@ -90,11 +93,15 @@ impl<P: RoomLedger, J: Journal> RoomFile<P, J> {
     /// `NotKept` if a write or a sync failed for another reason, now and for each later call.
     /// `NoMemory` if an allocation failed.
     pub fn keep(&mut self, alloc: Global, news: &News<P>) -> Result<(), KeepFault>
-        requires news { self.old.entries ++ map arc_value news.now.entries.items
+        requires news { self.old.kept.entries ++ map arc_value news.now.entries.items
             ≡ news.now.whole.entries }
-        requires place { news.now.whole.place ≡ self.old.place }
-        ensures kept { OnOk result (self.new ≡ news.now.whole) }
-        ensures err { OnErr result (self.new ≡ self.old) }
+        requires place { news.now.whole.place ≡ self.old.kept.place }
+        ensures kept { OnOk result
+            (self.new ≡ record { kept = news.now.whole; tail = Nothing }) }
+        ensures err { OnErr result (self.new.kept ≡ self.old.kept) }
+        ensures unclean { OnErr result (is_clean self.new.tail ≡ false) }
+        ensures broken { self.old.tail ≡ Broken →
+            (result ≡ Err keep_fault.NotKept) × (self.new.tail ≡ Broken) }
     {
         let entries = news.entries.as_slice();
         match put_behind(alloc, &mut self.journal, self.tail, entries) {
@@ -112,34 +119,34 @@ impl<P: RoomLedger, J: Journal> RoomFile<P, J> {
 
     /// Consumes the file. A loss of power leaves whole lines of the kept entries at its start.
     pub fn into_journal(self) -> J
-        ensures { IfSome (J.kept result) (λ bytes. AreLines bytes self.entries) }
+        ensures { IfSome (J.kept result) (λ bytes. AreLines bytes self.kept.entries) }
     {
         self.journal
     }
 }
 
-impl<P: RoomLedger, F: Write + OpenFile + Drop> RoomFile<P, Synced<F>> {
-    /// Opens the files of rooms that begin with the records that were read from them, in the order
-    /// of the rooms. Stops at the end of the shorter list. All of each file is on the disk, and it
-    /// is open for appending.
+impl<P: RoomLedger, J: Journal + Drop> RoomFile<P, J> {
+    /// Opens the files of all rooms, in the order of the rooms.
     ///
     /// # Errors
     /// `NoMemory` if an allocation failed.
     pub fn open_all(
         alloc: Global,
-        journals: Vec<Synced<F>>,
+        rooms: &Rooms<P>,
         begun: &[Prefix<P>],
-    ) -> Result<Vec<RoomFile<P, Synced<F>>>, NoMemory>
-        ensures { IfOk result (λ files. files.items ≡ take (length files.items) begun.now) }
+        files: Vec<RestoredFile<J>>,
+    ) -> Result<Vec<RoomFile<P, J>>, NoMemory>
+        // There is a file for each room in order, and the room begins with the file's record:
+        requires names { map (λ file. file.name) files.items ≡ rooms.now }
+        requires begun { begun.now ≡ prefixes_from 0 (map (λ file. file.entries) files.items) }
+        ensures { IfOk result (λ opened. map (λ file. file.kept) opened.items ≡ begun.now) }
     {
-        let mut files = Vec::with_capacity(alloc, journals.len())?;
-        for journal in journals {
-            let Some(begun) = begun.get(files.len()) else {
-                break;
-            };
-            files.push(RoomFile::open(journal, begun))?;
+        let mut opened = Vec::with_capacity(alloc, files.len())?;
+        for file in files {
+            let prefix = &begun[opened.len()];
+            opened.push(RoomFile::open(rooms, prefix, file))?;
         }
-        Ok(files)
+        Ok(opened)
     }
 }
 
@@ -159,6 +166,7 @@ fn put_behind<J: Journal>(
     ensures lines { OnOk result
         (AreLines (record_text (map arc_value entries.now)) (map arc_value entries.now)) }
     ensures err { OnErr result (J.kept journal.new ≡ J.kept journal.old) }
+    ensures broken { tail ≡ Broken → result ≡ Err JournalFault.Failed }
 {
     match tail {
         Tail::Nothing => {}
@@ -170,7 +178,7 @@ fn put_behind<J: Journal>(
 
 /// What may follow the kept bytes after a fault.
 fn tail_after(fault: JournalFault) -> Tail
-    ensures { is_clean result ≡ false }
+    ensures { result ≡ tail_after fault }
 {
     match fault {
         JournalFault::NoMemory | JournalFault::Full => Tail::Scraps,
@@ -179,7 +187,9 @@ fn tail_after(fault: JournalFault) -> Tail
 }
 
 /// The fault of keeping for a fault of the file.
-fn keep_fault(fault: JournalFault) -> KeepFault {
+fn keep_fault(fault: JournalFault) -> KeepFault
+    ensures { result ≡ fault_of fault }
+{
     match fault {
         JournalFault::NoMemory => KeepFault::NoMemory,
         JournalFault::Full | JournalFault::Failed => KeepFault::NotKept,

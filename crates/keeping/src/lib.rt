@@ -3,6 +3,7 @@
 
 mod file;
 mod keeping;
+pub mod laws;
 mod room;
 
 pub use file::{Kept, RoomFile};

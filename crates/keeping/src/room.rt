@@ -117,7 +117,7 @@ fn write_news<P: RoomLedger, J: Journal>(
     rooms: &Rooms<P>,
     file: &mut RoomFile<P, J>,
 ) -> Result<(), KeepFault>
-    ensures { OnErr result (file.new ≡ file.old) }
+    ensures { OnErr result (file.new.kept ≡ file.old.kept) }
 {
     let news = match rooms.news(rt, alloc, file.receipt().prefix()) {
         Ok(news) => news,

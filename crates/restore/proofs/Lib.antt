@@ -1,3 +1,3 @@
 pub mod Lengths
 mod ReadSoFar
-mod Told
+pub mod Told

@@ -64,3 +64,34 @@ has_all bytes behind' told (restored.Bad number) lines legal is =
     let within = behind [] told is.entries (lines_of bytes) (lines_of (whole_part behind')) is.front is.split.later is.line lines.read
     (sym (stays bytes behind' lines.whole) ∙ is.split.whole) is.before.read is.refused legal in
     omega (arith, within, is.split.counted)
+
+-- lines that are read as a list begin with lines that are read as its beginning
+split_read : {A B : Type 0} (f : A → Option B) (xs : List A) (told rest : List B) → map f xs ≡ map Some (told ++ rest)
+    → (first : List A) × (more : List A) × (xs ≡ first ++ more) × (map f first ≡ map Some told)
+split_read f xs [] rest e = ([], xs, refl, refl)
+split_read f [] (t ∷ told) rest e = absurd (cc)
+split_read f (x ∷ xs) (t ∷ told) rest e =
+    let here : f x ≡ Some t = cc in
+    let later : map f xs ≡ map Some (told ++ rest) = cc in
+    let split = split_read f xs told rest later in
+    (x ∷ split.0, split.1, ap (λ (l : List _). x ∷ l) split.2, cc (here, split.3))
+
+-- the same for what was told of more that is kept
+pub has_all_told : (bytes behind' : List ℕ) (told kept : List Entry) (one : Restored)
+    → IsPrefix told kept → AreLines bytes kept → IsLegal full_limits told → IsRestored (bytes ++ behind') one → HasAllOf told one
+has_all_told bytes behind' told kept (restored.Room room whole) begins lines legal is =
+    let split = stays bytes behind' lines.whole in
+    let more = map entry_read (lines_of (whole_part behind')) in
+    let read : map Some told ++ (map Some begins.0 ++ more) ≡ map Some room.room.entries =
+    sym (append_assoc (map Some told) (map Some begins.0) more)
+    ∙ ap (λ l. l ++ more) (sym (map-append Some told begins.0) ∙ ap (map Some) begins.1 ∙ sym lines.read)
+    ∙ sym (map-append entry_read (lines_of bytes) (lines_of (whole_part behind'))) ∙ ap (map entry_read) (sym split) ∙ is.0.read in
+    some_prefix told room.room.entries _ read
+has_all_told bytes behind' told kept (restored.Bad number) begins lines legal is =
+    let first = split_read entry_read (lines_of bytes) told begins.0 (lines.read ∙ ap (map Some) (sym begins.1)) in
+    let whole : first.0 ++ (first.1 ++ lines_of (whole_part behind')) ≡ is.front ++ is.line ∷ is.split.later =
+    sym (append_assoc first.0 first.1 (lines_of (whole_part behind'))) ∙ ap (λ l. l ++ lines_of (whole_part behind')) (sym first.2)
+    ∙ sym (stays bytes behind' lines.whole) ∙ is.split.whole in
+    let within = behind [] told is.entries first.0 (first.1 ++ lines_of (whole_part behind')) is.front is.split.later is.line first.3
+    whole is.before.read is.refused legal in
+    omega (arith, within, is.split.counted)

@@ -1,21 +1,23 @@
 //! The folder of `--keep`. The server locks it, reads the file of each room, and then cuts each
 //! file to its whole lines.
 
-ghost use Rattle.std.specs.Prelude.{◌≡◌, All, IfOk, length};
+ghost use Rattle.std.specs.Prelude.{◌≡◌, ◌++◌, All, IfOk, codes, map, string_bytes};
 ghost use Rattle.rules.specs.Limits.{full_limits};
 
-use crate::early_end::EarlyEnd;
-use byte_streams::Uninterrupted;
-use command_fault::{Fault, MAX_FILE_LEN, read_up_to};
+use crate::fault::FolderFault;
+use crate::found::{Found, RestoreFault, restore_room};
+use base_types::NoMemory;
+use command_fault::MAX_FILE_LEN;
 use journal::Synced;
 use log::{Log, error, info, warn};
-use restore::{Restored, restore};
+use restore::RestoredFile;
 use room_core::RoomState;
-use std::alloc::{AllocError, Global};
+use std::alloc::Global;
 use std::fmt::Display;
 use std::fs::{File, OpenOptions, TryLockError};
 use std::io::ErrorKind;
 use std::rt::Files;
+use std::sync::Wait;
 use std::{fs, io};
 
 /// A folder that keeps rooms. The file ROOM.record has the entries of a room, one per line. No
@@ -24,16 +26,6 @@ use std::{fs, io};
 pub struct Folder<'a> {
     dir: &'a str,
     opened: File,
-}
-
-/// A room's file as it was found: the open file, if there is one, and two numbers of bytes. `whole`
-/// counts the bytes of its whole lines, and `behind` the bytes behind them.
-#[derive(Drop)]
-pub struct Found {
-    path: String,
-    file: Option<File>,
-    behind: usize,
-    whole: usize,
 }
 
 /// Why a long file is not read.
@@ -86,14 +78,22 @@ fn cut_or_create<R: Files<File = File> + Log>(
 }
 
 /// Logs which file fails and why. Returns the fault that the folder cannot keep rooms.
-fn cannot_keep<'a, R: Log, W: Display>(rt: &R, dir: &'a str, path: &str, why: &W) -> EarlyEnd<'a> {
+fn cannot_keep<'a, R: Log, W: Display>(
+    rt: &R,
+    dir: &'a str,
+    path: &str,
+    why: &W,
+) -> FolderFault<'a> {
     error!(rt; "{path}: {why}");
-    EarlyEnd::CannotKeep(dir)
+    FolderFault::CannotKeep(dir)
 }
 
 /// The path of a room's file.
-fn path_of(alloc: Global, dir: &str, name: &str) -> Result<String, AllocError> {
-    format!(in alloc; "{dir}/{name}.record")
+fn path_of(alloc: Global, dir: &str, name: &str) -> Result<String, NoMemory>
+    ensures { IfOk result (λ path. string_bytes path
+        ≡ dir.now ++ (codes "/" ++ (name.now ++ codes ".record"))) }
+{
+    Ok(format!(in alloc; "{dir}/{name}.record")?)
 }
 
 impl<'a> Folder<'a> {
@@ -105,14 +105,14 @@ impl<'a> Folder<'a> {
     pub fn open<R: Files<File = File> + Log>(
         rt: &R,
         dir: &'a str,
-    ) -> Result<Folder<'a>, EarlyEnd<'a>> {
+    ) -> Result<Folder<'a>, FolderFault<'a>> {
         let opened = match open_folder(rt, dir) {
             Ok(opened) => opened,
             Err(why) => return Err(cannot_keep(rt, dir, dir, &why)),
         };
         match opened.try_lock() {
             Ok(()) => Ok(Folder { dir, opened }),
-            Err(TryLockError::WouldBlock) => Err(EarlyEnd::KeptByAnother(dir)),
+            Err(TryLockError::WouldBlock) => Err(FolderFault::KeptByAnother(dir)),
             Err(TryLockError::Error(why)) => Err(cannot_keep(rt, dir, dir, &why)),
         }
     }
@@ -124,15 +124,18 @@ impl<'a> Folder<'a> {
     /// # Errors
     /// `CannotKeep` if a file cannot be opened or read, or has more than 1,073,741,824 bytes.
     /// `BadRecord` if the whole lines of a file are no legal record.
-    /// `Fault` if an allocation failed.
-    pub fn read<R: Files<File = File> + Log>(
+    /// `NoMemory` if an allocation failed.
+    pub fn read<R: Files<File = File> + Log + Wait>(
         &self,
         rt: &R,
         alloc: Global,
         names: &[&'a str],
-    ) -> Result<(Vec<RoomState>, Vec<Found>), EarlyEnd<'a>>
-        ensures states { IfOk result (λ found. length found.0.items ≡ length names.now) }
-        ensures files { IfOk result (λ found. length found.1.items ≡ length names.now) }
+    ) -> Result<(Vec<RoomState>, Vec<Found<File>>), FolderFault<'a>>
+        // There is a file for each name in order, and the room with the record of the file:
+        ensures names { IfOk result (λ found.
+            map (λ file. file.name) found.1.items ≡ map (λ name. name.now) names.now) }
+        ensures records { IfOk result (λ found. map (λ state. state.room.entries) found.0.items
+            ≡ map (λ file. file.entries) found.1.items) }
         ensures limits { IfOk result (λ found.
             All (λ state. state.room.limits ≡ full_limits) found.0.items) }
     {
@@ -147,61 +150,52 @@ impl<'a> Folder<'a> {
     }
 
     /// Reads the file of one room.
-    fn read_room<R: Files<File = File> + Log>(
+    fn read_room<R: Files<File = File> + Log + Wait>(
         &self,
         rt: &R,
         alloc: Global,
         name: &'a str,
-    ) -> Result<(RoomState, Found), EarlyEnd<'a>>
-        ensures { IfOk result (λ found. found.0.room.limits ≡ full_limits) }
+    ) -> Result<(RoomState, Found<File>), FolderFault<'a>>
+        ensures limits { IfOk result (λ found. found.0.room.limits ≡ full_limits) }
+        ensures found { IfOk result (λ found.
+            found.1 ≡ record { name = name.now; entries = found.0.room.entries }) }
     {
         let path = path_of(alloc, self.dir, name)?;
-        let (file, bytes) = self.bytes_at(rt, alloc, path.as_str())?;
-        match restore(alloc, bytes.as_slice())? {
-            Restored::Room { room, whole } => {
+        let file = match open_file(rt, path.as_str()) {
+            Ok(file) => file,
+            Err(why) => return Err(cannot_keep(rt, self.dir, path.as_str(), &why)),
+        };
+        match restore_room(rt, alloc, name, file) {
+            Ok((room, found)) => {
                 let entries = room.entries().len();
                 if entries > 0 {
                     info!(rt; "{path}: {entries} entries");
                 }
-                let found = Found {
-                    path,
-                    file,
-                    behind: bytes.len() - whole,
-                    whole,
-                };
                 Ok((room, found))
             }
-            Restored::Bad(line) => Err(EarlyEnd::BadRecord {
-                dir: self.dir,
-                room: name,
-                line,
-            }),
+            Err(fault) => Err(self.fault_of(rt, path.as_str(), name, fault)),
         }
     }
 
-    /// The file at this path and all its bytes, or no file and no bytes.
-    fn bytes_at<R: Files<File = File> + Log>(
+    /// The fault of the start for a room that cannot be restored.
+    fn fault_of<R: Log>(
         &self,
         rt: &R,
-        alloc: Global,
         path: &str,
-    ) -> Result<(Option<File>, Vec<u8>), EarlyEnd<'a>> {
-        let file = match open_file(rt, path) {
-            Ok(Some(file)) => file,
-            Ok(None) => return Ok((None, Vec::new(alloc))),
-            Err(why) => return Err(cannot_keep(rt, self.dir, path, &why)),
-        };
-        let mut input = Uninterrupted { stream: file };
-        match read_up_to(alloc, &mut input, MAX_FILE_LEN) {
-            Ok(bytes) => {
-                let Uninterrupted { stream } = input;
-                Ok((Some(stream), bytes))
-            }
-            Err(Fault::NoMemory) => Err(EarlyEnd::Fault(Fault::NoMemory)),
-            Err(_) => {
+        name: &'a str,
+        fault: RestoreFault,
+    ) -> FolderFault<'a> {
+        match fault {
+            RestoreFault::BadLine(line) => FolderFault::BadRecord {
+                dir: self.dir,
+                room: name,
+                line,
+            },
+            RestoreFault::Unreadable => {
                 let why = "it can't be read";
-                Err(cannot_keep(rt, self.dir, path, &why))
+                cannot_keep(rt, self.dir, path, &why)
             }
+            RestoreFault::NoMemory => FolderFault::NoMemory,
         }
     }
 
@@ -210,21 +204,22 @@ impl<'a> Folder<'a> {
     ///
     /// # Errors
     /// `CannotKeep` if a file cannot be created, cut or synced.
-    /// `Fault` if an allocation failed.
+    /// `NoMemory` if an allocation failed.
     pub fn settle<R: Files<File = File> + Log>(
         &self,
         rt: &R,
         alloc: Global,
-        files: Vec<Found>,
-    ) -> Result<Vec<Synced<File>>, EarlyEnd<'a>>
-        ensures { IfOk result (λ journals. length journals.items ≡ length files.items) }
+        files: Vec<Found<File>>,
+    ) -> Result<Vec<RestoredFile<Synced<File>>>, FolderFault<'a>>
+        // Each has the name and the record that it had:
+        ensures { IfOk result (λ settled. settled.items ≡ files.items) }
     {
-        let mut journals = Vec::with_capacity(alloc, files.len())?;
+        let mut settled = Vec::with_capacity(alloc, files.len())?;
         for found in files {
-            journals.push(self.settle_file(rt, found)?)?;
+            settled.push(self.settle_file(rt, alloc, found)?)?;
         }
         match self.opened.sync_all() {
-            Ok(()) => Ok(journals),
+            Ok(()) => Ok(settled),
             Err(why) => Err(cannot_keep(rt, self.dir, self.dir, &why)),
         }
     }
@@ -233,16 +228,21 @@ impl<'a> Folder<'a> {
     fn settle_file<R: Files<File = File> + Log>(
         &self,
         rt: &R,
-        found: Found,
-    ) -> Result<Synced<File>, EarlyEnd<'a>> {
+        alloc: Global,
+        found: Found<File>,
+    ) -> Result<RestoredFile<Synced<File>>, FolderFault<'a>>
+        ensures { IfOk result (λ settled. settled ≡ found) }
+    {
         let Found {
-            path,
+            name,
             file,
-            behind,
             whole,
+            behind,
+            restored,
         } = found;
+        let path = path_of(alloc, self.dir, name.as_str())?;
         match cut_or_create(rt, path.as_str(), file, behind, whole) {
-            Ok(journal) => Ok(journal),
+            Ok(journal) => Ok(RestoredFile::new(name, restored, journal)),
             Err(why) => Err(cannot_keep(rt, self.dir, path.as_str(), &why)),
         }
     }

@@ -1,8 +1,11 @@
-//! The folder of `grace serve --keep`, and why serving ends early.
+//! The folder of `grace serve --keep`: its lock, the files of rooms in it, and the rooms that are
+//! restored from them.
 #![tactic(auto)]
 
-mod early_end;
+mod fault;
 mod folder;
+mod found;
 
-pub use early_end::EarlyEnd;
-pub use folder::{Folder, Found};
+pub use fault::FolderFault;
+pub use folder::Folder;
+pub use found::Found;

@@ -3,6 +3,7 @@
 
 mod accept;
 mod command;
+mod early_end;
 mod serve;
 mod server_observer;
 mod stamped_log;

@@ -1,11 +1,12 @@
 //! `grace serve`: serves sessions over WebSocket.
 
-ghost use Rattle.std.specs.Prelude.{◌≡◌};
+ghost use Rattle.std.specs.Prelude.{◌≡◌, map};
 ghost use Rattle.std.specs.Thread.{IsSend};
 ghost use Rattle.room_lock.specs.steps.Planned.{IsLedgerOf};
 ghost use Rattle.server.specs.steps.Faults.{of_serving};
 
 use crate::accept::Accepted;
+use crate::early_end::EarlyEnd;
 use crate::server_observer::ServerObserver;
 use crate::tally::{Tally, empty_tallies, tallies_of};
 use base_types::repeated_name;
@@ -14,7 +15,8 @@ use commands::{fault_of_rooms, room_names};
 use journal::Synced;
 use keeping::{Keeping, RoomFile};
 use log::{Log, warn};
-use room_folder::{EarlyEnd, Folder};
+use restore::RestoredFile;
+use room_folder::Folder;
 use room_lock::{Forgets, Keeper, NewRooms, RoomLedger, Rooms};
 use rules::Limits;
 use sessions::{ServeFault, serve_streams};
@@ -225,12 +227,13 @@ where
     service.serve_rooms(rooms, tallies, &Forgets)
 }
 
-/// Serves in rooms that are kept in these files, one for each room in order.
+/// Serves in rooms that are kept in these files, one for each room in order. Each room begins with
+/// the record of its file.
 fn serve_in_files<'a, P, R, W>(
     service: Service<'_, 'a, R, W>,
     planned: NewRooms,
     tallies: &[Tally<'_>],
-    journals: Vec<Synced<File>>,
+    files: Vec<RestoredFile<Synced<File>>>,
 ) -> Result<(), EarlyEnd<'a>>
 where
     P: RoomLedger + Send + Sync,
@@ -238,10 +241,12 @@ where
     R::Stream: Send,
     W: Write,
     requires { IsLedgerOf planned P.name P.parts P.limits P.books }
+    requires names { map (λ file. file.name) files.items ≡ planned.names }
+    requires records { map (λ file. file.entries) files.items ≡ planned.records }
 {
     let (rt, alloc) = (service.rt, service.alloc);
     let (rooms, begun) = Rooms::<P>::new(rt, alloc, planned)?;
-    let files = RoomFile::open_all(alloc, journals, &begun)?;
+    let files = RoomFile::open_all(alloc, &rooms, &begun, files)?;
     let keeping = Keeping::new(alloc, files)?;
     service.serve_rooms(rooms, tallies, &keeping)?;
     if keeping.all_kept(rt) {
@@ -275,11 +280,11 @@ where
             return Err(EarlyEnd::Fault(Fault::RoomNamedTwice));
         }
         let folder = Folder::open(rt, dir)?;
-        let (states, files) = folder.read(rt, alloc, names)?;
+        let (states, found) = folder.read(rt, alloc, names)?;
         let tallies = tallies_of(alloc, names, &states)?;
-        let journals = folder.settle(rt, alloc, files)?;
+        let files = folder.settle(rt, alloc, found)?;
         match NewRooms::with_records(alloc, rooms, Limits::full(), states) {
-            Ok(planned) => serve_in_files::<Brand, R, W>(self, planned, &tallies, journals),
+            Ok(planned) => serve_in_files::<Brand, R, W>(self, planned, &tallies, files),
             Err(fault) => Err(EarlyEnd::Fault(fault_of_rooms(fault))),
         }
     }

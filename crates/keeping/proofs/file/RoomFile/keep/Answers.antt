@@ -14,5 +14,5 @@ invariant_of-self g c =
     let more = kept_more _ _ entries news (record_text news) c.self.invariant.0 e.kept e.lines in
     let same : news ≡ map arc_value c.args.news.now.entries.items = ap (map arc_value) c.as_slice-entries.ensures.value in
     let all : entries ++ news ≡ c.of.result.entries =
-    (λ j. (c.self.view_is j).entries ++ same j) ∙ c.requires.news ∙ sym (ap (λ p. p.entries) c.of.ensures) in
+    (λ j. (c.self.view_is j).kept.entries ++ same j) ∙ c.requires.news ∙ sym (ap (λ p. p.entries) c.of.ensures) in
     (subst (λ (r : List Entry). IfSome (g.J.Journal.kept c.put_behind.new.journal) (λ bytes. AreLines bytes r)) all more, λ _. e.held)

@@ -1,47 +1,43 @@
 //! Why `grace serve` ends early, with its line on standard error and its exit status.
 
+ghost use Rattle.std.specs.Prelude.{◌≡◌};
+
 use base_types::NoMemory;
 use command_fault::Fault;
+use room_folder::FolderFault;
 use std::alloc::{AllocError, AllocFailed};
 use std::io::Write;
 use thiserror::Error;
 
 /// Why `grace serve` ends early, with the words of its line.
 #[derive(Clone, Copy, Debug, Error)]
-pub enum EarlyEnd<'a> {
+pub(crate) enum EarlyEnd<'a> {
     #[error("{0}")]
     Fault(Fault),
-    /// The folder is no folder, or it or a file in it cannot be opened, read or written.
-    #[error("cannot keep: {0}")]
-    CannotKeep(&'a str),
-    #[error("kept by another: {0}")]
-    KeptByAnother(&'a str),
-    /// This line of the room's file is no entry that may come next. Nothing was changed.
-    #[error("bad record: {dir}/{room}.record line {line}; after a loss of power all that clients were told stands before it: keep a copy, and then the lines before {line} alone")]
-    BadRecord {
-        dir: &'a str,
-        room: &'a str,
-        line: usize,
-    },
+    /// The folder cannot keep the rooms.
+    #[error("{0}")]
+    Folder(FolderFault<'a>),
     /// A room's file accepted no more.
     #[error("room not kept")]
     NotKept,
 }
 
 impl EarlyEnd<'_> {
-    /// The exit status: that of the fault, or else 3.
-    pub fn status(self) -> u8 {
+    ghost use Rattle.server.specs.steps.Ends.{status_of_end};
+
+    /// The exit status: that of the fault, 4 if the folder's fault is want of memory, otherwise 3.
+    pub(crate) fn status(self) -> u8
+        ensures { result ≡ status_of_end self }
+    {
         match self {
             EarlyEnd::Fault(fault) => fault.status(),
-            EarlyEnd::CannotKeep(_)
-            | EarlyEnd::KeptByAnother(_)
-            | EarlyEnd::BadRecord { .. }
-            | EarlyEnd::NotKept => 3,
+            EarlyEnd::Folder(FolderFault::NoMemory) => Fault::NoMemory.status(),
+            EarlyEnd::Folder(_) | EarlyEnd::NotKept => 3,
         }
     }
 
     /// Writes the line of the fault. Ignores a failed write.
-    pub fn write_line<E: Write>(self, errors: &mut E) {
+    pub(crate) fn write_line<E: Write>(self, errors: &mut E) {
         let _ = writeln!(errors, "grace: {self}");
         let _ = errors.flush();
     }
@@ -50,6 +46,12 @@ impl EarlyEnd<'_> {
 impl From<Fault> for EarlyEnd<'_> {
     fn from(fault: Fault) -> Self {
         EarlyEnd::Fault(fault)
+    }
+}
+
+impl<'a> From<FolderFault<'a>> for EarlyEnd<'a> {
+    fn from(fault: FolderFault<'a>) -> Self {
+        EarlyEnd::Folder(fault)
     }
 }
 

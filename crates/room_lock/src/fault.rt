@@ -3,7 +3,7 @@
 ghost use Rattle.std.specs.Prelude.{◌≡◌};
 ghost use Rattle.room_lock.specs.declared.fault.CloseFault.TheVariants as close_fault;
 
-use crate::ledger::RoomLedger;
+use crate::histories::RoomHistories;
 use crate::part::Part;
 use base_types::{NoMemory, RoomName};
 use rules::Entry;
@@ -12,7 +12,7 @@ use thiserror::Error;
 
 /// The record of a closed room, and the parts of all its sites in order.
 #[derive(Drop)]
-pub struct RoomRecord<P: RoomLedger> {
+pub struct RoomRecord<P: RoomHistories> {
     /// The name of the room.
     pub room: RoomName,
     /// The entries of the record, in order.

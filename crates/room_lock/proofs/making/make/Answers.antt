@@ -6,7 +6,7 @@ use Rattle.base_types.specs.Repeats.{repeat_from}
 use Rattle.room_lock.specs.steps.Planned.{NewRoomView, book_of, prefixes_from, record_of}
 use Rattle.room_lock.proofs.Begins.{prefix_at, prefixes_more}
 use Rattle.room_lock.proofs.Names.{name_is_new, place_of_next}
-use Rattle.room_lock.proofs.making.begin_rooms.Goals as goal
+use Rattle.room_lock.proofs.making.make.Goals as goal
 
 pub offset_bounds-names-len : goal.offset_bounds-names-len
 offset_bounds-names-len g c =
@@ -67,7 +67,6 @@ loop-new-preserved g c =
       append_assoc yielded (c.in-Some.new ∷ []) _ ∙ parts,
       begun.rooms ∙ ap (λ l. l ++ c.in_ok-name.name ∷ []) i.3 ∙ one ∙ ap (λ n. take n names) (sym more),
       (λ j. repeat_from bytes_eq (more j) (take (more j) names) (drop (more j) names)) ∙ new.1,
-      omega (arith, more, i.5, begun.parts),
-      omega (arith, more, i.6, begun.amount),
-      c.in_ok-push.ensures.items ∙ (λ j. i.7 j ++ begins j ∷ []) ∙ sym (prefixes_more 0 (map record_of yielded) c.in-Some.new.entries) ∙ ap (prefixes_from 0) (sym (map-append record_of yielded (c.in-Some.new ∷ []))),
+      c.in_ok-push.ensures.items ∙ (λ j. i.5 j ++ begins j ∷ []) ∙ sym (prefixes_more 0 (map record_of yielded) c.in-Some.new.entries) ∙ ap (prefixes_from 0) (sym (map-append record_of yielded (c.in-Some.new ∷ []))),
+      begun.in_place i.6,
     )

@@ -1,5 +1,5 @@
 -- The invariants of rooms and of parts. A room's holds whenever its lock is free.
-use Rattle.std.specs.Prelude.{◌≡◌, ◌≤◌, ℕ, List, Some, count_by, slice_get}
+use Rattle.std.specs.Prelude.{◌≡◌, ℕ, List, Some, count_by, slice_get}
 use Rattle.logbook.specs.Pages.{Book}
 use Rattle.rules.specs.declared.history.Entry.{Entry}
 use Rattle.rules.specs.declared.limits.LimitValues.{LimitValues}

@@ -1,6 +1,4 @@
-use Rattle.std.proofs.Common.{◌≡◌, ◌++◌, ◌∷◌, [], List, ap, sym, ◌∙◌, subst}
-use Rattle.crossbeam_utils.specs.declared.cache_padded.CachePadded.{CachePadded}
-use Rattle.base_types.specs.Texts.{Bytes}
+use Rattle.std.proofs.Common.{sym, ◌∙◌, subst}
 use Rattle.room_lock.specs.steps.Planned.{AreInPlace}
 use Rattle.room_lock.proofs.Names.{stand_with}
 use Rattle.room_lock.proofs.making.begin_room.Goals as goal

@@ -1,4 +1,4 @@
-use Rattle.std.proofs.Common.{◌≡◌, ◌++◌, List, None, length, take, drop, map, arith, ap, sym, ◌∙◌, subst, refl}
+use Rattle.std.proofs.Common.{◌≡◌, ◌++◌, length, take, drop, map, arith, ap, sym, ◌∙◌, subst, refl}
 use Rattle.std.specs.Prelude.{IsNone}
 use Rattle.std.specs.Arc.{arc_value}
 use Rattle.std.proofs.lemmas.List.{length-map, take-append-drop}

@@ -1,4 +1,4 @@
-use Rattle.std.proofs.Common.{◌≡◌, ℕ, Bool, true, false, cond, List, Option, Some, None, length, arith, ap, sym, ◌∙◌, subst, refl}
+use Rattle.std.proofs.Common.{◌≡◌, ℕ, true, cond, List, length, arith, ap, sym, ◌∙◌, subst, refl}
 use Rattle.std.specs.Prelude.{IfOk, IsNone}
 use Rattle.std.proofs.lemmas.Bool.{and_from, and_parts, le-leb, leb-true}
 use Rattle.rules.specs.declared.history.Entry.{Entry}

@@ -24,7 +24,7 @@ pub record IsOfRecord (r : List Entry) (part : PartView) : Type 0 where
   pub seen : IsPrefix part.seen r
   pub added : part.added ≡ count_of_site part.site r
 
--- the parts of all sites are on the shelf, and together they added as many entries as the record has
+-- The parts of all sites are on the shelf. Together they added as many entries as the record has.
 abbrev pub IsComplete : List Entry → Shelf → Type 0
 IsComplete r shelf =
     (parts : List PartView) × (map Some parts ≡ shelf) × (sum_by added_of parts ≡ length r)

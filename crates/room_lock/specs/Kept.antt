@@ -20,7 +20,8 @@ abbrev pub IsBeginningAt : List Book → ℕ → Beginning → List Entry → Ty
 IsBeginningAt books place front entries =
     (slice_get books place ≡ Some front.history) × (front.entries ≡ entries)
 
--- The history of the room's place is its record. Each site that has joined has a place on the shelf.
+-- The history of the room's place is its record. Each site that has joined has a place on the
+-- shelf.
 pub record IsRoomKept
     (books : List Book) (limits : LimitValues) (place : ℕ) (room : Room) (front : Beginning)
     (shelf : Shelf) : Type 0 where

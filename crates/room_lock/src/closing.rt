@@ -1,18 +1,31 @@
-//! Closing rooms.
+//! Closing rooms, and their records.
 
 ghost use Rattle.std.specs.Prelude.{◌≡◌, ◌++◌, ◌∷◌, [], All, IfOk, OnOk, map, sum_by};
 ghost use Rattle.std.specs.Arc.{arc_value};
 ghost use Rattle.indexmap.specs.IndexMap.{keys};
 ghost use Rattle.room_lock.specs.Closing.{HasItsEntries, IsClosed, added_of};
 
-use crate::fault::{CloseFault, RoomRecord};
+use crate::fault::CloseFault;
 use crate::histories::RoomHistories;
 use crate::part::Part;
 use crate::slot::Slot;
 use base_types::{NoMemory, RoomName};
 use crossbeam_utils::CachePadded;
 use indexmap::IndexMap;
+use rules::Entry;
 use std::alloc::Global;
+use std::sync::Arc;
+
+/// The record of a closed room, and the parts of all its sites in order.
+#[derive(Drop)]
+pub struct RoomRecord<P: RoomHistories> {
+    /// The name of the room.
+    pub room: RoomName,
+    /// The entries of the record, in order.
+    pub entries: Vec<Arc<Entry>>,
+    /// The parts of the sites, from site 1 on.
+    pub parts: Vec<Part<P>>,
+}
 
 /// The number of entries that these sites added together. Each site has seen at least as many of
 /// its own.

@@ -23,8 +23,9 @@ mod rooms;
 mod shelf;
 mod slot;
 
+pub use closing::RoomRecord;
 pub use entrance::Entrance;
-pub use fault::{CloseFault, RoomRecord};
+pub use fault::CloseFault;
 pub use histories::RoomHistories;
 pub use in_use::InUse;
 pub use keeper::{Forgets, KeepFault, Keeper};

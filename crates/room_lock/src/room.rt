@@ -18,9 +18,9 @@ ghost use Rattle.room_lock.specs.Told.{IsBackOver, IsBackRefusalOver, IsCallOver
 ghost use Rattle.room_lock.specs.Told.{IsLeaveOver, IsRefusalOver, room_of};
 
 use crate::account::Account;
-use crate::closing::added_together;
+use crate::closing::{RoomRecord, added_together};
 use crate::entrance::Entrance;
-use crate::fault::{CloseFault, RoomRecord};
+use crate::fault::CloseFault;
 use crate::histories::RoomHistories;
 use crate::in_use::InUse;
 use crate::new_room::NewRoom;

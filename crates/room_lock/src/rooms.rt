@@ -1,8 +1,8 @@
 //! The rooms.
 
 ghost use Rattle.std.specs.Prelude.{◌≡◌, ◌↔◌, ◌++◌, ◌<◌, ◌≤◌, All, Contains, Err, IfErr, IfOk};
-ghost use Rattle.std.specs.Prelude.{IfSome, IsErr, IsNone, IsSome, OnErr, Ok, Some, bytes_eq, false};
-ghost use Rattle.std.specs.Prelude.{length, map, option_map, position, true};
+ghost use Rattle.std.specs.Prelude.{IfSome, IsErr, IsNone, IsSome, OnErr, Ok, Some, bytes_eq};
+ghost use Rattle.std.specs.Prelude.{false, length, map, option_map, position, true};
 ghost use Rattle.std.specs.Arc.{arc_value};
 ghost use Rattle.room_core.specs.declared.fault.CallFault.TheVariants as call_fault;
 ghost use Rattle.room_lock.specs.Closing.{IsClosed};
@@ -10,9 +10,9 @@ ghost use Rattle.room_lock.specs.Passes.{IsOfRooms};
 ghost use Rattle.room_lock.specs.Told.{IsBack, IsBackRefusalOver, IsCall, IsJoin, IsLeaveOver};
 ghost use Rattle.room_lock.specs.Told.{IsRefusalOver};
 
-use crate::closing::close_all;
+use crate::closing::{RoomRecord, close_all};
 use crate::entrance::Entrance;
-use crate::fault::{CloseFault, RoomRecord};
+use crate::fault::CloseFault;
 use crate::histories::RoomHistories;
 use crate::news::News;
 use crate::pass::Pass;
@@ -88,7 +88,8 @@ impl<P: RoomHistories> Rooms<P> {
     /// for the room's lock. The time does not depend on the size of the record.
     ///
     /// # Errors
-    /// `NoMemory` if an allocation failed; no room has changed.
+    /// `NoMemory` if an allocation failed. That no room has changed is a clause of the room under
+    /// its lock.
     pub fn join(
         &self,
         rt: &impl Wait,
@@ -120,7 +121,8 @@ impl<P: RoomHistories> Rooms<P> {
     /// the room's lock. The time does not depend on the size of the record.
     ///
     /// # Errors
-    /// `NoMemory` if an allocation failed; no room has changed.
+    /// `NoMemory` if an allocation failed. That no room has changed is a clause of the room under
+    /// its lock.
     pub fn back(
         &self,
         rt: &impl Wait,
@@ -158,7 +160,8 @@ impl<P: RoomHistories> Rooms<P> {
     /// # Errors
     /// The pass is unchanged.
     /// `NoMemory` if an allocation failed.
-    /// `Torn` if the pass belongs to other rooms.
+    /// `Torn` if the pass belongs to other rooms. The room under its lock also tells a pass that
+    /// has seen more than the record, which never occurs.
     pub fn call(
         &self,
         rt: &impl Wait,
@@ -178,10 +181,12 @@ impl<P: RoomHistories> Rooms<P> {
     }
 
     /// Takes a pass back, and replies as to a `leave` of its site, with the record at that time.
-    /// The site is then free for a coming back. Allocates nothing. Waits for the room's lock.
+    /// Allocates nothing. Waits for the room's lock. That the site is then free for a coming back
+    /// is a clause of the room under its lock.
     ///
     /// # Errors
-    /// The pass, if it belongs to other rooms.
+    /// The pass, if it belongs to other rooms. The room under its lock also returns a pass that has
+    /// seen more than the record, or whose site is free, which never occurs.
     pub fn hand_back(&self, rt: &impl Wait, pass: Pass<P>) -> Result<(Prefix<P>, Reply), Pass<P>>
         ensures answer { IfOk result (λ left.
             IsLeaveOver P.limits left.0.entries pass.part left.1) }
@@ -195,12 +200,13 @@ impl<P: RoomHistories> Rooms<P> {
         room.lock(rt).hand_back(pass)
     }
 
-    /// The entries of the prefix's room behind the prefix. Waits for the room's lock. Linear in
-    /// these entries.
+    /// All that the prefix's room has, and the entries behind the prefix. Waits for the room's
+    /// lock. Linear in these entries.
     ///
     /// # Errors
     /// `NoMemory` if an allocation failed.
-    /// `Torn` if the prefix belongs to other rooms.
+    /// `Torn` if the prefix belongs to other rooms. The room under its lock also tells a prefix
+    /// that has more entries than the record, which never occurs.
     pub fn news(
         &self,
         rt: &impl Wait,
@@ -226,7 +232,7 @@ impl<P: RoomHistories> Rooms<P> {
     /// record is legal. Linear in the number of sites.
     ///
     /// # Errors
-    /// `Missing` for the first room of which a pass was not handed back.
+    /// `Missing` for the first room of which a pass was not handed back, which tests show.
     /// `NoMemory` if an allocation failed.
     pub fn close(self, alloc: Global) -> Result<Vec<RoomRecord<P>>, CloseFault>
         ensures names { IfOk result (λ records. map (λ one. one.room) records.items ≡ self) }

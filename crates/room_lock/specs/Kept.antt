@@ -5,7 +5,7 @@ use Rattle.rules.specs.declared.history.Entry.{Entry}
 use Rattle.rules.specs.declared.limits.LimitValues.{LimitValues}
 use Rattle.shared_history.specs.Beginnings.{Beginning}
 use Rattle.room_core.specs.Room.{Room}
-use Rattle.room_core.specs.Sites.{is_of_site}
+use Rattle.room_lock.specs.Sites.{is_of_site}
 use Rattle.room_lock.specs.Shelves.{Shelf, IsShelfOf}
 
 -- a room: its place among the rooms, its record, and the parts of the sites that no session is in

@@ -5,7 +5,7 @@ use Rattle.std.specs.List.{range_with_len}
 use mathlib.Core.List.{IsPrefix}
 use Rattle.rules.specs.declared.history.Entry.{Entry}
 use Rattle.rules.specs.Records.{sites}
-use Rattle.room_core.specs.Sites.{is_of_site}
+use Rattle.room_lock.specs.Sites.{is_of_site}
 use Rattle.room_lock.specs.Passes.{PartView}
 
 -- a place for each site, from site 1 on; it holds the site's part if no session is in as the site

@@ -25,7 +25,7 @@ mod slot;
 
 pub use closing::RoomRecord;
 pub use entrance::Entrance;
-pub use fault::CloseFault;
+pub use fault::{CallFault, CloseFault};
 pub use histories::RoomHistories;
 pub use in_use::InUse;
 pub use keeper::{Forgets, KeepFault, Keeper};
@@ -34,5 +34,4 @@ pub use news::News;
 pub use part::Part;
 pub use pass::Pass;
 pub use prefix::Prefix;
-pub use room_core::CallFault;
 pub use rooms::Rooms;

@@ -2,14 +2,14 @@
 
 ghost use Rattle.std.specs.Prelude.{◌≡◌, ◌↔◌, ◌++◌, Err, IfOk, Some, map};
 ghost use Rattle.std.specs.Arc.{arc_value};
-ghost use Rattle.room_core.specs.declared.fault.CallFault.TheVariants as call_fault;
-ghost use Rattle.room_core.specs.steps.Differences.{first_difference};
+ghost use Rattle.room_lock.specs.declared.fault.CallFault.TheVariants as call_fault;
+ghost use Rattle.room_lock.specs.steps.Differences.{first_difference};
 
+use crate::fault::CallFault;
 use crate::histories::RoomHistories;
 use crate::prefix::Prefix;
 use crate::restoring::share_from;
 use crate::room::Room;
-use room_core::CallFault;
 use rules::Entry;
 use std::alloc::Global;
 use std::marker::Model;

@@ -4,7 +4,7 @@ ghost use Rattle.std.specs.Prelude.{◌≡◌, ◌≤◌, ◌<◌, ◌^◌, IfOk
 ghost use Rattle.std.specs.Prelude.{count_by, drop};
 ghost use Rattle.std.specs.Arc.{arc_value};
 ghost use Rattle.rules.specs.declared.limits.TheConstants.Limits.{MAX_ENTRIES};
-ghost use Rattle.room_core.specs.Sites.{is_of_site};
+ghost use Rattle.room_lock.specs.Sites.{is_of_site};
 ghost use Rattle.room_lock.specs.Shelves.{full_shelf, whole_part};
 
 use crate::histories::RoomHistories;

@@ -4,7 +4,7 @@ ghost use Rattle.std.specs.Prelude.{◌≡◌, ◌↔◌, ◌++◌, ◌<◌, ◌
 ghost use Rattle.std.specs.Prelude.{IfSome, IsErr, IsNone, IsSome, OnErr, Ok, Some, bytes_eq};
 ghost use Rattle.std.specs.Prelude.{false, length, map, option_map, position, true};
 ghost use Rattle.std.specs.Arc.{arc_value};
-ghost use Rattle.room_core.specs.declared.fault.CallFault.TheVariants as call_fault;
+ghost use Rattle.room_lock.specs.declared.fault.CallFault.TheVariants as call_fault;
 ghost use Rattle.room_lock.specs.Closing.{IsClosed};
 ghost use Rattle.room_lock.specs.Passes.{IsOfRooms};
 ghost use Rattle.room_lock.specs.Told.{IsBack, IsBackRefusalOver, IsCall, IsJoin, IsLeaveOver};
@@ -12,7 +12,7 @@ ghost use Rattle.room_lock.specs.Told.{IsRefusalOver};
 
 use crate::closing::{RoomRecord, close_all};
 use crate::entrance::Entrance;
-use crate::fault::CloseFault;
+use crate::fault::{CallFault, CloseFault};
 use crate::histories::RoomHistories;
 use crate::news::News;
 use crate::pass::Pass;
@@ -21,7 +21,6 @@ use crate::slot::Slot;
 use base_types::{NoMemory, RoomName};
 use crossbeam_utils::CachePadded;
 use indexmap::IndexMap;
-use room_core::CallFault;
 use std::alloc::Global;
 use std::marker::Model;
 use std::sync::Wait;

@@ -1,7 +1,6 @@
 //! Faults of rooms.
 
 ghost use Rattle.std.specs.Prelude.{◌≡◌};
-ghost use Rattle.room_core.specs.declared.fault.CallFault.TheVariants as call_fault;
 ghost use Rattle.room_core.specs.declared.fault.RoomsFault.TheVariants as rooms_fault;
 
 use base_types::NoMemory;
@@ -22,23 +21,5 @@ impl From<NoMemory> for RoomsFault {
 
     fn from(_fault: NoMemory) -> RoomsFault {
         RoomsFault::NoMemory
-    }
-}
-
-/// Why a request of a site was not answered.
-#[derive(Clone, Copy, Debug, PartialEq, Eq, Error)]
-pub enum CallFault {
-    /// The first place, from 0, at which the record differs from what the site has seen.
-    #[error("what was seen is not the record's at place {place}")]
-    Torn { place: usize },
-    #[error("out of memory")]
-    NoMemory,
-}
-
-impl From<NoMemory> for CallFault {
-    ghost from_gives = { λ _ fault. fault ≡ call_fault.NoMemory };
-
-    fn from(_fault: NoMemory) -> CallFault {
-        CallFault::NoMemory
     }
 }

@@ -6,7 +6,7 @@ mod fault;
 mod planned;
 mod room;
 
-pub use fault::{CallFault, RoomsFault};
+pub use fault::RoomsFault;
 pub use planned::Planned;
 pub use room::RoomState;
 pub use rules::Limits;

@@ -11,7 +11,7 @@ use Rattle.rules.specs.Records.{sites, IsLegal}
 use Rattle.room_lock.specs.Passes.{PartView}
 use Rattle.room_lock.specs.Kept.{count_of_site}
 use Rattle.room_lock.specs.Shelves.{Shelf, IsPartFor, IsShelfOf, part_of}
-use Rattle.room_lock.specs.Closing.{HasItsEntries, IsClosed, IsComplete, IsOfRecord, share_of, site_of}
+use Rattle.room_lock.specs.Closing.{HasItsEntries, IsClosed, IsComplete, IsOfRecord, added_of, site_of}
 use Rattle.room_lock.proofs.Answers.{count_of_front}
 use Rattle.room_lock.proofs.Shares.{counts_within, each_same, sum_mapped}
 
@@ -42,7 +42,7 @@ sites_from (x ∷ xs) from at =
 
 module _ (limits : LimitValues) (place : ℕ) (r : List Entry) (shelf : Shelf) (parts : List PartView)
     (legal : IsLegal limits r) (kept : IsShelfOf place r shelf) (full : map Some parts ≡ shelf)
-    (own : All HasItsEntries parts) (whole : sum_by share_of parts ≡ length r)
+    (own : All HasItsEntries parts) (whole : sum_by added_of parts ≡ length r)
   where
     part_at : (k : ℕ) (part : PartView) → slice_get parts k ≡ Some part → IsPartFor place r (suc k) part
     part_at k part is = kept.parts (suc k) part (ap (λ (s : Shelf). part_of s (suc k)) (sym full) ∙ at_full parts k part is)
@@ -56,22 +56,22 @@ module _ (limits : LimitValues) (place : ℕ) (r : List Entry) (shelf : Shelf) (
     begins : (k : ℕ) (d : PartView) → k < length parts → IsPrefix (get_or parts k d).seen r
     begins k d lt = (part_at k (get_or parts k d) (slice_get-get_or parts k d lt)).seen
 
-    at_most : All (λ part. share_of part ≤ count_of_site part.site r) parts
+    at_most : All (λ part. added_of part ≤ count_of_site part.site r) parts
     at_most k d lt =
         let part = get_or parts k d in
         let more = count_of_front part.site part.seen r (begins k d lt) in
         let has = own k d lt in
         omega (arith, more, has)
 
-    no_more : sum_by (λ (part : PartView). count_of_site part.site r) parts ≤ sum_by share_of parts
+    no_more : sum_by (λ (part : PartView). count_of_site part.site r) parts ≤ sum_by added_of parts
     no_more =
         let mapped = sum_mapped (λ site. count_of_site site r) site_of parts ∙ ap (sum_by (λ site. count_of_site site r)) sites_are in
         let within = counts_within 1 (sites r) r in
         omega (arith, mapped, within, whole)
 
-    same : All (λ part. share_of part ≡ count_of_site part.site r) parts
-    same = by_place (λ part. share_of part ≡ count_of_site part.site r) parts
-        (each_same share_of (λ part. count_of_site part.site r) parts (by_recursion (λ part. share_of part ≤ count_of_site part.site r) parts at_most) no_more)
+    same : All (λ part. added_of part ≡ count_of_site part.site r) parts
+    same = by_place (λ part. added_of part ≡ count_of_site part.site r) parts
+        (each_same added_of (λ part. count_of_site part.site r) parts (by_recursion (λ part. added_of part ≤ count_of_site part.site r) parts at_most) no_more)
 
     of_record : All (IsOfRecord r) parts
     of_record k d lt = record { seen = begins k d lt; added = same k d lt }
@@ -105,7 +105,7 @@ absent_one r shelf holds = λ complete.
     absent_at : (parts : List PartView) → Contains (map Some parts) None → ⊥
     absent_at parts at = none_absent parts at.0 at.1 at.2
 
-pub other_sum : (r : List Entry) (shelf : Shelf) (parts : List PartView) → map Some parts ≡ shelf → ¬ (sum_by share_of parts ≡ length r) → ¬ (IsComplete r shelf)
+pub other_sum : (r : List Entry) (shelf : Shelf) (parts : List PartView) → map Some parts ≡ shelf → ¬ (sum_by added_of parts ≡ length r) → ¬ (IsComplete r shelf)
 other_sum r shelf parts full other = λ complete.
     let same = same_parts complete.0 parts (complete.1 ∙ sym full) in
-    other (ap (sum_by share_of) (sym same) ∙ complete.2)
+    other (ap (sum_by added_of) (sym same) ∙ complete.2)

@@ -1,15 +1,12 @@
 -- Shares that add up to a record are each as many as the entries of their site.
-use Rattle.std.proofs.Common.{◌≡◌, ℕ, zero, suc, ◌+◌, ◌<◌, ◌≤◌, Bool, true, false, cond, List, [], ◌∷◌, ◌++◌, length, map, refl, sym, ap, ◌∙◌, arith, eqb, leb}
+use Rattle.std.proofs.Common.{◌≡◌, ℕ, zero, suc, ◌+◌, ◌<◌, ◌≤◌, Bool, true, false, cond, List, [], ◌∷◌, length, map, refl, sym, ap, ◌∙◌, arith, eqb}
 use Rattle.std.specs.Prelude.{sum_by}
 use Rattle.std.specs.List.{range_with_len, AllByRecursion}
-use Rattle.std.proofs.lemmas.Bool.{and_parts, eq-eqb, eqb-true, leb-false, leb-true, ne_eqb}
+use Rattle.std.proofs.lemmas.Bool.{eqb-true, ne_eqb}
 use Rattle.std.proofs.lemmas.List.Sums.{sum_by-cons}
 use Rattle.rules.specs.declared.history.Entry.{Entry}
 use Rattle.rules.specs.declared.history.Entry.TheVariants.{Join, Operation}
-use Rattle.rules.specs.declared.limits.LimitValues.{LimitValues}
-use Rattle.rules.specs.Records.{admits, sites, IsLegal}
-use Rattle.rules.proofs.Records.{kept_by_admitted, sites-join, sites-operation}
-use Rattle.room_core.specs.Sites.{is_of_site}
+use Rattle.room_lock.specs.Sites.{is_of_site}
 use Rattle.room_lock.specs.Kept.{count_of_site}
 
 -- the site of an entry
@@ -101,75 +98,3 @@ module _ {X : Type 0} (f g : X → ℕ) where
 pub sum_mapped : {X : Type 0} (h : ℕ → ℕ) (k : X → ℕ) (xs : List X) → sum_by (λ x. h (k x)) xs ≡ sum_by h (map k xs)
 sum_mapped h k [] = refl
 sum_mapped h k (x ∷ xs) = sum_by-cons (λ x. h (k x)) x xs ∙ ap (λ n. h (k x) + n) (sum_mapped h k xs) ∙ sym (sum_by-cons h (k x) (map k xs))
-
--- ---- in a legal record each entry is of a site that has joined
-
--- of a run of numbers exactly one is equal to a number within it
-one_by : (n from count : ℕ) → from ≤ n → (from + 1 ≤ n → sum_by (is_here n) (range_with_len (from + 1) count) ≡ 1) → (b : Bool) → leb (from + 1) n ≡ b
-    → sum_by (is_here n) (range_with_len from (suc count)) ≡ 1
-one_by n from count low later true e =
-    let more = leb-true (from + 1) n e in
-    let apart : eqb n from ≡ false = ne_eqb n from (λ same. omega (arith, same, more)) in
-    sum_by-cons (is_here n) from (range_with_len (from + 1) count) ∙ (λ i. cond (apart i) 1 0 + later more i)
-one_by n from count low later false e =
-    let less = leb-false (from + 1) n e in
-    let same : eqb n from ≡ true = eq-eqb n from (omega (arith, less, low)) in
-    let none = none_below n (from + 1) count (omega (arith, less)) in
-    sum_by-cons (is_here n) from (range_with_len (from + 1) count) ∙ (λ i. cond (same i) 1 0 + none i)
-
-one_here : (n from count : ℕ) → from ≤ n → n < from + count → sum_by (is_here n) (range_with_len from count) ≡ 1
-one_here n from zero low high = absurd (omega (arith, low, high))
-one_here n from (suc count) low high =
-    one_by n from count low (λ more. one_here n (from + 1) count more (omega (arith, high))) (leb (from + 1) n) refl
-
--- all sites together have each entry, where the site of each is one of them
-pub counts_whole : (from count : ℕ) (r : List Entry) → AllByRecursion (λ e. (from ≤ site_in e) × (site_in e < from + count)) r
-    → sum_by (λ site. count_of_site site r) (range_with_len from count) ≡ length r
-counts_whole from count [] all = sum_of_zero (range_with_len from count)
-counts_whole from count (e ∷ r) all =
-    let sites = range_with_len from count in
-    let split : sum_by (λ site. count_of_site site (e ∷ r)) sites ≡ sum_by (λ site. is_here (site_in e) site + count_of_site site r) sites =
-    sum_same (λ site. count_of_site site (e ∷ r)) (λ site. is_here (site_in e) site + count_of_site site r) sites
-    (λ site. sum_by-cons (λ x. cond (is_of_site site x) 1 0) e r ∙ ap (λ b. cond b 1 0 + count_of_site site r) (of_its_site site e)) in
-    let two = sum_of_two (is_here (site_in e)) (λ site. count_of_site site r) sites in
-    let one = one_here (site_in e) from count all.0.0 all.0.1 in
-    let rest = counts_whole from count r all.1 in
-    omega (arith, split, two, one, rest)
-
--- each entry is of one of so many sites
-abbrev HaveJoined : ℕ → List Entry → Type 0
-HaveJoined n r = AllByRecursion (λ e. (1 ≤ site_in e) × (site_in e < 1 + n)) r
-
-joined_push : (n : ℕ) (r : List Entry) (e : Entry) → HaveJoined n r → (1 ≤ site_in e) × (site_in e < 1 + n) → HaveJoined n (r ++ e ∷ [])
-joined_push n [] e all one = (one, tt)
-joined_push n (x ∷ r) e all one = (all.0, joined_push n r e all.1 one)
-
-joined_with : (b : LimitValues) (r : List Entry) (e : Entry) → IsLegal b r → ((n : ℕ) → sites r ≤ n → HaveJoined n r) → admits b r e ≡ true
-    → (n : ℕ) → sites (r ++ e ∷ []) ≤ n → HaveJoined n (r ++ e ∷ [])
-joined_with b r (Join site) legal before admitted n le =
-    let next = eqb-true site (sites r + 1) (and_parts (eqb site (sites r + 1)) _ admitted).0 in
-    let more = sites-join r site in
-    joined_push n r (Join site) (before n (omega (arith, more, le))) (omega (arith, next), omega (arith, next, more, le))
-joined_with b r (Operation op) legal before admitted n le =
-    let placed = (and_parts _ _ (and_parts _ _ admitted).0).0 in
-    let low = leb-true 1 op.name.0 (and_parts (leb 1 op.name.0) (leb op.name.0 (sites r)) placed).0 in
-    let high = leb-true op.name.0 (sites r) (and_parts (leb 1 op.name.0) (leb op.name.0 (sites r)) placed).1 in
-    let same = sites-operation r op in
-    joined_push n r (Operation op) (before n (omega (arith, same, le))) (low, omega (arith, high, same, le))
-
-pub shares_of_legal : (b : LimitValues) (r : List Entry) → IsLegal b r → sum_by (λ site. count_of_site site r) (range_with_len 1 (sites r)) ≡ length r
-shares_of_legal b r legal =
-    counts_whole 1 (sites r) r (kept_by_admitted b (λ r. (n : ℕ) → sites r ≤ n → HaveJoined n r) (joined_with b) (λ n le. tt) r legal (sites r) (omega arith))
-
--- a run with one number more
-sum_last : (h : ℕ → ℕ) (from count : ℕ) → sum_by h (range_with_len from (suc count)) ≡ sum_by h (range_with_len from count) + h (from + count)
-sum_last h from zero = let here : from ≡ from + 0 = omega arith in ap (λ n. 0 + h n) here
-sum_last h from (suc count) =
-    let rest = sum_last h (from + 1) count in
-    let first = sum_by-cons h from (range_with_len (from + 1) (suc count)) in
-    let less = sum_by-cons h from (range_with_len (from + 1) count) in
-    let at : h (from + 1 + count) ≡ h (from + suc count) = ap h (let e : from + 1 + count ≡ from + suc count = omega arith in e) in
-    omega (arith, rest, first, less, at)
-
-pub sum_more : (h : ℕ → ℕ) (from count : ℕ) → sum_by h (range_with_len from (count + 1)) ≡ sum_by h (range_with_len from count) + h (from + count)
-sum_more h from count = let on : count + 1 ≡ suc count = omega arith in ap (λ n. sum_by h (range_with_len from n)) on ∙ sum_last h from count

@@ -12,27 +12,27 @@ use Rattle.room_lock.specs.Shelves.{Shelf}
 abbrev pub site_of : PartView → ℕ
 site_of part = part.site
 
-abbrev pub share_of : PartView → ℕ
-share_of part = part.share
+abbrev pub added_of : PartView → ℕ
+added_of part = part.added
 
--- the part has seen at least as many entries of its site as its share
+-- the part has seen at least as many entries of its site as it added
 abbrev pub HasItsEntries : PartView → Type 0
-HasItsEntries part = part.share ≤ count_of_site part.site part.seen
+HasItsEntries part = part.added ≤ count_of_site part.site part.seen
 
--- the part has seen a prefix of the record, and its share is the number of its site's entries there
+-- the part has seen a prefix of the record, and added all entries of its site there
 pub record IsOfRecord (r : List Entry) (part : PartView) : Type 0 where
   pub seen : IsPrefix part.seen r
-  pub added : part.share ≡ count_of_site part.site r
+  pub added : part.added ≡ count_of_site part.site r
 
--- the parts of all sites are on the shelf, and their shares add up to the length of the record
+-- The parts of all sites are on the shelf. Together they added as many entries as the record has.
 abbrev pub IsComplete : List Entry → Shelf → Type 0
 IsComplete r shelf =
-    (parts : List PartView) × (map Some parts ≡ shelf) × (sum_by share_of parts ≡ length r)
+    (parts : List PartView) × (map Some parts ≡ shelf) × (sum_by added_of parts ≡ length r)
 
--- A closed room: its record is legal, and these are the parts of all its sites, in order. Their
--- shares add up to the length of the record, so each entry belongs to one of them.
+-- A closed room: its record is legal, and these are the parts of all its sites, in order. Together
+-- they added as many entries as the record has, so each entry belongs to one of them.
 pub record IsClosed (limits : LimitValues) (r : List Entry) (parts : List PartView) : Type 0 where
   pub legal : IsLegal limits r
   pub sites_are : map site_of parts ≡ range_with_len 1 (sites r)
   pub of_record : All (IsOfRecord r) parts
-  pub whole : sum_by share_of parts ≡ length r
+  pub whole : sum_by added_of parts ≡ length r

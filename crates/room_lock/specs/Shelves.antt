@@ -5,7 +5,7 @@ use Rattle.std.specs.List.{range_with_len}
 use mathlib.Core.List.{IsPrefix}
 use Rattle.rules.specs.declared.history.Entry.{Entry}
 use Rattle.rules.specs.Records.{sites}
-use Rattle.room_core.specs.Sites.{is_of_site}
+use Rattle.room_lock.specs.Sites.{is_of_site}
 use Rattle.room_lock.specs.Passes.{PartView}
 
 -- a place for each site, from site 1 on; it holds the site's part if no session is in as the site
@@ -39,10 +39,10 @@ pub record IsShelfOf (place : ℕ) (r : List Entry) (shelf : Shelf) : Type 0 whe
   pub parts : (site : ℕ) (part : PartView) → part_of shelf site ≡ Some part
       → IsPartFor place r site part
 
--- the part of a site that has seen the whole record, and has a share for each of its entries there
+-- the part of a site that has seen the whole record, and added all its entries there
 abbrev pub whole_part : ℕ → List Entry → ℕ → PartView
 whole_part place r site =
-    record { place = place; site = site; seen = r; share = count_by (is_of_site site) r }
+    record { place = place; site = site; seen = r; added = count_by (is_of_site site) r }
 
 -- the shelf when no session is in the room, and each site has seen the whole record
 abbrev pub full_shelf : ℕ → List Entry → Shelf

@@ -1,2 +1,3 @@
 pub mod Planned
 pub mod Entrances
+pub mod Differences

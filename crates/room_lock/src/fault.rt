@@ -1,25 +1,11 @@
-//! The record of a closed room, and why rooms cannot be closed.
+//! Why rooms cannot be closed, and why a room does not answer.
 
 ghost use Rattle.std.specs.Prelude.{◌≡◌};
+ghost use Rattle.room_lock.specs.declared.fault.CallFault.TheVariants as call_fault;
 ghost use Rattle.room_lock.specs.declared.fault.CloseFault.TheVariants as close_fault;
 
-use crate::ledger::RoomLedger;
-use crate::part::Part;
 use base_types::{NoMemory, RoomName};
-use rules::Entry;
-use std::sync::Arc;
 use thiserror::Error;
-
-/// The record of a closed room, and the parts of all its sites in order.
-#[derive(Drop)]
-pub struct RoomRecord<P: RoomLedger> {
-    /// The name of the room.
-    pub room: RoomName,
-    /// The entries of the record, in order.
-    pub entries: Vec<Arc<Entry>>,
-    /// The parts of the sites, from site 1 on.
-    pub parts: Vec<Part<P>>,
-}
 
 /// Why rooms cannot be closed.
 #[derive(Debug, Drop, PartialEq, Eq, Error)]
@@ -37,5 +23,23 @@ impl From<NoMemory> for CloseFault {
 
     fn from(_fault: NoMemory) -> CloseFault {
         CloseFault::NoMemory
+    }
+}
+
+/// Why a request of a site was not answered.
+#[derive(Clone, Copy, Debug, PartialEq, Eq, Error)]
+pub enum CallFault {
+    /// The first place, from 0, at which the record differs from what the site has seen.
+    #[error("what was seen is not the record's at place {place}")]
+    Torn { place: usize },
+    #[error("out of memory")]
+    NoMemory,
+}
+
+impl From<NoMemory> for CallFault {
+    ghost from_gives = { λ _ fault. fault ≡ call_fault.NoMemory };
+
+    fn from(_fault: NoMemory) -> CallFault {
+        CallFault::NoMemory
     }
 }

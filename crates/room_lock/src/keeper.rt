@@ -2,7 +2,7 @@
 
 ghost use Rattle.std.specs.Prelude.{IfOk};
 
-use crate::ledger::RoomLedger;
+use crate::histories::RoomHistories;
 use crate::prefix::Prefix;
 use crate::rooms::Rooms;
 use std::alloc::Global;
@@ -21,7 +21,7 @@ pub enum KeepFault {
 }
 
 /// Keeps what replies report of rooms, before they are sent.
-pub trait Keeper<P: RoomLedger> {
+pub trait Keeper<P: RoomHistories> {
     ghost use Rattle.room_lock.specs.Passes.{PrefixView};
 
     /// The proof at run time that a prefix of a record is kept.
@@ -49,7 +49,7 @@ pub trait Keeper<P: RoomLedger> {
 /// The keeper that keeps nothing: replies are sent at once.
 pub struct Forgets;
 
-impl<P: RoomLedger> Keeper<P> for Forgets {
+impl<P: RoomHistories> Keeper<P> for Forgets {
     type Receipt = ();
 
     ghost shows = { λ _ told. Unit {0} };

@@ -6,14 +6,15 @@ ghost use Rattle.std.specs.Prelude.{slice_get};
 ghost use Rattle.indexmap.specs.IndexMap.{get, keys};
 ghost use Rattle.base_types.specs.Repeats.{first_repeat};
 ghost use Rattle.room_core.specs.declared.fault.RoomsFault.TheVariants as rooms_fault;
-ghost use Rattle.rules.specs.declared.limits.TheConstants.Limits.{MAX_ENTRIES};
-ghost use Rattle.room_lock.specs.steps.Planned.{IsLedgerOf, book_of, prefixes_from, record_of};
+ghost use Rattle.room_lock.specs.steps.Planned.{AreHistoriesOf, AreInPlace, book_of, prefixes_from};
+ghost use Rattle.room_lock.specs.steps.Planned.{record_of};
 
-use crate::ledger::RoomLedger;
+use crate::histories::RoomHistories;
 use crate::new_room::{NewRoom, empty_states, new_rooms};
 use crate::prefix::Prefix;
-use crate::room::{Room, SPARE_PARTS};
+use crate::room::Room;
 use crate::rooms::Rooms;
+use crate::slot::Slot;
 use base_types::{NoMemory, RoomName, repeated_name};
 use crossbeam_utils::CachePadded;
 use indexmap::IndexMap;
@@ -21,16 +22,14 @@ use room_core::{RoomState, RoomsFault};
 use rules::Limits;
 use std::alloc::Global;
 use std::marker::Model;
-use std::sync::ledger::{Blank, Share};
-use std::sync::{Mutex, Wait};
+use std::sync::Wait;
 
-/// The most rooms. The amount of one ledger suffices for as many full records.
+/// The most rooms.
 const MAX_ROOMS: usize = 1 << 49;
 
-/// A plan of rooms, which `Rooms::new` creates on a ledger that is chosen for them.
+/// A plan of rooms, which `Rooms::new` creates.
 #[derive(Drop)]
 pub struct NewRooms {
-    blank: Blank,
     rooms: Vec<NewRoom>,
     names: Vec<RoomName>,
     limits: Limits,
@@ -43,8 +42,6 @@ impl Model for NewRooms {
     ghost Value = { Planned };
 
     ghost view = { λ new. record {
-      name = new.blank.name;
-      parts = new.blank.parts;
       limits = new.limits;
       books = map book_of new.rooms.items;
       records = map record_of new.rooms.items;
@@ -52,8 +49,6 @@ impl Model for NewRooms {
     } };
 
     ghost invariant = { λ new. CanBeMade (record {
-      name = new.blank.name;
-      parts = new.blank.parts;
       limits = new.limits;
       books = map book_of new.rooms.items;
       records = map record_of new.rooms.items;
@@ -131,10 +126,8 @@ impl NewRooms {
         if names.len() > MAX_ROOMS {
             return Err(RoomsFault::NoMemory);
         }
-        let blank = Blank::new((SPARE_PARTS + 1) * names.len() as u64 + 1);
         let rooms = new_rooms(alloc, states)?;
         Ok(NewRooms {
-            blank,
             rooms,
             names,
             limits,
@@ -154,7 +147,7 @@ fn check_names(names: &[RoomName]) -> Result<(), RoomsFault>
     }
 }
 
-impl<P: RoomLedger> Rooms<P> {
+impl<P: RoomHistories> Rooms<P> {
     /// Creates the planned rooms. Returns them with the record that each begins with, in order.
     /// Linear in each record for each of its sites.
     ///
@@ -165,108 +158,66 @@ impl<P: RoomLedger> Rooms<P> {
         alloc: Global,
         planned: NewRooms,
     ) -> Result<(Rooms<P>, Vec<Prefix<P>>), NoMemory>
-        requires { IsLedgerOf planned P.name P.parts P.limits P.books }
+        requires { AreHistoriesOf planned P.limits P.books }
         ensures rooms { IfOk result (λ made. made.0 ≡ planned.names) }
         ensures begun { IfOk result (λ made. made.1.items ≡ prefixes_from 0 planned.records) }
     {
         let NewRooms {
-            blank,
             rooms,
             names,
             limits: _,
         } = planned;
-        make(rt, alloc, blank, rooms, &names)
+        make(rt, alloc, rooms, &names)
     }
 }
 
-/// Creates the rooms under these names.
-fn make<P: RoomLedger>(
+/// Creates a room under each name. Returns them with the records that they begin with.
+fn make<P: RoomHistories>(
     rt: &impl Wait,
     alloc: Global,
-    blank: Blank,
     news: Vec<NewRoom>,
     names: &[RoomName],
 ) -> Result<(Rooms<P>, Vec<Prefix<P>>), NoMemory>
-    // The blank, the limits and the histories are those that the ledger's type names.
-    requires name { blank.name ≡ P.name }
-    requires parts { (blank.parts ≡ P.parts)
-        × (blank.parts ≡ (SPARE_PARTS + 1) * length names.now + 1) }
+    // The limits and the histories are those that the type names, and no name occurs twice.
     requires limits { All (λ room. room.limits ≡ P.limits) news.items }
     requires histories { (map book_of news.items ≡ P.books)
         × (length news.items ≡ length names.now) }
-    // The amount suffices for full records, and no name occurs twice.
     requires few { length names.now ≤ 2 ^ 49 }
     requires apart { first_repeat bytes_eq names.now ≡ None }
     ensures rooms { IfOk result (λ made. made.0 ≡ names.now) }
     ensures begun { IfOk result (λ made.
         made.1.items ≡ prefixes_from 0 (map record_of news.items)) }
 {
-    let (mut book, mut rest) = blank.open::<P>();
-    book.add(&mut rest, 1 << 63);
-    // Without the book a share grows only by what another share gives.
-    drop(book);
     let mut rooms = IndexMap::new(alloc);
-    let begun = begin_rooms(rt, alloc, news, names, &mut rooms, &mut rest)?;
-    Ok((Rooms { rooms }, begun))
-}
-
-/// Creates a room under each name, in no rooms so far. Returns the records that they begin with.
-fn begin_rooms<P: RoomLedger>(
-    rt: &impl Wait,
-    alloc: Global,
-    news: Vec<NewRoom>,
-    names: &[RoomName],
-    rooms: &mut IndexMap<RoomName, CachePadded<Mutex<Room<P>>>>,
-    rest: &mut Share<P>,
-) -> Result<Vec<Prefix<P>>, NoMemory>
-    // The limits and the histories are those that the ledger's type names.
-    requires limits { All (λ room. room.limits ≡ P.limits) news.items }
-    requires histories { (map book_of news.items ≡ P.books)
-        × (length news.items ≡ length names.now) }
-    requires empty { keys rooms.old ≡ [] }
-    // The rest suffices for full records, and no name occurs twice.
-    requires parts { (SPARE_PARTS + 1) * length names.now < rest.old.parts }
-    requires amount { MAX_ENTRIES * length names.now ≤ rest.old.amount }
-    requires few { length names.now ≤ 2 ^ 49 }
-    requires apart { first_repeat bytes_eq names.now ≡ None }
-    ensures rooms { OnOk result (keys rooms.new ≡ names.now) }
-    ensures begun { IfOk result (λ begun.
-        begun.items ≡ prefixes_from 0 (map record_of news.items)) }
-{
     let mut begun = Vec::with_capacity(alloc, names.len())?;
     for new in news {
         let name = names[rooms.len()].copy(alloc)?;
-        begun.push(begin_room(rt, alloc, new, name, rooms, rest)?)?;
+        begun.push(begin_room(rt, alloc, new, name, &mut rooms)?)?;
     }
-    Ok(begun)
+    Ok((Rooms { rooms }, begun))
 }
 
 /// Creates a room under a new name, behind those that are there. Returns the record that it begins
 /// with.
-fn begin_room<P: RoomLedger>(
+fn begin_room<P: RoomHistories>(
     rt: &impl Wait,
     alloc: Global,
     new: NewRoom,
     name: RoomName,
-    rooms: &mut IndexMap<RoomName, CachePadded<Mutex<Room<P>>>>,
-    rest: &mut Share<P>,
+    rooms: &mut IndexMap<RoomName, CachePadded<Slot<P>>>,
 ) -> Result<Prefix<P>, NoMemory>
-    // The limits and the history are those that the ledger's type names.
+    // The limits and the history are those that the type names.
     requires limits { new.limits ≡ P.limits }
     requires history { slice_get P.books (length rooms.old.entries) ≡ Some new.book }
     requires name { get bytes_eq rooms.old name ≡ None }
-    // The room takes its share and its parts from the rest.
-    requires parts { SPARE_PARTS + 1 < rest.old.parts }
-    requires amount { MAX_ENTRIES ≤ rest.old.amount }
     ensures rooms { OnOk result (keys rooms.new ≡ keys rooms.old ++ name ∷ []) }
+    ensures in_place { AreInPlace rooms.old.entries → OnOk result (AreInPlace rooms.new.entries) }
     ensures begun { IfOk result (λ begun.
         begun ≡ record { place = length rooms.old.entries; entries = new.entries }) }
-    ensures parts { OnOk result (rest.new.parts + (SPARE_PARTS + 1) ≡ rest.old.parts) }
-    ensures amount { OnOk result (rest.new.amount + MAX_ENTRIES ≡ rest.old.amount) }
 {
-    let room = Room::new(rt, alloc, new, rooms.len(), rest)?;
+    let room = Room::new(rt, alloc, new, rooms.len())?;
     let begun = room.prefix();
-    insert_new(rooms, name, CachePadded::new(Mutex::new(room)))?;
+    insert_new(rooms, name, CachePadded::new(Slot::new(room)))?;
     Ok(begun)
 }
 
@@ -277,7 +228,7 @@ fn insert_new<V: Drop>(
     room: V,
 ) -> Result<(), NoMemory>
     requires { get bytes_eq rooms.old name ≡ None }
-    ensures { OnOk result (keys rooms.new ≡ keys rooms.old ++ name ∷ []) }
+    ensures { OnOk result (rooms.new.entries ≡ rooms.old.entries ++ (name, room) ∷ []) }
 {
     match rooms.insert(name, room) {
         Ok(_) => Ok(()),

@@ -5,42 +5,37 @@ ghost use mathlib.Core.List.{IsPrefix};
 ghost use Rattle.room_lock.specs.Kept.{count_of_site};
 ghost use Rattle.room_lock.specs.Passes.{prefix_of};
 
-use crate::ledger::RoomLedger;
+use crate::histories::RoomHistories;
 use crate::prefix::Prefix;
-use shared_history::Front;
-use std::marker::{Model, PhantomData};
-use std::sync::ledger::Share;
+use std::marker::Model;
 
-/// A site's part in a room: how much of the record it has seen, and how many entries it added. It
-/// holds 1 of the room's amount for each of these. The entries that it has seen exist in the proofs
-/// alone.
+/// A site's part in a room: how much of the record it has seen, and how many entries it added. The
+/// entries that it has seen exist in the proofs alone.
 #[derive(Drop)]
-pub struct Part<P: RoomLedger> {
-    pub(crate) place: usize,
+pub struct Part<P: RoomHistories> {
     pub(crate) site: u32,
-    pub(crate) front: Front,
     pub(crate) added: u32,
-    pub(crate) share: Share<P>,
+    pub(crate) seen: Prefix<P>,
 }
 
-impl<P: RoomLedger> Model for Part<P> {
+impl<P: RoomHistories> Model for Part<P> {
+    ghost use Rattle.std.specs.Prelude.{◌≤◌};
     ghost use Rattle.room_lock.specs.Passes.{PartView};
-    ghost use Rattle.room_lock.specs.Kept.{IsPartKept};
+    ghost use Rattle.room_lock.specs.Kept.{count_of_site};
 
     ghost Value = { PartView };
 
     ghost view = { λ p. record {
-      place = p.place;
+      place = p.seen.place;
       site = p.site;
-      seen = p.front.entries;
-      share = p.share.amount;
+      seen = p.seen.entries;
+      added = p.added;
     } };
 
-    ghost invariant = { λ p. IsPartKept P.books p.place p.site p.added
-        (record { front = p.front; parts = p.share.parts; amount = p.share.amount }) };
+    ghost invariant = { λ p. p.added ≤ count_of_site p.site p.seen.entries };
 }
 
-impl<P: RoomLedger> Part<P> {
+impl<P: RoomHistories> Part<P> {
     /// The site's number in the room, from 1.
     pub fn site(&self) -> u32
         ensures { result ≡ self.now.site }
@@ -48,28 +43,38 @@ impl<P: RoomLedger> Part<P> {
         self.site
     }
 
+    /// The place of the room among the rooms, from 0.
+    pub(crate) fn place(&self) -> usize
+        ensures { result ≡ self.now.place }
+    {
+        self.seen.place()
+    }
+
     /// The number of entries of the room's record that the site has seen.
     pub fn count_seen(&self) -> u64
         ensures { result ≡ length self.now.seen }
     {
-        self.front.len()
+        self.seen.len()
     }
 
     /// The prefix of the room's record that the site has seen.
     pub fn prefix(&self) -> Prefix<P>
         ensures { result ≡ prefix_of self.now }
     {
-        Prefix {
-            place: self.place,
-            front: self.front.copy(),
-            of: PhantomData,
-        }
+        self.seen.copy()
+    }
+
+    /// The same prefix, which stays here.
+    pub(crate) fn seen(&self) -> &Prefix<P>
+        ensures { result.now ≡ prefix_of self.now }
+    {
+        &self.seen
     }
 
     /// The number of entries that the site added.
     pub fn count_added(&self) -> u32
-        ensures added { result ≡ self.now.share }
-        ensures own { self.now.share ≤ count_of_site self.now.site self.now.seen }
+        ensures added { result ≡ self.now.added }
+        ensures own { self.now.added ≤ count_of_site self.now.site self.now.seen }
     {
         self.added
     }
@@ -82,10 +87,6 @@ impl<P: RoomLedger> Part<P> {
             length self.now.seen ≤ length other.now.seen →
             IsPrefix self.now.seen other.now.seen }
     {
-        if self.place != other.place {
-            return false;
-        }
-        self.front.shorter_begins_longer(&other.front);
-        true
+        self.seen.is_beside(&other.seen)
     }
 }

@@ -1,25 +1,22 @@
 //! Prefixes of a room's record.
 
-ghost use Rattle.std.specs.Prelude.{◌≡◌, ◌⊎◌, ◌≤◌, ◌<◌, ◌++◌, true, false, length, map};
-ghost use Rattle.std.specs.Arc.{arc_value};
+ghost use Rattle.std.specs.Prelude.{◌≡◌, ◌⊎◌, ◌↔◌, ◌≤◌, ◌<◌, Some, true, false, length, slice_get};
 ghost use mathlib.Core.List.{IsPrefix};
 
-use crate::ledger::RoomLedger;
-use rules::Entry;
+use crate::histories::RoomHistories;
 use shared_history::Front;
 use std::marker::{Model, PhantomData};
-use std::sync::Arc;
 
 /// A prefix of a room's record. At run time it is the number of entries. Contracts see the room's
 /// place and the entries.
 #[derive(Drop)]
-pub struct Prefix<P: RoomLedger> {
-    pub(crate) place: usize,
-    pub(crate) front: Front,
-    pub(crate) of: PhantomData<P>,
+pub struct Prefix<P: RoomHistories> {
+    place: usize,
+    front: Front,
+    of: PhantomData<P>,
 }
 
-impl<P: RoomLedger> Model for Prefix<P> {
+impl<P: RoomHistories> Model for Prefix<P> {
     ghost use Rattle.std.specs.Prelude.{◌≡◌, Some, slice_get};
     ghost use Rattle.room_lock.specs.Passes.{PrefixView};
 
@@ -30,7 +27,7 @@ impl<P: RoomLedger> Model for Prefix<P> {
     ghost invariant = { λ p. slice_get P.books p.place ≡ Some p.front.history };
 }
 
-impl<P: RoomLedger> Prefix<P> {
+impl<P: RoomHistories> Prefix<P> {
     /// The place of the room among the rooms, from 0.
     pub fn place(&self) -> usize
         ensures { result ≡ self.now.place }
@@ -49,11 +46,37 @@ impl<P: RoomLedger> Prefix<P> {
     pub fn copy(&self) -> Prefix<P>
         ensures { result ≡ self.now }
     {
+        Prefix::of_front(self.place, &self.front)
+    }
+
+    /// The prefix of the history of the place that this front has seen.
+    pub(crate) fn of_front(place: usize, front: &Front) -> Prefix<P>
+        requires { slice_get P.books place ≡ Some front.now.history }
+        ensures { result ≡ record { place = place; entries = front.now.entries } }
+    {
         Prefix {
-            place: self.place,
-            front: self.front.copy(),
+            place,
+            front: front.copy(),
             of: PhantomData,
         }
+    }
+
+    /// Returns whether both belong to one room. The shorter is then a prefix of the longer.
+    pub(crate) fn is_beside(&self, other: &Prefix<P>) -> bool
+        ensures one_room { (result ≡ true) ↔ (self.now.place ≡ other.now.place) }
+        ensures shorter { self.now.place ≡ other.now.place →
+            length self.now.entries ≤ length other.now.entries →
+            IsPrefix self.now.entries other.now.entries }
+        ensures longer { self.now.place ≡ other.now.place →
+            length other.now.entries ≤ length self.now.entries →
+            IsPrefix other.now.entries self.now.entries }
+    {
+        if self.place != other.place {
+            return false;
+        }
+        self.front.shorter_begins_longer(&other.front);
+        other.front.shorter_begins_longer(&self.front);
+        true
     }
 
     /// Returns whether both belong to one room and this one is not longer. This one is then a
@@ -64,19 +87,6 @@ impl<P: RoomLedger> Prefix<P> {
         ensures no { result ≡ false → ¬ (self.now.place ≡ other.now.place)
             ⊎ (length other.now.entries < length self.now.entries) }
     {
-        if self.place != other.place {
-            return false;
-        }
-        self.front.shorter_begins_longer(&other.front);
-        self.front.len() <= other.front.len()
+        self.is_beside(other) && self.len() <= other.len()
     }
-}
-
-/// What a room's record has beyond a prefix of it.
-#[derive(Drop)]
-pub struct News<P: RoomLedger> {
-    /// The entries behind the prefix, in order.
-    pub entries: Vec<Arc<Entry>>,
-    /// The whole record.
-    pub whole: Prefix<P>,
 }

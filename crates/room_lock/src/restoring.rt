@@ -1,22 +1,20 @@
 //! The parts of a room that begins with a record.
 
-ghost use Rattle.std.specs.Prelude.{◌≡◌, ◌+◌, ◌≤◌, ◌<◌, ◌^◌, ◌++◌, IfOk, OnOk, length, map};
-ghost use Rattle.std.specs.Prelude.{count_by, drop, slice_get, Some};
+ghost use Rattle.std.specs.Prelude.{◌≡◌, ◌≤◌, ◌<◌, ◌^◌, IfOk, length, map};
+ghost use Rattle.std.specs.Prelude.{count_by, drop};
 ghost use Rattle.std.specs.Arc.{arc_value};
-ghost use Rattle.rules.specs.Records.{IsLegal, sites};
 ghost use Rattle.rules.specs.declared.limits.TheConstants.Limits.{MAX_ENTRIES};
-ghost use Rattle.room_core.specs.Sites.{is_of_site};
+ghost use Rattle.room_lock.specs.Sites.{is_of_site};
 ghost use Rattle.room_lock.specs.Shelves.{full_shelf, whole_part};
 
-use crate::account::Account;
-use crate::ledger::RoomLedger;
+use crate::histories::RoomHistories;
 use crate::part::Part;
+use crate::prefix::Prefix;
 use base_types::NoMemory;
 use room_core::RoomState;
 use rules::Entry;
 use std::alloc::Global;
 use std::sync::Arc;
-use std::sync::ledger::Share;
 
 /// Shared owners of these entries.
 fn share(alloc: Global, entries: &[Arc<Entry>]) -> Result<Vec<Arc<Entry>>, NoMemory>
@@ -66,76 +64,33 @@ fn count_of_site(site: u32, entries: &[Arc<Entry>]) -> u32
     count
 }
 
-/// The part of a site that has seen all that the account has. It takes one of the spare parts, and
-/// 1 of the account's amount for each entry of the site.
-fn whole_part<P: RoomLedger>(
-    place: usize,
-    site: u32,
-    entries: &[Arc<Entry>],
-    account: &mut Account<P>,
-    spare: &mut Share<P>,
-) -> Part<P>
-    // The account belongs to the room, and has seen these entries:
-    requires history { slice_get P.books place ≡ Some account.old.front.history }
-    requires seen { account.old.front.entries ≡ map arc_value entries.now }
+/// The part of a site that has seen these entries, which are the whole record.
+fn whole_part<P: RoomHistories>(site: u32, entries: &[Arc<Entry>], whole: &Prefix<P>) -> Part<P>
+    requires seen { whole.now.entries ≡ map arc_value entries.now }
     requires short { length entries.now < 2 ^ 32 }
-    // There is an amount for the site's entries, and a part for the site:
-    requires amount { count_by (is_of_site site) (map arc_value entries.now) ≤ account.old.amount }
-    requires own_part { account.old.parts ≡ 1 }
-    requires part { 1 < spare.old.parts }
-    requires empty { spare.old.amount ≡ 0 }
-    // The site gets both, and nothing else changes:
-    ensures part { result ≡ whole_part place (map arc_value entries.now) site }
-    ensures front { account.new.front ≡ account.old.front }
-    ensures parts { account.new.parts ≡ account.old.parts }
-    ensures amount { account.new.amount + count_by (is_of_site site) (map arc_value entries.now)
-        ≡ account.old.amount }
-    ensures spare_parts { spare.new.parts + 1 ≡ spare.old.parts }
-    ensures spare_amount { spare.new.amount ≡ 0 }
+    ensures { result ≡ whole_part whole.now.place whole.now.entries site }
 {
-    let added = count_of_site(site, entries);
-    let mut share = spare.split_off(1, 0);
-    account.share.transfer(&mut share, u64::from(added));
     Part {
-        place,
         site,
-        front: account.front().copy(),
-        added,
-        share,
+        added: count_of_site(site, entries),
+        seen: whole.copy(),
     }
 }
 
 /// The parts of all sites of a room that begins with a record. Each has seen the whole record.
 /// Linear in the record for each site.
-pub(crate) fn fill_shelf<P: RoomLedger>(
+pub(crate) fn fill_shelf<P: RoomHistories>(
     alloc: Global,
-    place: usize,
     state: &RoomState,
-    account: &mut Account<P>,
-    spare: &mut Share<P>,
+    whole: &Prefix<P>,
 ) -> Result<Vec<Option<Part<P>>>, NoMemory>
-    requires legal { IsLegal state.now.room.limits state.now.room.entries }
-    requires history { slice_get P.books place ≡ Some account.old.front.history }
-    requires seen { account.old.front.entries ≡ state.now.room.entries }
+    requires seen { whole.now.entries ≡ state.now.room.entries }
     requires short { length state.now.room.entries ≤ MAX_ENTRIES }
-    requires amount { length state.now.room.entries ≤ account.old.amount }
-    requires own_part { account.old.parts ≡ 1 }
-    requires parts { sites state.now.room.entries < spare.old.parts }
-    requires empty { spare.old.amount ≡ 0 }
-    ensures shelf { IfOk result (λ shelf. shelf.items ≡ full_shelf place state.now.room.entries) }
-    ensures front { account.new.front ≡ account.old.front }
-    ensures parts { account.new.parts ≡ account.old.parts }
-    // 1 of the amount goes to the entry's site for each entry:
-    ensures amount { OnOk result
-        (account.new.amount + length state.now.room.entries ≡ account.old.amount) }
-    ensures spare_parts { OnOk result
-        (spare.new.parts + sites state.now.room.entries ≡ spare.old.parts) }
-    ensures spare_amount { spare.new.amount ≡ 0 }
+    ensures { IfOk result (λ shelf. shelf.items ≡ full_shelf whole.now.place whole.now.entries) }
 {
     let mut shelf = Vec::with_capacity(alloc, state.sites() as usize)?;
     for before in 0..state.sites() {
-        let part = whole_part(place, before + 1, state.entries(), account, spare);
-        shelf.push(Some(part))?;
+        shelf.push(Some(whole_part(before + 1, state.entries(), whole)))?;
     }
     Ok(shelf)
 }

@@ -2,14 +2,15 @@
 
 ghost use Rattle.std.specs.Prelude.{◌≡◌, ◌≢◌, ◌⊎◌, ◌++◌, ◌∷◌, [], ◌+◌, ◌<◌, ◌≤◌, ◌↔◌, Err, None};
 ghost use Rattle.std.specs.Prelude.{Ok, Some, IfErr, IfOk, OnOk, OnErr, false, true, slice_get};
-ghost use Rattle.std.specs.Prelude.{length, map, option_map};
+ghost use Rattle.std.specs.Prelude.{IsNone, length, map, option_map};
 ghost use Rattle.std.specs.Arc.{arc_value};
-ghost use Rattle.rules.specs.Records.{IsLegal, sites};
-ghost use Rattle.rules.specs.declared.limits.TheConstants.Limits.{MAX_ENTRIES, MAX_JOINS};
-ghost use Rattle.room_core.specs.declared.fault.CallFault.TheVariants as call_fault;
+ghost use mathlib.Core.List.{IsPrefix};
+ghost use Rattle.rules.specs.Records.{IsLegal};
+ghost use Rattle.rules.specs.declared.limits.TheConstants.Limits.{MAX_ENTRIES};
+ghost use Rattle.room_lock.specs.declared.fault.CallFault.TheVariants as call_fault;
 ghost use Rattle.room_core.specs.Answers.{join_answer, answer, room_after};
-ghost use Rattle.room_core.specs.steps.Differences.{first_difference};
-ghost use Rattle.room_core.specs.Sites.{none_or_one};
+ghost use Rattle.room_lock.specs.steps.Differences.{first_difference};
+ghost use Rattle.room_lock.specs.Sites.{none_or_one};
 ghost use Rattle.room_lock.specs.Closing.{IsClosed, IsComplete};
 ghost use Rattle.room_lock.specs.declared.fault.CloseFault.TheVariants as close_fault;
 ghost use Rattle.room_lock.specs.Shelves.{full_shelf, is_away, part_of, with_at};
@@ -17,42 +18,36 @@ ghost use Rattle.room_lock.specs.Told.{IsBackOver, IsBackRefusalOver, IsCallOver
 ghost use Rattle.room_lock.specs.Told.{IsLeaveOver, IsRefusalOver, room_of};
 
 use crate::account::Account;
-use crate::closing::added_together;
+use crate::closing::{RoomRecord, added_together};
 use crate::entrance::Entrance;
-use crate::fault::{CloseFault, RoomRecord};
-use crate::ledger::RoomLedger;
+use crate::fault::{CallFault, CloseFault};
+use crate::histories::RoomHistories;
+use crate::in_use::InUse;
 use crate::new_room::NewRoom;
 use crate::part::Part;
 use crate::pass::Pass;
-use crate::prefix::{News, Prefix};
-use crate::restoring::{fill_shelf, share_from};
-use crate::shelf::{all_parts, put_part, take_part};
+use crate::prefix::Prefix;
+use crate::restoring::fill_shelf;
+use crate::shelf::{all_parts, is_away, put_part, take_part};
 use base_types::{NoMemory, RoomName};
-use room_core::{CallFault, RoomState};
-use rules::{Entry, Limits};
-use shared_history::Front;
+use room_core::RoomState;
+use rules::Entry;
 use std::alloc::Global;
-use std::marker::{Model, PhantomData};
-use std::sync::ledger::Share;
+use std::marker::Model;
 use std::sync::{Arc, Wait};
 use wire::{Reply, Request};
 
-/// The most parts of the ledger that sites of a room get: one for each site that may join.
-pub(crate) const SPARE_PARTS: u64 = 257;
-
-/// What a room's lock guards: the room, and its history with the room's share. There is a spare
-/// part of the ledger for each site that may still join. The shelf holds the parts of the sites
-/// that no session is in as.
+/// What a room's lock guards: the room and its history. The shelf holds the parts of the sites that
+/// no session is in as.
 #[derive(Drop)]
-pub(crate) struct Room<P: RoomLedger> {
+pub(crate) struct Room<P: RoomHistories> {
     state: RoomState,
-    account: Account<P>,
-    spare: Share<P>,
+    account: Account,
     place: usize,
     shelf: Vec<Option<Part<P>>>,
 }
 
-impl<P: RoomLedger> Model for Room<P> {
+impl<P: RoomHistories> Model for Room<P> {
     ghost use Rattle.room_lock.specs.Kept.{IsRoomKept, Placed};
 
     ghost Value = { Placed };
@@ -64,55 +59,42 @@ impl<P: RoomLedger> Model for Room<P> {
     } };
 
     ghost invariant = { λ r. IsRoomKept P.books P.limits r.place r.state.room
-        r.account r.spare.parts r.spare.amount r.shelf.items };
+        r.account r.shelf.items };
 }
 
-impl<P: RoomLedger> Room<P> {
-    ghost use Rattle.room_lock.specs.steps.Entrances.{IfEntered, IfRefused};
+impl<P: RoomHistories> Room<P> {
+    ghost use Rattle.room_lock.specs.steps.Entrances.{IfEntered, IfInUse, IfRefused};
     ghost use Rattle.room_lock.specs.declared.entrance.Entrance.TheVariants.{NoRoom};
     ghost use Rattle.wire.specs.declared.request.Request.TheVariants.{Leave};
 
-    /// A room at a place that begins with this record. It takes its share and its spare parts from
-    /// the rest. No session is in as any of its sites: their parts are on the shelf, and have seen
-    /// the whole record. Linear in the record for each site.
+    /// A room at a place that begins with this record. No session is in as any of its sites: their
+    /// parts are on the shelf, and have seen the whole record. Linear in the record for each site.
     pub(crate) fn new(
         rt: &impl Wait,
         alloc: Global,
         new: NewRoom,
         place: usize,
-        rest: &mut Share<P>,
     ) -> Result<Room<P>, NoMemory>
-        // The limits and the history are those that the ledger's type names.
+        // The limits and the history are those that the type names.
         requires limits { new.limits ≡ P.limits }
         requires history { slice_get P.books place ≡ Some new.book }
-        // The room takes its share and its parts from the rest.
-        requires parts { SPARE_PARTS + 1 < rest.old.parts }
-        requires amount { MAX_ENTRIES ≤ rest.old.amount }
         ensures place { IfOk result (λ room. room.place ≡ place) }
         ensures entries { IfOk result (λ room. room.entries ≡ new.entries) }
         ensures shelf { IfOk result (λ room. room.shelf ≡ full_shelf place new.entries) }
-        ensures parts { OnOk result (rest.new.parts + (SPARE_PARTS + 1) ≡ rest.old.parts) }
-        ensures amount { OnOk result (rest.new.amount + MAX_ENTRIES ≡ rest.old.amount) }
     {
         let NewRoom {
             history,
             mut front,
             state,
         } = new;
-        show_size(&state);
-        let share = rest.split_off(1, u64::from(Limits::MAX_ENTRIES));
-        let mut spare = rest.split_off(SPARE_PARTS, 0);
+        let _entries = len_of(&state);
         front.add_all(rt, &history, state.entries());
-        let mut account = Account {
-            history,
-            front,
-            share,
-        };
-        let shelf = fill_shelf(alloc, place, &state, &mut account, &mut spare)?;
+        let account = Account { history, front };
+        let whole = Prefix::of_front(place, account.front());
+        let shelf = fill_shelf(alloc, &state, &whole)?;
         Ok(Room {
             state,
             account,
-            spare,
             place,
             shelf,
         })
@@ -125,43 +107,25 @@ impl<P: RoomLedger> Room<P> {
         self.place
     }
 
-    /// The room.
-    pub(crate) fn state(&self) -> &RoomState
-        ensures entries { result.now.room.entries ≡ self.now.entries }
-        ensures limits { result.now.room.limits ≡ P.limits }
-    {
-        &self.state
-    }
-
     /// Its whole record.
     pub(crate) fn prefix(&self) -> Prefix<P>
         ensures { result ≡ record { place = self.now.place; entries = self.now.entries } }
     {
-        Prefix {
-            place: self.place,
-            front: self.account.front().copy(),
-            of: PhantomData,
-        }
+        Prefix::of_front(self.place, self.account.front())
     }
 
-    /// The entries of its record behind a prefix of it. `Torn` if the prefix has more entries.
-    pub(crate) fn news(&self, alloc: Global, since: &Prefix<P>) -> Result<News<P>, CallFault>
-        requires { since.now.place ≡ self.now.place }
-        ensures whole { IfOk result (λ news. news.whole
-            ≡ record { place = self.now.place; entries = self.now.entries }) }
-        ensures entries { IfOk result (λ news. since.now.entries ++ map arc_value news.entries.items
-            ≡ self.now.entries) }
-        ensures torn { (place : _) → (result ≡ Err (call_fault.Torn place))
-            ↔ (first_difference self.now.entries since.now.entries ≡ Some place) }
+    /// The entries of its record, in order.
+    pub(crate) fn entries(&self) -> &[Arc<Entry>]
+        ensures { map arc_value result.now ≡ self.now.entries }
     {
-        if let Some(place) = self.first_torn(&since.front) {
-            return Err(CallFault::Torn { place });
-        }
-        let entries = share_from(alloc, self.state.entries(), since.front.len() as usize)?;
-        Ok(News {
-            entries,
-            whole: self.prefix(),
-        })
+        self.state.entries()
+    }
+
+    /// Returns whether a session is in as this site.
+    pub(crate) fn is_away(&self, site: u32) -> bool
+        ensures { result ≡ is_away self.now.shelf site }
+    {
+        is_away(self.shelf.as_slice(), site)
     }
 
     /// Lets the next site in if the limits allow it, and gives its pass.
@@ -176,6 +140,7 @@ impl<P: RoomLedger> Room<P> {
         ensures entrance_refused { IfOk result (IfRefused (λ prefix reply.
             IsRefusalOver P.limits self.old.entries reply
             × (prefix ≡ record { place = self.old.place; entries = self.old.entries }))) }
+        ensures never_in_use { IfOk result (IfInUse (λ it reply. ⊥)) }
         ensures written { let room = room_of P.limits self.old.entries
             in OnOk result (self.new.entries ≡ (room_after room (join_answer room)).entries) }
         ensures known { result ≢ Ok NoRoom }
@@ -191,21 +156,18 @@ impl<P: RoomLedger> Room<P> {
     {
         let room = name.copy(alloc)?;
         self.shelf.reserve(1)?;
-        let had = self.state.entries().len();
+        let had = len_of(&self.state);
         let reply = self.state.join(alloc)?;
-        show_size(&self.state);
-        let Some(join) = self.state.entries().get(had) else {
+        let _has = len_of(&self.state);
+        let Some(join) = entry_behind(&self.state, had) else {
             return Ok(Entrance::Refused(self.prefix(), reply));
         };
-        let mut share = self.spare.split_off(1, 0);
-        self.account.add(rt, &mut share, Some(join));
+        self.account.add(rt, Some(join));
         self.shelf.push_reserved(None);
         let part = Part {
-            place: self.place,
             site: self.state.sites(),
-            front: self.account.front().copy(),
             added: 1,
-            share,
+            seen: self.prefix(),
         };
         Ok(Entrance::Entered(Pass { room, part }, reply))
     }
@@ -219,33 +181,42 @@ impl<P: RoomLedger> Room<P> {
     ) -> Result<Entrance<P>, NoMemory>
         ensures entered { IfOk result (IfEntered (λ pass reply. (was : _)
             × (part_of self.old.shelf site ≡ Some was)
-            × IsBackOver P.limits self.old.entries site pass reply
-            × (pass.part.share ≡ was.share) × (pass.room ≡ name.now))) }
+            × IsBackOver P.limits self.old.entries site was pass reply
+            × (pass.room ≡ name.now))) }
         ensures entrance_refused { IfOk result (IfRefused (λ prefix reply.
-            IsBackRefusalOver P.limits self.old.entries site reply
+            IsBackRefusalOver P.limits self.old.entries site false reply
             × (prefix ≡ record { place = self.old.place; entries = self.old.entries }))) }
+        ensures in_use { IfOk result (IfInUse (λ it reply.
+            IsBackRefusalOver P.limits self.old.entries site true reply
+            × (it ≡ record {
+              prefix = record { place = self.old.place; entries = self.old.entries };
+              site = site;
+            })
+            × (is_away self.old.shelf site ≡ true))) }
         ensures known { result ≢ Ok NoRoom }
         ensures pass_place { IfOk result (IfEntered (λ pass reply.
             pass.part.place ≡ self.old.place)) }
-        ensures in_use { IfOk result (IfRefused (λ prefix reply.
-            part_of self.old.shelf site ≡ None)) }
-        // Nothing else changes:
+        // Nothing but the shelf changes:
         ensures shelf { OnOk result (self.new.shelf ≡ with_at self.old.shelf site None) }
         ensures entries { self.new.entries ≡ self.old.entries }
         ensures place { self.new.place ≡ self.old.place }
         ensures err { OnErr result (self.new ≡ self.old) }
     {
         let room = name.copy(alloc)?;
-        show_size(&self.state);
+        let _entries = len_of(&self.state);
+        if let Some(in_use) = InUse::of(self, site) {
+            drop(room);
+            return Ok(Entrance::InUse(in_use, self.state.back(site, true)));
+        }
         match take_part(&mut self.shelf, site) {
             Some(mut part) => {
-                part.front = self.account.front().copy();
+                part.seen = self.prefix();
                 let reply = self.state.back(site, false);
                 Ok(Entrance::Entered(Pass { room, part }, reply))
             }
             None => {
                 drop(room);
-                Ok(Entrance::Refused(self.prefix(), self.state.back(site, true)))
+                Ok(Entrance::Refused(self.prefix(), self.state.back(site, false)))
             }
         }
     }
@@ -272,17 +243,17 @@ impl<P: RoomLedger> Room<P> {
             ↔ (first_difference self.old.entries pass.old.part.seen ≡ Some place) }
         ensures err { OnErr result ((self.new ≡ self.old) × (pass.new ≡ pass.old)) }
     {
-        if let Some(place) = self.torn_place(&pass.part) {
+        if let Some(place) = self.torn_place(pass.part.seen()) {
             return Err(CallFault::Torn { place });
         }
         let part = &mut pass.part;
-        let had = self.state.entries().len();
+        let had = len_of(&self.state);
         let reply = self.state.answer(alloc, part.site, request)?;
-        show_size(&self.state);
-        let own = self.state.entries().get(had);
+        let _has = len_of(&self.state);
+        let own = entry_behind(&self.state, had);
+        self.account.add(rt, own);
         part.added += count_of(own);
-        self.account.add(rt, &mut part.share, own);
-        part.front = self.account.front().copy();
+        part.seen = self.prefix();
         Ok(reply)
     }
 
@@ -304,9 +275,8 @@ impl<P: RoomLedger> Room<P> {
             → is_away self.old.shelf pass.part.site ≡ false)) }
         ensures err { OnErr result (self.new ≡ self.old) }
     {
-        let at = self.state.entries().len() as u32;
-        show_size(&self.state);
-        if self.torn_place(&pass.part).is_some() {
+        let at = len_of(&self.state) as u32;
+        if let Some(_place) = self.torn_place(pass.part.seen()) {
             return Err(pass);
         }
         let prefix = self.prefix();
@@ -333,7 +303,6 @@ impl<P: RoomLedger> Room<P> {
         let Room {
             state,
             account: _,
-            spare: _,
             place: _,
             shelf,
         } = self;
@@ -351,23 +320,15 @@ impl<P: RoomLedger> Room<P> {
         })
     }
 
-    /// The first place at which what the part has seen differs from the record.
-    fn torn_place(&self, part: &Part<P>) -> Option<usize>
-        requires { part.now.place ≡ self.now.place }
-        ensures { result ≡ first_difference self.now.entries part.now.seen }
+    /// The first place at which this prefix of the room's history differs from the record. Constant
+    /// time, since both are prefixes of one history.
+    pub(crate) fn torn_place(&self, seen: &Prefix<P>) -> Option<usize>
+        requires { seen.now.place ≡ self.now.place }
+        ensures place { result ≡ first_difference self.now.entries seen.now.entries }
+        ensures begins { IsNone result → IsPrefix seen.now.entries self.now.entries }
     {
-        self.first_torn(&part.front)
-    }
-
-    /// The first place at which what was seen differs from the record. Constant time, since both
-    /// are prefixes of one history.
-    fn first_torn(&self, seen: &Front) -> Option<usize>
-        requires { slice_get P.books self.now.place ≡ Some seen.now.history }
-        ensures { result ≡ first_difference self.now.entries seen.now.entries }
-    {
-        let record = self.state.entries().len();
-        seen.shorter_begins_longer(self.account.front());
-        self.account.front().shorter_begins_longer(seen);
+        let record = len_of(&self.state);
+        let _beside = seen.is_beside(&self.prefix());
         if seen.len() <= record as u64 {
             None
         } else {
@@ -376,22 +337,30 @@ impl<P: RoomLedger> Room<P> {
     }
 }
 
+/// The number of entries of the record, which is legal.
+fn len_of(state: &RoomState) -> usize
+    ensures len { result ≡ length state.now.room.entries }
+    ensures legal { IsLegal state.now.room.limits state.now.room.entries }
+    ensures short { length state.now.room.entries ≤ MAX_ENTRIES }
+{
+    let _most = state.limits().entries();
+    state.entries().len()
+}
+
+/// The entry behind this number of entries of the record, if there is one.
+fn entry_behind(state: &RoomState, had: usize) -> Option<&Arc<Entry>>
+    ensures { option_map (λ e. arc_value e.now) result ≡ slice_get state.now.room.entries had }
+{
+    state.entries().get(had)
+}
+
 /// 1 if there is an entry, otherwise 0.
 fn count_of(own: Option<&Arc<Entry>>) -> u32
-    ensures { result ≡ length (none_or_one (option_map (λ e. arc_value e.now) own.entry)) }
+    ensures count { result ≡ length (none_or_one (option_map (λ e. arc_value e.now) own.entry)) }
+    ensures few { result ≤ 1 }
 {
     match own {
         Some(_) => 1,
         None => 0,
     }
-}
-
-/// Reads the invariants of a room into the proof: its record is legal, and its sizes are bounded.
-fn show_size(state: &RoomState)
-    ensures legal { IsLegal state.now.room.limits state.now.room.entries }
-    ensures sites { sites state.now.room.entries ≤ MAX_JOINS }
-    ensures entries { state.now.room.limits.entries ≤ MAX_ENTRIES }
-{
-    let (_record, _sites) = (state.entries(), state.sites());
-    let _most = state.limits().entries();
 }

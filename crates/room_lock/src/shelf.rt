@@ -5,13 +5,23 @@ ghost use Rattle.std.specs.Prelude.{◌≡◌, None, Some, true, false, IfErr, I
 ghost use Rattle.std.specs.Prelude.{MatchOption, Contains, map, vec_capacity};
 ghost use Rattle.room_lock.specs.Shelves.{is_away, part_of, with_at};
 
-use crate::ledger::RoomLedger;
+use crate::histories::RoomHistories;
 use crate::part::Part;
 use base_types::NoMemory;
 use std::alloc::Global;
 
+/// Returns whether a session is in as this site: the site has a place, which is empty.
+pub(crate) fn is_away<P: RoomHistories>(shelf: &[Option<Part<P>>], site: u32) -> bool
+    ensures { result ≡ is_away shelf.now site }
+{
+    match (site as usize).checked_sub(1) {
+        Some(place) => matches!(shelf.get(place), Some(None)),
+        None => false,
+    }
+}
+
 /// Takes a site's part off the shelf, if it is there.
-pub(crate) fn take_part<P: RoomLedger>(
+pub(crate) fn take_part<P: RoomHistories>(
     shelf: &mut Vec<Option<Part<P>>>,
     site: u32,
 ) -> Option<Part<P>>
@@ -27,7 +37,7 @@ pub(crate) fn take_part<P: RoomLedger>(
 }
 
 /// Puts a part at its site's place, if that place is empty. Otherwise returns the part.
-pub(crate) fn put_part<P: RoomLedger>(
+pub(crate) fn put_part<P: RoomHistories>(
     shelf: &mut Vec<Option<Part<P>>>,
     part: Part<P>,
 ) -> Result<(), Part<P>>
@@ -51,7 +61,7 @@ pub(crate) fn put_part<P: RoomLedger>(
 }
 
 /// The parts of all sites in order, or `None` if a part is absent.
-pub(crate) fn all_parts<P: RoomLedger>(
+pub(crate) fn all_parts<P: RoomHistories>(
     alloc: Global,
     shelf: Vec<Option<Part<P>>>,
 ) -> Result<Option<Vec<Part<P>>>, NoMemory>

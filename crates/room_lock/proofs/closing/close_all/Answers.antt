@@ -19,8 +19,8 @@ loop-name-preserved g c =
     let e = c.in_ok-record.ensures in
     let put = c.in_ok-push_record.ensures in
     let room : _ → Bytes = λ one. one.room in
-    let P : _ → Type 0 = λ one. IsClosed g.P.RoomLedger.limits (map arc_value one.entries.items) one.parts.items in
-    let A : List Entry → Type 0 = λ r. IsClosed g.P.RoomLedger.limits r last.parts.items in
+    let P : _ → Type 0 = λ one. IsClosed g.P.RoomHistories.limits (map arc_value one.entries.items) one.parts.items in
+    let A : List Entry → Type 0 = λ r. IsClosed g.P.RoomHistories.limits r last.parts.items in
     let here : P last = subst A (sym e.entries) e.closed in
     let steps : keys_of c.loop-name.name-iterator ≡ name ∷ rest = ap keys_of c.in-Some.ensures.steps in (
       ap (λ l. map room l ++ rest) put ∙ ap (λ l. l ++ rest) (map-append room old (last ∷ []))

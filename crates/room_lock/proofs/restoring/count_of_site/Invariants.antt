@@ -1,7 +1,7 @@
 use Rattle.std.proofs.Common.{◌≡◌, ◌≤◌, map, take}
 use Rattle.std.specs.Prelude.{count_by}
 use Rattle.std.specs.Arc.{arc_value}
-use Rattle.room_core.specs.Sites.{is_of_site}
+use Rattle.room_lock.specs.Sites.{is_of_site}
 use Rattle.room_lock.proofs.restoring.count_of_site.Given as goal
 
 abbrev pub invariant-loop-entry : goal.invariant-loop-entry

@@ -19,7 +19,6 @@ invariant_of-result c =
     let counted : length rooms ≡ length states = sym (length-map rooms limits_of) ∙ ap length same ∙ length-map states limits_in in
     let all = subst (All Limited) (sym same) (All-map Limited limits_in states c.requires.limits) in (
       record {
-        parts = omega (arith, c.new-blank.ensures, c.len-2.ensures);
         books = length-map rooms book_of ∙ counted ∙ c.requires.counted;
         few = omega (arith, c.if-len-gt-MAX_ROOMS.false, c.len.ensures);
         apart = c.requires.apart;

@@ -1,14 +1,18 @@
-use Rattle.std.proofs.Common.{sym, subst}
-use Rattle.std.specs.Prelude.{IsNone}
+use Rattle.std.proofs.Common.{ap, sym, subst}
+use Rattle.std.specs.Prelude.{IsNone, true, false}
 use Rattle.std.proofs.lemmas.Bool.{true≢false}
-use Rattle.room_lock.specs.Passes.{PrefixView}
+use Rattle.room_lock.specs.Passes.{InUseView, PrefixView}
 use Rattle.room_lock.specs.Told.{IsBackRefusalOver}
-use Rattle.room_lock.proofs.Replies.{if_refused_weaker}
+use Rattle.room_lock.proofs.Replies.{if_in_use_weaker, if_refused_weaker}
 use Rattle.room_lock.proofs.rooms.Rooms.back.Goals as goal
 
 pub returns-clause-entrance_refused : goal.returns-clause-entrance_refused
 returns-clause-entrance_refused g c = if_refused_weaker c.back.result _ _
-    (λ prefix reply both. subst (λ (p : PrefixView). IsBackRefusalOver g.P.RoomLedger.limits p.entries c.args.site reply) (sym both.1) both.0) c.back.ensures.entrance_refused
+    (λ prefix reply both. subst (λ (p : PrefixView). IsBackRefusalOver g.P.RoomHistories.limits p.entries c.args.site false reply) (sym both.1) both.0) c.back.ensures.entrance_refused
+
+pub returns-clause-in_use : goal.returns-clause-in_use
+returns-clause-in_use g c = if_in_use_weaker c.back.result _ _
+    (λ it reply all. (ap (λ i. i.site) all.1, subst (λ (i : InUseView). IsBackRefusalOver g.P.RoomHistories.limits i.prefix.entries c.args.site true reply) (sym all.1) all.0)) c.back.ensures.in_use
 
 pub returns-clause-no_room : goal.returns-clause-no_room
 returns-clause-no_room g c = (

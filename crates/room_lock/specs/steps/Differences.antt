@@ -1,12 +1,8 @@
 -- How what was seen of a record differs from it.
-use Rattle.std.specs.Prelude.{ℕ, ◌≡◌, ◌+◌, List, [], ◌∷◌, Option, Some, None, length, option_map}
-use Rattle.std.specs.Prelude.{take, if◌then◌else◌}
+use Rattle.std.specs.Prelude.{ℕ, ◌+◌, List, [], ◌∷◌, Option, Some, None, option_map}
+use Rattle.std.specs.Prelude.{if◌then◌else◌}
 use Rattle.rules.specs.declared.history.Entry.{Entry}
 use Rattle.rules.specs.steps.Equality.{same_entry}
-
--- the seen entries are the record's first
-abbrev pub BeginsWith : List Entry → List Entry → Type 0
-BeginsWith r seen = take (length seen) r ≡ seen
 
 -- the first place, if there is one, at which the seen entry is not the record's or the record has
 -- none

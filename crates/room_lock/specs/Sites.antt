@@ -1,5 +1,5 @@
 -- The entries of one site.
-use Rattle.std.specs.Prelude.{ℕ, ◌==◌, Bool, List, [], ◌∷◌, Option, Some, None, filter}
+use Rattle.std.specs.Prelude.{ℕ, ◌==◌, Bool, List, [], ◌∷◌, Option, Some, None}
 use Rattle.rules.specs.declared.history.Entry.{Entry}
 use Rattle.rules.specs.declared.history.Entry.TheVariants.{Join, Operation}
 
@@ -12,7 +12,3 @@ none_or_one (Some x) = x ∷ []
 abbrev pub is_of_site : ℕ → Entry → Bool
 is_of_site site (Join joined) = joined == site
 is_of_site site (Operation op) = op.name.0 == site
-
--- a site's entries of a record, in order
-abbrev pub entries_of : ℕ → List Entry → List Entry
-entries_of site r = filter (is_of_site site) r

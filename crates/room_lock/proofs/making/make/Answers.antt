@@ -1,12 +1,12 @@
-use Rattle.std.proofs.Common.{◌≡◌, ◌+◌, ◌<◌, ◌≤◌, ◌++◌, ◌∷◌, [], bytes_eq, length, take, drop, ap, sym, ◌∙◌, arith, append_assoc, length-append, slice_get, get_or, map, subst}
+use Rattle.std.proofs.Common.{◌≡◌, ◌+◌, ◌<◌, ◌≤◌, ◌++◌, ◌∷◌, [], bytes_eq, length, take, drop, ap, sym, ◌∙◌, arith, append_assoc, length-append, slice_get, get_or, map}
 use Rattle.std.specs.Prelude.{option_map}
 use Rattle.std.proofs.lemmas.List.{length-map, map-append, take_more}
-use Rattle.std.proofs.lemmas.Option.{get_or_from_slice_get, slice_get-map}
+use Rattle.std.proofs.lemmas.Option.{slice_get-map}
 use Rattle.base_types.specs.Repeats.{repeat_from}
-use Rattle.room_lock.specs.steps.Planned.{NewRoomView, book_of, prefixes_from, record_of}
+use Rattle.room_lock.specs.steps.Planned.{book_of, prefixes_from, record_of}
 use Rattle.room_lock.proofs.Begins.{prefix_at, prefixes_more}
 use Rattle.room_lock.proofs.Names.{name_is_new, place_of_next}
-use Rattle.room_lock.proofs.making.begin_rooms.Goals as goal
+use Rattle.room_lock.proofs.making.make.Goals as goal
 
 pub offset_bounds-names-len : goal.offset_bounds-names-len
 offset_bounds-names-len g c =
@@ -67,7 +67,6 @@ loop-new-preserved g c =
       append_assoc yielded (c.in-Some.new ∷ []) _ ∙ parts,
       begun.rooms ∙ ap (λ l. l ++ c.in_ok-name.name ∷ []) i.3 ∙ one ∙ ap (λ n. take n names) (sym more),
       (λ j. repeat_from bytes_eq (more j) (take (more j) names) (drop (more j) names)) ∙ new.1,
-      omega (arith, more, i.5, begun.parts),
-      omega (arith, more, i.6, begun.amount),
-      c.in_ok-push.ensures.items ∙ (λ j. i.7 j ++ begins j ∷ []) ∙ sym (prefixes_more 0 (map record_of yielded) c.in-Some.new.entries) ∙ ap (prefixes_from 0) (sym (map-append record_of yielded (c.in-Some.new ∷ []))),
+      c.in_ok-push.ensures.items ∙ (λ j. i.5 j ++ begins j ∷ []) ∙ sym (prefixes_more 0 (map record_of yielded) c.in-Some.new.entries) ∙ ap (prefixes_from 0) (sym (map-append record_of yielded (c.in-Some.new ∷ []))),
+      begun.in_place i.6,
     )

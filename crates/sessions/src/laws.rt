@@ -1,6 +1,6 @@
 //! Laws of the definitions. These functions have no effect at run time.
 
-ghost use Rattle.std.specs.Prelude.{◌≡◌, ℕ, List, Option, None, Some};
+ghost use Rattle.std.specs.Prelude.{◌≡◌, ℕ, Contains, List, Option, Some};
 ghost use Rattle.base_types.specs.Texts.{Bytes};
 ghost use Rattle.rules.specs.declared.limits.LimitValues.{LimitValues};
 ghost use Rattle.wire.specs.declared.reply.Reply.{Reply};
@@ -33,10 +33,12 @@ pub fn a_session_stays_in_its_room()
 pub fn a_reply_reports_on_the_room_of_the_session()
     ensures join { (limits : LimitValues) (names : List Bytes) (name : Bytes) (new : SessionView)
         (told : PrefixView) (reply : Reply) →
-        IsJoinBy limits names name new (Some told) reply → IsRoomAt names name told.place }
+        IsJoinBy limits names name new (Some told) reply → Contains names name →
+        IsRoomAt names name told.place }
     ensures back { (limits : LimitValues) (names : List Bytes) (name : Bytes) (site : ℕ)
         (new : SessionView) (told : PrefixView) (reply : Reply) →
-        IsBackBy limits names name site new (Some told) reply → IsRoomAt names name told.place }
+        IsBackBy limits names name site new (Some told) reply → Contains names name →
+        IsRoomAt names name told.place }
     ensures inside { (limits : LimitValues) (names : List Bytes) (was : PassView)
         (new : SessionView) (bytes : Bytes) (told : PrefixView) (reply : Reply) →
         IsTurn limits names (Some was) new bytes (Some told) reply →

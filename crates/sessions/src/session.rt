@@ -1,7 +1,7 @@
 //! A session: the messages of one client, one after the other.
 
 ghost use Rattle.std.specs.Prelude.{◌≡◌, ◌⊎◌, Err, IfErr, IfOk, OnErr, None, Some};
-ghost use Rattle.std.specs.Prelude.{option_map, string_bytes};
+ghost use Rattle.std.specs.Prelude.{MatchOption, option_map, string_bytes};
 ghost use Rattle.wire.specs.declared.request.Request.TheVariants.{Join, Back, Leave};
 ghost use Rattle.room_lock.specs.Passes.{IsOfRooms};
 ghost use Rattle.room_lock.specs.declared.keeper.KeepFault.TheVariants as keep_fault;
@@ -180,6 +180,8 @@ impl<P: RoomLedger> Session<P> {
             host.now.rooms.now self.old self.new Leave answer.told answer.reply) }
         ensures err { OnErr result (self.new ≡ self.old) }
         ensures cause { IfErr result (λ why. why ≡ cause.Torn) }
+        ensures other_rooms { MatchOption self.old (Unit {0})
+            (λ was. ¬ IsOfRooms host.now.rooms.now was → result ≡ Err cause.Torn) }
     {
         let Some(pass) = self.pass.take() else {
             return Ok(Answer::own_refusal(Refusal::NotJoined));
@@ -203,6 +205,8 @@ impl<P: RoomLedger> Session<P> {
             IsCallIf P.limits self.old self.new request answer.told answer.reply) }
         ensures err { OnErr result (self.new ≡ self.old) }
         ensures cause { IfErr result (λ why. (why ≡ cause.NoMemory) ⊎ (why ≡ cause.Torn)) }
+        ensures other_rooms { MatchOption self.old (Unit {0})
+            (λ was. ¬ IsOfRooms host.now.rooms.now was → result ≡ Err cause.Torn) }
     {
         let Some(pass) = &mut self.pass else {
             return Ok(Answer::own_refusal(Refusal::NotJoined));
@@ -218,9 +222,9 @@ impl<P: RoomLedger> Session<P> {
     {
         match entrance {
             Entrance::Entered(pass, reply) => {
-                let told = pass.part().prefix();
+                let answer = Answer::of_room(pass.part().prefix(), reply);
                 self.set_pass(pass);
-                Answer::of_room(told, reply)
+                answer
             }
             Entrance::Refused(told, reply) => Answer::of_room(told, reply),
             Entrance::NoRoom => Answer::own_refusal(Refusal::NoSuchRoom),

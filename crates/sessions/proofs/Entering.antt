@@ -1,16 +1,19 @@
 -- What a session is after an entrance.
-use Rattle.std.proofs.Common.{◌≡◌, ◌⊎◌, inl, inr, List, Option, Result, Ok, refl, sym, subst}
+use Rattle.std.proofs.Common.{◌≡◌, ◌⊎◌, ℕ, inl, inr, List, Option, None, Result, Ok, refl, sym, subst}
 use Rattle.std.specs.Prelude.{◌↔◌, Contains}
 use Rattle.base_types.specs.Texts.{Bytes}
 use Rattle.rules.specs.declared.history.Entry.{Entry}
 use Rattle.wire.specs.declared.reply.Reply.{Reply}
+use Rattle.rules.specs.declared.limits.LimitValues.{LimitValues}
+use Rattle.wire.specs.declared.request.Request.TheVariants.{Join, Back}
 use Rattle.room_lock.specs.declared.entrance.Entrance.{Entrance}
 use Rattle.room_lock.specs.declared.entrance.Entrance.TheVariants.{Entered, Refused, NoRoom}
 use Rattle.room_lock.specs.steps.Entrances.{IfEntered, IfRefused}
 use Rattle.room_lock.specs.Passes.{PassView, PrefixView}
+use Rattle.room_lock.specs.Told.{IsBack, IsBackRefusalOver, IsJoin, IsRefusalOver}
 use Rattle.sessions.specs.steps.Entrances.{IsAfter}
 use Rattle.sessions.specs.Sessions.{SessionView}
-use Rattle.sessions.specs.Turns.{IsLetIn, IsRoomAt, IsTurnedAway}
+use Rattle.sessions.specs.Turns.{IsAnswer, IsLetIn, IsRoomAt, IsTurnedAway}
 
 -- did the room itself refuse
 abbrev HasRoom : {P E : Type 0} → Result (Entrance P) E → Type 0
@@ -43,3 +46,14 @@ module _ (names : List Bytes) (name : Bytes) (Enters : PassView → Reply → Ty
         unknown = λ absent. (after.0, after.1);
         same = after.2;
       })
+
+-- an entrance answers a session in no room
+pub join_answered : {P E : Type 0} (limits : LimitValues) (names : List Bytes) (name : Bytes) (old new : SessionView) (told : Option PrefixView) (reply : Reply) (went : Entrance P)
+    → old ≡ None → IsEntrance names name (IsJoin limits) (IsRefusalOver limits) {P} {E} went → IsAfter went new told reply → IsAnswer limits names old new (Join name) told reply
+join_answered limits names name old new told reply went none is after =
+    subst (λ old. IsAnswer limits names old new (Join name) told reply) (sym none) (told_after names name (IsJoin limits) (IsRefusalOver limits) went new told reply is after)
+
+pub back_answered : {P E : Type 0} (limits : LimitValues) (names : List Bytes) (name : Bytes) (site : ℕ) (old new : SessionView) (told : Option PrefixView) (reply : Reply) (went : Entrance P)
+    → old ≡ None → IsEntrance names name (IsBack limits site) (λ r. IsBackRefusalOver limits r site) {P} {E} went → IsAfter went new told reply → IsAnswer limits names old new (Back name site) told reply
+back_answered limits names name site old new told reply went none is after =
+    subst (λ old. IsAnswer limits names old new (Back name site) told reply) (sym none) (told_after names name (IsBack limits site) (λ r. IsBackRefusalOver limits r site) went new told reply is after)

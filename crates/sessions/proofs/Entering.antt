@@ -1,18 +1,16 @@
 -- What a session is after an entrance.
-use Rattle.std.proofs.Common.{◌≡◌, ◌⊎◌, ℕ, inl, inr, false, is_some, List, Option, None, Some, Result, Ok, refl, sym, subst}
+use Rattle.std.proofs.Common.{◌≡◌, ◌⊎◌, ℕ, inl, inr, false, is_some, List, Option, None, Result, Ok, refl, sym, subst}
 use Rattle.std.specs.Prelude.{◌↔◌, Contains}
 use Rattle.base_types.specs.Texts.{Bytes}
 use Rattle.rules.specs.declared.history.Entry.{Entry}
 use Rattle.wire.specs.declared.reply.Reply.{Reply}
 use Rattle.rules.specs.declared.limits.LimitValues.{LimitValues}
-use Rattle.wire.specs.declared.request.Request.{Request}
 use Rattle.wire.specs.declared.request.Request.TheVariants.{Join, Back}
 use Rattle.room_lock.specs.declared.entrance.Entrance.{Entrance}
 use Rattle.room_lock.specs.declared.entrance.Entrance.TheVariants.{Entered, Refused, NoRoom}
 use Rattle.room_lock.specs.steps.Entrances.{IfEntered, IfRefused}
-use Rattle.room_lock.specs.Passes.{PassView, PrefixView, prefix_of}
-use Rattle.room_lock.specs.Told.{IsBack, IsBackRefusalOver, IsCall, IsJoin, IsRefusalOver}
-use Rattle.sessions.specs.steps.Calls.{IsCallIf}
+use Rattle.room_lock.specs.Passes.{PassView, PrefixView}
+use Rattle.room_lock.specs.Told.{IsBack, IsBackRefusalOver, IsJoin, IsRefusalOver}
 use Rattle.sessions.specs.steps.Entrances.{IsAfter}
 use Rattle.sessions.specs.Sessions.{SessionView}
 use Rattle.sessions.specs.Turns.{IsAnswer, IsLetIn, IsRoomAt, IsTurnedAway}
@@ -63,9 +61,3 @@ pub back_answered : {P : Type 0} (E : Type 0) (limits : LimitValues) (names : Li
     → is_some old ≡ false → IsEntrance names name (IsBack limits site) (λ r. IsBackRefusalOver limits r site) E went → IsAfter went new told reply → IsAnswer limits names old new (Back name site) told reply
 back_answered E limits names name site old new told reply went none is after =
     subst (λ (old : SessionView). IsAnswer limits names old new (Back name site) told reply) (sym (none_of old none)) (told_after names name (IsBack limits site) (λ r. IsBackRefusalOver limits r site) E went new told reply is after)
-
--- a call by the session's pass answers it
-pub call_answered : (limits : LimitValues) (old : SessionView) (was now : PassView) (request : Request) (told : Option PrefixView) (reply : Reply)
-    → old ≡ Some was → IsCall limits was now request reply → told ≡ Some (prefix_of now.part) → IsCallIf limits old (Some now) request told reply
-call_answered limits old was now request told reply is called tells =
-    subst (λ (old : SessionView). IsCallIf limits old (Some now) request told reply) (sym is) (now, called, tells, refl)

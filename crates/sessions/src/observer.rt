@@ -33,8 +33,8 @@ impl Addition {
     }
 }
 
-/// Hears of entries, workers and sessions, in the thread that serves the session. A method may block
-/// its thread, and must change nothing else.
+/// Hears of entries, workers, probes and sessions, in the thread that serves them. A method may
+/// block its thread, and must change nothing else.
 pub trait Observer {
     /// The room at this place, from 0, has added an entry.
     fn after_entry(&self, _place: usize, _addition: Addition) {}

@@ -8,7 +8,7 @@ ghost use Rattle.room_lock.specs.declared.keeper.KeepFault.TheVariants as keep_f
 ghost use Rattle.sessions.specs.declared.cause.Cause.TheVariants as cause;
 ghost use Rattle.sessions.specs.steps.Calls.{IsCallIf};
 ghost use Rattle.sessions.specs.steps.Entrances.{IsAfter};
-ghost use Rattle.sessions.specs.Turns.{IsAnswer, IsKept, IsNotKept, IsTextOfTurn, IsTurn};
+ghost use Rattle.sessions.specs.Turns.{IsAnswer, IsCallBy, IsKept, IsNotKept, IsTextOfTurn, IsTurn};
 ghost use Rattle.sessions.specs.Turns.{MayStand};
 
 use crate::answer::{Answer, Answered};
@@ -208,11 +208,10 @@ impl<P: RoomLedger> Session<P> {
         ensures other_rooms { MatchOption self.old (Unit {0})
             (λ was. ¬ IsOfRooms host.now.rooms.now was → result ≡ Err cause.Torn) }
     {
-        let Some(pass) = &mut self.pass else {
-            return Ok(Answer::own_refusal(Refusal::NotJoined));
-        };
-        let reply = host.rooms.call(host.rt, host.alloc, pass, request)?;
-        Ok(Answer::of_room(pass.part().prefix(), reply))
+        match &mut self.pass {
+            Some(pass) => call_by(host, pass, request),
+            None => Ok(Answer::own_refusal(Refusal::NotJoined)),
+        }
     }
 
     /// Takes the pass of who was let in. Gives the answer to who asked to be let in.
@@ -241,4 +240,20 @@ impl<P: RoomLedger> Session<P> {
             Some(_) => unreachable!(),
         }
     }
+}
+
+/// Calls the room by this pass. On `Err` the pass is as it was.
+fn call_by<P: RoomLedger, R: Wait, O, K>(
+    host: &Host<'_, P, R, O, K>,
+    pass: &mut Pass<P>,
+    request: Request,
+) -> Result<Answer<P>, Cause>
+    ensures ok { IfOk result (λ answer. IsCallBy P.limits
+        pass.old (Some pass.new) request answer.told answer.reply) }
+    ensures err { OnErr result (pass.new ≡ pass.old) }
+    ensures cause { IfErr result (λ why. (why ≡ cause.NoMemory) ⊎ (why ≡ cause.Torn)) }
+    ensures other_rooms { ¬ IsOfRooms host.now.rooms.now pass.old → result ≡ Err cause.Torn }
+{
+    let reply = host.rooms.call(host.rt, host.alloc, pass, request)?;
+    Ok(Answer::of_room(pass.part().prefix(), reply))
 }

@@ -1,5 +1,5 @@
 -- Sessions stay in their rooms, and replies report on these.
-use Rattle.std.proofs.Common.{◌≡◌, ◌⊎◌, ◌∙◌, inl, inr, ℕ, List, Option, Some, None, refl, sym, ap, subst, bytes_eq, position}
+use Rattle.std.proofs.Common.{◌≡◌, ◌⊎◌, ◌∙◌, inl, inr, List, Option, Some, None, sym, ap, subst}
 use Rattle.std.specs.Prelude.{Contains, MatchOption}
 use Rattle.base_types.specs.Texts.{Bytes}
 use Rattle.rules.specs.declared.history.Entry.{Entry}

@@ -49,6 +49,8 @@ impl<P: RoomLedger, J: Journal + Drop> Keeper<P> for Keeping<P, J> {
 
     ghost shows = { λ kept told. IsKeptIn kept told };
 
+    ghost fails = { λ _ told. Unit {0} };
+
     /// Waits until the room's file keeps this prefix of the room's record. One thread writes all
     /// that the room has, by one write and one sync, for all that wait.
     ///

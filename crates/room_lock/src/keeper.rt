@@ -1,6 +1,6 @@
 //! The trait of what keeps rooms: a reply is sent when the keeper has kept what it reports.
 
-ghost use Rattle.std.specs.Prelude.{IfOk};
+ghost use Rattle.std.specs.Prelude.{IfErr, IfOk};
 
 use crate::histories::RoomHistories;
 use crate::prefix::Prefix;
@@ -23,12 +23,16 @@ pub enum KeepFault {
 /// Keeps what replies report of rooms, before they are sent.
 pub trait Keeper<P: RoomHistories> {
     ghost use Rattle.room_lock.specs.Passes.{PrefixView};
+    ghost use Rattle.room_lock.specs.declared.keeper.KeepFault.{KeepFault};
 
     /// The proof at run time that a prefix of a record is kept.
     type Receipt: Drop;
 
     /// The receipt shows that this prefix of a room's record is kept.
     ghost shows: { Self.Receipt → PrefixView → Type 0 };
+
+    /// The keeper may fail so when it is asked to keep this prefix.
+    ghost fails: { KeepFault → PrefixView → Type 0 };
 
     /// Waits until this prefix of a room's record is kept, and gives a receipt. It may be called
     /// again after an error.
@@ -43,16 +47,19 @@ pub trait Keeper<P: RoomHistories> {
         rooms: &Rooms<P>,
         told: &Prefix<P>,
     ) -> Result<Self::Receipt, KeepFault>
-        ensures { IfOk result (λ receipt. shows receipt told.now) };
+        ensures kept { IfOk result (λ receipt. shows receipt told.now) }
+        ensures fault { IfErr result (λ fault. fails fault told.now) };
 }
 
-/// The keeper that keeps nothing: replies are sent at once.
+/// The keeper that keeps nothing: replies are sent at once. It never fails.
 pub struct Forgets;
 
 impl<P: RoomHistories> Keeper<P> for Forgets {
     type Receipt = ();
 
     ghost shows = { λ _ told. Unit {0} };
+
+    ghost fails = { λ _ told. ⊥ };
 
     fn keep(
         &self,

@@ -103,10 +103,6 @@ impl<R: Wait + Log> ServerObserver<'_, R> {
 }
 
 impl<R: Wait + Log> Observer for ServerObserver<'_, R> {
-    fn before_call(&self, _session: u32) {}
-
-    fn after_call(&self, _session: u32) {}
-
     fn after_entry(&self, place: usize, addition: Addition) {
         if let Some(room) = self.rooms.get(place) {
             room.add(self.rt, addition);

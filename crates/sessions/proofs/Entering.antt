@@ -1,17 +1,19 @@
 -- What a session is after an entrance.
-use Rattle.std.proofs.Common.{◌≡◌, ◌⊎◌, inl, inr, List, Option, Result, Ok, refl, sym, subst}
-use Rattle.std.specs.Prelude.{◌↔◌, Contains, IfOk}
-use Rattle.std.proofs.lemmas.Result.{IfOk-at_ok}
+use Rattle.std.proofs.Common.{◌≡◌, ◌⊎◌, ℕ, inl, inr, false, is_some, List, Option, None, Some, Result, Ok, refl, sym, subst}
+use Rattle.std.specs.Prelude.{◌↔◌, Contains}
 use Rattle.base_types.specs.Texts.{Bytes}
 use Rattle.rules.specs.declared.history.Entry.{Entry}
 use Rattle.wire.specs.declared.reply.Reply.{Reply}
+use Rattle.rules.specs.declared.limits.LimitValues.{LimitValues}
+use Rattle.wire.specs.declared.request.Request.TheVariants.{Join, Back}
 use Rattle.room_lock.specs.declared.entrance.Entrance.{Entrance}
 use Rattle.room_lock.specs.declared.entrance.Entrance.TheVariants.{Entered, Refused, NoRoom}
 use Rattle.room_lock.specs.steps.Entrances.{IfEntered, IfRefused}
 use Rattle.room_lock.specs.Passes.{PassView, PrefixView}
+use Rattle.room_lock.specs.Told.{IsBack, IsBackRefusalOver, IsJoin, IsRefusalOver}
 use Rattle.sessions.specs.steps.Entrances.{IsAfter}
 use Rattle.sessions.specs.Sessions.{SessionView}
-use Rattle.sessions.specs.Turns.{IsLetIn, IsTurnedAway}
+use Rattle.sessions.specs.Turns.{IsAnswer, IsLetIn, IsRoomAt, IsTurnedAway}
 
 -- did the room itself refuse
 abbrev HasRoom : {P E : Type 0} → Result (Entrance P) E → Type 0
@@ -19,38 +21,43 @@ HasRoom (Ok (Refused prefix reply)) = Unit {0}
 HasRoom _ = ⊥
 
 module _ (names : List Bytes) (name : Bytes) (Enters : PassView → Reply → Type 0) (Refuses : List Entry → Reply → Type 0) where
-  abbrev Told : SessionView → Option PrefixView → Reply → Type 0
-  Told new told reply = IsLetIn Enters name new told reply ⊎ IsTurnedAway Refuses names name new told reply
-
-  abbrev IfIn : {P : Type 0} → Entrance P → Type 0
-  IfIn went = IfEntered (λ pass it. Enters pass it × (pass.room ≡ name)) went
-
-  abbrev IfOut : {P : Type 0} → Entrance P → Type 0
-  IfOut went = IfRefused (λ prefix it. Refuses prefix.entries it) went
-
-  abbrev IsWithoutRoom : {P E : Type 0} → Result (Entrance P) E → Type 0
-  IsWithoutRoom entrance = (entrance ≡ Ok NoRoom) ↔ ¬ (Contains names name)
+  -- what `Rooms::join` and `back` say of an entrance
+  pub record IsEntrance {P : Type 0} (E : Type 0) (went : Entrance P) : Type 0 where
+    pub entered : IfEntered (λ pass reply. Enters pass reply × (pass.room ≡ name)) went
+    pub refused : IfRefused (λ prefix reply. Refuses prefix.entries reply) went
+    pub no_room : let entrance : Result (Entrance P) E = Ok went in (entrance ≡ Ok NoRoom) ↔ ¬ (Contains names name)
+    pub pass_place : IfEntered (λ pass reply. IsRoomAt names name pass.part.place) went
+    pub refusal_place : IfRefused (λ prefix reply. IsRoomAt names name prefix.place) went
 
   -- the pass of who was let in is the session's, and who wasn't is in no room
-  told_after : {P E : Type 0} (went : Entrance P) (new : SessionView) (told : Option PrefixView) (reply : Reply)
-      → IfIn went → IfOut went → (let entrance : Result (Entrance P) E = Ok went in IsWithoutRoom entrance) → IsAfter went new told reply → Told new told reply
-  told_after (Entered pass it) new told reply enters refuses no_room after =
-      inl (pass, subst (λ r. Enters pass r) (sym after.0) enters.0, enters.1, after.1, after.2)
-  told_after (Refused prefix it) new told reply enters refuses no_room after =
+  pub told_after : {P : Type 0} (E : Type 0) (went : Entrance P) (new : SessionView) (told : Option PrefixView) (reply : Reply)
+      → IsEntrance E went → IsAfter went new told reply → IsLetIn Enters names name new told reply ⊎ IsTurnedAway Refuses names name new told reply
+  told_after E (Entered pass it) new told reply is after =
+      inl (pass, subst (λ r. Enters pass r) (sym after.0) is.entered.0, is.entered.1, is.pass_place, after.1, after.2)
+  told_after E (Refused prefix it) new told reply is after =
       inr (record {
-        known = λ there. (prefix, subst (λ r. Refuses prefix.entries r) (sym after.0) refuses, after.1);
-        unknown = λ absent. absurd (subst HasRoom (no_room.1 absent) tt);
+        known = λ there. (prefix, subst (λ r. Refuses prefix.entries r) (sym after.0) is.refused, is.refusal_place, after.1);
+        unknown = λ absent. absurd (subst HasRoom (is.no_room.1 absent) tt);
         same = after.2;
       })
-  told_after NoRoom new told reply enters refuses no_room after =
+  told_after E NoRoom new told reply is after =
       inr (record {
-        known = λ there. absurd (no_room.0 refl there);
+        known = λ there. absurd (is.no_room.0 refl there);
         unknown = λ absent. (after.0, after.1);
         same = after.2;
       })
 
-  pub entered_or_not : {P E : Type 0} (entrance : Result (Entrance P) E) (new : SessionView) (told : Option PrefixView) (reply : Reply)
-      → IfOk entrance IfIn → IfOk entrance IfOut → IsWithoutRoom entrance
-      → ((went : Entrance P) × (entrance ≡ Ok went) × IsAfter went new told reply) → Told new told reply
-  entered_or_not entrance new told reply enters refuses no_room after =
-      told_after after.0 new told reply (IfOk-at_ok IfIn after.1 enters) (IfOk-at_ok IfOut after.1 refuses) (subst IsWithoutRoom after.1 no_room) after.2
+none_of : {A : Type 0} (o : Option A) → is_some o ≡ false → o ≡ None
+none_of None is = refl
+none_of (Some x) is = absurd (cc is)
+
+-- an entrance answers a session in no room
+pub join_answered : {P : Type 0} (E : Type 0) (limits : LimitValues) (names : List Bytes) (name : Bytes) (old new : SessionView) (told : Option PrefixView) (reply : Reply) (went : Entrance P)
+    → is_some old ≡ false → IsEntrance names name (IsJoin limits) (IsRefusalOver limits) E went → IsAfter went new told reply → IsAnswer limits names old new (Join name) told reply
+join_answered E limits names name old new told reply went none is after =
+    subst (λ (old : SessionView). IsAnswer limits names old new (Join name) told reply) (sym (none_of old none)) (told_after names name (IsJoin limits) (IsRefusalOver limits) E went new told reply is after)
+
+pub back_answered : {P : Type 0} (E : Type 0) (limits : LimitValues) (names : List Bytes) (name : Bytes) (site : ℕ) (old new : SessionView) (told : Option PrefixView) (reply : Reply) (went : Entrance P)
+    → is_some old ≡ false → IsEntrance names name (IsBack limits site) (λ r. IsBackRefusalOver limits r site) E went → IsAfter went new told reply → IsAnswer limits names old new (Back name site) told reply
+back_answered E limits names name site old new told reply went none is after =
+    subst (λ (old : SessionView). IsAnswer limits names old new (Back name site) told reply) (sym (none_of old none)) (told_after names name (IsBack limits site) (λ r. IsBackRefusalOver limits r site) E went new told reply is after)

@@ -1,6 +1,7 @@
 -- One message of a session and its reply. `told` is the prefix of a room's record that the reply
 -- reports on, if it does.
 use Rattle.std.specs.Prelude.{◌≡◌, ◌⊎◌, ℕ, List, Option, Some, None, Contains, MatchOption}
+use Rattle.std.specs.Prelude.{bytes_eq, position}
 use Rattle.base_types.specs.Texts.{Bytes}
 use Rattle.rules.specs.declared.history.Entry.{Entry}
 use Rattle.rules.specs.declared.limits.LimitValues.{LimitValues}
@@ -37,24 +38,31 @@ IsLeaveBy limits was new told reply =
     (then : PrefixView) × IsLeaveOver limits then.entries was.part reply
     × (then.place ≡ was.part.place) × (told ≡ Some then) × (new ≡ None)
 
+-- the room of this name is at this place among rooms of these names
+abbrev pub IsRoomAt : List Bytes → Bytes → ℕ → Type 0
+IsRoomAt names name place = position (bytes_eq name) names ≡ Some place
+
 -- A site was let in: the session has its pass, of the room of this name. The reply reports on all
 -- that the pass has seen.
-abbrev pub IsLetIn : (PassView → Reply → Type 0) → Bytes → SessionView → Option PrefixView → Reply
-    → Type 0
-IsLetIn Holds name new told reply =
-    (pass : PassView) × Holds pass reply × (pass.room ≡ name) × (told ≡ Some (prefix_of pass.part))
-    × (new ≡ Some pass)
+abbrev pub IsLetIn : (PassView → Reply → Type 0) → List Bytes → Bytes → SessionView
+    → Option PrefixView → Reply → Type 0
+IsLetIn Holds names name new told reply =
+    (pass : PassView) × Holds pass reply × (pass.room ≡ name)
+    × IsRoomAt names name pass.part.place × (told ≡ Some (prefix_of pass.part)) × (new ≡ Some pass)
 
--- the room refused; the reply reports on the record at that time
-abbrev pub IsRefusedOn : (List Entry → Reply → Type 0) → Option PrefixView → Reply → Type 0
-IsRefusedOn Holds told reply = (then : PrefixView) × Holds then.entries reply × (told ≡ Some then)
+-- the room of this name refused; the reply reports on its record at that time
+abbrev pub IsRefusedOn : (List Entry → Reply → Type 0) → List Bytes → Bytes → Option PrefixView
+    → Reply → Type 0
+IsRefusedOn Holds names name told reply =
+    (then : PrefixView) × Holds then.entries reply × IsRoomAt names name then.place
+    × (told ≡ Some then)
 
 -- No site was let in: the room of this name refused, or there is none. The session stays in no
 -- room.
 pub record IsTurnedAway
     (Holds : List Entry → Reply → Type 0) (names : List Bytes) (name : Bytes) (new : SessionView)
     (told : Option PrefixView) (reply : Reply) : Type 0 where
-  pub known : Contains names name → IsRefusedOn Holds told reply
+  pub known : Contains names name → IsRefusedOn Holds names name told reply
   pub unknown : ¬ (Contains names name) → (reply ≡ No 0 NoSuchRoom) × (told ≡ None)
   pub same : new ≡ None
 
@@ -62,13 +70,13 @@ pub record IsTurnedAway
 abbrev pub IsJoinBy : LimitValues → List Bytes → Bytes → SessionView → Option PrefixView → Reply
     → Type 0
 IsJoinBy limits names name new told reply =
-    IsLetIn (IsJoin limits) name new told reply
+    IsLetIn (IsJoin limits) names name new told reply
     ⊎ IsTurnedAway (IsRefusalOver limits) names name new told reply
 
 abbrev pub IsBackBy : LimitValues → List Bytes → Bytes → ℕ → SessionView → Option PrefixView → Reply
     → Type 0
 IsBackBy limits names name site new told reply =
-    IsLetIn (IsBack limits site) name new told reply
+    IsLetIn (IsBack limits site) names name new told reply
     ⊎ IsTurnedAway (λ r. IsBackRefusalOver limits r site) names name new told reply
 
 -- the answer to a request of a session that is in a room, which cannot enter another
@@ -122,3 +130,10 @@ MayStand limits names old new bytes =
     (new ≡ old)
     ⊎ ((told : Option PrefixView) × (reply : Reply)
     × IsTurn limits names old new bytes told reply)
+
+-- The message was answered, but the keeper failed so, and the reply was lost.
+abbrev pub IsNotKept : (PrefixView → Type 0) → LimitValues → List Bytes → SessionView → SessionView
+    → Bytes → Type 0
+IsNotKept fails limits names old new bytes =
+    (told : PrefixView) × (reply : Reply) × fails told
+    × IsTurn limits names old new bytes (Some told) reply

@@ -1,4 +1,6 @@
+pub mod Calls
 pub mod Entrances
 pub mod Causes
 pub mod Growth
 pub mod Ends
+pub mod Sent

@@ -1,6 +1,8 @@
 //! The answer to a message, before and after it is kept.
 
 ghost use Rattle.std.specs.Prelude.{◌≡◌, ◌⊎◌, IfErr, IfOk, None, Some, string_bytes};
+ghost use Rattle.room_lock.specs.Passes.{PrefixView};
+ghost use Rattle.room_lock.specs.declared.keeper.KeepFault.TheVariants as keep_fault;
 ghost use Rattle.wire.specs.declared.reply.Reply.TheVariants.{No};
 ghost use Rattle.wire.specs.Texts.{reply_text};
 ghost use Rattle.sessions.specs.declared.cause.Cause.TheVariants as cause;
@@ -65,6 +67,10 @@ impl<P: RoomLedger> Answer<P> {
     /// The text of the reply, once what it reports is kept. The observer hears of the entry first,
     /// since it stands whatever follows. The text is created before the wait, so that no thread
     /// waits in vain.
+    ///
+    /// # Errors
+    /// `NoMemory` if an allocation failed, or if the keeper says so.
+    /// `NotKept` if the keeper says so.
     pub(crate) fn keep<R: Wait, O: Observer, K: Keeper<P>>(
         &self,
         host: &Host<'_, P, R, O, K>,
@@ -72,7 +78,9 @@ impl<P: RoomLedger> Answer<P> {
         ensures text { IfOk result (λ answered.
             string_bytes answered.text ≡ reply_text self.now.reply) }
         ensures kept { IfOk result (λ answered. IsKept K.shows self.now.told answered.receipt) }
-        ensures cause { IfErr result (λ why. (why ≡ cause.NoMemory) ⊎ (why ≡ cause.NotKept)) }
+        ensures cause { IfErr result (λ why. (why ≡ cause.NoMemory) ⊎ ((why ≡ cause.NotKept)
+            × ((told : PrefixView) × (self.now.told ≡ Some told)
+            × K.fails keep_fault.NotKept told))) }
     {
         self.tell_growth(host.observer);
         let text = write_reply(host.alloc, &self.reply)?;
@@ -81,12 +89,14 @@ impl<P: RoomLedger> Answer<P> {
     }
 }
 
-/// The receipt that `told` is kept, if there is a `told`.
+/// The receipt that `told` is kept, if there is a `told`. On `Err` the keeper failed so.
 fn receipt_of<P: RoomLedger, R: Wait, O, K: Keeper<P>>(
     host: &Host<'_, P, R, O, K>,
     told: &Option<Prefix<P>>,
 ) -> Result<Option<K::Receipt>, KeepFault>
-    ensures { IfOk result (IsKept K.shows told.now) }
+    ensures kept { IfOk result (IsKept K.shows told.now) }
+    ensures fault { IfErr result (λ fault.
+        (one : PrefixView) × (told.now ≡ Some one) × K.fails fault one) }
 {
     match told {
         Some(told) => {

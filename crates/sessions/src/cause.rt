@@ -33,9 +33,6 @@ pub enum Cause {
     /// What a reply would have reported of a room is not kept.
     #[error("record not kept")]
     NotKept,
-    /// The connection was a probe, and was answered. There was no session.
-    #[error("probe")]
-    Probe,
 }
 
 impl From<NoMemory> for Cause {

@@ -33,15 +33,9 @@ impl Addition {
     }
 }
 
-/// Is called before and after each call of the rooms, by the thread that makes it. It also hears of
-/// entries, workers and sessions. A method may block its thread, and must change nothing else.
+/// Hears of entries, workers, probes and sessions, in the thread that serves them. A method may
+/// block its thread, and must change nothing else.
 pub trait Observer {
-    /// The session is about to call the rooms.
-    fn before_call(&self, session: u32);
-
-    /// The rooms have answered.
-    fn after_call(&self, session: u32);
-
     /// The room at this place, from 0, has added an entry.
     fn after_entry(&self, _place: usize, _addition: Addition) {}
 
@@ -59,15 +53,4 @@ pub trait Observer {
 
     /// The session ends. `room` is the room that it is still in.
     fn after_session(&self, client: &Client, room: Option<&RoomName>, cause: Cause);
-}
-
-/// The observer that does nothing.
-pub struct NoObserver;
-
-impl Observer for NoObserver {
-    fn before_call(&self, _session: u32) {}
-
-    fn after_call(&self, _session: u32) {}
-
-    fn after_session(&self, _client: &Client, _room: Option<&RoomName>, _cause: Cause) {}
 }

@@ -15,14 +15,6 @@ pub(crate) struct WarningObserver<'a, R, O> {
 }
 
 impl<R: Log, O: Observer> Observer for WarningObserver<'_, R, O> {
-    fn before_call(&self, session: u32) {
-        self.observer.before_call(session);
-    }
-
-    fn after_call(&self, session: u32) {
-        self.observer.after_call(session);
-    }
-
     fn after_entry(&self, place: usize, addition: Addition) {
         self.observer.after_entry(place, addition);
     }

@@ -8,7 +8,7 @@ use base_types::RoomName;
 use log::sink::Locked;
 use log::{LevelFilter, Log, Logged};
 use room_lock::{KeepFault, Keeper, NewRooms, Prefix, RoomLedger, Rooms};
-use sessions::{Arrival, Cause, Client, Observer, ServeFault, serve_streams};
+use sessions::{Addition, Arrival, Cause, Client, Observer, ServeFault, serve_streams};
 use std::alloc::Global;
 use std::io::{Read, Write};
 use std::marker::Brand;
@@ -116,11 +116,11 @@ where
     serve_in::<Brand, R, S, W>(rt, plan_rooms(rt, "r s"), streams, told, output)
 }
 
-/// An observer that counts the calls that rooms have answered, and a keeper that counts the replies
+/// An observer that counts the entries that rooms have added, and a keeper that counts the replies
 /// that it is asked for.
 #[derive(Drop)]
 pub(super) struct Told {
-    answered: AtomicU64,
+    entries: AtomicU64,
     asked: AtomicU64,
     /// The reply that is not kept, counted from 1, and why.
     fails: Option<(u64, KeepFault)>,
@@ -129,14 +129,15 @@ pub(super) struct Told {
 impl Told {
     pub(super) fn new(fails: Option<(u64, KeepFault)>) -> Told {
         Told {
-            answered: AtomicU64::new(0),
+            entries: AtomicU64::new(0),
             asked: AtomicU64::new(0),
             fails,
         }
     }
 
-    fn answered(&self) -> usize {
-        usize::try_from(self.answered.load(Ordering::SeqCst)).unwrap_or(usize::MAX)
+    /// How many entries the rooms have added.
+    fn entries(&self) -> usize {
+        usize::try_from(self.entries.load(Ordering::SeqCst)).unwrap_or(usize::MAX)
     }
 
     /// How many replies were to be kept.
@@ -146,10 +147,8 @@ impl Told {
 }
 
 impl Observer for Told {
-    fn before_call(&self, _session: u32) {}
-
-    fn after_call(&self, _session: u32) {
-        self.answered.fetch_add(1, Ordering::SeqCst);
+    fn after_entry(&self, _place: usize, _addition: Addition) {
+        self.entries.fetch_add(1, Ordering::SeqCst);
     }
 
     fn after_session(&self, _client: &Client, _room: Option<&RoomName>, _cause: Cause) {}
@@ -159,6 +158,8 @@ impl<P: RoomLedger> Keeper<P> for Told {
     type Receipt = ();
 
     ghost shows = { λ _ told. Unit {0} };
+
+    ghost fails = { λ _ told. Unit {0} };
 
     fn keep(
         &self,
@@ -213,8 +214,8 @@ pub(super) fn records_of(rt: &(impl Abort + AllocGlobal), entries: usize, others
 /// What came of serving one stream.
 #[derive(Drop)]
 struct Served {
-    /// How many calls the rooms have answered.
-    answered: usize,
+    /// How many entries the rooms have added.
+    entries: usize,
     records: Vec<u8>,
     warnings: Vec<u8>,
 }
@@ -238,7 +239,7 @@ fn serve_alone<R: Threads + Wait + Sync + Abort + AllocGlobal>(
     let end = serve(&logged, Streams { all, workers: 1 }, &told, &mut records);
     assert!(rt; end.is_ok());
     Served {
-        answered: told.answered(),
+        entries: told.entries(),
         records,
         warnings: sink.into_inner(),
     }
@@ -273,12 +274,11 @@ fn look_at(rt: &(impl Abort + AllocGlobal), run: &Served, calls: &Calls, fails: 
     // The head of the request is one part, each message another, the close the last.
     let asked = calls.given().saturating_sub(1);
     assert!(rt; is_warning(&run.warnings, calls, asked), "call {fails}");
-    assert!(rt; run.answered <= asked, "call {fails}");
-    let entries = run.answered.min(ENTRIES);
-    let records = records_of(rt, entries, "");
+    assert!(rt; run.entries <= asked.min(ENTRIES), "call {fails}");
+    let records = records_of(rt, run.entries, "");
     assert_eq!(rt; run.records.as_slice(), records.as_bytes(), "call {fails}");
     let sent = calls.taken().expect(rt, "the replies");
-    assert!(rt; entries >= entries_told(sent), "call {fails}");
+    assert!(rt; run.entries >= entries_told(sent), "call {fails}");
 }
 
 #[test]
@@ -318,7 +318,7 @@ fn a_session_in_single_bytes(rt: HostRuntime) {
         run.warnings
             .ends_with("session 1: handshake failed\n".as_bytes())
     );
-    assert!(rt; run.answered == 0 && calls.taken() == Some(0));
+    assert!(rt; run.entries == 0 && calls.taken() == Some(0));
     let calls = Calls::failing(0);
     let run = serve_alone(&rt, &bytewise(&rt, &asked, 1), 1, &calls);
     assert!(rt; is_whole(&rt, &run, &calls));

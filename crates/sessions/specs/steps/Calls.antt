@@ -1,0 +1,14 @@
+-- A call by the pass of a session that may be in no room.
+use Rattle.std.specs.Prelude.{Option, Some, None}
+use Rattle.rules.specs.declared.limits.LimitValues.{LimitValues}
+use Rattle.rules.specs.declared.refusal.Refusal.TheVariants.{NotJoined}
+use Rattle.wire.specs.declared.request.Request.{Request}
+use Rattle.wire.specs.declared.reply.Reply.{Reply}
+use Rattle.room_lock.specs.Passes.{PrefixView}
+use Rattle.sessions.specs.Sessions.{SessionView}
+use Rattle.sessions.specs.Turns.{IsCallBy, IsRefused}
+
+abbrev pub IsCallIf : LimitValues → SessionView → SessionView → Request → Option PrefixView → Reply
+    → Type 0
+IsCallIf limits (Some was) new request told reply = IsCallBy limits was new request told reply
+IsCallIf limits None new request told reply = IsRefused NotJoined None new told reply

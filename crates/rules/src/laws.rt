@@ -157,8 +157,8 @@ pub fn groups_hold_their_bases()
         → (a u : Op) → Contains g a → Contains (members (base h a)) u → Contains g u }
 {}
 
-/// A change that has a base conflicts with each change that it knows and that isn't in the base: its
-/// author saw that one, and did not build on it.
+/// A change that has a base conflicts with each change that it knows and that isn't in the base:
+/// its author saw that one, and did not build on it.
 pub fn what_is_not_built_on_is_in_conflict()
     ensures { (h : List Op) (a b : Op) (g : List Op) → IsHistory h → Contains h b
         → base h b ≡ Some g → Contains (known h b) a → (Contains g a → ⊥) → conflict h a b ≡ true }

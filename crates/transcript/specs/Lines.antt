@@ -28,8 +28,8 @@ abbrev pub is_returned : Reply → Bool
 is_returned (Returned at site seq) = true
 is_returned _ = false
 
--- May a room give this reply to a site that is in it? It lets no site in again, and is no refusal by
--- a session or of a back.
+-- May a room give this reply to a site that is in it? It lets no site in again, and is no refusal
+-- by a session or of a back.
 abbrev pub is_answer : Reply → Bool
 is_answer (Returned at site seq) = false
 is_answer (No at refusal) = not (is_by_session refusal) && not (is_of_back refusal)

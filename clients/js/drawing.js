@@ -99,7 +99,7 @@ class DrawnObject {
     this.#indexes.set(codeOf(change.name), index)
     this.#codes.push(codeOf(change.name))
     this.#basesWithSelf.push(base.with(index))
-    this.#direct.push(this.#relate(this.#direct, index, this.#directWith(change, known, unknown, base)))
+    this.#direct.push(this.#relate(this.#direct, index, this.#directWith(change, unknown)))
     const conflicts = this.#conflictsWith(index, known, unknown, base)
     this.#conflicts.push(this.#relate(this.#conflicts, index, conflicts))
     this.#disputed.insertAll(conflicts)
@@ -170,8 +170,8 @@ class DrawnObject {
   }
 
   /** The earlier changes that conflict directly with this one, as indexes. */
-  #directWith(change, known, unknown, base) {
-    const direct = known.without(base)
+  #directWith(change, unknown) {
+    const direct = new BitSet()
     for (const index of unknown) if (conflictDirectly(change, this.changes[index])) direct.insert(index)
     return direct
   }

@@ -6,6 +6,7 @@ import signal
 import time
 from functools import partial
 
+from lib.answers import BY_SESSION
 from lib.drawing import Drawer, come_back
 from lib.keeping import KeepingServer, bytes_of, room_folder, expect_kept, whole_lines
 from lib.records import compare_record
@@ -36,7 +37,7 @@ class Person:
         """Sends a request and returns the text of the reply. Checks that it is not older than the replies before."""
         text = client.ask(request)
         reply = json.loads(text)
-        if reply[0] == "no" and reply[2] <= 4:
+        if reply[0] == "no" and reply[3] in BY_SESSION:
             return text
         if reply[1] < self.least:
             raise CheckFailed(f"after {self.least} entries in room {self.room} came {text:.200}")

@@ -16,6 +16,9 @@ WORDS = dict(enumerate((
     "own-count", "ahead", "not-closed", "no-such-object", "no-such-version", "object-full", "too-many-keys",
     "too-many-versions", "too-many-objects", "too-far", "gone", "no-such-site", "site-in-use",
 ), start=1))
+# By word: the refusals by a session, which asks no room, and those of a back alone.
+BY_SESSION = {"bad-message", "not-joined", "already-joined", "no-such-room"}
+OF_BACK = {"no-such-site", "site-in-use"}
 INSIDE = {
     "join": {3}, "back": {3}, "new": {6, 7, 8, 9, 10, 16}, "put": {*range(6, 16), 18}, "drop": {*range(6, 14), 15, 18},
     "set": {*range(6, 16), 18}, "show": {11}, "list": {17}, "pull": {17}, "leave": set(),
@@ -60,7 +63,7 @@ def check_reply(data, is_inside, text):
     if reply[0] == "no":
         code = reply[2]
         fits = reply[3:] == [WORDS.get(code)] and (code == 1 or code in refusals(word, is_inside))
-        fits = fits and (code > 4 or reply[1] == 0)
+        fits = fits and (reply[3] not in BY_SESSION or reply[1] == 0)
     else:
         fits = reply[0] == REPLIES[word] and is_inside == (word not in OUTSIDE)
     if not fits:

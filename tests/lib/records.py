@@ -3,6 +3,8 @@
 import collections
 import json
 
+from lib.answers import BY_SESSION, OF_BACK
+
 
 class Differs(Exception):
     """A record does not match the transcripts."""
@@ -49,7 +51,7 @@ class Transcript:
         request, reply = self.waiting.popleft(), json.loads(text)
         if compact(reply) != text:
             raise Differs(f"a reply that is not compact JSON: {text:.200}")
-        if reply[0] == "no" and not 5 <= reply[2] <= 18:
+        if reply[0] == "no" and reply[3] in BY_SESSION | OF_BACK:
             return
         request = json.loads(request)
         if reply[0] in ("joined", "back"):

@@ -65,6 +65,15 @@ def test_these_tests():
     expect_same_rows("the rows", documented_refusals(), list(answers.WORDS.items()))
 
 
+def test_kinds():
+    """The refusals by a session and those of a back, by the server's source and in `lib.answers`."""
+    source = source_with("pub enum Refusal {")
+    words = dict(re.findall(r'Refusal::(\w+) => "([a-z-]+)",', source))
+    for method, kind in (("is_by_session", answers.BY_SESSION), ("is_of_back", answers.OF_BACK)):
+        body = re.search(rf"fn {method}\(self\)(.*?)\n    \}}", source, re.DOTALL)[1]
+        expect_equal(method, {words[name] for name in re.findall(r"Refusal::(\w+)", body)}, kind)
+
+
 def codes_in_order():
     """Returns the messages of the table of the order of refusals, each with its codes."""
     tables = [rows for rows in tables_of(ROOT / "docs/PROTOCOL.md") if rows[0][-1] == "Tried in order"]

@@ -73,7 +73,7 @@ class DrawnObject:
             self.keys.update(key for key, _ in change.attributes)
         self._indexes[change.name] = index
         self._bases_with_self.append(base | 1 << index)
-        relate(self._direct, index, self._direct_with(change, known, unknown, base))
+        relate(self._direct, index, self._direct_with(change, unknown))
         conflicts = self._conflicts_with(index, known, unknown, base)
         relate(self._conflicts, index, conflicts)
         self._disputed |= conflicts | (bool(conflicts) << index)
@@ -128,9 +128,9 @@ class DrawnObject:
                 return None
         return group
 
-    def _direct_with(self, change, known, unknown, base):
+    def _direct_with(self, change, unknown):
         """The earlier changes that conflict directly with this one."""
-        direct = known & ~base
+        direct = 0
         for index in unknown:
             if conflict_directly(change, self.changes[index]):
                 direct |= 1 << index

@@ -5,7 +5,6 @@ ghost use Rattle.std.specs.Prelude.{◌≡◌, ◌<◌, [], true, length, map, b
 ghost use Rattle.std.specs.List.{list_any};
 ghost use Rattle.std.specs.List.Sorted.{IsPermutation, IsSorted};
 ghost use Rattle.base_types.specs.Names.{Name};
-ghost use Rattle.rules.specs.Bodies.{pairs_in};
 ghost use Rattle.rules.specs.Groups.{is_compatible};
 ghost use Rattle.rules.specs.Conflicts.{conflict};
 ghost use Rattle.rules.specs.Versions.{attributes, key_cmp};
@@ -14,7 +13,7 @@ ghost use Rattle.attributes.specs.steps.Pairs.{given_backwards, with_new_attrs, 
 
 use base_types::{Key, NoMemory, Value};
 use places::PlaceSet;
-use rules::{Attrs, Body, SharedOp};
+use rules::{Attrs, SharedOp};
 use std::alloc::Global;
 
 /// For how many attributes memory is taken at once. Most versions have fewer.
@@ -64,19 +63,9 @@ fn last_given(
     let mut pairs = Vec::with_capacity(alloc, places.len().min(MOST_AT_FIRST))?;
     for index in (0..places.len()).rev() {
         let place = places[index] as usize;
-        add_given(alloc, &mut pairs, &ops[place].body)?;
+        add_missing(alloc, &mut pairs, ops[place].body.pairs())?;
     }
     Ok(pairs)
-}
-
-/// Adds what a put gives: those of its pairs whose keys aren't there yet. A drop gives nothing.
-fn add_given(alloc: Global, pairs: &mut Vec<(Key, Value)>, body: &Body) -> Result<(), NoMemory>
-    ensures { OnOk result (pairs.new.items ≡ with_new_attrs pairs.old.items (pairs_in body.now)) }
-{
-    match body {
-        Body::Put { pairs: given, .. } => add_missing(alloc, pairs, given.pairs()),
-        Body::New { .. } | Body::DropVersion { .. } => Ok(()),
-    }
 }
 
 /// Adds those pairs whose keys aren't there yet.

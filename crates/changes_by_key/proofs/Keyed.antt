@@ -1,22 +1,17 @@
 -- The index of changes by key: with one change more, and what is asked of it.
 use Rattle.std.proofs.Common.{◌≡◌, ℕ, suc, ◌+◌, ◌<◌, ◌≤◌, Bool, true, false, ◌||◌, ◌⊎◌, List, [], ◌∷◌, ◌++◌, length, set, refl, sym, ap, ◌∙◌, subst, inl, inr, arith, eqb, get_or, drop, drop-cons, map}
-use Rattle.std.specs.Prelude.{filter, not, bytes_eq, is_some, All, MatchBool}
-use Rattle.std.specs.List.Sorted.{IsStrictlyIncreasing}
-use Rattle.std.proofs.lemmas.List.Elements.{Contains-get_or}
-use Rattle.places.proofs.Rising.{among_places}
+use Rattle.std.specs.Prelude.{filter, bytes_eq, MatchBool}
 use Rattle.std.specs.List.{list_any}
-use Rattle.std.proofs.lemmas.Bool.{true≢false, cases_Bool, cases_eq, cases_lt, or_cases, or_left, or_right, eq-eqb, eqb-true, false_from_ne_true}
+use Rattle.std.proofs.lemmas.Bool.{true≢false, cases_eq, cases_lt, or_cases, or_left, or_right, eq-eqb, eqb-true, false_from_ne_true}
 use Rattle.std.proofs.lemmas.List.Folds.{list_any_at}
 use Rattle.std.proofs.lemmas.List.{get_or_append_left, get_or_at, get_or_past, get_or-set_same, get_or-set_other, length-append, length-set}
 use Rattle.base_types.specs.Names.{Name}
 use Rattle.base_types.specs.Texts.{Bytes}
 use Rattle.rules.specs.declared.history.Op.{Op}
-use Rattle.rules.specs.declared.history.Body.{Body}
-use Rattle.rules.specs.declared.history.Body.TheVariants.{New, Put, DropVersion}
+use Rattle.rules.specs.declared.history.Body.TheVariants.{New, DropVersion}
 use Rattle.rules.specs.AttrLists.{Attr}
-use Rattle.rules.specs.Bodies.{are_at_odds, differ_on_a_key, is_drop_body, is_one_a_drop, keys_in, pairs_in}
-use Rattle.rules.proofs.Bodies.{differ_is, key_there}
-use Rattle.rules.proofs.Lists.{In, In-from_Contains, In-filter, In-filter_back, In-map_back, any_from, any_back, filter_agree, filter_inner}
+use Rattle.rules.specs.Bodies.{is_drop_body}
+use Rattle.rules.proofs.Lists.{In, In-filter, In-filter_back, any_from, any_back, filter_agree}
 use Rattle.rules.proofs.Relation.{same_answer}
 use Rattle.rules.proofs.Reordered.{same_key_is, same_key_itself}
 use Rattle.places.specs.steps.PlaceSet.{has, with_place, with_places, places}

@@ -4,7 +4,7 @@ ghost use Rattle.std.specs.Prelude.{◌≡◌, ℕ, ◌+◌, ◌<◌, ◌≤◌,
 ghost use Rattle.std.specs.List.{list_any};
 ghost use Rattle.base_types.specs.Texts.{Bytes};
 ghost use Rattle.rules.specs.declared.history.Op.{Op};
-ghost use Rattle.rules.specs.Bodies.{is_drop_body, pairs_in};
+ghost use Rattle.rules.specs.Bodies.{pairs_in};
 ghost use Rattle.places.specs.steps.PlaceSet.{has, with_place};
 ghost use Rattle.places.specs.steps.Changes.{at};
 ghost use Rattle.changes_by_key.specs.steps.Indexes.{gives, is_drop_at, is_drop_or_gives, key_at, of_key, with_drop, with_key_at, with_new_key, AreByKey, IsUnder};
@@ -63,18 +63,7 @@ fn has_key(pairs: &[(Key, Value)], key: &Key) -> bool
 fn gives(body: &Body, key: &Key) -> bool
     ensures { result ≡ gives key.now body.now }
 {
-    match body {
-        Body::Put { pairs, .. } => has_key(pairs.pairs(), key),
-        Body::DropVersion { .. } => false,
-        Body::New { .. } => false,
-    }
-}
-
-/// Is an operation a drop?
-fn is_drop(body: &Body) -> bool
-    ensures { result ≡ is_drop_body body.now }
-{
-    matches!(body, Body::DropVersion { .. })
+    has_key(body.pairs(), key)
 }
 
 /// The first `len` changes of an object: the puts by key, and the drops. If an allocation failed,
@@ -281,7 +270,7 @@ impl ByKey {
             → is_drop_at ops.now place ≡ true → has members.now place ≡ false) }
     {
         for place in self.len..ops.len() as u32 {
-            if is_drop(&ops[place as usize].body) && members.has(place) {
+            if ops[place as usize].body.is_drop() && members.has(place) {
                 return true;
             }
         }

@@ -4,7 +4,7 @@ ghost use Rattle.std.specs.Prelude.{◌≡◌, ℕ, true, ◌<◌, [], ◌∷◌
 ghost use Rattle.std.specs.List.{list_any};
 ghost use Rattle.rules.specs.Bodies.{is_drop_body, keys_in};
 ghost use Rattle.places.specs.steps.PlaceSet.{has, AreBelow};
-ghost use Rattle.conflict_rows.specs.steps.Rows.{at_odds_at, places_outside};
+ghost use Rattle.conflict_rows.specs.steps.Rows.{at_odds_at, places_outside, places_unknown};
 ghost use Rattle.places.specs.steps.Changes.{at, base_places, places_counted, AreChangesOn, IsAddition};
 
 use base_types::{Key, NoMemory, OpName, StateVector};
@@ -88,7 +88,7 @@ impl ObjectChanges {
     {
         self.catch_up(alloc)?;
         let candidates = self.candidates(alloc, &op, known)?;
-        self.rows.plan(alloc, op, base, known, &candidates)
+        self.rows.plan(alloc, op, base, &candidates)
     }
 
     /// Adds a change that was planned for these, without an allocation.
@@ -205,10 +205,9 @@ impl ObjectChanges {
         requires { known.now ≡ places_counted self.now.ops op.now.seen }
         ensures within { IfOk result (λ candidates.
             All (λ place. place < length self.now.ops) candidates) }
-        ensures same { let unknown = places_outside known.now (length self.now.ops)
-            in IfOk result (λ candidates.
+        ensures same { IfOk result (λ candidates.
             filter (at_odds_at self.now.ops op.now.body) candidates
-            ≡ filter (at_odds_at self.now.ops op.now.body) unknown) }
+            ≡ filter (at_odds_at self.now.ops op.now.body) (places_unknown self.now.ops op.now)) }
     {
         if known.count() == self.rows.ops().len() {
             return Ok(PlaceSet::empty(alloc));

@@ -1,4 +1,4 @@
--- The places that a change that is to be added is in direct conflict with: known ones outside its base, and unknown ones.
+-- The places that a change that is to be added is in direct conflict with: those of unknown changes at odds with it.
 use Rattle.std.proofs.Common.{◌≡◌, ℕ, ◌<◌, ◌≤◌, Bool, true, false, not, ◌&&◌, ◌||◌, List, [], ◌∷◌, ◌++◌, length, refl, sym, ap, subst, cond, eqb, ◌+◌, ◌∙◌, inl, inr, arith}
 use Rattle.std.specs.Prelude.{filter, nat_lt, All}
 use Rattle.std.specs.List.{list_any}
@@ -32,32 +32,12 @@ with_those-filter test direct (p ∷ ps) = elim (cases_Bool (test p)) [
   | inr t ↦ rw t (with_those-filter test direct ps)
 ]
 
-pick_known : (known there outside at_odds r : Bool) → known ≡ true → outside ≡ r → ((known && outside) || ((there && not known) && at_odds)) ≡ r
-pick_known true true true at_odds r e f = f
-pick_known true true false at_odds r e f = f
-pick_known true false true at_odds r e f = f
-pick_known true false false at_odds r e f = f
-pick_known false there outside at_odds r e f = absurd (true≢false (sym e))
-
-pick_unknown : (known there outside at_odds r : Bool) → known ≡ false → there ≡ true → at_odds ≡ r → ((known && outside) || ((there && not known) && at_odds)) ≡ r
-pick_unknown false true outside at_odds r e g f = f
-pick_unknown true there outside at_odds r e g f = absurd (true≢false e)
-pick_unknown false false outside at_odds r e g f = absurd (true≢false (sym g))
-
-pick_none : (known there outside at_odds r : Bool) → known ≡ false → there ≡ false → r ≡ false → ((known && outside) || ((there && not known) && at_odds)) ≡ r
-pick_none false false outside at_odds r e g f = sym f
-pick_none true there outside at_odds r e g f = absurd (true≢false e)
-pick_none false true outside at_odds r e g f = absurd (true≢false g)
-
 module _ {object : Name} (k : List Op) (o : Op) (w : AreChangesOf object (k ++ o ∷ [])) where
   abbrev is_direct : ℕ → Bool
-  is_direct p = direct_conflict (base (k ++ o ∷ [])) o (at k p)
+  is_direct p = direct_conflict o (at k p)
 
   abbrev at_odds : ℕ → Bool
   at_odds p = are_at_odds o.body (at k p).body
-
-  abbrev outside : ℕ → Bool
-  outside p = not (has (base_places k o) p)
 
   abbrev counted : ℕ → Bool
   counted p = counts o.seen (at k p).name
@@ -65,11 +45,8 @@ module _ {object : Name} (k : List Op) (o : Op) (w : AreChangesOf object (k ++ o
   abbrev unknown : ℕ → Bool
   unknown p = not (has (places_counted k o.seen) p)
 
-  abbrev first : List ℕ
-  first = filter outside (places_counted k o.seen)
-
-  abbrev second : List ℕ
-  second = filter at_odds (filter unknown (places (length k)))
+  abbrev unknown_at_odds : List ℕ
+  unknown_at_odds = filter at_odds (filter unknown (places (length k)))
 
   has_place : (x : ℕ) → x < length k → has (places (length k)) x ≡ true
   has_place x l = has_if_in (places (length k)) x (In-places (length k) x l)
@@ -80,39 +57,30 @@ module _ {object : Name} (k : List Op) (o : Op) (w : AreChangesOf object (k ++ o
     | inr f ↦ f
   ]
 
-  each : (x : ℕ) → ((has (places_counted k o.seen) x && outside x) || ((has (places (length k)) x && unknown x) && at_odds x)) ≡ has (filter is_direct (places (length k))) x
+  each : (x : ℕ) → ((has (places (length k)) x && unknown x) && at_odds x) ≡ has (filter is_direct (places (length k))) x
   each x = elim (cases_lt x (length k)) [
     | inl l ↦ elim (cases_Bool (counted x)) [
-      | inl t ↦ pick_known (has (places_counted k o.seen) x) (has (places (length k)) x) (outside x) (at_odds x) (has (filter is_direct (places (length k))) x)
-          (has-filter counted (length k) x l ∙ t) (direct_if_known k o w x l t ∙ sym (has-filter is_direct (length k) x l))
-      | inr t ↦ pick_unknown (has (places_counted k o.seen) x) (has (places (length k)) x) (outside x) (at_odds x) (has (filter is_direct (places (length k))) x)
-          (has-filter counted (length k) x l ∙ t) (has_place x l) (direct_if_unknown k o w x l t ∙ sym (has-filter is_direct (length k) x l))
+      | inl t ↦ rw (has_place x l, has-filter counted (length k) x l ∙ t) (sym (has-filter is_direct (length k) x l ∙ direct_if_known k o w x t))
+      | inr t ↦ rw (has_place x l, has-filter counted (length k) x l ∙ t) (direct_if_unknown k o w x l t ∙ sym (has-filter is_direct (length k) x l))
     ]
-    | inr g ↦ pick_none (has (places_counted k o.seen) x) (has (places (length k)) x) (outside x) (at_odds x) (has (filter is_direct (places (length k))) x)
-        (has-filter_past counted (length k) x g) (has_no_place x g) (has-filter_past is_direct (length k) x g)
+    | inr g ↦ rw (has_no_place x g) (sym (has-filter_past is_direct (length k) x g))
   ]
 
-  has_both : (x : ℕ) → has (with_places first second) x ≡ has (filter is_direct (places (length k))) x
-  has_both x =
-      has-with_all first second x
-      ∙ (λ i. has-kept outside (places_counted k o.seen) x i || has-kept at_odds (filter unknown (places (length k))) x i)
-      ∙ (λ i. (has (places_counted k o.seen) x && outside x) || (has-kept unknown (places (length k)) x i && at_odds x))
+  same_each : (x : ℕ) → has (with_places [] unknown_at_odds) x ≡ has (filter is_direct (places (length k))) x
+  same_each x =
+      has-with_all [] unknown_at_odds x
+      ∙ has-kept at_odds (filter unknown (places (length k))) x
+      ∙ ap (λ b. b && at_odds x) (has-kept unknown (places (length k)) x)
       ∙ each x
 
-  both : with_places first second ≡ filter is_direct (places (length k))
-  both = same_set (with_places first second) (filter is_direct (places (length k)))
-      (up_with_all first second (up_filter outside (places_counted k o.seen) (up_filter counted (places (length k)) (up_range 0 (length k)))))
+  pub direct_conflicts_are : (candidates listed result : List ℕ) → filter at_odds candidates ≡ filter at_odds (places_outside (places_counted k o.seen) (length k)) → listed ≡ candidates
+      → result ≡ with_those at_odds [] listed → result ≡ filter is_direct (places (length k))
+  direct_conflicts_are candidates listed result c l r =
+      r ∙ with_those-filter at_odds [] listed ∙ ap (with_places []) (ap (filter at_odds) l ∙ c)
+      ∙ same_set (with_places [] unknown_at_odds) (filter is_direct (places (length k)))
+      (up_with_all [] unknown_at_odds tt)
       (up_filter is_direct (places (length k)) (up_range 0 (length k)))
-      has_both
-
-  pub direct_conflicts_are : (based known all others compared listed direct result : List ℕ) → based ≡ base_places k o → known ≡ places_counted k o.seen → all ≡ places (length k)
-      → others ≡ filter (λ x. not (has known x)) all → filter at_odds compared ≡ filter at_odds others → listed ≡ compared → direct ≡ filter (λ x. not (has based x)) known
-      → result ≡ with_those at_odds direct listed → result ≡ filter is_direct (places (length k))
-  direct_conflicts_are based known all others compared listed direct result b n a u c l m r =
-      let same_others : others ≡ filter unknown (places (length k)) = u ∙ (λ i. filter (λ x. not (has (n i) x)) (a i)) in
-      let same_direct : direct ≡ first = m ∙ (λ i. filter (λ x. not (has (b i) x)) (n i)) in
-      let same_second : filter at_odds listed ≡ second = ap (filter at_odds) l ∙ c ∙ ap (filter at_odds) same_others in
-      r ∙ with_those-filter at_odds direct listed ∙ (λ i. with_places (same_direct i) (same_second i)) ∙ both
+      same_each
 
 -- where all are known, there are no others
 pub none_unknown : (k : List Op) (o : Op) (known : List ℕ) → known ≡ places_counted k o.seen → length known ≡ length k → places_outside known (length k) ≡ []

@@ -2,14 +2,14 @@
 use Rattle.std.proofs.Common.{◌≡◌, ℕ, ◌+◌, ◌^◌, ◌<◌, Bool, true, false, not, ◌&&◌, ◌||◌, List, [], ◌∷◌, ◌++◌, length, map, get_or, refl, sym, ap, ◌∙◌, subst, arith, inl, inr, eqb, cond}
 use Rattle.std.specs.Prelude.{filter, nat_lt, Contains}
 use Rattle.std.specs.List.{list_any}
-use Rattle.std.proofs.lemmas.Bool.{true≢false, false_from_ne_true, or_cases, or_left, or_right, eqb-true, eq-eqb, cases_Bool}
+use Rattle.std.proofs.lemmas.Bool.{true≢false, false_from_ne_true, and_left, and_right, not_from_true, or_cases, or_left, or_right, eqb-true, eq-eqb, cases_Bool}
 use Rattle.std.proofs.lemmas.List.{length-append, map-append}
 use Rattle.std.proofs.lemmas.List.FromFn.{map-range_with_len_more, get_or-map-range_with_len, length-map-range_with_len}
 use Rattle.base_types.specs.Vectors.{counts}
 use Rattle.base_types.specs.Names.{Name, is_op_name}
 use Rattle.rules.specs.declared.history.Op.{Op}
 use Rattle.rules.specs.Bodies.{are_at_odds}
-use Rattle.rules.specs.Operations.{before, same_op}
+use Rattle.rules.specs.Operations.{before, concurrent, same_op}
 use Rattle.rules.specs.Conflicts.{base, conflict, direct_conflict, members}
 use Rattle.rules.proofs.Lists.{In, In-from_Contains, Contains-from_In, In-append_cases, In-filter, In-filter_back, any_from, any_back, any_agree, filter_agree, map_agree}
 use Rattle.rules.proofs.Relation.{same_answer, conflict_symmetric}
@@ -26,42 +26,27 @@ use Rattle.places.proofs.Growth.{apart, once, few_changes, base_inside, base_wit
 
 -- ---- direct conflict with a later change
 
--- the test of direct conflict, where the first operation isn't before the second, but the second before the first
-direct_test_known : (p q d l m : Bool) → p ≡ false → q ≡ true → not m ≡ (((not p && not q) && d) || (p && not l) || (q && not m))
-direct_test_known false true d l m e t = refl
-direct_test_known true q d l m e t = absurd (true≢false e)
-direct_test_known false false d l m e t = absurd (true≢false (sym t))
-
--- and where neither is
-direct_test_unknown : (p q d l m : Bool) → p ≡ false → q ≡ false → d ≡ (((not p && not q) && d) || (p && not l) || (q && not m))
-direct_test_unknown false false true l m e t = refl
-direct_test_unknown false false false l m e t = refl
-direct_test_unknown true q d l m e t = absurd (true≢false e)
-direct_test_unknown false true d l m e t = absurd (true≢false t)
+-- the test of direct conflict, where neither operation is before the other
+direct_test_unknown : (p q d : Bool) → p ≡ false → q ≡ false → d ≡ ((not p && not q) && d)
+direct_test_unknown false false d e t = refl
+direct_test_unknown true q d e t = absurd (true≢false e)
+direct_test_unknown false true d e t = absurd (true≢false t)
 
 module _ {object : Name} (k : List Op) (o : Op) (w : AreChangesOf object (k ++ o ∷ [])) where
   abbrev pub with_last : List Op
   with_last = k ++ o ∷ []
 
-  has_base_place : (p : ℕ) → p < length k → has (base_places k o) p ≡ list_any (same_op (at k p)) (members (base with_last o))
-  has_base_place p l =
-      has-places_of k (members (base k o)) p l
-      ∙ ap (λ b. list_any (same_op (at k p)) (members b)) (base_grows k o w o (is_there k o w))
-
-  -- a change that the later one knows is in direct conflict with it where it isn't in its base
-  pub direct_if_known : (p : ℕ) → p < length k → before (at k p) o ≡ true → not (has (base_places k o) p) ≡ direct_conflict (base with_last) o (at k p)
-  direct_if_known p l t =
+  -- a change that the later one knows is in no direct conflict with it
+  pub direct_if_known : (p : ℕ) → before (at k p) o ≡ true → direct_conflict o (at k p) ≡ false
+  direct_if_known p t =
       let x = at k p in
-      ap not (has_base_place p l)
-      ∙ direct_test_known (before o x) (before x o) (are_at_odds o.body x.body) (list_any (same_op o) (members (base with_last x))) (list_any (same_op x) (members (base with_last o)))
-      (before_none k o w x (stays k o w x (at_in k p l))) t
+      and_left (concurrent o x) (are_at_odds o.body x.body) (and_right (not (before o x)) (not (before x o)) (not_from_true (before x o) t))
 
-  -- one that it doesn't know, where the two are at odds
-  pub direct_if_unknown : (p : ℕ) → p < length k → before (at k p) o ≡ false → are_at_odds o.body (at k p).body ≡ direct_conflict (base with_last) o (at k p)
+  -- one that it doesn't know is, where the two are at odds
+  pub direct_if_unknown : (p : ℕ) → p < length k → before (at k p) o ≡ false → are_at_odds o.body (at k p).body ≡ direct_conflict o (at k p)
   direct_if_unknown p l t =
       let x = at k p in
-      direct_test_unknown (before o x) (before x o) (are_at_odds o.body x.body) (list_any (same_op o) (members (base with_last x))) (list_any (same_op x) (members (base with_last o)))
-      (before_none k o w x (stays k o w x (at_in k p l))) t
+      direct_test_unknown (before o x) (before x o) (are_at_odds o.body x.body) (before_none k o w x (stays k o w x (at_in k p l))) t
 
   -- ---- the row
 
@@ -103,16 +88,16 @@ module _ {object : Name} (k : List Op) (o : Op) (w : AreChangesOf object (k ++ o
       ∙ any_agree (λ x. conflict k x b) (λ x. conflict with_last x b) g (λ x l. conflict_grows k o w x b (stays k o w x (base_inside k o x l)) (stays k o w b m))
       ∙ ap (λ r. list_any (λ x. conflict with_last x b) (members r)) (base_grows k o w o (is_there k o w))
 
-  in_row : (j : ℕ) → j < length k → is_in_row k (filter (λ p. direct_conflict (base with_last) o (at k p)) (places (length k))) (base_places k o) j ≡ conflict with_last o (at k j)
+  in_row : (j : ℕ) → j < length k → is_in_row k (filter (λ p. direct_conflict o (at k p)) (places (length k))) (base_places k o) j ≡ conflict with_last o (at k j)
   in_row j l =
       let b = at k j in
       let m = at_in k j l in
-      let first = test_with_base (direct_conflict (base with_last) o) j l ∙ ap (λ r. list_any (direct_conflict (base with_last) o) (b ∷ members r)) (base_grows k o w b (stays k o w b m)) in
+      let first = test_with_base (direct_conflict o) j l ∙ ap (λ r. list_any (direct_conflict o) (b ∷ members r)) (base_grows k o w b (stays k o w b m)) in
       (λ i. first i || joined b m i) ∙ sym (conflict_from_base_on w o b (is_there k o w) (stays k o w b m))
 
   -- the row that is made from the places of the direct conflicts and of the base
   pub row_is : (based direct listed row : List ℕ) → based ≡ base_places k o
-      → direct ≡ filter (λ p. direct_conflict (base with_last) o (at k p)) (places (length k)) → listed ≡ filter (has based) (places (length k))
+      → direct ≡ filter (λ p. direct_conflict o (at k p)) (places (length k)) → listed ≡ filter (has based) (places (length k))
       → row ≡ filter (is_in_row k direct listed) (places (length k))
       → row ≡ new_conflicts k o
   row_is based direct listed row b d s r =
@@ -120,7 +105,7 @@ module _ {object : Name} (k : List Op) (o : Op) (w : AreChangesOf object (k ++ o
       r
       ∙ (λ i. filter (is_in_row k (d i) (listed_same i)) (places (length k)))
       ∙ filter_agree
-      (is_in_row k (filter (λ p. direct_conflict (base with_last) o (at k p)) (places (length k))) (base_places k o))
+      (is_in_row k (filter (λ p. direct_conflict o (at k p)) (places (length k))) (base_places k o))
       (λ j. conflict with_last o (at k j)) (places (length k)) (λ j m. in_row j (below (length k) j m))
 
   -- ---- what is stored, with one change more

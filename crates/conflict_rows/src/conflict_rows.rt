@@ -3,8 +3,8 @@
 ghost use Rattle.std.specs.Prelude.{◌≡◌, true, ◌<◌, ◌^◌, [], ◌∷◌, ◌++◌, length, filter, nat_lt, if◌then◌else◌, vec_capacity, vec_len, All, IfOk, OnOk};
 ghost use Rattle.std.specs.List.{list_any};
 ghost use Rattle.places.specs.steps.PlaceSet.{has, places, with_place};
-ghost use Rattle.conflict_rows.specs.steps.Rows.{at_odds_at, conflicts_below, direct_places, earlier_conflicts, is_in_row, places_outside, with_conflicts, with_those};
-ghost use Rattle.places.specs.steps.Changes.{at, base_places, conflicting_places, is_conflict_of, new_conflicts, places_counted, AreChangesOn, IsAddition};
+ghost use Rattle.conflict_rows.specs.steps.Rows.{at_odds_at, conflicts_below, direct_places, earlier_conflicts, is_in_row, places_unknown, with_conflicts, with_those};
+ghost use Rattle.places.specs.steps.Changes.{at, base_places, conflicting_places, is_conflict_of, new_conflicts, AreChangesOn, IsAddition};
 
 use crate::joins::union_of_rows;
 use crate::{Addition, WithAddition};
@@ -91,8 +91,8 @@ impl ConflictRows {
     /// `commit` can't fail. The changes stay as they are.
     ///
     /// The change precedes none of these in causal order, and knows no other changes of the object.
-    /// The caller gives the places of its base and of the changes that it knows. It also gives
-    /// candidates: of the others at least those at odds with it.
+    /// The caller gives the places of its base. It also gives candidates: of the changes that it
+    /// doesn't know at least those at odds with it.
     ///
     /// Looks at each change that conflicts with an earlier one, at all changes from its first
     /// direct conflict on, and at the candidates. Everything else takes 64 places at a time.
@@ -105,17 +105,14 @@ impl ConflictRows {
         alloc: Global,
         op: SharedOp,
         base: PlaceSet,
-        known: &PlaceSet,
         candidates: &PlaceSet,
     ) -> Result<Addition, NoMemory>
         // What is known of the change.
         requires changes { AreChangesOn self.old.object (self.old.ops ++ op ∷ []) }
         requires base { base ≡ base_places self.old.ops op }
-        requires known { known.now ≡ places_counted self.old.ops op.seen }
         requires within { All (λ place. place < length self.old.ops) candidates.now }
-        requires at_odds { let unknown = places_outside known.now (length self.old.ops)
-            in filter (at_odds_at self.old.ops op.body) candidates.now
-            ≡ filter (at_odds_at self.old.ops op.body) unknown }
+        requires at_odds { filter (at_odds_at self.old.ops op.body) candidates.now
+            ≡ filter (at_odds_at self.old.ops op.body) (places_unknown self.old.ops op) }
         // What is planned.
         ensures op { IfOk result (λ addition. addition.op ≡ op) }
         ensures ready { IfOk result (λ addition.
@@ -125,7 +122,7 @@ impl ConflictRows {
         ensures object { self.new.object ≡ self.old.object }
         ensures ops { self.new.ops ≡ self.old.ops }
     {
-        let row = self.row(alloc, &op, &base, known, candidates)?;
+        let row = self.row(alloc, &op, &base, candidates)?;
         let conflicting = self.conflicting_with(alloc, &row)?;
         self.reserve()?;
         Ok(Addition::new(op, base, row, conflicting))
@@ -215,18 +212,13 @@ impl ConflictRows {
         &self.rows[place as usize]
     }
 
-    /// A set of places, and those of the other places whose changes are at odds with a change.
-    fn with_those_at_odds(
-        &self,
-        direct: PlaceSet,
-        op: &Op,
-        places: &[u32],
-    ) -> Result<PlaceSet, NoMemory>
+    /// Those of the places whose changes are at odds with a change.
+    fn those_at_odds(&self, alloc: Global, op: &Op, places: &[u32]) -> Result<PlaceSet, NoMemory>
         requires { All (λ place. place < length self.now.ops) places.now }
         ensures { IfOk result (λ all. all
-            ≡ with_those (at_odds_at self.now.ops op.now.body) direct places.now) }
+            ≡ with_those (at_odds_at self.now.ops op.now.body) [] places.now) }
     {
-        let mut all = direct;
+        let mut all = PlaceSet::empty(alloc);
         for place in places {
             let at_odds = op.body.is_at_odds(&self.change_at(*place).body);
             insert_if(&mut all, *place, at_odds)?;
@@ -235,27 +227,21 @@ impl ConflictRows {
     }
 
     /// The places of the changes that conflict directly with a change to be added: of the changes
-    /// that it knows those outside its base, and of the others those at odds with it.
+    /// that it doesn't know those at odds with it.
     fn direct_conflicts(
         &self,
         alloc: Global,
         op: &Op,
-        based: &PlaceSet,
-        known: &PlaceSet,
         candidates: &PlaceSet,
     ) -> Result<PlaceSet, NoMemory>
         requires changes { AreChangesOn self.now.object (self.now.ops ++ op.now ∷ []) }
-        requires base { based.now ≡ base_places self.now.ops op.now }
-        requires known { known.now ≡ places_counted self.now.ops op.now.seen }
         requires within { All (λ place. place < length self.now.ops) candidates.now }
-        requires at_odds { let unknown = places_outside known.now (length self.now.ops)
-            in filter (at_odds_at self.now.ops op.now.body) candidates.now
-            ≡ filter (at_odds_at self.now.ops op.now.body) unknown }
+        requires at_odds { filter (at_odds_at self.now.ops op.now.body) candidates.now
+            ≡ filter (at_odds_at self.now.ops op.now.body) (places_unknown self.now.ops op.now) }
         ensures { IfOk result (λ direct. direct ≡ direct_places self.now.ops op.now) }
     {
-        let direct = known.without(alloc, based)?;
         let others = candidates.list(alloc)?;
-        self.with_those_at_odds(direct, op, &others)
+        self.those_at_odds(alloc, op, &others)
     }
 
     /// The places of the changes that conflict with a change at one of the given places.
@@ -325,25 +311,22 @@ impl ConflictRows {
     }
 
     /// The places of the changes that conflict with a change to be added, by its base and what it
-    /// knows.
+    /// doesn't know. Those that it knows outside its base conflict with the base.
     fn row(
         &self,
         alloc: Global,
         op: &Op,
         based: &PlaceSet,
-        known: &PlaceSet,
         candidates: &PlaceSet,
     ) -> Result<PlaceSet, NoMemory>
         requires changes { AreChangesOn self.now.object (self.now.ops ++ op.now ∷ []) }
         requires base { based.now ≡ base_places self.now.ops op.now }
-        requires known { known.now ≡ places_counted self.now.ops op.now.seen }
         requires within { All (λ place. place < length self.now.ops) candidates.now }
-        requires at_odds { let unknown = places_outside known.now (length self.now.ops)
-            in filter (at_odds_at self.now.ops op.now.body) candidates.now
-            ≡ filter (at_odds_at self.now.ops op.now.body) unknown }
+        requires at_odds { filter (at_odds_at self.now.ops op.now.body) candidates.now
+            ≡ filter (at_odds_at self.now.ops op.now.body) (places_unknown self.now.ops op.now) }
         ensures { IfOk result (λ row. row ≡ new_conflicts self.now.ops op.now) }
     {
-        let direct = self.direct_conflicts(alloc, op, based, known, candidates)?;
+        let direct = self.direct_conflicts(alloc, op, candidates)?;
         self.row_from(alloc, &direct, based)
     }
 }

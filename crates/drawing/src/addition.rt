@@ -53,10 +53,7 @@ impl Addition {
     pub fn is_join(&self) -> bool
         ensures { result ≡ is_join self.now.entry }
     {
-        match &*self.entry {
-            Entry::Join(_) => true,
-            Entry::Operation(_) => false,
-        }
+        self.entry.is_join()
     }
 
     /// Takes out the identifiers of the object's versions after the change. A creation and a join

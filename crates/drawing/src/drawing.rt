@@ -8,7 +8,7 @@ ghost use Rattle.base_types.specs.Names.{same_name};
 ghost use Rattle.rules.specs.declared.history.Entry.TheVariants.{Join};
 ghost use Rattle.rules.specs.declared.limits.TheConstants.Limits.{MAX_ENTRIES};
 ghost use Rattle.rules.specs.Admission.{causal_refusal};
-ghost use Rattle.rules.specs.Operations.{name_of, object_of};
+ghost use Rattle.rules.specs.Operations.{name_of};
 ghost use Rattle.rules.specs.Records.{objects, operations};
 ghost use Rattle.drawing.specs.steps.Additions.{CanAdd, CanCreate, CanJoin, CanChange, IsReady};
 ghost use Rattle.drawing.specs.Room.{all_objects, empty_room, with_entry};
@@ -21,7 +21,7 @@ use crate::pages::objects_page;
 use base_types::{NoMemory, OpName};
 use causal::Past;
 use indexmap::IndexMap;
-use rules::{Body, Entry, Limits, Op, Refusal, SharedOp};
+use rules::{Entry, Limits, Refusal, SharedOp};
 use shape::{PlannedChange, Shape};
 use std::alloc::Global;
 use std::marker::Model;
@@ -58,16 +58,6 @@ impl Model for Drawing {
 
     ghost invariant = { λ d.
         IsReplay (room_of d.limits d.record.entries) d.objects.entries d.past.history };
-}
-
-/// The object that an operation creates or changes.
-fn object_of(op: &Op) -> OpName
-    ensures { result ≡ object_of op.now }
-{
-    match &op.body {
-        Body::New { .. } => op.name,
-        Body::Put { object, .. } | Body::DropVersion { object, .. } => *object,
-    }
 }
 
 impl Drawing {

@@ -8,7 +8,7 @@ use Rattle.std.proofs.lemmas.List.Elements.{All-take}
 use Rattle.std.proofs.lemmas.Option.{same_Some, slice_get_within, get_or_from_slice_get}
 use Rattle.rules.specs.declared.history.Entry.{Entry}
 use Rattle.transcript.specs.declared.line.TranscriptLine.{TranscriptLine}
-use Rattle.transcript.specs.Lines.{at_of}
+use Rattle.wire.specs.Replies.{at_of}
 use Rattle.transcript.specs.steps.Reads.{line_read}
 use Rattle.transcript.specs.Order.{IsInOrder, IsNext}
 use Rattle.transcript.specs.steps.OrderedParts.{OrderedPartView, EndsBefore, IsOrderedPart}

@@ -11,7 +11,7 @@ use Rattle.rules.specs.Limits.{full_limits}
 use Rattle.room_core.specs.Room.{Room, empty_room, full_room}
 use Rattle.room_core.proofs.Seen.{some_same}
 use Rattle.transcript.specs.declared.line.TranscriptLine.{TranscriptLine}
-use Rattle.transcript.specs.Lines.{at_of}
+use Rattle.wire.specs.Replies.{at_of}
 use Rattle.history_check.specs.declared.findings.Fault.{Fault}
 use Rattle.history_check.specs.steps.Findings.{IsFinding, AreFindings}
 use Rattle.history_check.specs.steps.Replays.{AreByTime, IsRoomOfPrefix, timed_from}

@@ -11,7 +11,7 @@ use Rattle.wire.specs.steps.Equality.{same_reply, same_reply-Decides}
 use Rattle.room_core.specs.Answers.{Outcome}
 use Rattle.room_core.proofs.Seen.{some_same}
 use Rattle.transcript.specs.declared.line.TranscriptLine.{TranscriptLine}
-use Rattle.transcript.specs.Lines.{adds, at_of}
+use Rattle.wire.specs.Replies.{adds, at_of}
 use Rattle.history_check.specs.Transcripts.{IsGiven}
 
 -- the entry at a place, where there is one

@@ -9,7 +9,8 @@ use Rattle.room_core.specs.Answers.{Outcome, answer, back_reply, join_answer, ha
 use Rattle.wire.specs.declared.request.Request.{Request}
 use Rattle.wire.specs.declared.request.Request.TheVariants.{Join, Back}
 use Rattle.transcript.specs.declared.line.TranscriptLine.{TranscriptLine}
-use Rattle.transcript.specs.Lines.{is_join, at_of, adds}
+use Rattle.transcript.specs.Lines.{is_join}
+use Rattle.wire.specs.Replies.{at_of, adds}
 use Rattle.transcript.specs.Order.{IsInOrder, IsNext}
 
 -- the room as it was at a line: the first entries of the record

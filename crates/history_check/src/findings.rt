@@ -4,7 +4,7 @@ ghost use Rattle.std.specs.Prelude.{◌≡◌, ◌≤◌, All, IfOk, length, map
 ghost use Rattle.std.specs.Arc.{arc_value};
 ghost use Rattle.rules.specs.Limits.{full_limits};
 ghost use Rattle.rules.specs.Records.{IsLegal};
-ghost use Rattle.transcript.specs.Lines.{at_of};
+ghost use Rattle.wire.specs.Replies.{at_of};
 ghost use Rattle.history_check.specs.steps.Findings.{AreFindings, IsFirstFault, first_in};
 
 use crate::line_fault::fault_of;

@@ -3,7 +3,7 @@
 ghost use Rattle.std.specs.Prelude.{◌≡◌, ◌↔◌, true, IfOk, IsTrue, map, option_map, slice_get};
 ghost use Rattle.std.specs.Arc.{arc_value};
 ghost use Rattle.room_core.specs.steps.Plans.{Plans, outcome};
-ghost use Rattle.transcript.specs.Lines.{adds, at_of};
+ghost use Rattle.wire.specs.Replies.{adds, at_of};
 ghost use Rattle.history_check.specs.steps.Findings.{IsFinding};
 ghost use Rattle.history_check.specs.Transcripts.{IsGiven, due, has_asker, may_ask, room_at};
 
@@ -13,7 +13,7 @@ use room_core::{Planned, RoomState};
 use rules::Entry;
 use std::alloc::Global;
 use std::sync::Arc;
-use transcript::{TranscriptLine, adds, at_of, is_join};
+use transcript::{TranscriptLine, is_join};
 use wire::Request;
 
 /// Returns whether the line is a join, or its site has joined.
@@ -71,8 +71,8 @@ fn is_given(planned: &Planned, entries: &[Arc<Entry>], line: &TranscriptLine) ->
     if *planned.reply() != line.reply {
         return false;
     }
-    let place = at_of(&line.reply) as usize;
-    !adds(&line.reply) || has_at(entries, place, planned.entry())
+    let place = line.reply.at() as usize;
+    !line.reply.adds() || has_at(entries, place, planned.entry())
 }
 
 /// The fault of a line, if it has one, in the room as it was at that line. The room is unchanged.

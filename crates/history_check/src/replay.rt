@@ -12,7 +12,7 @@ use room_core::RoomState;
 use rules::Entry;
 use std::alloc::Global;
 use std::sync::Arc;
-use transcript::{TranscriptLine, at_of};
+use transcript::TranscriptLine;
 
 /// Adds the entries of a legal record to the room, up to the first `at`. Linear in the entries that
 /// are added.
@@ -43,7 +43,7 @@ pub(crate) fn by_time(
 {
     let mut order = Vec::with_capacity(alloc, lines.len())?;
     for place in 0..lines.len() {
-        order.push((at_of(&lines[place].reply), place))?;
+        order.push((lines[place].reply.at(), place))?;
     }
     order.sort()?;
     Ok(order)

@@ -1,5 +1,5 @@
 -- The operations that could decide a key agree, and a group is shown the same in all histories that have it.
-use Rattle.std.proofs.Common.{◌≡◌, true, false, List, [], ◌∷◌, map, refl, sym, ◌∙◌, inl, inr, ◌&&◌, ◌||◌, not}
+use Rattle.std.proofs.Common.{◌≡◌, true, false, List, [], ◌∷◌, map, refl, sym, ◌∙◌, inl, inr, ◌&&◌, not}
 use Rattle.std.specs.Prelude.{Contains, IsTrue}
 use Rattle.std.specs.List.{list_any}
 use Rattle.std.proofs.lemmas.Bool.{true≢false, and_parts, and_cases, not-true, or_parts, or_left, and_from, not_from_false}
@@ -8,7 +8,7 @@ use Rattle.base_types.specs.Texts.{Bytes}
 use Rattle.rules.specs.declared.history.Op.{Op}
 use Rattle.rules.specs.Bodies.{value_in, differ_on_a_key, is_one_a_drop, are_at_odds}
 use Rattle.rules.specs.Operations.{IsHistory, before, concurrent, creation_of, is_past, name_of, same_op, changes_on}
-use Rattle.rules.specs.Conflicts.{base, conflict, direct_conflict, is_left_out}
+use Rattle.rules.specs.Conflicts.{base, conflict, direct_conflict}
 use Rattle.rules.specs.Versions.{gives, decides, groups, version_of, shown_of, initial_of}
 use Rattle.rules.proofs.Lists.{In, In-from_Contains, Contains-from_In, any_none}
 use Rattle.rules.proofs.Bodies.{one_value}
@@ -38,10 +38,8 @@ one_value_decided h g key a b free ma da mb db =
     let ab : before a b ≡ false = p.none_later b mb q.gives_it in
     let ba : before b a ≡ false = q.none_later a ma p.gives_it in
     let apart : concurrent a b ≡ true = and_from (not (before a b)) (not (before b a)) (not_from_false _ ab) (not_from_false _ ba) in
-    let direct : direct_conflict (base h) a b ≡ false = no_direct_conflict (base h) a b a b free (inl refl) (inl refl) in
-    let part = or_parts ((concurrent a b && are_at_odds a.body b.body) || is_left_out (base h) a b) (is_left_out (base h) b a) direct in
-    let first = or_parts (concurrent a b && are_at_odds a.body b.body) (is_left_out (base h) a b) part.0 in
-    let even : are_at_odds a.body b.body ≡ false = elim (and_cases (concurrent a b) (are_at_odds a.body b.body) first.0) [ inl z ↦ absurd (true≢false (sym apart ∙ z)) | inr z ↦ z ] in
+    let direct : direct_conflict a b ≡ false = no_direct_conflict (base h) a b a b free (inl refl) (inl refl) in
+    let even : are_at_odds a.body b.body ≡ false = elim (and_cases (concurrent a b) (are_at_odds a.body b.body) direct) [ inl z ↦ absurd (true≢false (sym apart ∙ z)) | inr z ↦ z ] in
     one_value key a.body b.body p.gives_it q.gives_it (or_parts (differ_on_a_key a.body b.body) (is_one_a_drop a.body b.body) even).0
 
 -- all operations of a group that could decide a key give it one value

@@ -1,5 +1,5 @@
 -- The changes of an object, and what an operation knows of them: each in one list, in order of name.
-use Rattle.std.proofs.Common.{◌≡◌, Bool, true, List, [], ◌∷◌, refl, sym, subst, inl, inr, ◌↔◌}
+use Rattle.std.proofs.Common.{◌≡◌, Bool, true, List, [], ◌∷◌, inl, inr, ◌↔◌}
 use Rattle.std.specs.Prelude.{IsTrue, Contains, filter}
 use Rattle.std.proofs.lemmas.Bool.{cases_Bool}
 use Rattle.base_types.specs.Names.{Name}

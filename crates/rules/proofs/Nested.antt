@@ -1,5 +1,5 @@
 -- Each group of a causally closed list holds the base of each of its members, and conflicts follow from bases.
-use Rattle.std.proofs.Common.{◌≡◌, ℕ, zero, suc, ◌<◌, true, List, refl, sym, ap, ◌∙◌, subst, arith, inl, inr, ◌||◌}
+use Rattle.std.proofs.Common.{◌≡◌, ℕ, zero, suc, ◌<◌, true, Some, List, refl, sym, ap, ◌∙◌, subst, arith, inl, inr, ◌||◌}
 use Rattle.std.specs.Prelude.{Contains, Bool}
 use Rattle.std.specs.List.{list_any}
 use Rattle.std.proofs.lemmas.Bool.{true≢false, and_parts}
@@ -14,15 +14,15 @@ use Rattle.rules.proofs.Groups.{sublist_in}
 use Rattle.rules.proofs.Counted.{same_name-true}
 use Rattle.rules.proofs.Changes.{in_known, in_known_back}
 use Rattle.rules.proofs.Bases.{base_is_group, has_base, base_within_known}
-use Rattle.rules.proofs.Relation.{same_answer}
+use Rattle.rules.proofs.Relation.{same_answer, conflict_symmetric}
 use Rattle.rules.proofs.Vectors.{total-before}
 
 -- what conflicts with an operation of a base conflicts with what is based on it, where the base has that one's base
 widened : (h : List Op) (u z a : Op) → ((p : Op) → In p (with_base (base h) u) → In p (with_base (base h) a)) → conflict h u z ≡ true → conflict h a z ≡ true
 unfolding conflict
 widened h u z a f e =
-    let c = any_back (λ x. list_any (direct_conflict (base h) x) (with_base (base h) z)) (with_base (base h) u) e in
-    any_from (λ x. list_any (direct_conflict (base h) x) (with_base (base h) z)) c.0 (with_base (base h) a) (f c.0 c.1) c.2
+    let c = any_back (λ x. list_any (direct_conflict x) (with_base (base h) z)) (with_base (base h) u) e in
+    any_from (λ x. list_any (direct_conflict x) (with_base (base h) z)) c.0 (with_base (base h) a) (f c.0 c.1) c.2
 
 pub object_if : (x : Op) (object : Name) → is_change_on object x ≡ true → object_of x ≡ object
 object_if x object e = same_name-true (object_of x) object (and_parts (is_change_body x.body) (same_name (object_of x) object) e).1
@@ -68,11 +68,24 @@ module _ {h : List Op} (i : IsHistory h) where
       Contains-from_In u g (group_holds s g a u k (λ x y p q. In-from_Contains y s (closed x y (Contains-from_In x s p) (Contains-from_In y (known h x) q))) m in_g based
       (λ v q. base_nested (suc (total a.seen)) a u v m (omega arith) based q))
 
+  -- an operation with a base conflicts with what it knows outside the base
+  pub left_out_conflicts : (a b : Op) (g : List Op) → Contains h b → base h b ≡ Some g → Contains (known h b) a → (Contains g a → ⊥) → conflict h a b ≡ true
+  left_out_conflicts a b g m e k out =
+      let group = ((base_is_group i b m g).0 e).0 in
+      elim (group.maximal a k) [
+        | inl p ↦ absurd (out p)
+        | inr p ↦
+            (let y = p.0 in
+            let in_base : In y (members (base h b)) = subst (λ o. In y (members o)) (sym e) (In-from_Contains y g p.1) in
+            conflict_symmetric h a b
+            ∙ widened h y a b (λ u r. elim r [ inl q ↦ inr (subst (λ z. In z (members (base h b))) (sym q) in_base) | inr q ↦ inr (base_nested (suc (total b.seen)) b y u m (omega arith) in_base q) ]) (conflict_symmetric h y a ∙ p.2))
+      ]
+
   -- an operation's conflicts follow from its direct ones and those of its base's members
-  pub conflict_from_base : (a b : Op) → Contains h a → conflict h a b ≡ (list_any (direct_conflict (base h) a) (with_base (base h) b) || list_any (λ x. conflict h x b) (members (base h a)))
+  pub conflict_from_base : (a b : Op) → Contains h a → conflict h a b ≡ (list_any (direct_conflict a) (with_base (base h) b) || list_any (λ x. conflict h x b) (members (base h a)))
   unfolding conflict
   conflict_from_base a b m =
-      let in_conflict_with : Op → Bool = λ x. list_any (direct_conflict (base h) x) (with_base (base h) b) in
+      let in_conflict_with : Op → Bool = λ x. list_any (direct_conflict x) (with_base (base h) b) in
       ap (λ t. in_conflict_with a || t) (same_answer (list_any in_conflict_with (members (base h a))) (list_any (λ x. conflict h x b) (members (base h a)))
       (λ e. let c = any_back in_conflict_with (members (base h a)) e in any_from (λ x. conflict h x b) c.0 (members (base h a)) c.1 (any_from in_conflict_with c.0 (with_base (base h) c.0) (inl refl) c.2))
       (λ e.

@@ -1,14 +1,14 @@
 -- The base of a change, and when two changes conflict. The basic conflict is that of Sun and Chen
 -- (ACM TOCHI 9(1), 2002): concurrent, on one object and one attribute, with different values.
 -- Bases, drops and inherited conflict are our own.
-use Rattle.std.specs.Prelude.{◌≡◌, ℕ, zero, suc, ◌+◌, Bool, true, false, not, ◌&&◌, ◌||◌, List, []}
+use Rattle.std.specs.Prelude.{◌≡◌, ℕ, zero, suc, ◌+◌, Bool, true, false, ◌&&◌, List, []}
 use Rattle.std.specs.Prelude.{◌∷◌, Option, Some, None, Contains, is_some}
 use Rattle.std.specs.List.{list_any}
 use Rattle.base_types.specs.Vectors.{Vector}
 use Rattle.rules.specs.declared.history.Op.{Op}
 use Rattle.rules.specs.Bodies.{is_change_body, version_in, are_at_odds}
 use Rattle.rules.specs.Operations.{before, concurrent, holds_drop, known, name_of, object_of}
-use Rattle.rules.specs.Operations.{same_op, is_creation_of}
+use Rattle.rules.specs.Operations.{is_creation_of}
 use Rattle.rules.specs.Groups.{group_named}
 
 -- the members of a base; a change without a base is never admitted, and counts as based on nothing
@@ -20,20 +20,14 @@ members (Some g) = g
 abbrev pub with_base : (Op → Option (List Op)) → Op → List Op
 with_base base b = b ∷ members (base b)
 
--- a is before b and not in b's base
-abbrev pub is_left_out : (Op → Option (List Op)) → Op → Op → Bool
-is_left_out base a b = before a b && not (list_any (same_op a) (members (base b)))
-
--- Two changes of one object conflict directly: they are concurrent and at odds, or one is before
--- the other and isn't in the other's base.
-abbrev pub direct_conflict : (Op → Option (List Op)) → Op → Op → Bool
-direct_conflict base a b = (concurrent a b && are_at_odds a.body b.body) || is_left_out base a b
-    || is_left_out base b a
+-- two changes of one object conflict directly: they are concurrent and at odds
+abbrev pub direct_conflict : Op → Op → Bool
+direct_conflict a b = concurrent a b && are_at_odds a.body b.body
 
 -- some member of a's base, or a, conflicts directly with some member of b's base, or b
 abbrev pub conflict_by : (Op → Option (List Op)) → Op → Op → Bool
 conflict_by base a b =
-    list_any (λ x. list_any (direct_conflict base x) (with_base base b)) (with_base base a)
+    list_any (λ x. list_any (direct_conflict x) (with_base base b)) (with_base base a)
 
 -- how many operations a vector counts
 abbrev pub total : Vector → ℕ

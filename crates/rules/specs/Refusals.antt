@@ -1,5 +1,5 @@
--- The numbers and words of refusals.
-use Rattle.std.specs.Prelude.{ℕ, List, [], ◌∷◌, codes, Option, ◌==◌}
+-- The numbers and words of refusals, and who refuses what.
+use Rattle.std.specs.Prelude.{ℕ, Bool, true, false, List, [], ◌∷◌, codes, Option, ◌==◌}
 use Rattle.std.specs.List.{find}
 use Rattle.rules.specs.declared.refusal.Refusal.{Refusal}
 use Rattle.rules.specs.declared.refusal.Refusal.TheVariants.{BadMessage, NotJoined, AlreadyJoined}
@@ -63,3 +63,17 @@ all_refusals =
 -- the refusal with this number
 abbrev pub refusal_at : ℕ → Option Refusal
 refusal_at code = find (λ r. code_of r == code) all_refusals
+
+-- does a session refuse so by itself, without asking a room
+abbrev pub is_by_session : Refusal → Bool
+is_by_session BadMessage = true
+is_by_session NotJoined = true
+is_by_session AlreadyJoined = true
+is_by_session NoSuchRoom = true
+is_by_session _ = false
+
+-- is only a back refused so
+abbrev pub is_of_back : Refusal → Bool
+is_of_back NoSuchSite = true
+is_of_back SiteInUse = true
+is_of_back _ = false

@@ -1,11 +1,13 @@
 //! Operations, and the entries of a room's record.
 
-ghost use Rattle.std.specs.Prelude.{◌≡◌, IfOk};
-ghost use Rattle.rules.specs.Bodies.{are_at_odds};
+ghost use Rattle.std.specs.Prelude.{◌≡◌, true, IfOk};
+ghost use Rattle.rules.specs.Bodies.{are_at_odds, is_change_body, is_drop_body, pairs_in, version_in};
+ghost use Rattle.rules.specs.Operations.{object_of};
+ghost use Rattle.rules.specs.Records.{is_join};
 
 use crate::attrs::Attrs;
 use crate::pairs::Pairs;
-use base_types::{Kind, NoMemory, OpName, StateVector, VersionId};
+use base_types::{Key, Kind, NoMemory, OpName, StateVector, Value, VersionId};
 use std::alloc::Global;
 
 /// What an operation does.
@@ -56,6 +58,41 @@ impl Body {
                 object: *object,
                 version: version.copy(alloc)?,
             }),
+        }
+    }
+
+    /// Does it change an object, and not create one?
+    pub fn is_change(&self) -> bool
+        ensures { result ≡ is_change_body self.now }
+    {
+        !matches!(self, Body::New { .. })
+    }
+
+    /// Is it a drop?
+    pub fn is_drop(&self) -> bool
+        ensures { result ≡ is_drop_body self.now }
+    {
+        matches!(self, Body::DropVersion { .. })
+    }
+
+    /// The attributes that a put gives. A creation and a drop give none.
+    pub fn pairs(&self) -> &[(Key, Value)]
+        ensures { result.now ≡ pairs_in self.now }
+    {
+        match self {
+            Body::Put { pairs, .. } => pairs.pairs(),
+            Body::New { .. } | Body::DropVersion { .. } => &[],
+        }
+    }
+
+    /// The identifier of the version that a change starts from. The body must not be a creation.
+    pub fn version(&self) -> &VersionId
+        requires { is_change_body self.now ≡ true }
+        ensures { result.now ≡ version_in self.now }
+    {
+        match self {
+            Body::Put { version, .. } | Body::DropVersion { version, .. } => version,
+            Body::New { .. } => unreachable!(),
         }
     }
 
@@ -137,6 +174,16 @@ pub struct Op {
 }
 
 impl Op {
+    /// The object that the operation creates or changes.
+    pub fn object(&self) -> OpName
+        ensures { result ≡ object_of self.now }
+    {
+        match &self.body {
+            Body::New { .. } => self.name,
+            Body::Put { object, .. } | Body::DropVersion { object, .. } => *object,
+        }
+    }
+
     /// Returns an equal copy.
     ///
     /// # Errors
@@ -182,6 +229,13 @@ pub enum Entry {
 }
 
 impl Entry {
+    /// Is it a join?
+    pub fn is_join(&self) -> bool
+        ensures { result ≡ is_join self.now }
+    {
+        matches!(self, Entry::Join(_))
+    }
+
     /// Returns an equal copy.
     ///
     /// # Errors

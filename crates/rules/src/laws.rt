@@ -157,13 +157,20 @@ pub fn groups_hold_their_bases()
         → (a u : Op) → Contains g a → Contains (members (base h a)) u → Contains g u }
 {}
 
+/// A change that has a base conflicts with each change that it knows and that isn't in the base:
+/// its author saw that one, and did not build on it.
+pub fn what_is_not_built_on_is_in_conflict()
+    ensures { (h : List Op) (a b : Op) (g : List Op) → IsHistory h → Contains h b
+        → base h b ≡ Some g → Contains (known h b) a → (Contains g a → ⊥) → conflict h a b ≡ true }
+{}
+
 /// An operation conflicts with another exactly where it conflicts directly with that one or its
 /// base, or a member of its own base conflicts with it.
 #[tactic(auto, using(crate::proofs::Nested::conflict_from_base))]
 pub fn conflicts_follow_from_the_base()
     ensures { (h : List Op) (a b : Op) → IsHistory h → Contains h a
         → conflict h a b
-        ≡ (list_any (direct_conflict (base h) a) (with_base (base h) b)
+        ≡ (list_any (direct_conflict a) (with_base (base h) b)
         || list_any (λ x. conflict h x b) (members (base h a))) }
 {}
 
@@ -256,13 +263,12 @@ pub fn a_group_with_a_drop_is_gone()
         ≡ Attrs (attributes (initial_of (creation_of h object)) g) }
 {}
 
-/// A put conflicts with each concurrent drop. Two concurrent drops don't conflict directly.
+/// A put conflicts with each concurrent drop. Two drops don't conflict directly.
 pub fn a_put_conflicts_with_a_concurrent_drop()
     ensures put_and_drop { (h : List Op) (a b : Op) → IsTrue (is_put_body a.body)
         → IsTrue (is_drop_body b.body) → IsTrue (concurrent a b) → conflict h a b ≡ true }
-    ensures two_drops { (h : List Op) (a b : Op) → IsTrue (is_drop_body a.body)
-        → IsTrue (is_drop_body b.body) → IsTrue (concurrent a b)
-        → direct_conflict (base h) a b ≡ false }
+    ensures two_drops { (a b : Op) → IsTrue (is_drop_body a.body) → IsTrue (is_drop_body b.body)
+        → direct_conflict a b ≡ false }
 {}
 
 /// A drop is the end of its version: each put of a group with a drop is in the drop's base.

@@ -56,7 +56,7 @@ pub enum Refusal {
 }
 
 impl Refusal {
-    ghost use Rattle.rules.specs.Refusals.{code_of, word_of, refusal_at};
+    ghost use Rattle.rules.specs.Refusals.{code_of, word_of, refusal_at, is_by_session, is_of_back};
 
     /// The refusal's number, from 1 to `MAX_REFUSAL_CODE`.
     pub fn code(self) -> u32
@@ -112,6 +112,23 @@ impl Refusal {
             Refusal::NoSuchSite => "no-such-site",
             Refusal::SiteInUse => "site-in-use",
         }
+    }
+
+    /// Does a session refuse so by itself, without asking a room?
+    pub fn is_by_session(self) -> bool
+        ensures { result ≡ is_by_session self }
+    {
+        matches!(
+            self,
+            Refusal::BadMessage | Refusal::NotJoined | Refusal::AlreadyJoined | Refusal::NoSuchRoom
+        )
+    }
+
+    /// Is only a back refused so?
+    pub fn is_of_back(self) -> bool
+        ensures { result ≡ is_of_back self }
+    {
+        matches!(self, Refusal::NoSuchSite | Refusal::SiteInUse)
     }
 
     /// The refusal with this number, or `None` if there is none.

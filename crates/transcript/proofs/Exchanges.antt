@@ -1,5 +1,5 @@
 -- A line is read as a site, a request and a reply, which may then stand together.
-use Rattle.std.proofs.Common.{◌≡◌, List, ℕ, Option, Some, None, refl, ap, ◌∙◌}
+use Rattle.std.proofs.Common.{◌≡◌, List, ℕ, Option, Some, None, refl}
 use Rattle.std.specs.Prelude.{⊤}
 use Rattle.serde_json.specs.Data.{Data}
 use Rattle.base_types.specs.declared.op_name.TheConstants.{MAX_SITE}
@@ -10,7 +10,6 @@ use Rattle.wire_reader.specs.steps.Reading.{◌>>=◌, items_in, whole_in, field
 use Rattle.wire_reader.specs.steps.Requests.{request_of}
 use Rattle.wire_reader.specs.steps.Replies.{reply_of}
 use Rattle.wire_reader.specs.steps.Reads.{json_of, text_in}
-use Rattle.transcript.specs.declared.line.TranscriptLine.{TranscriptLine}
 use Rattle.transcript.specs.steps.Reads.{line_with, line_at, line_of, line_read}
 
 -- the three without the end of their list

@@ -10,7 +10,8 @@ use Rattle.std.proofs.Math.Seq.{get_or-append_seam}
 use Rattle.base_types.specs.Names.{is_site}
 use Rattle.base_types.specs.declared.op_name.TheConstants.{MAX_SITE}
 use Rattle.transcript.specs.declared.line.TranscriptLine.{TranscriptLine}
-use Rattle.transcript.specs.Lines.{IsLine, adds, at_of, entries_after}
+use Rattle.transcript.specs.Lines.{IsLine, entries_after}
+use Rattle.wire.specs.Replies.{adds, at_of}
 use Rattle.transcript.specs.Order.{IsInOrder, IsNext, AreInOrder}
 use Rattle.transcript.specs.steps.Tables.{OrderedLines, IsReached, IsFree, AreTables}
 

@@ -1,17 +1,16 @@
 -- A line of a transcript, and its JSON form.
-use Rattle.std.specs.Prelude.{◌≡◌, ℕ, ◌+◌, Bool, true, false, ◌&&◌, ◌==◌, List, [], ◌∷◌, Option}
-use Rattle.std.specs.Prelude.{Some, None, nat_lt, if◌then◌else◌}
+use Rattle.std.specs.Prelude.{◌≡◌, ℕ, ◌+◌, Bool, true, false, not, ◌&&◌, ◌==◌, List, [], ◌∷◌}
+use Rattle.std.specs.Prelude.{if◌then◌else◌}
 use Rattle.serde_json.specs.Data.{Data}
 use Rattle.base_types.specs.Names.{is_site}
-use Rattle.base_types.specs.declared.op_name.TheConstants.{MAX_SITE}
-use Rattle.rules.specs.Refusals.{code_of}
+use Rattle.rules.specs.Refusals.{is_by_session, is_of_back}
 use Rattle.wire.specs.declared.request.Request.{Request}
 use Rattle.wire.specs.declared.request.Request.TheVariants.{Join, Back}
 use Rattle.wire.specs.declared.reply.Reply.{Reply}
-use Rattle.wire.specs.declared.reply.Reply.TheVariants.{Joined, Returned, Made, Taken, Versions}
-use Rattle.wire.specs.declared.reply.Reply.TheVariants.{Objects, Entries, Left, No}
+use Rattle.wire.specs.declared.reply.Reply.TheVariants.{Joined, Returned, No}
 use Rattle.wire.specs.Form.{list_form, whole_form, IsRequest, IsRequestForm, IsReply, IsReplyForm}
 use Rattle.wire.specs.Form.{IsTextOf}
+use Rattle.wire.specs.Replies.{adds, at_of}
 use Rattle.transcript.specs.declared.line.TranscriptLine.{TranscriptLine}
 
 -- is the request a join
@@ -30,10 +29,10 @@ is_returned (Returned at site seq) = true
 is_returned _ = false
 
 -- May a room give this reply to a site that is in it? It lets no site in again, and is no refusal
--- with code 1 to 4, 19 or 20.
+-- by a session or of a back.
 abbrev pub is_answer : Reply → Bool
 is_answer (Returned at site seq) = false
-is_answer (No at refusal) = nat_lt 4 (code_of refusal) && nat_lt (code_of refusal) 19
+is_answer (No at refusal) = not (is_by_session refusal) && not (is_of_back refusal)
 is_answer _ = true
 
 -- may this site's request and this reply stand in one line
@@ -41,25 +40,6 @@ abbrev pub go_together : ℕ → Request → Reply → Bool
 go_together site (Join room) reply = is_joined reply
 go_together site (Back room asked) reply = asked == site && is_returned reply
 go_together site _ reply = is_answer reply
-
--- the number of entries before the call
-abbrev pub at_of : Reply → ℕ
-at_of (Joined at site) = at
-at_of (Returned at site seq) = at
-at_of (Made at name) = at
-at_of (Taken at ids) = at
-at_of (Versions at name kind versions) = at
-at_of (Objects at from total objects) = at
-at_of (Entries at from entries) = at
-at_of (Left at) = at
-at_of (No at refusal) = at
-
--- does the reply report a new entry
-abbrev pub adds : Reply → Bool
-adds (Joined at site) = true
-adds (Made at name) = true
-adds (Taken at ids) = true
-adds _ = false
 
 -- the number of entries after the call
 abbrev pub entries_after : Reply → ℕ

@@ -2,7 +2,8 @@
 use Rattle.std.specs.Prelude.{◌≡◌, ◌≢◌, ◌≤◌, ℕ, true, List, All}
 use Rattle.std.specs.List.{AllPairs}
 use Rattle.transcript.specs.declared.line.TranscriptLine.{TranscriptLine}
-use Rattle.transcript.specs.Lines.{at_of, adds, entries_after}
+use Rattle.transcript.specs.Lines.{entries_after}
+use Rattle.wire.specs.Replies.{at_of, adds}
 
 -- The two lines may stand in this order. They do not report the same entry of the record, and a
 -- site continues from where its earlier line ended.

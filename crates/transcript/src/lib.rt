@@ -8,6 +8,6 @@ mod lines;
 mod order;
 mod ordered_part;
 
-pub use line::{TranscriptLine, adds, at_of, is_join};
+pub use line::{TranscriptLine, is_join};
 pub use lines::first_line;
 pub use ordered_part::OrderedPart;

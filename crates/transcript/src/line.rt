@@ -3,7 +3,8 @@
 ghost use Rattle.std.specs.Prelude.{◌≡◌, ◌≤◌};
 ghost use Rattle.wire_reader.specs.steps.Reading.{Gives};
 ghost use Rattle.rules.specs.declared.limits.TheConstants.Limits.{MAX_ENTRIES};
-ghost use Rattle.transcript.specs.Lines.{adds, at_of, entries_after, is_join, is_joined};
+ghost use Rattle.wire.specs.Replies.{at_of};
+ghost use Rattle.transcript.specs.Lines.{entries_after, is_join, is_joined};
 ghost use Rattle.transcript.specs.Lines.{is_returned, is_answer, go_together};
 ghost use Rattle.transcript.specs.steps.Reads.{line_with};
 ghost use Rattle.transcript.specs.steps.Reads.{line_read};
@@ -46,13 +47,13 @@ fn is_returned(reply: &Reply) -> bool
 }
 
 /// Returns whether a room may give this reply to a site that is in it. It is not `back`, and no
-/// refusal with code 1 to 4, 19 or 20.
+/// refusal by a session or of a back.
 fn is_answer(reply: &Reply) -> bool
     ensures { result ≡ is_answer reply.now }
 {
     match reply {
         Reply::Returned { .. } => false,
-        Reply::No { refusal, .. } => refusal.code() > 4 && refusal.code() < 19,
+        Reply::No { refusal, .. } => !refusal.is_by_session() && !refusal.is_of_back(),
         _ => true,
     }
 }
@@ -68,42 +69,15 @@ fn go_together(site: u32, request: &Request, reply: &Reply) -> bool
     }
 }
 
-/// Returns whether the reply reports a new entry.
-pub fn adds(reply: &Reply) -> bool
-    ensures { result ≡ adds reply.now }
-{
-    matches!(
-        reply,
-        Reply::Joined { .. } | Reply::Made { .. } | Reply::Taken { .. }
-    )
-}
-
-/// The number of entries before the call, as the reply reports it.
-pub fn at_of(reply: &Reply) -> u32
-    ensures { result ≡ at_of reply.now }
-{
-    match reply {
-        Reply::Joined { at, .. }
-        | Reply::Returned { at, .. }
-        | Reply::Made { at, .. }
-        | Reply::Taken { at, .. }
-        | Reply::Versions { at, .. }
-        | Reply::Objects { at, .. }
-        | Reply::Entries { at, .. }
-        | Reply::Left { at }
-        | Reply::No { at, .. } => *at,
-    }
-}
-
 /// The number of entries after the call, as the reply reports it.
 pub(crate) fn entries_after(reply: &Reply) -> u32
     requires { at_of reply.now ≤ MAX_ENTRIES }
     ensures { result ≡ entries_after reply.now }
 {
-    if adds(reply) {
-        at_of(reply) + 1
+    if reply.adds() {
+        reply.at() + 1
     } else {
-        at_of(reply)
+        reply.at()
     }
 }
 

@@ -4,7 +4,7 @@ ghost use Rattle.std.specs.Prelude.{◌≡◌, ◌↔◌, ◌++◌, ◌∷◌, [
 ghost use Rattle.transcript.specs.Lines.{IsLine};
 ghost use Rattle.transcript.specs.Order.{IsNext, AreInOrder};
 
-use crate::line::{TranscriptLine, adds, at_of, entries_after};
+use crate::line::{TranscriptLine, entries_after};
 use base_types::{MAX_SITE, NoMemory};
 use std::alloc::Global;
 use std::marker::Model;
@@ -55,10 +55,10 @@ impl Order {
         requires { IsLine line.now }
         ensures { IsTrue result ↔ IsNext self.now.count self.now.lines line.now }
     {
-        let at = at_of(&line.reply);
+        let at = line.reply.at();
         at as usize <= self.count
             && self.reached[line.site as usize] <= at
-            && !(adds(&line.reply) && self.claimed[at as usize])
+            && !(line.reply.adds() && self.claimed[at as usize])
     }
 
     /// Adds the next line. `NoMemory` if an allocation failed; then nothing has changed. Amortized
@@ -71,8 +71,8 @@ impl Order {
         ensures same { OnErr result (self.new ≡ self.old) }
     {
         let site = line.site as usize;
-        let at = at_of(&line.reply) as usize;
-        let adds = adds(&line.reply);
+        let at = line.reply.at() as usize;
+        let adds = line.reply.adds();
         let after = entries_after(&line.reply);
         self.lines.push(line)?;
         self.reached[site] = after;

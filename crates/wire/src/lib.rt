@@ -11,7 +11,7 @@ mod write;
 
 pub use lists::{EntryList, IdList, ObjectList, VersionList};
 pub use record::Record;
-pub use reply::Reply;
+pub use reply::{EntryKind, Reply};
 pub use request::{MAX_FROM, MAX_REQUEST_LEN, Request};
 pub use rules::Refusal;
 pub use write::{write_entry, write_reply, write_request};

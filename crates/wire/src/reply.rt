@@ -63,6 +63,57 @@ pub enum Reply {
     },
 }
 
+/// What the new entry is that a reply reports.
+#[derive(Clone, Copy, Debug, PartialEq, Eq)]
+pub enum EntryKind {
+    /// A site joined.
+    Join,
+    /// An object was created.
+    Creation,
+    /// An object was changed, by a put or a drop.
+    Change,
+}
+
+impl Reply {
+    ghost use Rattle.wire.specs.Replies.{adds, at_of, entry_kind};
+
+    /// The number of entries before the call, as the reply reports it.
+    pub fn at(&self) -> u32
+        ensures { result ≡ at_of self.now }
+    {
+        match self {
+            Reply::Joined { at, .. }
+            | Reply::Returned { at, .. }
+            | Reply::Made { at, .. }
+            | Reply::Taken { at, .. }
+            | Reply::Versions { at, .. }
+            | Reply::Objects { at, .. }
+            | Reply::Entries { at, .. }
+            | Reply::Left { at }
+            | Reply::No { at, .. } => *at,
+        }
+    }
+
+    /// The kind of the new entry that the reply reports, or `None` if it reports none.
+    pub fn entry_kind(&self) -> Option<EntryKind>
+        ensures { result ≡ entry_kind self.now }
+    {
+        match self {
+            Reply::Joined { .. } => Some(EntryKind::Join),
+            Reply::Made { .. } => Some(EntryKind::Creation),
+            Reply::Taken { .. } => Some(EntryKind::Change),
+            _ => None,
+        }
+    }
+
+    /// Does the reply report a new entry?
+    pub fn adds(&self) -> bool
+        ensures { result ≡ adds self.now }
+    {
+        self.entry_kind().is_some()
+    }
+}
+
 impl PartialEq for Reply {
     ghost use Rattle.std.specs.Cmp.{partial_equiv_from_equiv};
     ghost use Rattle.wire.specs.steps.Equality.{same_reply, same_reply-equivalence};

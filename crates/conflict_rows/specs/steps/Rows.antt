@@ -1,14 +1,14 @@
 -- The steps by which the conflicts of a change are found: cited by functions that are not public,
 -- and by what is stored.
-use Rattle.std.specs.Prelude.{ℕ, Bool, not, ◌&&◌, ◌||◌, List, [], ◌∷◌, ◌++◌, filter, length, nat_lt}
+use Rattle.std.specs.Prelude.{ℕ, Bool, not, ◌&&◌, ◌||◌, List, [], ◌∷◌, filter, length, nat_lt}
 use Rattle.std.specs.Prelude.{if◌then◌else◌, slice_index_or}
 use Rattle.std.specs.List.{list_any}
 use Rattle.rules.specs.declared.history.Op.{Op}
 use Rattle.rules.specs.declared.history.Body.{Body}
 use Rattle.rules.specs.Bodies.{are_at_odds}
-use Rattle.rules.specs.Conflicts.{base, conflict, direct_conflict}
+use Rattle.rules.specs.Conflicts.{conflict, direct_conflict}
 use Rattle.places.specs.steps.PlaceSet.{has, places, with_place, with_places}
-use Rattle.places.specs.steps.Changes.{at, base_places}
+use Rattle.places.specs.steps.Changes.{at, base_places, places_counted}
 
 -- ---- the changes of an object
 
@@ -33,10 +33,13 @@ at_odds_at k body place = are_at_odds body (at k place).body
 abbrev pub places_outside : List ℕ → ℕ → List ℕ
 places_outside xs n = filter (λ x. not (has xs x)) (places n)
 
+-- the places of the changes that an operation doesn't know
+abbrev pub places_unknown : List Op → Op → List ℕ
+places_unknown k op = places_outside (places_counted k op.seen) (length k)
+
 -- the places of the changes that are in direct conflict with one that is to be added
 abbrev pub direct_places : List Op → Op → List ℕ
-direct_places k op =
-    filter (λ place. direct_conflict (base (k ++ op ∷ [])) op (at k place)) (places (length k))
+direct_places k op = filter (λ place. direct_conflict op (at k place)) (places (length k))
 
 -- is a change that is to be added in conflict with the one at a place? It is in direct conflict
 -- with those at some places, and is based on those at the places of a base.

@@ -12,11 +12,11 @@ ghost use Rattle.drawing.specs.Shown.{ids_with};
 ghost use Rattle.drawing.specs.steps.Faults.{IsRefusal};
 ghost use Rattle.drawing.specs.steps.State.{spare_of};
 
-use super::{Drawing, object_of};
+use super::Drawing;
 use crate::addition::{Addition, Part};
 use crate::fault::AddFault;
 use base_types::{NoMemory, OpName};
-use rules::{Body, Entry, Op, Refusal, SharedOp};
+use rules::{Entry, Op, Refusal, SharedOp};
 use shape::{PlannedChange, Shape};
 use std::alloc::Global;
 use std::sync::Arc;
@@ -56,9 +56,10 @@ impl Drawing {
         ensures refusal { IfErr result (IsRefusal (body_refusal self.old.room op)) }
         ensures room { self.new.room ≡ self.old.room }
     {
-        match &op.body {
-            Body::New { .. } => self.plan_creation(alloc, op),
-            Body::Put { .. } | Body::DropVersion { .. } => self.plan_change(alloc, op),
+        if op.body.is_change() {
+            self.plan_change(alloc, op)
+        } else {
+            self.plan_creation(alloc, op)
         }
     }
 
@@ -105,7 +106,7 @@ impl Drawing {
         ensures refusal { IfErr result (IsRefusal (body_refusal self.old.room op)) }
         ensures room { self.new.room ≡ self.old.room }
     {
-        if !op.seen.has(object_of(&op)) {
+        if !op.seen.has(op.object()) {
             return Err(AddFault::Refused(Refusal::NoSuchObject));
         }
         let op = SharedOp::new(alloc, op)?;
@@ -153,7 +154,7 @@ impl Drawing {
         ensures operations { self.new.reserve.operations ≡ self.old.reserve.operations }
         ensures room { self.new.room ≡ self.old.room }
     {
-        let Some(place) = self.objects.get_index_of(&object_of(&op)) else {
+        let Some(place) = self.objects.get_index_of(&op.object()) else {
             return Err(AddFault::Refused(Refusal::NoSuchObject));
         };
         let Some(shape) = self.objects.get_index_mut(place) else {

@@ -4,7 +4,7 @@ use Rattle.std.specs.List.Sorted.{IsPermutation, IsNonDecreasingBy}
 use Rattle.rules.specs.declared.history.Entry.{Entry}
 use Rattle.room_core.specs.Room.{Room, full_room}
 use Rattle.transcript.specs.declared.line.TranscriptLine.{TranscriptLine}
-use Rattle.transcript.specs.Lines.{at_of}
+use Rattle.wire.specs.Replies.{at_of}
 
 -- a line's AT and its place, for each line from this place on
 abbrev pub timed_from : ℕ → List TranscriptLine → List (ℕ × ℕ)

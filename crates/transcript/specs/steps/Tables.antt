@@ -3,7 +3,8 @@ use Rattle.std.specs.Prelude.{◌≡◌, ◌≢◌, ◌↔◌, ◌≤◌, ◌+�
 use Rattle.std.specs.Prelude.{slice_index_or, Option, Some, None}
 use Rattle.base_types.specs.declared.op_name.TheConstants.{MAX_SITE}
 use Rattle.transcript.specs.declared.line.TranscriptLine.{TranscriptLine}
-use Rattle.transcript.specs.Lines.{at_of, adds, entries_after}
+use Rattle.transcript.specs.Lines.{entries_after}
+use Rattle.wire.specs.Replies.{at_of, adds}
 use Rattle.transcript.specs.steps.Reads.{line_read}
 use Rattle.transcript.specs.Order.{IsNext, AreInOrder}
 use Rattle.transcript.specs.steps.OrderedParts.{IsNoNext}

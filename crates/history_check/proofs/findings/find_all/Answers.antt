@@ -5,7 +5,7 @@ use Rattle.room_core.specs.Room.{full_room}
 use Rattle.history_check.proofs.Judged.{judged_more, judged_all}
 use Rattle.history_check.proofs.Timed.{at_place, in_time, line_within, place_within, time_within}
 use Rattle.history_check.proofs.findings.find_all.Goals as goal
-use Rattle.transcript.specs.Lines.{at_of}
+use Rattle.wire.specs.Replies.{at_of}
 
 pub advance-requires-clause-within : goal.advance-requires-clause-within
 advance-requires-clause-within c =

@@ -3,7 +3,7 @@ use Rattle.std.specs.Arc.{arc_value}
 use Rattle.wire.specs.steps.Equality.{same_reply}
 use Rattle.std.specs.Prelude.{IsTrue, slice_get, ◌↔◌}
 use Rattle.room_core.specs.steps.Plans.{outcome, entry_added}
-use Rattle.transcript.specs.Lines.{at_of}
+use Rattle.wire.specs.Replies.{at_of}
 use Rattle.history_check.proofs.Told.{compared, not_given, given_alone, given_with}
 use Rattle.history_check.proofs.line_fault.is_given.Goals as goal
 
@@ -22,6 +22,6 @@ returns-else-not-adds c =
     let r = map arc_value c.args.entries.now in
     let same : same_reply c.args.planned.now.reply c.args.line.now.reply ≡ true = compared _ _ _ c.ne.result c.reply.ensures c.ne.ensures ∙ ap not c.if-ne.false in
     let stands : IsTrue c.has_at.result ↔ (slice_get r (at_of c.args.line.now.reply) ≡ entry_added c.args.planned.now.addition) =
-    subst (λ place. IsTrue c.has_at.result ↔ (slice_get r place ≡ entry_added c.args.planned.now.addition)) c.at_of-place.ensures
-    (subst (λ entry. IsTrue c.has_at.result ↔ (slice_get r c.at_of-place.result ≡ entry)) c.entry.ensures c.has_at.ensures) in
+    subst (λ place. IsTrue c.has_at.result ↔ (slice_get r place ≡ entry_added c.args.planned.now.addition)) c.at-place.ensures
+    (subst (λ entry. IsTrue c.has_at.result ↔ (slice_get r c.at-place.result ≡ entry)) c.entry.ensures c.has_at.ensures) in
     given_with r (outcome c.args.planned.now) c.args.line.now c.has_at.result same (sym c.adds.ensures ∙ c.if-not-adds.false) stands

@@ -1,4 +1,4 @@
-use Rattle.std.proofs.Common.{◌≡◌, refl}
+use Rattle.std.proofs.Common.{refl}
 use Rattle.wire_reader.proofs.Tokens.{failed_text}
 use Rattle.transcript.proofs.Exchanges.{line_steps}
 use Rattle.transcript.proofs.line.read_line.Goals as goal

@@ -1,4 +1,4 @@
-use Rattle.std.proofs.Common.{◌≡◌, ◌∙◌, ap, sym, subst, length, List, ℕ}
+use Rattle.std.proofs.Common.{◌≡◌, ◌∙◌, sym, subst, length, List, ℕ}
 use Rattle.rules.specs.declared.history.Op.{Op}
 use Rattle.base_types.specs.Names.{Name}
 use Rattle.places.specs.steps.Changes.{Changes, IsAddition, conflicting_places, new_conflicts}

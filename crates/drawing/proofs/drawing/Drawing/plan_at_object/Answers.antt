@@ -20,15 +20,15 @@ use Rattle.drawing.proofs.drawing.Drawing.plan_at_object.Goals as goal
 pub returns-in_default-clause-refusal : goal.returns-in_default-clause-refusal
 returns-in_default-clause-refusal c =
     let i = c.self.inside in
-    let named = c.object_of.ensures ∙ ap object_of c.deref.ensures in
-    let none = ap (λ (n : Name). lookup (same_name n) i.objects.entries) (sym named) ∙ none_found (lookup (same_name c.object_of.result) i.objects.entries) c.in_default.ensures.found in
+    let named = c.object.ensures ∙ ap object_of c.deref.ensures in
+    let none = ap (λ (n : Name). lookup (same_name n) i.objects.entries) (sym named) ∙ none_found (lookup (same_name c.object.result) i.objects.entries) c.in_default.ensures.found in
     λ n. ap (λ (s : DrawingState). body_refusal s.room c.args.op) (sym c.self.view_is)
     ∙ not_there (room_of i.limits i.record.entries) c.args.op c.requires.change i.objects.entries i.past.history c.self.invariant c.requires.counted none
 
 pub plan_change-requires : goal.plan_change-requires
 plan_change-requires c =
     let i = c.self.inside in
-    let named = c.object_of.ensures ∙ ap object_of c.deref.ensures in
+    let named = c.object.ensures ∙ ap object_of c.deref.ensures in
     let found = c.in-Some-get_index_mut.ensures.value ∙ c.in-Some.ensures.value in
     let there = ap (λ (n : Name). lookup (same_name n) i.objects.entries) (sym named) ∙ sym found in
     let next = subst (λ (s : DrawingState). IsNext s.room c.args.op) (sym c.self.view_is) c.requires.next in
@@ -37,14 +37,14 @@ plan_change-requires c =
 pub invariant_of-self : goal.invariant_of-self
 invariant_of-self c =
     let found = c.in-Some-get_index_mut.ensures.value ∙ c.in-Some.ensures.value in
-    rw (set_at (same_name c.object_of.result) c.self.inside.objects.entries c.in-Some.place c.plan_change.new.self (sym c.in-Some.ensures.index))
-    (replay_same _ _ _ c.self.invariant (same_name c.object_of.result) c.in-Some-get_index_mut.shape.now c.plan_change.new.self (sym found) c.plan_change.ensures.object)
+    rw (set_at (same_name c.object.result) c.self.inside.objects.entries c.in-Some.place c.plan_change.new.self (sym c.in-Some.ensures.index))
+    (replay_same _ _ _ c.self.invariant (same_name c.object.result) c.in-Some-get_index_mut.shape.now c.plan_change.new.self (sym found) c.plan_change.ensures.object)
 
 pub returns-in_err-plan_change-clause-refusal : goal.returns-in_err-plan_change-clause-refusal
 returns-in_err-plan_change-clause-refusal c =
     let i = c.self.inside in
     let room = room_of i.limits i.record.entries in
-    let named = c.object_of.ensures ∙ ap object_of c.deref.ensures in
+    let named = c.object.ensures ∙ ap object_of c.deref.ensures in
     let found = c.in-Some-get_index_mut.ensures.value ∙ c.in-Some.ensures.value in
     let there = ap (λ (n : Name). lookup (same_name n) i.objects.entries) (sym named) ∙ sym found in
     let fault = c.in_err-plan_change.field-0.0 in
@@ -57,33 +57,33 @@ returns-in_err-plan_change-clause-refusal c =
 pub invariant_of-self-2 : goal.invariant_of-self-2
 invariant_of-self-2 c =
     let found = c.in-Some-get_index_mut.ensures.value ∙ c.in-Some.ensures.value in
-    rw (set_at (same_name c.object_of.result) c.self.inside.objects.entries c.in-Some.place c.plan_change.new.self (sym c.in-Some.ensures.index))
-    (replay_same _ _ _ c.self.invariant (same_name c.object_of.result) c.in-Some-get_index_mut.shape.now c.plan_change.new.self (sym found) c.plan_change.ensures.object)
+    rw (set_at (same_name c.object.result) c.self.inside.objects.entries c.in-Some.place c.plan_change.new.self (sym c.in-Some.ensures.index))
+    (replay_same _ _ _ c.self.invariant (same_name c.object.result) c.in-Some-get_index_mut.shape.now c.plan_change.new.self (sym found) c.plan_change.ensures.object)
 
 pub returns-clause-shape : goal.returns-clause-shape
 returns-clause-shape c =
     let shapes = c.self.inside.objects.entries in
     let place = c.in-Some.place in
     let planned = c.plan_change.new.self in
-    let named = c.object_of.ensures ∙ ap object_of c.deref.ensures in
+    let named = c.object.ensures ∙ ap object_of c.deref.ensures in
     let found = c.in-Some-get_index_mut.ensures.value ∙ c.in-Some.ensures.value in
     record {
       at =
           ap (λ (n : Name). position (same_name n) (keys_of (set_value_at shapes place planned))) (sym named)
-          ∙ ap (position (same_name c.object_of.result)) (keys_stay shapes place planned)
+          ∙ ap (position (same_name c.object.result)) (keys_stay shapes place planned)
           ∙ sym c.in-Some.ensures.index;
       shape = planned;
       named =
           ap (λ (n : Name). lookup (same_name n) (set_value_at shapes place planned)) (sym named)
-          ∙ ap (lookup (same_name c.object_of.result)) (set_at (same_name c.object_of.result) shapes place planned (sym c.in-Some.ensures.index))
-          ∙ lookup_set (same_name c.object_of.result) c.in-Some-get_index_mut.shape.now planned shapes (sym found);
+          ∙ ap (lookup (same_name c.object.result)) (set_at (same_name c.object.result) shapes place planned (sym c.in-Some.ensures.index))
+          ∙ lookup_set (same_name c.object.result) c.in-Some-get_index_mut.shape.now planned shapes (sym found);
       holds = c.in_ok-plan_change.ensures.planned;
     }
 
 pub returns-clause-ids : goal.returns-clause-ids
 returns-clause-ids c =
     let i = c.self.inside in
-    let named = c.object_of.ensures ∙ ap object_of c.deref.ensures in
+    let named = c.object.ensures ∙ ap object_of c.deref.ensures in
     let found = c.in-Some-get_index_mut.ensures.value ∙ c.in-Some.ensures.value in
     let there = ap (λ (n : Name). lookup (same_name n) i.objects.entries) (sym named) ∙ sym found in
     let next = subst (λ (s : DrawingState). IsNext s.room c.args.op) (sym c.self.view_is) c.requires.next in
@@ -94,7 +94,7 @@ returns-clause-ids c =
 pub returns-clause-allowed : goal.returns-clause-allowed
 returns-clause-allowed c =
     let i = c.self.inside in
-    let named = c.object_of.ensures ∙ ap object_of c.deref.ensures in
+    let named = c.object.ensures ∙ ap object_of c.deref.ensures in
     let found = c.in-Some-get_index_mut.ensures.value ∙ c.in-Some.ensures.value in
     let there = ap (λ (n : Name). lookup (same_name n) i.objects.entries) (sym named) ∙ sym found in
     ap (λ (s : DrawingState). body_refusal s.room c.args.op) (sym c.self.view_is)

@@ -8,7 +8,7 @@ pub invariant_of-self-then-adds : goal.invariant_of-self-then-adds
 invariant_of-self-then-adds c =
     let next = subst (λ (o : OrderedLines). IsNext o.count o.lines c.args.line) (sym c.self.view_is) c.requires.next in
     let t = tables_claimed (record { count = c.self.inside.count; lines = c.self.inside.lines.items }) c.self.inside.reached.items c.self.inside.claimed.items c.args.line c.self.invariant c.requires.in_form next (sym c.adds-adds.ensures ∙ c.if-adds.true) in
-    rw (c.in_ok-push.ensures.items, c.entries_after-after.ensures, c.at_of-at.ensures) t
+    rw (c.in_ok-push.ensures.items, c.entries_after-after.ensures, c.at-at.ensures) t
 
 pub invariant_of-self-else-adds : goal.invariant_of-self-else-adds
 invariant_of-self-else-adds c =

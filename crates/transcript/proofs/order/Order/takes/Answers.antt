@@ -2,7 +2,7 @@ use Rattle.std.proofs.Common.{◌≡◌, ℕ, ◌+◌, ◌≤◌, ◌∙◌, Boo
 use Rattle.std.proofs.lemmas.Bool.Decides.{nat_tests}
 use Rattle.std.proofs.lemmas.List.{get_or_read}
 use Rattle.base_types.specs.declared.op_name.TheConstants.{MAX_SITE}
-use Rattle.transcript.specs.Lines.{at_of}
+use Rattle.wire.specs.Replies.{at_of}
 use Rattle.transcript.specs.steps.Tables.{OrderedLines, AreTables}
 use Rattle.transcript.proofs.Tables.{site_fits, next_reaches, line_tells}
 use Rattle.transcript.proofs.order.Order.takes.Goals as goal
@@ -20,7 +20,7 @@ returns-after-adds c =
     let reached = c.self.inside.reached.items in
     let claimed = c.self.inside.claimed.items in
     let line = c.args.line.now in
-    let at = c.at_of-at.result in
+    let at = c.at-at.result in
     let t : AreTables ordered reached claimed = subst (λ o. AreTables o reached claimed) c.self.view_is c.self.invariant in
     let same : c.self.inside.count ≡ ordered.count = ap (λ (o : OrderedLines). o.count) c.self.view_is in
     let site : line.site ≤ MAX_SITE = site_fits line c.requires in
@@ -34,11 +34,11 @@ returns-after-adds c =
           let left : get_or reached line.site 0 ≤ at = omega arith in
           elim c.if-adds.branch [
             | then-adds w ↦
-                line_tells ordered reached claimed line t c.requires at c.at_of-at.ensures within left c.adds.result c.if-adds.result c.adds.ensures
+                line_tells ordered reached claimed line t c.requires at c.at-at.ensures within left c.adds.result c.if-adds.result c.adds.ensures
                 (λ e. w.result-is ∙ get_or_read claimed at w.index-then-adds.result.now (omega arith) w.index-then-adds.ensures false)
                 (λ e. let f : c.adds.result ≡ true = w.if-adds.true in absurd (cc))
             | else-adds w ↦
-                line_tells ordered reached claimed line t c.requires at c.at_of-at.ensures within left c.adds.result c.if-adds.result c.adds.ensures
+                line_tells ordered reached claimed line t c.requires at c.at-at.ensures within left c.adds.result c.if-adds.result c.adds.ensures
                 (λ e. let f : c.adds.result ≡ false = w.if-adds.false in absurd (cc))
                 (λ e. w.result-is ∙ e)
           ]
@@ -51,7 +51,7 @@ returns-else-index-at c =
     let reached = c.self.inside.reached.items in
     let claimed = c.self.inside.claimed.items in
     let line = c.args.line.now in
-    let at = c.at_of-at.result in
+    let at = c.at-at.result in
     let t : AreTables ordered reached claimed = subst (λ o. AreTables o reached claimed) c.self.view_is c.self.invariant in
     let same : c.self.inside.count ≡ ordered.count = ap (λ (o : OrderedLines). o.count) c.self.view_is in
     let site : line.site ≤ MAX_SITE = site_fits line c.requires in

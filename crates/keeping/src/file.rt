@@ -16,7 +16,7 @@ use journal::{Journal, JournalFault};
 pub use kept::Kept;
 use record_file::append;
 use restore::RestoredFile;
-use room_lock::{KeepFault, News, Prefix, RoomLedger, Rooms};
+use room_lock::{KeepFault, News, Prefix, RoomHistories, Rooms};
 use rules::Entry;
 use std::alloc::Global;
 use std::marker::Model;
@@ -37,13 +37,13 @@ enum Tail {
 /// A room's file, open for appending. Contracts see the prefix of the room's record that the file
 /// keeps, and what may follow it in the file.
 #[derive(Drop)]
-pub struct RoomFile<P: RoomLedger, J: Journal> {
+pub struct RoomFile<P: RoomHistories, J: Journal> {
     journal: J,
     kept: Kept<P>,
     tail: Tail,
 }
 
-impl<P: RoomLedger, J: Journal> Model for RoomFile<P, J> {
+impl<P: RoomHistories, J: Journal> Model for RoomFile<P, J> {
     ghost use Rattle.keeping.specs.Kept.{IsInFile};
     ghost use Rattle.keeping.specs.Tails.{RoomFileView, is_clean};
 
@@ -55,7 +55,7 @@ impl<P: RoomLedger, J: Journal> Model for RoomFile<P, J> {
         IsInFile (J.held f.journal) (J.kept f.journal) f.kept.entries (is_clean f.tail) };
 }
 
-impl<P: RoomLedger, J: Journal> RoomFile<P, J> {
+impl<P: RoomHistories, J: Journal> RoomFile<P, J> {
     /// The file of one of these rooms, which begins with the record that was restored from it.
     pub fn open(_rooms: &Rooms<P>, begun: &Prefix<P>, file: RestoredFile<J>) -> RoomFile<P, J>
         // The file has the name of the room, and the room begins with the file's record:
@@ -93,8 +93,7 @@ impl<P: RoomLedger, J: Journal> RoomFile<P, J> {
     /// `NotKept` if a write or a sync failed for another reason, now and for each later call.
     /// `NoMemory` if an allocation failed.
     pub fn keep(&mut self, alloc: Global, news: &News<P>) -> Result<(), KeepFault>
-        requires news { self.old.kept.entries ++ map arc_value news.now.entries.items
-            ≡ news.now.whole.entries }
+        requires news { self.old.kept.entries ++ news.now.entries ≡ news.now.whole.entries }
         requires place { news.now.whole.place ≡ self.old.kept.place }
         ensures kept { OnOk result
             (self.new ≡ record { kept = news.now.whole; tail = Nothing }) }
@@ -103,10 +102,9 @@ impl<P: RoomLedger, J: Journal> RoomFile<P, J> {
         ensures broken { self.old.tail ≡ Broken →
             (result ≡ Err keep_fault.NotKept) × (self.new.tail ≡ Broken) }
     {
-        let entries = news.entries.as_slice();
-        match put_behind(alloc, &mut self.journal, self.tail, entries) {
+        match put_behind(alloc, &mut self.journal, self.tail, news.entries()) {
             Ok(()) => {
-                self.kept = Kept::of(&news.whole);
+                self.kept = Kept::of(news.whole());
                 self.tail = Tail::Nothing;
                 Ok(())
             }
@@ -125,7 +123,7 @@ impl<P: RoomLedger, J: Journal> RoomFile<P, J> {
     }
 }
 
-impl<P: RoomLedger, J: Journal + Drop> RoomFile<P, J> {
+impl<P: RoomHistories, J: Journal + Drop> RoomFile<P, J> {
     /// Opens the files of all rooms, in the order of the rooms.
     ///
     /// # Errors

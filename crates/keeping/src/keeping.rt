@@ -6,18 +6,18 @@ use crate::file::{Kept, RoomFile};
 use crate::room::KeptRoom;
 use base_types::NoMemory;
 use journal::Journal;
-use room_lock::{KeepFault, Keeper, Prefix, RoomLedger, Rooms};
+use room_lock::{KeepFault, Keeper, Prefix, RoomHistories, Rooms};
 use std::alloc::Global;
 use std::sync::Wait;
 
 /// The files of all rooms, by the places of the rooms. Threads that wait for one room's file share
 /// a write and a sync. Threads of different rooms do not wait for each other.
 #[derive(Drop)]
-pub struct Keeping<P: RoomLedger, J: Journal> {
+pub struct Keeping<P: RoomHistories, J: Journal> {
     rooms: Vec<KeptRoom<P, J>>,
 }
 
-impl<P: RoomLedger, J: Journal + Drop> Keeping<P, J> {
+impl<P: RoomHistories, J: Journal + Drop> Keeping<P, J> {
     /// Keeps the rooms in these files, which are in the order of the rooms.
     ///
     /// # Errors
@@ -42,7 +42,7 @@ impl<P: RoomLedger, J: Journal + Drop> Keeping<P, J> {
     }
 }
 
-impl<P: RoomLedger, J: Journal + Drop> Keeper<P> for Keeping<P, J> {
+impl<P: RoomHistories, J: Journal + Drop> Keeper<P> for Keeping<P, J> {
     ghost use Rattle.keeping.specs.Kept.{IsKeptIn};
 
     type Receipt = Kept<P>;

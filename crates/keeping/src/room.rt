@@ -6,14 +6,14 @@ ghost use Rattle.keeping.specs.steps.Turns.{IfTold};
 
 use crate::file::{Kept, RoomFile};
 use journal::Journal;
-use room_lock::{CallFault, KeepFault, Prefix, RoomLedger, Rooms};
+use room_lock::{CallFault, KeepFault, Prefix, RoomHistories, Rooms};
 use std::alloc::Global;
 use std::sync::{Condvar, Mutex, Wait};
 
 /// A room's file, and what it keeps. One thread at a time has the file, and writes for all that
 /// wait.
 #[derive(Drop)]
-struct Desk<P: RoomLedger, J: Journal> {
+struct Desk<P: RoomHistories, J: Journal> {
     kept: Kept<P>,
     /// `None` while a thread writes.
     file: Option<RoomFile<P, J>>,
@@ -21,21 +21,21 @@ struct Desk<P: RoomLedger, J: Journal> {
 
 /// A room's file, which threads share.
 #[derive(Drop)]
-pub(crate) struct KeptRoom<P: RoomLedger, J: Journal> {
+pub(crate) struct KeptRoom<P: RoomHistories, J: Journal> {
     desk: Mutex<Desk<P, J>>,
     put_back: Condvar,
 }
 
 /// What a thread that waited does next.
 #[derive(Drop)]
-pub(crate) enum Turn<P: RoomLedger, J: Journal> {
+pub(crate) enum Turn<P: RoomHistories, J: Journal> {
     /// All that was told is kept.
     Told(Kept<P>),
     /// It writes all that the room has, and then puts the file back.
     Writes(RoomFile<P, J>),
 }
 
-impl<P: RoomLedger, J: Journal + Drop> KeptRoom<P, J> {
+impl<P: RoomHistories, J: Journal + Drop> KeptRoom<P, J> {
     /// A room whose file no thread has.
     pub(crate) fn new(file: RoomFile<P, J>) -> KeptRoom<P, J> {
         KeptRoom {
@@ -111,7 +111,7 @@ impl<P: RoomLedger, J: Journal + Drop> KeptRoom<P, J> {
 }
 
 /// Appends what the room's record has beyond the kept prefix.
-fn write_news<P: RoomLedger, J: Journal>(
+fn write_news<P: RoomHistories, J: Journal>(
     rt: &impl Wait,
     alloc: Global,
     rooms: &Rooms<P>,

@@ -119,6 +119,8 @@ pub fn puts_past_a_limit()
         (puts (3, 1) creation_alone [] (x 1 ∷ [])) ≡ Some TooManyVersions }
     ensures enough { refusal (record full_limits { versions = 3 }) three_sites
         (puts (3, 1) creation_alone [] (x 1 ∷ [])) ≡ None }
+    ensures keys_before_versions { refusal (record full_limits { keys = 1; versions = 1 }) one_put
+        (puts (2, 1) creation_alone [] (x 9 ∷ red ∷ [])) ≡ Some TooManyKeys }
 {}
 
 /// A put of several attributes conflicts with one of another value for one of its keys, and with

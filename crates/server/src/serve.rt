@@ -2,7 +2,7 @@
 
 ghost use Rattle.std.specs.Prelude.{◌≡◌, map};
 ghost use Rattle.std.specs.Thread.{IsSend};
-ghost use Rattle.room_lock.specs.steps.Planned.{IsLedgerOf};
+ghost use Rattle.room_lock.specs.steps.Planned.{AreHistoriesOf};
 ghost use Rattle.server.specs.steps.Faults.{of_serving};
 
 use crate::accept::Accepted;
@@ -17,7 +17,7 @@ use keeping::{Keeping, RoomFile};
 use log::{Log, warn};
 use restore::RestoredFile;
 use room_folder::Folder;
-use room_lock::{Forgets, Keeper, NewRooms, RoomLedger, Rooms};
+use room_lock::{Forgets, Keeper, NewRooms, RoomHistories, Rooms};
 use rules::Limits;
 use sessions::{ServeFault, serve_streams};
 use std::alloc::{AllocError, Global};
@@ -100,7 +100,7 @@ where
         keeper: &K,
     ) -> Result<(), Fault>
     where
-        P: RoomLedger + Send + Sync,
+        P: RoomHistories + Send + Sync,
         K: Keeper<P> + Sync,
         K::Receipt: Send,
     {
@@ -132,7 +132,7 @@ where
         keeper: &K,
     ) -> Result<(), Fault>
     where
-        P: RoomLedger + Send + Sync,
+        P: RoomHistories + Send + Sync,
         K: Keeper<P> + Sync,
         K::Receipt: Send,
     {
@@ -173,7 +173,7 @@ fn serve_reporting<P, R, K, W>(
     output: &mut W,
 ) -> Result<(), Fault>
 where
-    P: RoomLedger + Send + Sync,
+    P: RoomHistories + Send + Sync,
     R: Threads + Wait + Clock + Log + Net + Sync,
     R::Stream: Send,
     K: Keeper<P> + Sync,
@@ -217,11 +217,11 @@ fn serve_in_memory<P, R, W>(
     tallies: &[Tally<'_>],
 ) -> Result<(), Fault>
 where
-    P: RoomLedger + Send + Sync,
+    P: RoomHistories + Send + Sync,
     R: Threads + Wait + Clock + Log + Net + Sync,
     R::Stream: Send,
     W: Write,
-    requires { IsLedgerOf planned P.name P.parts P.limits P.books }
+    requires { AreHistoriesOf planned P.limits P.books }
 {
     let (rooms, _begun) = Rooms::<P>::new(service.rt, service.alloc, planned)?;
     service.serve_rooms(rooms, tallies, &Forgets)
@@ -236,11 +236,11 @@ fn serve_in_files<'a, P, R, W>(
     files: Vec<RestoredFile<Synced<File>>>,
 ) -> Result<(), EarlyEnd<'a>>
 where
-    P: RoomLedger + Send + Sync,
+    P: RoomHistories + Send + Sync,
     R: Threads + Wait + Clock + Log + Net + Sync,
     R::Stream: Send,
     W: Write,
-    requires { IsLedgerOf planned P.name P.parts P.limits P.books }
+    requires { AreHistoriesOf planned P.limits P.books }
     requires names { map (λ file. file.name) files.items ≡ planned.names }
     requires records { map (λ file. file.entries) files.items ≡ planned.records }
 {

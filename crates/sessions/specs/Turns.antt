@@ -1,6 +1,6 @@
 -- One message of a session and its reply. `told` is the prefix of a room's record that the reply
 -- reports on, if it does.
-use Rattle.std.specs.Prelude.{◌≡◌, ◌⊎◌, ℕ, List, Option, Some, None, Contains, MatchOption}
+use Rattle.std.specs.Prelude.{◌≡◌, ◌⊎◌, ℕ, Bool, List, Option, Some, None, Contains, MatchOption}
 use Rattle.std.specs.Prelude.{bytes_eq, position}
 use Rattle.base_types.specs.Texts.{Bytes}
 use Rattle.rules.specs.declared.history.Entry.{Entry}
@@ -66,6 +66,10 @@ pub record IsTurnedAway
   pub unknown : ¬ (Contains names name) → (reply ≡ No 0 NoSuchRoom) × (told ≡ None)
   pub same : new ≡ None
 
+-- the room refuses a coming back as a site, whether or not a session is in as it
+abbrev pub IsBackRefusal : LimitValues → ℕ → List Entry → Reply → Type 0
+IsBackRefusal limits site r reply = (in_use : Bool) × IsBackRefusalOver limits r site in_use reply
+
 -- a join, and a coming back as a site
 abbrev pub IsJoinBy : LimitValues → List Bytes → Bytes → SessionView → Option PrefixView → Reply
     → Type 0
@@ -77,7 +81,7 @@ abbrev pub IsBackBy : LimitValues → List Bytes → Bytes → ℕ → SessionVi
     → Type 0
 IsBackBy limits names name site new told reply =
     IsLetIn (IsBack limits site) names name new told reply
-    ⊎ IsTurnedAway (λ r. IsBackRefusalOver limits r site) names name new told reply
+    ⊎ IsTurnedAway (IsBackRefusal limits site) names name new told reply
 
 -- the answer to a request of a session that is in a room, which cannot enter another
 abbrev pub IsAnswerInside : LimitValues → PassView → SessionView → Request → Option PrefixView

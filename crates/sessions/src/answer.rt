@@ -11,13 +11,13 @@ ghost use Rattle.sessions.specs.Turns.{IsKept};
 use crate::cause::Cause;
 use crate::host::Host;
 use crate::observer::{Addition, Observer};
-use room_lock::{KeepFault, Keeper, Prefix, RoomLedger};
+use room_lock::{KeepFault, Keeper, Prefix, RoomHistories};
 use std::sync::Wait;
 use wire::{Refusal, Reply, write_reply};
 
 /// A reply, and the prefix of a room's record that it reports on, if it reports on a room.
 #[derive(Drop)]
-pub(crate) struct Answer<P: RoomLedger> {
+pub(crate) struct Answer<P: RoomHistories> {
     pub(crate) reply: Reply,
     pub(crate) told: Option<Prefix<P>>,
 }
@@ -32,7 +32,7 @@ pub struct Answered<T> {
     pub receipt: Option<T>,
 }
 
-impl<P: RoomLedger> Answer<P> {
+impl<P: RoomHistories> Answer<P> {
     /// The reply of a room whose record was `told` at that time.
     pub(crate) fn of_room(told: Prefix<P>, reply: Reply) -> Answer<P>
         ensures reply { result.reply ≡ reply }
@@ -90,7 +90,7 @@ impl<P: RoomLedger> Answer<P> {
 }
 
 /// The receipt that `told` is kept, if there is a `told`. On `Err` the keeper failed so.
-fn receipt_of<P: RoomLedger, R: Wait, O, K: Keeper<P>>(
+fn receipt_of<P: RoomHistories, R: Wait, O, K: Keeper<P>>(
     host: &Host<'_, P, R, O, K>,
     told: &Option<Prefix<P>>,
 ) -> Result<Option<K::Receipt>, KeepFault>

@@ -1,12 +1,12 @@
 //! What all sessions of one server share.
 
-use room_lock::{RoomLedger, Rooms};
+use room_lock::{RoomHistories, Rooms};
 use std::alloc::Global;
 
 /// What sessions are served with: the runtime, the allocator, the rooms, the observer and the
 /// keeper.
 #[derive(Drop)]
-pub struct Host<'a, P: RoomLedger, R, O, K> {
+pub struct Host<'a, P: RoomHistories, R, O, K> {
     /// The runtime.
     pub rt: &'a R,
     /// The allocator.

@@ -16,18 +16,18 @@ use crate::cause::Cause;
 use crate::host::Host;
 use crate::observer::Observer;
 use base_types::RoomName;
-use room_lock::{Entrance, Keeper, Pass, RoomLedger};
+use room_lock::{Entrance, Keeper, Pass, RoomHistories};
 use std::marker::Model;
 use std::sync::Wait;
 use wire::{Refusal, Request};
 use wire_reader::{ReadFault, Scratch, read_request};
 
 /// A session, with its pass if it is in a room. It cannot be dropped: `end` hands the pass back.
-pub struct Session<P: RoomLedger> {
+pub struct Session<P: RoomHistories> {
     pass: Option<Pass<P>>,
 }
 
-impl<P: RoomLedger> Model for Session<P> {
+impl<P: RoomHistories> Model for Session<P> {
     ghost use Rattle.sessions.specs.Sessions.{SessionView};
 
     ghost Value = { SessionView };
@@ -35,7 +35,7 @@ impl<P: RoomLedger> Model for Session<P> {
     ghost view = { λ s. s.pass };
 }
 
-impl<P: RoomLedger> Session<P> {
+impl<P: RoomHistories> Session<P> {
     /// A session in no room.
     pub fn new() -> Session<P>
         ensures { result ≡ None }
@@ -226,6 +226,7 @@ impl<P: RoomLedger> Session<P> {
                 answer
             }
             Entrance::Refused(told, reply) => Answer::of_room(told, reply),
+            Entrance::InUse(in_use, reply) => Answer::of_room(in_use.into_prefix(), reply),
             Entrance::NoRoom => Answer::own_refusal(Refusal::NoSuchRoom),
         }
     }
@@ -243,7 +244,7 @@ impl<P: RoomLedger> Session<P> {
 }
 
 /// Calls the room by this pass. On `Err` the pass is as it was.
-fn call_by<P: RoomLedger, R: Wait, O, K>(
+fn call_by<P: RoomHistories, R: Wait, O, K>(
     host: &Host<'_, P, R, O, K>,
     pass: &mut Pass<P>,
     request: Request,

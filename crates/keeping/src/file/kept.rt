@@ -3,17 +3,17 @@
 ghost use Rattle.std.specs.Prelude.{◌≡◌, ◌⊎◌, ◌<◌, true, false, length};
 ghost use Rattle.keeping.specs.Kept.{IsKeptIn};
 
-use room_lock::{Prefix, RoomLedger};
+use room_lock::{Prefix, RoomHistories};
 use std::marker::Model;
 
 /// A prefix of a room's record that the room's file keeps. Only the module of the file creates one;
 /// other code copies it.
 #[derive(Drop)]
-pub struct Kept<P: RoomLedger> {
+pub struct Kept<P: RoomHistories> {
     prefix: Prefix<P>,
 }
 
-impl<P: RoomLedger> Model for Kept<P> {
+impl<P: RoomHistories> Model for Kept<P> {
     ghost use Rattle.room_lock.specs.Passes.{PrefixView};
 
     ghost Value = { PrefixView };
@@ -21,7 +21,7 @@ impl<P: RoomLedger> Model for Kept<P> {
     ghost view = { λ k. k.prefix };
 }
 
-impl<P: RoomLedger> Kept<P> {
+impl<P: RoomHistories> Kept<P> {
     /// The file keeps this prefix.
     pub(super) fn of(prefix: &Prefix<P>) -> Kept<P>
         ensures { result ≡ prefix.now }

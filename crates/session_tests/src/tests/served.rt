@@ -1,13 +1,13 @@
 //! Sessions and records whose streams fail once, or give and take single bytes.
 
-ghost use Rattle.room_lock.specs.steps.Planned.{IsLedgerOf};
+ghost use Rattle.room_lock.specs.steps.Planned.{AreHistoriesOf};
 
 use super::faults::{Calls, Expecting, Parts};
 use super::{CLOSE, CLOSED, add_part, add_reply, add_request, bytewise, plan_rooms};
 use base_types::RoomName;
 use log::sink::Locked;
 use log::{LevelFilter, Log, Logged};
-use room_lock::{KeepFault, Keeper, NewRooms, Prefix, RoomLedger, Rooms};
+use room_lock::{KeepFault, Keeper, NewRooms, Prefix, RoomHistories, Rooms};
 use sessions::{Addition, Arrival, Cause, Client, Observer, ServeFault, serve_streams};
 use std::alloc::Global;
 use std::io::{Read, Write};
@@ -81,11 +81,11 @@ fn serve_in<P, R, S, W>(
     output: &mut W,
 ) -> Result<(), ServeFault>
 where
-    P: RoomLedger + Send + Sync,
+    P: RoomHistories + Send + Sync,
     R: Threads + Wait + Log + Sync + Abort + AllocGlobal,
     S: Read + Write + Drop + Send,
     W: Write,
-    requires { IsLedgerOf planned P.name P.parts P.limits P.books }
+    requires { AreHistoriesOf planned P.limits P.books }
 {
     let (rooms, _begun) = Rooms::<P>::new(rt, rt.alloc(), planned).expect(rt, "rooms");
     let Streams { all, workers } = streams;
@@ -154,7 +154,7 @@ impl Observer for Told {
     fn after_session(&self, _client: &Client, _room: Option<&RoomName>, _cause: Cause) {}
 }
 
-impl<P: RoomLedger> Keeper<P> for Told {
+impl<P: RoomHistories> Keeper<P> for Told {
     type Receipt = ();
 
     ghost shows = { λ _ told. Unit {0} };

@@ -2,9 +2,9 @@
 use Rattle.tungstenite.specs.declared.error.Error.{Error}
 use Rattle.tungstenite.specs.declared.error.Error.TheVariants.{ConnectionClosed, AlreadyClosed}
 use Rattle.tungstenite.specs.declared.error.Error.TheVariants.{OutOfMemory}
-use Rattle.room_core.specs.declared.fault.CallFault.{CallFault}
-use Rattle.room_core.specs.declared.fault.CallFault.TheVariants.{Torn as CallTorn}
-use Rattle.room_core.specs.declared.fault.CallFault.TheVariants.{NoMemory as CallNoMemory}
+use Rattle.room_lock.specs.declared.fault.CallFault.{CallFault}
+use Rattle.room_lock.specs.declared.fault.CallFault.TheVariants.{Torn as CallTorn}
+use Rattle.room_lock.specs.declared.fault.CallFault.TheVariants.{NoMemory as CallNoMemory}
 use Rattle.sessions.specs.declared.cause.Cause.{Cause}
 use Rattle.sessions.specs.declared.cause.Cause.TheVariants.{Closed, HandshakeFailed, StreamFault}
 use Rattle.sessions.specs.declared.cause.Cause.TheVariants.{Torn, NoMemory, NotKept}

@@ -4,7 +4,7 @@ use Rattle.rules.specs.declared.refusal.Refusal.TheVariants.{NoSuchRoom}
 use Rattle.wire.specs.declared.reply.Reply.{Reply}
 use Rattle.wire.specs.declared.reply.Reply.TheVariants.{No}
 use Rattle.room_lock.specs.declared.entrance.Entrance.{Entrance}
-use Rattle.room_lock.specs.declared.entrance.Entrance.TheVariants.{Entered, Refused, NoRoom}
+use Rattle.room_lock.specs.declared.entrance.Entrance.TheVariants.{Entered, Refused, InUse, NoRoom}
 use Rattle.room_lock.specs.Passes.{PrefixView, prefix_of}
 use Rattle.sessions.specs.Sessions.{SessionView}
 
@@ -14,4 +14,6 @@ module _ {P : Type 0} where
   IsAfter (Entered pass it) new told reply =
       (reply ≡ it) × (told ≡ Some (prefix_of pass.part)) × (new ≡ Some pass)
   IsAfter (Refused prefix it) new told reply = (reply ≡ it) × (told ≡ Some prefix) × (new ≡ None)
+  IsAfter (InUse in_use it) new told reply =
+      (reply ≡ it) × (told ≡ Some in_use.prefix) × (new ≡ None)
   IsAfter NoRoom new told reply = (reply ≡ No 0 NoSuchRoom) × (told ≡ None) × (new ≡ None)

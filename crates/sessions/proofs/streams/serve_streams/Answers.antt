@@ -14,6 +14,6 @@ returns g c =
     ok_of c.flush.result (record {
       rooms = map named records;
       names_are = same_names records ∙ c.in_ok-records.ensures.names;
-      legal = all_legal g.P.RoomLedger.limits (λ one. one.parts.items) records c.in_ok-records.ensures.closed;
+      legal = all_legal g.P.RoomHistories.limits (λ one. one.parts.items) records c.in_ok-records.ensures.closed;
       printed = subst P printed (Appends-kept _ _ _ _ c.in_ok-write_records.ensures c.flush.ensures);
     })

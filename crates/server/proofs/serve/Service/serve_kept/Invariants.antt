@@ -1,8 +1,5 @@
 use Rattle.server.proofs.serve.Service.serve_kept.Given as goal
 
--- the ledger is that of the planned rooms
-abbrev pub ghosts-serve_in_files-P-Ledger : goal.ghosts-serve_in_files-P-Ledger
-ghosts-serve_in_files-P-Ledger g a = record { name = a.planned.name; parts = a.planned.parts }
-
-abbrev pub ghosts-serve_in_files-P-RoomLedger : goal.ghosts-serve_in_files-P-RoomLedger
-ghosts-serve_in_files-P-RoomLedger g a = record { limits = a.planned.limits; books = a.planned.books }
+-- the histories are those of the planned rooms
+abbrev pub ghosts-serve_in_files-P-RoomHistories : goal.ghosts-serve_in_files-P-RoomHistories
+ghosts-serve_in_files-P-RoomHistories g a = record { limits = a.planned.limits; books = a.planned.books }

@@ -6,9 +6,9 @@ use Rattle.std.proofs.lemmas.Option.{slice_get-get_or, slice_get-map}
 use Rattle.std.proofs.Math.Seq.{get_or-append_seam}
 use Rattle.base_types.specs.Texts.{Bytes}
 use Rattle.rules.specs.declared.history.Entry.{Entry}
-use Rattle.restore.specs.Files.{FileView}
+use Rattle.restore.specs.steps.Files.{FileView}
 use Rattle.room_lock.specs.Passes.{PrefixView}
-use Rattle.room_lock.specs.steps.Planned.{prefixes_from}
+use Rattle.room_lock.specs.Places.{prefixes_from}
 
 -- a record of the room at a place
 abbrev pub prefix_at : ℕ → List Entry → PrefixView

@@ -5,7 +5,7 @@ ghost use Rattle.std.specs.Prelude.{map, option_map, slice_get};
 ghost use Rattle.std.specs.Arc.{arc_value};
 ghost use Rattle.record_file.specs.RecordText.{AreLines, record_text};
 ghost use Rattle.room_lock.specs.declared.keeper.KeepFault.TheVariants as keep_fault;
-ghost use Rattle.room_lock.specs.steps.Planned.{prefixes_from};
+ghost use Rattle.room_lock.specs.Places.{prefixes_from};
 ghost use Rattle.keeping.specs.declared.file.Tail.TheVariants.{Nothing, Broken};
 ghost use Rattle.keeping.specs.Tails.{fault_of, is_clean, tail_after};
 

@@ -23,7 +23,7 @@ pub struct RestoredFile<J: Journal> {
 impl<J: Journal> Model for RestoredFile<J> {
     ghost use Rattle.std.specs.Prelude.{◌≡◌, IfSome, string_bytes};
     ghost use Rattle.record_file.specs.RecordText.{AreLines};
-    ghost use Rattle.restore.specs.Files.{FileView};
+    ghost use Rattle.restore.specs.steps.Files.{FileView};
 
     ghost Value = { FileView };
 

@@ -1,3 +1,3 @@
 pub use Rattle.restore.specs.Restoring
-pub use Rattle.restore.specs.Files
+pub use Rattle.restore.specs.steps.Files
 pub mod steps

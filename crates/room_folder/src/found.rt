@@ -32,7 +32,7 @@ pub struct Found<F> {
 
 impl<F> Model for Found<F> {
     ghost use Rattle.std.specs.Prelude.{string_bytes};
-    ghost use Rattle.restore.specs.Files.{FileView};
+    ghost use Rattle.restore.specs.steps.Files.{FileView};
 
     ghost Value = { FileView };
 

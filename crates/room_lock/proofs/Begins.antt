@@ -4,7 +4,7 @@ use Rattle.std.specs.Prelude.{All, IfOk}
 use Rattle.std.proofs.lemmas.List.{get_or-map, length-map}
 use Rattle.rules.specs.declared.history.Entry.{Entry}
 use Rattle.room_lock.specs.Passes.{PrefixView}
-use Rattle.room_lock.specs.steps.Planned.{prefixes_from}
+use Rattle.room_lock.specs.Places.{prefixes_from}
 
 -- a record of the room at a place
 abbrev pub prefix_at : ℕ → List Entry → PrefixView

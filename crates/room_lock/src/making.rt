@@ -6,7 +6,8 @@ ghost use Rattle.std.specs.Prelude.{slice_get};
 ghost use Rattle.indexmap.specs.IndexMap.{get, keys};
 ghost use Rattle.base_types.specs.Repeats.{first_repeat};
 ghost use Rattle.room_core.specs.declared.fault.RoomsFault.TheVariants as rooms_fault;
-ghost use Rattle.room_lock.specs.steps.Planned.{AreHistoriesOf, AreInPlace, book_of, prefixes_from};
+ghost use Rattle.room_lock.specs.Places.{AreInPlace, prefixes_from};
+ghost use Rattle.room_lock.specs.steps.Planned.{AreHistoriesOf, book_of};
 ghost use Rattle.room_lock.specs.steps.Planned.{record_of};
 
 use crate::histories::RoomHistories;

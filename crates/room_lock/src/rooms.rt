@@ -37,7 +37,7 @@ impl<P: RoomHistories> Model for Rooms<P> {
     ghost use Rattle.std.specs.Prelude.{List};
     ghost use Rattle.base_types.specs.Texts.{Bytes};
     ghost use Rattle.indexmap.specs.IndexMap.{keys};
-    ghost use Rattle.room_lock.specs.steps.Planned.{AreInPlace};
+    ghost use Rattle.room_lock.specs.Places.{AreInPlace};
 
     ghost Value = { List Bytes };
 

@@ -1,14 +1,10 @@
 -- Rooms that are to be created.
-use Rattle.std.specs.Prelude.{◌≡◌, ℕ, ◌+◌, ◌≤◌, ◌^◌, List, [], ◌∷◌, None, bytes_eq, length, map}
-use Rattle.std.specs.List.{range_with_len}
-use Rattle.crossbeam_utils.specs.Padded.{padded_value}
-use Rattle.crossbeam_utils.specs.declared.cache_padded.CachePadded.{CachePadded}
+use Rattle.std.specs.Prelude.{◌≡◌, ◌≤◌, ◌^◌, List, None, bytes_eq, length}
 use Rattle.logbook.specs.Pages.{Book}
 use Rattle.base_types.specs.Repeats.{first_repeat}
 use Rattle.base_types.specs.Texts.{Bytes}
 use Rattle.rules.specs.declared.history.Entry.{Entry}
 use Rattle.rules.specs.declared.limits.LimitValues.{LimitValues}
-use Rattle.room_lock.specs.Passes.{PrefixView}
 
 -- a room's history, its limits, and the record that it begins with
 pub record NewRoomView : Type 0 where
@@ -40,14 +36,3 @@ pub record AreHistoriesOf (planned : Planned) (limits : LimitValues) (books : Li
     : Type 0 where
   pub limits_are : planned.limits ≡ limits
   pub books_are : planned.books ≡ books
-
--- the records that rooms begin with, the first of which is at this place
-abbrev pub prefixes_from : ℕ → List (List Entry) → List PrefixView
-prefixes_from place [] = []
-prefixes_from place (r ∷ rs) = record { place = place; entries = r } ∷ prefixes_from (place + 1) rs
-
--- each room stands at its place
-abbrev pub AreInPlace : List (Bytes × CachePadded ℕ) → Type 0
-AreInPlace rooms =
-    map (λ (room : Bytes × CachePadded ℕ). padded_value room.1) rooms
-    ≡ range_with_len 0 (length rooms)

@@ -1,5 +1,5 @@
 use Rattle.std.proofs.Common.{sym, ◌∙◌, subst}
-use Rattle.room_lock.specs.steps.Planned.{AreInPlace}
+use Rattle.room_lock.specs.Places.{AreInPlace}
 use Rattle.room_lock.proofs.Names.{stand_with}
 use Rattle.room_lock.proofs.making.begin_room.Goals as goal
 

@@ -3,7 +3,8 @@ use Rattle.std.specs.Prelude.{option_map}
 use Rattle.std.proofs.lemmas.List.{length-map, map-append, take_more}
 use Rattle.std.proofs.lemmas.Option.{slice_get-map}
 use Rattle.base_types.specs.Repeats.{repeat_from}
-use Rattle.room_lock.specs.steps.Planned.{book_of, prefixes_from, record_of}
+use Rattle.room_lock.specs.Places.{prefixes_from}
+use Rattle.room_lock.specs.steps.Planned.{book_of, record_of}
 use Rattle.room_lock.proofs.Begins.{prefix_at, prefixes_more}
 use Rattle.room_lock.proofs.Names.{name_is_new, place_of_next}
 use Rattle.room_lock.proofs.making.make.Goals as goal

@@ -1,7 +1,8 @@
 use Rattle.std.proofs.Common.{◌≡◌, ◌++◌, bytes_eq, drop, length, map, take, None}
 use Rattle.indexmap.specs.IndexMap.{keys}
 use Rattle.base_types.specs.Repeats.{repeat_from}
-use Rattle.room_lock.specs.steps.Planned.{AreInPlace, prefixes_from, record_of}
+use Rattle.room_lock.specs.Places.{AreInPlace, prefixes_from}
+use Rattle.room_lock.specs.steps.Planned.{record_of}
 use Rattle.room_lock.proofs.making.make.Given as goal
 
 abbrev pub invariant-loop-new : goal.invariant-loop-new

@@ -1,7 +1,7 @@
 use Rattle.std.proofs.Common.{◌≡◌, ◌++◌, ◌∷◌, [], length, map, take, get_or, sym, ap, ◌∙◌, arith, append_assoc, length-append}
 use Rattle.std.specs.Prelude.{slice_get}
 use Rattle.std.proofs.lemmas.List.{map-append, length-map, take_more, take_all}
-use Rattle.restore.specs.Files.{FileView}
+use Rattle.restore.specs.steps.Files.{FileView}
 use Rattle.room_lock.specs.Passes.{PrefixView}
 use Rattle.keeping.proofs.Places.{next_file, length-prefixes}
 use Rattle.keeping.proofs.file.RoomFile.open_all.Goals as goal
@@ -46,13 +46,13 @@ loop-file-preserved g c =
       omega (arith, more, i.3, c.in_ok-push.ensures.len),
       omega (arith, more, i.4, c.in-Some.ensures.steps.1),
       ap (map _) c.in_ok-push.ensures.items ∙ map-append _ c.loop-file.opened.items (c.open.result ∷ [])
-      ∙ (λ j. i.5 j ++ (ap (λ file. file.kept) c.open.ensures ∙ sym here) j ∷ [])
-      ∙ sym (take_more c.args.begun.now (length yielded) c.index-begun-len.result next.within)
-      ∙ ap (λ n. take n c.args.begun.now) (sym more),
+          ∙ (λ j. i.5 j ++ (ap (λ file. file.kept) c.open.ensures ∙ sym here) j ∷ [])
+          ∙ sym (take_more c.args.begun.now (length yielded) c.index-begun-len.result next.within)
+          ∙ ap (λ n. take n c.args.begun.now) (sym more),
     )
 
 pub returns : goal.returns
 returns g c =
     let i = c.loop-file.invariant in
     i.5 ∙ take_all (length c.loop-file.yielded) c.args.begun.now
-        (omega (arith, i.4, c.in-None.ensures.steps.0, c.args.files.ok, ap length c.requires.begun, length-prefixes 0 (map (λ (f : FileView). f.entries) c.args.files.items), length-map c.args.files.items (λ (f : FileView). f.entries)))
+    (omega (arith, i.4, c.in-None.ensures.steps.0, c.args.files.ok, ap length c.requires.begun, length-prefixes 0 (map (λ (f : FileView). f.entries) c.args.files.items), length-map c.args.files.items (λ (f : FileView). f.entries)))

@@ -8,7 +8,7 @@ use Rattle.rules.specs.declared.history.Entry.{Entry}
 use Rattle.rules.specs.declared.limits.LimitValues.{LimitValues}
 use Rattle.rules.specs.Records.{IsLegal}
 use Rattle.wire.specs.Form.{entry_form}
-use Rattle.room_lock.specs.declared.fault.RoomRecord.{RoomRecord}
+use Rattle.room_lock.specs.declared.closing.RoomRecord.{RoomRecord}
 use Rattle.room_lock.specs.Closing.{IsClosed}
 use Rattle.room_lock.specs.Passes.{PartView}
 use Rattle.sessions.specs.Records.{NamedRecord, all_lines, entry_lines, record_lines}

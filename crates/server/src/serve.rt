@@ -240,7 +240,7 @@ where
     R: Threads + Wait + Clock + Log + Net + Sync,
     R::Stream: Send,
     W: Write,
-    requires { AreHistoriesOf planned P.limits P.books }
+    requires histories { AreHistoriesOf planned P.limits P.books }
     requires names { map (λ file. file.name) files.items ≡ planned.names }
     requires records { map (λ file. file.entries) files.items ≡ planned.records }
 {

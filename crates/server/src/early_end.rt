@@ -27,7 +27,7 @@ impl EarlyEnd<'_> {
 
     /// The exit status: that of the fault, 4 if the folder's fault is want of memory, otherwise 3.
     pub(crate) fn status(self) -> u8
-        ensures { result ≡ status_of_end self }
+        ensures { result ≡ status_of_end self.entry }
     {
         match self {
             EarlyEnd::Fault(fault) => fault.status(),

@@ -112,8 +112,9 @@ def lines_of_page():
 def test_statuses():
     """The page has the messages on standard error and their statuses: those of all commands, and those of `grace serve`
     alone, which are 3."""
-    own = re.findall(r'#\[error\("(.*?)"\)\]', source_with("kept by another: {0}"))
-    expected = statuses_of_commands() | {text: 3 for text in own if text != "{0}"}
+    sources = source_with("kept by another: {0}"), source_with("room not kept")
+    own = [text for source in sources for text in re.findall(r'#\[error\("(.*?)"\)\]', source)]
+    expected = {text: 3 for text in own if text != "{0}"} | statuses_of_commands()
     documented = lines_of_page()
     filled = {"dir": "DIR", "room": "ROOM", "line": "N"}
     fill = lambda text: re.sub(r"\{(\w+)\}", lambda it: filled.get(it[1], "{0}"), text)

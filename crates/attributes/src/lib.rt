@@ -13,7 +13,7 @@ ghost use Rattle.attributes.specs.steps.Pairs.{given_backwards, with_new_attrs, 
 
 use base_types::{Key, NoMemory, Value};
 use places::PlaceSet;
-use rules::{Attrs, SharedOp};
+use rules::{Attrs, SharedOp, has_key};
 use std::alloc::Global;
 
 /// For how many attributes memory is taken at once. Most versions have fewer.
@@ -80,13 +80,6 @@ fn add_missing(
         add_new(alloc, pairs, &other.0, &other.1)?;
     }
     Ok(())
-}
-
-/// Does one of the pairs have this key?
-fn has_key(pairs: &[(Key, Value)], key: &Key) -> bool
-    ensures { result ≡ list_any (λ pair. bytes_eq key.now pair.0) pairs.now }
-{
-    pairs.iter().any(|pair| *key == pair.0)
 }
 
 /// Adds a key with its value, if the key isn't there yet.

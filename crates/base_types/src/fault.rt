@@ -1,7 +1,8 @@
-//! Faults: failed allocations, and texts and lists that are out of range.
+//! Faults: failed allocations, texts and lists that are out of range, and names of rooms that are repeated.
 
 ghost use Rattle.std.specs.Prelude.{◌≡◌};
 ghost use Rattle.base_types.specs.declared.fault.NameFault.TheVariants as name_fault;
+ghost use Rattle.base_types.specs.declared.fault.RoomsFault.TheVariants as rooms_fault;
 
 use std::alloc::{AllocError, AllocFailed};
 use thiserror::Error;
@@ -50,4 +51,22 @@ impl From<AllocError> for NameFault {
 pub enum ListFault {
     #[error("the names do not increase strictly")]
     NotRising,
+}
+
+/// Why rooms can't be made.
+#[derive(Clone, Copy, Debug, PartialEq, Eq, Error)]
+pub enum RoomsFault {
+    /// The first place, from 0, whose name is also at an earlier place.
+    #[error("the name at place {0} is repeated")]
+    SameName(usize),
+    #[error("out of memory")]
+    NoMemory,
+}
+
+impl From<NoMemory> for RoomsFault {
+    ghost from_gives = { λ _ fault. fault ≡ rooms_fault.NoMemory };
+
+    fn from(_fault: NoMemory) -> RoomsFault {
+        RoomsFault::NoMemory
+    }
 }

@@ -11,7 +11,7 @@ mod text;
 mod value;
 mod version_id;
 
-pub use fault::{ListFault, NameFault, NoMemory};
+pub use fault::{ListFault, NameFault, NoMemory, RoomsFault};
 pub use label::{Key, Kind, Label, RoomName};
 pub use op_name::{MAX_SEQ, MAX_SITE, OpName};
 pub use room_name::repeated_name;

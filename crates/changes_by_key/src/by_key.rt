@@ -13,7 +13,7 @@ ghost use Rattle.places.specs.steps.Lookups.{IsPlaceOf};
 
 use base_types::{Key, NoMemory, Value};
 use places::PlaceSet;
-use rules::{Body, Op, SharedOp};
+use rules::{Body, Op, SharedOp, has_key};
 use std::alloc::Global;
 use std::marker::Model;
 
@@ -50,13 +50,6 @@ impl KeyPuts {
     {
         self.places.insert(place)
     }
-}
-
-/// Does one of the pairs have the key?
-fn has_key(pairs: &[(Key, Value)], key: &Key) -> bool
-    ensures { result ≡ list_any (λ pair. bytes_eq key.now pair.0) pairs.now }
-{
-    pairs.iter().any(|pair| *key == pair.0)
 }
 
 /// Does an operation give the key a value?

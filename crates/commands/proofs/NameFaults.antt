@@ -7,8 +7,8 @@ use Rattle.base_types.specs.Repeats.{first_repeat}
 use Rattle.base_types.specs.Texts.{is_room_name}
 use Rattle.base_types.specs.declared.fault.NameFault.{NameFault}
 use Rattle.base_types.specs.declared.fault.NameFault.TheVariants as name
-use Rattle.room_core.specs.declared.fault.RoomsFault.{RoomsFault}
-use Rattle.room_core.specs.declared.fault.RoomsFault.TheVariants as rooms
+use Rattle.base_types.specs.declared.fault.RoomsFault.{RoomsFault}
+use Rattle.base_types.specs.declared.fault.RoomsFault.TheVariants as rooms
 use Rattle.command_fault.specs.declared.fault.Fault.{Fault}
 use Rattle.command_fault.specs.declared.fault.Fault.TheVariants.{BadRoomName, RoomNamedTwice, NoMemory}
 use Rattle.command_fault.specs.Faults.{of_name}

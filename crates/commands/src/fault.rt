@@ -3,8 +3,8 @@
 ghost use Rattle.std.specs.Prelude.{◌≡◌};
 ghost use Rattle.commands.specs.steps.Faults.{of_rooms, of_script};
 
+use base_types::RoomsFault;
 use command_fault::Fault;
-use room_core::RoomsFault;
 use world::ScriptFault;
 
 /// The fault of a command for a fault of making rooms.

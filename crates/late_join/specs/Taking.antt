@@ -11,11 +11,10 @@ use Rattle.rules.specs.declared.history.Entry.TheVariants.{Join, Operation}
 use Rattle.rules.specs.declared.refusal.Refusal.TheVariants.{RoomFull, RecordFull, OwnCount}
 use Rattle.rules.specs.declared.refusal.Refusal.TheVariants.{NotClosed}
 use Rattle.rules.specs.declared.limits.LimitValues.{LimitValues}
-use Rattle.rules.specs.Bodies.{is_change_body}
 use Rattle.rules.specs.Operations.{operation}
 use Rattle.rules.specs.Admission.{Condition, first_that_applies, names_counted, count_at_site}
 use Rattle.rules.specs.Admission.{has_wrong_seq, has_wrong_own_count, is_ahead, is_not_closed}
-use Rattle.rules.specs.Records.{operations, creation_conditions, change_conditions}
+use Rattle.rules.specs.Records.{operations, body_conditions}
 use Rattle.late_join.specs.declared.fault.TakeFault.{TakeFault}
 use Rattle.late_join.specs.declared.fault.TakeFault.TheVariants.{Repeat, Early, Refused}
 
@@ -67,9 +66,7 @@ arriving_conditions b t op =
 abbrev pub taking_conditions : LimitValues → List Entry → Entry → List Condition
 taking_conditions b t (Join site) = joining_conditions b t site
 taking_conditions b t (Operation op) =
-    arriving_conditions b t op
-    ++ (if is_change_body op.body then change_conditions b (operations t) op
-    else creation_conditions b t)
+    arriving_conditions b t op ++ body_conditions b t op
 
 -- why this entry, whose vector is in range, is not taken after these; `None` if it may be
 unfoldable pub take_fault : LimitValues → List Entry → Entry → Option TakeFault

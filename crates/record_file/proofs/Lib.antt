@@ -1,3 +1,4 @@
+mod Breaks
 pub mod Lines
 pub mod Ranges
 mod Texts

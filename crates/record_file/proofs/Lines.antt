@@ -3,9 +3,10 @@ use Rattle.std.proofs.Common.{◌≡◌, ◌≢◌, inl, inr, ℕ, ◌<◌, ◌=
 use Rattle.std.proofs.lemmas.List.{map-append, take_more}
 use Rattle.std.proofs.lemmas.Bool.{cases_eq, ne_eqb, eq-eqb}
 use Rattle.wire.specs.Lines.{onto_first, lines_of}
+use Rattle.wire.specs.steps.OneLine.{IsOneLine}
 use Rattle.rules.specs.declared.history.Entry.{Entry}
 use Rattle.wire_reader.specs.steps.Reads.{entry_read}
-use Rattle.record_file.specs.RecordText.{AreLines, IsOneLine, onto_whole, whole_part}
+use Rattle.record_file.specs.RecordText.{AreLines, onto_whole, whole_part}
 
 tail_or : List ℕ → List ℕ
 tail_or [] = []

@@ -1,5 +1,5 @@
 -- The text of a record.
-use Rattle.std.specs.Prelude.{◌≡◌, ◌≢◌, ℕ, List, [], ◌∷◌, ◌++◌, Some, flat_map, map, if◌then◌else◌}
+use Rattle.std.specs.Prelude.{◌≡◌, ℕ, List, [], ◌∷◌, ◌++◌, Some, flat_map, map, if◌then◌else◌}
 use Rattle.serde_json.specs.Written.{compact_text}
 use Rattle.rules.specs.declared.history.Entry.{Entry}
 use Rattle.wire.specs.Form.{entry_form}
@@ -18,11 +18,6 @@ record_text entries = flat_map entry_line entries
 abbrev pub onto_whole : ℕ → List ℕ → List ℕ
 onto_whole byte [] = []
 onto_whole byte (x ∷ xs) = byte ∷ x ∷ xs
-
--- none of the bytes ends a line
-abbrev pub IsOneLine : List ℕ → Type 0
-IsOneLine [] = Unit {0}
-IsOneLine (byte ∷ bytes) = (byte ≢ 10) × IsOneLine bytes
 
 -- the bytes up to and including the last LF
 abbrev pub whole_part : List ℕ → List ℕ

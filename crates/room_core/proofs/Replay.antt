@@ -16,7 +16,7 @@ use Rattle.shape.proofs.Refusals.{first_of_front, front_passed}
 use Rattle.base_types.specs.Names.{Name}
 use Rattle.rules.specs.Bodies.{is_change_body}
 use Rattle.wire.specs.declared.reply.Reply.TheVariants.{Made, Taken}
-use Rattle.drawing.specs.steps.Additions.{IsNext, body_conditions, body_refusal, planned_ids}
+use Rattle.drawing.specs.steps.Additions.{IsNext, body_refusal, planned_ids}
 use Rattle.drawing.specs.Shown.{ids_with}
 use Rattle.drawing.specs.Room.{Room}
 use Rattle.drawing.proofs.Replay.{more}
@@ -49,7 +49,7 @@ room_for_next room e = (room_for_join room.limits room.entries (sites room.entri
 -- ---- an operation that is placed
 
 module _ (room : Room) (o : Op) where
-  in_two : refusal_in room (Operation o) ≡ first_that_applies (order_conditions room.limits room.entries o ++ body_conditions room o)
+  in_two : refusal_in room (Operation o) ≡ first_that_applies (order_conditions room.limits room.entries o ++ body_conditions room.limits room.entries o)
   unfolding refusal
   in_two = refl
 
@@ -57,12 +57,12 @@ module _ (room : Room) (o : Op) where
   pub refused_first : (why : Refusal) → order_refusal room o ≡ Some why → operation_answer room o ≡ refusal_answer room why
   refused_first why e =
       ap (λ q. entry_or_refusal room q (Operation o) (operation_reply room o))
-      (in_two ∙ first_of_front (order_conditions room.limits room.entries o) (body_conditions room o) why e)
+      (in_two ∙ first_of_front (order_conditions room.limits room.entries o) (body_conditions room.limits room.entries o) why e)
 
   module _ (placed : is_placed room.entries (Operation o) ≡ true) (ordered : order_refusal room o ≡ None) where
     -- otherwise for what it does
     by_body : refusal_in room (Operation o) ≡ body_refusal room o
-    by_body = in_two ∙ front_passed (order_conditions room.limits room.entries o) (body_conditions room o) ordered
+    by_body = in_two ∙ front_passed (order_conditions room.limits room.entries o) (body_conditions room.limits room.entries o) ordered
 
     pub may_be_next : IsNext room o
     unfolding causal_refusal

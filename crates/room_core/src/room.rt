@@ -1,9 +1,9 @@
 //! A room.
 
-ghost use Rattle.std.specs.Prelude.{◌≡◌, ◌≤◌, ◌+◌, map, true, Some, IfOk, OnOk, OnErr, if◌then◌else◌};
+ghost use Rattle.std.specs.Prelude.{◌≡◌, ◌≤◌, ◌+◌, length, map, true, Some, IfOk, OnOk, OnErr, if◌then◌else◌};
 ghost use Rattle.std.specs.Arc.{arc_value};
 ghost use Rattle.rules.specs.declared.limits.TheConstants.Limits.{MAX_JOINS};
-ghost use Rattle.rules.specs.Records.{is_join, sites, IsLegal};
+ghost use Rattle.rules.specs.Records.{is_join, objects, sites, IsLegal};
 ghost use Rattle.wire.specs.declared.reply.Reply.TheVariants.{No};
 ghost use Rattle.drawing.specs.steps.Additions.{IsReady as CanBeAdded};
 ghost use Rattle.room_core.specs.Room.{with_entry, empty_room};
@@ -180,6 +180,13 @@ impl RoomState {
     {
         let _bound = self.drawing.limits().joins();
         self.sites
+    }
+
+    /// The number of objects.
+    pub fn count_objects(&self) -> u32
+        ensures { result ≡ length (objects self.now.room.entries) }
+    {
+        self.drawing.count_objects()
     }
 
     /// The limits that the room was made with.

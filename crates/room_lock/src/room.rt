@@ -8,6 +8,7 @@ ghost use mathlib.Core.List.{IsPrefix};
 ghost use Rattle.rules.specs.Records.{IsLegal};
 ghost use Rattle.rules.specs.declared.limits.TheConstants.Limits.{MAX_ENTRIES};
 ghost use Rattle.room_lock.specs.declared.fault.CallFault.TheVariants as call_fault;
+ghost use Rattle.room_core.specs.Room.{room_of};
 ghost use Rattle.room_core.specs.Answers.{join_answer, answer, room_after};
 ghost use Rattle.room_lock.specs.steps.Differences.{first_difference};
 ghost use Rattle.room_lock.specs.Sites.{none_or_one};
@@ -15,7 +16,7 @@ ghost use Rattle.room_lock.specs.Closing.{IsClosed, IsComplete};
 ghost use Rattle.room_lock.specs.declared.fault.CloseFault.TheVariants as close_fault;
 ghost use Rattle.room_lock.specs.Shelves.{full_shelf, is_away, part_of, with_at};
 ghost use Rattle.room_lock.specs.Told.{IsBackOver, IsBackRefusalOver, IsCallOver, IsJoinOver};
-ghost use Rattle.room_lock.specs.Told.{IsLeaveOver, IsRefusalOver, room_of};
+ghost use Rattle.room_lock.specs.Told.{IsLeaveOver, IsRefusalOver};
 
 use crate::account::Account;
 use crate::closing::{RoomRecord, added_together};

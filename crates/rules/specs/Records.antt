@@ -79,13 +79,16 @@ version_conditions b h op = let changes = changes_on h (object_of op) in
 abbrev pub change_conditions : LimitValues → List Op → Op → List Condition
 change_conditions b h op = (not (has_object h op), NoSuchObject) ∷ version_conditions b h op
 
+-- the conditions on an operation for what it does
+abbrev pub body_conditions : LimitValues → List Entry → Op → List Condition
+body_conditions b r op =
+    if is_change_body op.body then change_conditions b (operations r) op
+    else creation_conditions b r
+
 -- the conditions on an entry, in order
 abbrev pub conditions : LimitValues → List Entry → Entry → List Condition
 conditions b r (Join site) = join_conditions b r
-conditions b r (Operation op) =
-    order_conditions b r op
-    ++ (if is_change_body op.body then change_conditions b (operations r) op
-    else creation_conditions b r)
+conditions b r (Operation op) = order_conditions b r op ++ body_conditions b r op
 
 -- why this entry may not come next, if it may not; its site has joined and its vector is in range
 unfoldable pub refusal : LimitValues → List Entry → Entry → Option Refusal

@@ -38,11 +38,18 @@ impl Model for Attrs {
     ghost invariant = { λ attrs. are_attrs attrs.pairs.items ≡ true };
 }
 
-/// Does one of the pairs have this key?
-fn has_key(pairs: &[(Key, Value)], key: &Key) -> bool
-    ensures { result ≡ list_any (λ pair. bytes_eq pair.0 key.now) pairs.now }
+/// Does one of the pairs have this key? Linear in the pairs.
+pub fn has_key(pairs: &[(Key, Value)], key: &Key) -> bool
+    ensures { result ≡ list_any (λ pair. bytes_eq key.now pair.0) pairs.now }
 {
-    pairs.iter().any(|pair| pair.0 == *key)
+    pairs.iter().any(|pair| *key == pair.0)
+}
+
+/// Does one of the earlier pairs have the key of this one?
+fn is_repeated(pair: &(Key, Value), earlier: &[(Key, Value)]) -> bool
+    ensures { result ≡ list_any (λ one. same_key one pair.now) earlier.now }
+{
+    earlier.iter().any(|one| one.0 == pair.0)
 }
 
 /// The first place whose key is also at an earlier place.
@@ -50,7 +57,7 @@ pub(crate) fn repeated_key(pairs: &[(Key, Value)]) -> Option<usize>
     ensures { result ≡ first_repeat same_key pairs.now }
 {
     for (place, pair) in pairs.iter().enumerate() {
-        if has_key(&pairs[..place], &pair.0) {
+        if is_repeated(pair, &pairs[..place]) {
             return Some(place);
         }
     }

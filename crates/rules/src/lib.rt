@@ -11,7 +11,7 @@ mod refusal;
 mod shared;
 mod version;
 
-pub use attrs::{Attrs, AttrsFault};
+pub use attrs::{Attrs, AttrsFault, has_key};
 pub use history::{Body, Entry, Op};
 pub use limits::{LimitValues, Limits};
 pub use pairs::{Pairs, PairsFault};

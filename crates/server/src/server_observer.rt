@@ -5,10 +5,11 @@ use crate::turnstile::Turnstile;
 use base_types::RoomName;
 use crossbeam_channel::Receiver;
 use log::{Log, info, warn};
-use sessions::{Addition, Cause, Client, Observer};
+use sessions::{Cause, Client, Observer};
 use std::sync::Wait;
 use std::sync::atomic::{AtomicBool, AtomicU64, Ordering};
 use std::time::{Clock, Duration};
+use wire::EntryKind;
 
 /// Counts sessions and what the rooms have, and warns before something is used up. Admits
 /// connections as long as there may be sessions.
@@ -103,9 +104,9 @@ impl<R: Wait + Log> ServerObserver<'_, R> {
 }
 
 impl<R: Wait + Log> Observer for ServerObserver<'_, R> {
-    fn after_entry(&self, place: usize, addition: Addition) {
+    fn after_entry(&self, place: usize, kind: EntryKind) {
         if let Some(room) = self.rooms.get(place) {
-            room.add(self.rt, addition);
+            room.add(self.rt, kind);
         }
     }
 

@@ -5,11 +5,10 @@ ghost use Rattle.std.specs.Prelude.{◌≡◌};
 
 use log::{Log, info, warn};
 use room_core::RoomState;
-use rules::{Body, Entry, Limits};
-use sessions::Addition;
+use rules::Limits;
 use std::alloc::{AllocError, Global};
-use std::sync::Arc;
 use std::sync::atomic::{AtomicU64, Ordering};
+use wire::EntryKind;
 
 /// The least count that is at least nine tenths of a limit.
 fn nine_tenths(limit: u32) -> u64
@@ -50,27 +49,27 @@ impl<'a> Tally<'a> {
             name,
             joins: AtomicU64::new(u64::from(room.sites())),
             entries: AtomicU64::new(room.entries().len() as u64),
-            objects: AtomicU64::new(count_objects(room.entries())),
+            objects: AtomicU64::new(u64::from(room.count_objects())),
         }
     }
 
-    /// Counts an entry. Warns when the joins or the entries reach nine tenths of their limit.
-    pub(crate) fn add<R: Log>(&self, rt: &R, addition: Addition) {
+    /// Counts an entry of this kind. Warns when the joins or the entries reach nine tenths of their limit.
+    pub(crate) fn add<R: Log>(&self, rt: &R, kind: EntryKind) {
         let entries = count(&self.entries);
         if entries == nine_tenths(Limits::MAX_ENTRIES) {
             self.warn_of_entries(rt, entries);
         }
-        match addition {
-            Addition::Site => {
+        match kind {
+            EntryKind::Join => {
                 let joins = count(&self.joins);
                 if joins == nine_tenths(Limits::MAX_JOINS) {
                     self.warn_of_joins(rt, joins);
                 }
             }
-            Addition::Object => {
+            EntryKind::Creation => {
                 count(&self.objects);
             }
-            Addition::Change => {}
+            EntryKind::Change => {}
         }
     }
 
@@ -112,19 +111,6 @@ impl<'a> Tally<'a> {
 /// The count.
 fn load(counter: &AtomicU64) -> u64 {
     counter.load(Ordering::SeqCst)
-}
-
-/// The number of objects that the entries create.
-fn count_objects(entries: &[Arc<Entry>]) -> u64 {
-    let mut objects: u64 = 0;
-    for entry in entries {
-        if let Entry::Operation(op) = &**entry
-            && matches!(op.body, Body::New { .. })
-        {
-            objects = objects.saturating_add(1);
-        }
-    }
-    objects
 }
 
 /// The tallies of rooms of these names that begin empty, in the same order.

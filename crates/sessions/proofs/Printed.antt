@@ -3,25 +3,22 @@ use Rattle.std.proofs.Common.{◌≡◌, ◌+◌, ◌<◌, ℕ, zero, suc, List,
 use Rattle.std.specs.Prelude.{All}
 use Rattle.std.specs.Arc.{arc_value}
 use Rattle.std.proofs.lemmas.List.{map-append, take_more}
-use Rattle.serde_json.specs.Written.{compact_text}
+use Rattle.std.proofs.lemmas.List.Concat.{flat_map-append}
 use Rattle.rules.specs.declared.history.Entry.{Entry}
 use Rattle.rules.specs.declared.limits.LimitValues.{LimitValues}
 use Rattle.rules.specs.Records.{IsLegal}
-use Rattle.wire.specs.Form.{entry_form}
+use Rattle.record_file.specs.RecordText.{entry_line, record_text}
 use Rattle.room_lock.specs.declared.closing.RoomRecord.{RoomRecord}
 use Rattle.room_lock.specs.Closing.{IsClosed}
 use Rattle.room_lock.specs.Passes.{PartView}
-use Rattle.sessions.specs.Records.{NamedRecord, all_lines, entry_lines, record_lines}
+use Rattle.sessions.specs.Records.{NamedRecord, all_lines, record_lines}
 
 -- one more item of a list, under a map
 pub map_more : {A B : Type 0} (f : A → B) (xs : List A) (k : ℕ) (x : A) → k < length xs → x ≡ get_or xs k x → map f (take (k + 1) xs) ≡ map f (take k xs) ++ f x ∷ []
 map_more f xs k x lt is = ap (map f) (take_more xs k x lt ∙ ap (λ y. take k xs ++ y ∷ []) (sym is)) ∙ map-append f (take k xs) (x ∷ [])
 
-pub entry_lines_more : (r : List Entry) (e : Entry) → entry_lines (r ++ e ∷ []) ≡ entry_lines r ++ (compact_text (entry_form e) ++ 10 ∷ [])
-entry_lines_more [] e = append-nil (compact_text (entry_form e) ++ 10 ∷ [])
-entry_lines_more (x ∷ r) e =
-    ap (λ l. (compact_text (entry_form x) ++ 10 ∷ []) ++ l) (entry_lines_more r e)
-    ∙ sym (append_assoc (compact_text (entry_form x) ++ 10 ∷ []) (entry_lines r) (compact_text (entry_form e) ++ 10 ∷ []))
+pub record_text_more : (r : List Entry) (e : Entry) → record_text (r ++ e ∷ []) ≡ record_text r ++ entry_line e
+record_text_more r e = flat_map-append entry_line r (e ∷ []) ∙ ap (λ l. record_text r ++ l) (append-nil (entry_line e))
 
 pub all_lines_more : (rooms : List NamedRecord) (room : NamedRecord) → all_lines (rooms ++ room ∷ []) ≡ all_lines rooms ++ record_lines room
 all_lines_more [] room = append-nil (record_lines room)

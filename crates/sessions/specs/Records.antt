@@ -2,28 +2,22 @@
 use Rattle.std.specs.Prelude.{◌≡◌, ◌++◌, ◌∷◌, [], ℕ, All, List, Option, codes, length, map}
 use Rattle.std.specs.Fmt.{decimal}
 use Rattle.std.specs.Io.KnownBytes.{Appends}
-use Rattle.serde_json.specs.Written.{compact_text}
 use Rattle.base_types.specs.Texts.{Bytes}
 use Rattle.rules.specs.declared.history.Entry.{Entry}
 use Rattle.rules.specs.declared.limits.LimitValues.{LimitValues}
 use Rattle.rules.specs.Records.{IsLegal}
-use Rattle.wire.specs.Form.{entry_form}
+use Rattle.record_file.specs.RecordText.{record_text}
 
 -- a room's name and its record
 pub record NamedRecord : Type 0 where
   pub name : Bytes
   pub entries : List Entry
 
--- a line for each entry: its compact text
-abbrev pub entry_lines : List Entry → List ℕ
-entry_lines [] = []
-entry_lines (entry ∷ entries) = (compact_text (entry_form entry) ++ 10 ∷ []) ++ entry_lines entries
-
 -- the line with the room's name and the number of entries, and the lines of the entries
 abbrev pub record_lines : NamedRecord → List ℕ
 record_lines room =
     (codes "room " ++ room.name ++ (32 ∷ decimal (length room.entries)) ++ 10 ∷ [])
-    ++ entry_lines room.entries
+    ++ record_text room.entries
 
 -- the lines of all rooms, in order
 abbrev pub all_lines : List NamedRecord → List ℕ

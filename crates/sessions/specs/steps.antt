@@ -1,6 +1,5 @@
 pub mod Calls
 pub mod Entrances
 pub mod Causes
-pub mod Growth
 pub mod Ends
 pub mod Sent

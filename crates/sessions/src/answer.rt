@@ -10,7 +10,7 @@ ghost use Rattle.sessions.specs.Turns.{IsKept};
 
 use crate::cause::Cause;
 use crate::host::Host;
-use crate::observer::{Addition, Observer};
+use crate::observer::Observer;
 use room_lock::{KeepFault, Keeper, Prefix, RoomHistories};
 use std::sync::Wait;
 use wire::{Refusal, Reply, write_reply};
@@ -58,9 +58,9 @@ impl<P: RoomHistories> Answer<P> {
     /// Reports the entry that the room has added with this reply, if there is one.
     fn tell_growth<O: Observer>(&self, observer: &O) {
         if let Some(told) = &self.told
-            && let Some(addition) = Addition::of(&self.reply)
+            && let Some(kind) = self.reply.entry_kind()
         {
-            observer.after_entry(told.place(), addition);
+            observer.after_entry(told.place(), kind);
         }
     }
 

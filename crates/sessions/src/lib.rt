@@ -19,7 +19,7 @@ pub use answer::Answered;
 pub use cause::Cause;
 pub use client::{Arrival, Client};
 pub use host::Host;
-pub use observer::{Addition, Observer};
+pub use observer::Observer;
 pub use pool::{PoolFault, run_pool};
 pub use probe::{PROBE_ANSWER, is_probe};
 pub use serve::serve_one;

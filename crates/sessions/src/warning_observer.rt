@@ -2,9 +2,10 @@
 
 use crate::cause::Cause;
 use crate::client::Client;
-use crate::observer::{Addition, Observer};
+use crate::observer::Observer;
 use base_types::RoomName;
 use log::{Log, warn};
+use wire::EntryKind;
 
 /// An observer that logs a warning for each session that did not end `Closed`. It hands all events
 /// on to another observer.
@@ -15,8 +16,8 @@ pub(crate) struct WarningObserver<'a, R, O> {
 }
 
 impl<R: Log, O: Observer> Observer for WarningObserver<'_, R, O> {
-    fn after_entry(&self, place: usize, addition: Addition) {
-        self.observer.after_entry(place, addition);
+    fn after_entry(&self, place: usize, kind: EntryKind) {
+        self.observer.after_entry(place, kind);
     }
 
     fn worker_taken(&self) {

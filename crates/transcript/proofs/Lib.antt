@@ -1,4 +1,3 @@
-pub mod Breaks
 pub mod LineTexts
 pub mod Tables
 pub mod SoFar

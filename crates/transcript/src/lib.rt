@@ -4,10 +4,8 @@
 
 pub mod laws;
 mod line;
-mod lines;
 mod order;
 mod ordered_part;
 
 pub use line::{TranscriptLine, is_join};
-pub use lines::first_line;
 pub use ordered_part::OrderedPart;

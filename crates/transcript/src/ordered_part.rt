@@ -6,9 +6,9 @@ ghost use Rattle.transcript.specs.steps.OrderedParts.{IsOrderedPart};
 ghost use Rattle.transcript.specs.steps.Tables.{IsNextIn};
 
 use crate::line::{TranscriptLine, read_line};
-use crate::lines::first_line;
 use crate::order::Order;
 use base_types::NoMemory;
+use record_file::first_line;
 use std::alloc::Global;
 use std::marker::Model;
 use wire_reader::if_in_form;

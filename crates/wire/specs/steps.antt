@@ -1,3 +1,4 @@
 pub mod Equality
 pub mod Sending
 pub mod Pages
+pub mod OneLine

@@ -4,9 +4,10 @@ use Rattle.std.proofs.lemmas.Bool.{ne_eqb}
 use Rattle.std.proofs.lemmas.List.{length-map, length-append}
 use Rattle.std.specs.Io.KnownBytes.{Appends}
 use Rattle.wire.specs.Lines.{lines_of, onto_first}
+use Rattle.wire.specs.steps.OneLine.{IsOneLine}
 use Rattle.world.specs.State.{WorldState, names_of, rooms_of}
 use Rattle.world.specs.Script.{lines_out, lines_end}
-use Rattle.world.specs.steps.Endings.{breaks_in, ended_lines, HasNoBreak, AnswersRead}
+use Rattle.world.specs.steps.Endings.{breaks_in, ended_lines, AnswersRead}
 use Rattle.world.specs.steps.Answered.{kept_part, Answered}
 use Rattle.world.proofs.Parts.{first_output, first_end}
 use Rattle.world.proofs.Transcript.{ReadSoFar}
@@ -20,12 +21,12 @@ count_lines : (bytes : List ℕ) → length (lines_of (bytes ++ 0 ∷ [])) ≡ b
 count_lines [] = refl
 count_lines (byte ∷ bytes) = count_by (eqb byte 10) byte (lines_of (bytes ++ 0 ∷ [])) (breaks_in bytes) (count_lines bytes)
 
-no_breaks : (line : List ℕ) → HasNoBreak line → breaks_in line ≡ 0
+no_breaks : (line : List ℕ) → IsOneLine line → breaks_in line ≡ 0
 no_breaks [] h = refl
 no_breaks (x ∷ line) h = rw (ne_eqb x 10 h.0) (no_breaks line h.1)
 
 -- as many lines were answered as end in what was taken
-ended_count : {from to : WorldState} {taken held text : List ℕ} (h : Answered from to taken held text) → HasNoBreak held → length h.lines ≡ breaks_in taken
+ended_count : {from to : WorldState} {taken held text : List ℕ} (h : Answered from to taken held text) → IsOneLine held → length h.lines ≡ breaks_in taken
 ended_count {taken = taken} {held = held} h clean =
     let all = lines_of (taken ++ 0 ∷ []) in
     let last = lines_of (held ++ 0 ∷ []) in
@@ -38,13 +39,13 @@ ended_count {taken = taken} {held = held} h clean =
     let none : breaks_in held ≡ 0 = no_breaks held clean in
     omega arith
 
-ended_are : {from to : WorldState} {taken held text : List ℕ} (h : Answered from to taken held text) → HasNoBreak held → take (length h.lines + 0) (lines_of (taken ++ [])) ≡ ended_lines taken
+ended_are : {from to : WorldState} {taken held text : List ℕ} (h : Answered from to taken held text) → IsOneLine held → take (length h.lines + 0) (lines_of (taken ++ [])) ≡ ended_lines taken
 ended_are {taken = taken} h clean =
     let count : length h.lines + 0 ≡ breaks_in taken = omega (arith, ended_count h clean) in
     ap (λ k. take k (lines_of (taken ++ []))) count ∙ ap (λ xs. take (breaks_in taken) (lines_of xs)) (append-nil taken)
 
 -- a read failed
-pub read_fault : {had has a b : Option (List ℕ)} {old now : WorldState} {line : List ℕ} → ReadSoFar had has a b old now line → HasNoBreak line → AnswersRead had has a b old now
+pub read_fault : {had has a b : Option (List ℕ)} {old now : WorldState} {line : List ℕ} → ReadSoFar had has a b old now line → IsOneLine line → AnswersRead had has a b old now
 read_fault {a = a} {b = b} {old = old} h clean =
     let answered = h.wrote.answered in
     record {

@@ -7,6 +7,7 @@ use Rattle.std.proofs.lemmas.List.{length-append, length-drop, length-take, take
 use Rattle.std.proofs.lemmas.Fmt.{length-decimal-le}
 use Rattle.rules.specs.declared.refusal.Refusal.TheVariants.{BadMessage}
 use Rattle.wire.specs.Lines.{lines_of, onto_first}
+use Rattle.wire.specs.steps.OneLine.{IsOneLine}
 use Rattle.wire.specs.declared.reply.Reply.TheVariants.{No}
 use Rattle.wire.specs.Texts.{reply_text}
 use Rattle.wire_reader.specs.steps.Reads.{request_read, reply_read}
@@ -15,7 +16,6 @@ use Rattle.world.specs.Alone.{Message, message_of, Alone, answer_to, after_reply
 use Rattle.world.specs.Rooms.{Rooms, named_place, lone_answer, owner_from, owner_of, reply_at, after_at, reply_to, rooms_after}
 use Rattle.world.specs.State.{WorldState, names_of, rooms_of}
 use Rattle.world.specs.Script.{message_in, text_for, rooms_for, lines_out, lines_end, output_of}
-use Rattle.world.specs.steps.Endings.{HasNoBreak}
 use Rattle.world.specs.declared.script.TheConstants.{LINE_LIMIT}
 use Rattle.world.specs.steps.Answered.{kept_part, LineShows, LinesShow}
 use Rattle.world.proofs.Changed.{rooms_same, alone_same}
@@ -180,7 +180,7 @@ unfolding join
 join_one x [] = refl
 join_one x (h ∷ t) = refl
 
-lines_join : (x : ℕ) (line rest : List ℕ) → HasNoBreak (x ∷ line) → lines_of ((x ∷ line) ++ rest) ≡ join (x ∷ line) (lines_of rest)
+lines_join : (x : ℕ) (line rest : List ℕ) → IsOneLine (x ∷ line) → lines_of ((x ∷ line) ++ rest) ≡ join (x ∷ line) (lines_of rest)
 lines_join x [] rest h = rw (ne_eqb x 10 h.0) (join_one x (lines_of rest))
 lines_join x (y ∷ line) rest h = rw (ne_eqb x 10 h.0) (ap (onto_first x) (lines_join y line rest h.1) ∙ join_more x y line (lines_of rest))
 
@@ -192,7 +192,7 @@ unfolding join
 join_kept line x [] long = ap (λ l. l ∷ []) (same_front line (x ∷ []) [] long)
 join_kept line x (h ∷ t) long = ap (λ l. l ∷ map kept_part t) (same_front line (x ∷ h) h long)
 
-lines_dropped : (line : List ℕ) (x : ℕ) (rest : List ℕ) → HasNoBreak line → x ≢ 10 → LINE_LIMIT ≤ length line → map kept_part (lines_of (line ++ x ∷ rest)) ≡ map kept_part (lines_of (line ++ rest))
+lines_dropped : (line : List ℕ) (x : ℕ) (rest : List ℕ) → IsOneLine line → x ≢ 10 → LINE_LIMIT ≤ length line → map kept_part (lines_of (line ++ x ∷ rest)) ≡ map kept_part (lines_of (line ++ rest))
 lines_dropped [] x rest h ne long = absurd (omega (arith, long))
 lines_dropped (y ∷ line) x rest h ne long =
     let read : lines_of (x ∷ rest) ≡ onto_first x (lines_of rest) = rw (ne_eqb x 10 ne) refl in
@@ -200,25 +200,25 @@ lines_dropped (y ∷ line) x rest h ne long =
     ∙ join_kept (y ∷ line) x (lines_of rest) long
     ∙ ap (map kept_part) (sym (lines_join y line rest h))
 
-lines_dropped_all : (line more rest : List ℕ) → HasNoBreak line → HasNoBreak more → LINE_LIMIT ≤ length line → map kept_part (lines_of (line ++ (more ++ rest))) ≡ map kept_part (lines_of (line ++ rest))
+lines_dropped_all : (line more rest : List ℕ) → IsOneLine line → IsOneLine more → LINE_LIMIT ≤ length line → map kept_part (lines_of (line ++ (more ++ rest))) ≡ map kept_part (lines_of (line ++ rest))
 lines_dropped_all line [] rest h k long = refl
 lines_dropped_all line (x ∷ more) rest h k long = lines_dropped line x (more ++ rest) h k.0 long ∙ lines_dropped_all line more rest h k.1 long
 
-lines_cut_by : (b : Bool) (line rest : List ℕ) → ltb LINE_LIMIT (length line) ≡ b → HasNoBreak line → map kept_part (lines_of (line ++ rest)) ≡ map kept_part (lines_of (kept_part line ++ rest))
+lines_cut_by : (b : Bool) (line rest : List ℕ) → ltb LINE_LIMIT (length line) ≡ b → IsOneLine line → map kept_part (lines_of (line ++ rest)) ≡ map kept_part (lines_of (kept_part line ++ rest))
 lines_cut_by true line rest e h =
     let long : LINE_LIMIT < length line = ltb-true LINE_LIMIT (length line) e in
     let enough : LINE_LIMIT ≤ length (kept_part line) = omega (arith, length-take LINE_LIMIT line, long) in
-    let parts = no_break_parts (kept_part line) (drop LINE_LIMIT line) (subst HasNoBreak (sym (take-append-drop LINE_LIMIT line)) h) in
+    let parts = no_break_parts (kept_part line) (drop LINE_LIMIT line) (subst IsOneLine (sym (take-append-drop LINE_LIMIT line)) h) in
     ap (λ l. map kept_part (lines_of (l ++ rest))) (sym (take-append-drop LINE_LIMIT line))
     ∙ ap (λ l. map kept_part (lines_of l)) (append_assoc (kept_part line) (drop LINE_LIMIT line) rest)
     ∙ lines_dropped_all (kept_part line) (drop LINE_LIMIT line) rest parts.0 parts.1 enough
 lines_cut_by false line rest e h = ap (λ l. map kept_part (lines_of (l ++ rest))) (sym (take_all LINE_LIMIT line (ltb-false LINE_LIMIT (length line) e)))
 
 -- a line that is cut at the limit
-pub lines_cut : (line rest : List ℕ) → HasNoBreak line → map kept_part (lines_of (line ++ rest)) ≡ map kept_part (lines_of (kept_part line ++ rest))
+pub lines_cut : (line rest : List ℕ) → IsOneLine line → map kept_part (lines_of (line ++ rest)) ≡ map kept_part (lines_of (kept_part line ++ rest))
 lines_cut line rest h = lines_cut_by (ltb LINE_LIMIT (length line)) line rest refl h
 
-pub output_dropped : (mid : WorldState) (line : List ℕ) (x : ℕ) (rest : List ℕ) → HasNoBreak line → x ≢ 10 → LINE_LIMIT ≤ length line → output_of mid (line ++ x ∷ rest) ≡ output_of mid (line ++ rest)
+pub output_dropped : (mid : WorldState) (line : List ℕ) (x : ℕ) (rest : List ℕ) → IsOneLine line → x ≢ 10 → LINE_LIMIT ≤ length line → output_of mid (line ++ x ∷ rest) ≡ output_of mid (line ++ rest)
 output_dropped mid line x rest h ne long =
     out_kept (names_of mid) (rooms_of mid) (lines_of (line ++ x ∷ rest))
     ∙ ap (lines_out (names_of mid) (rooms_of mid)) (lines_dropped line x rest h ne long)

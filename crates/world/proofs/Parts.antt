@@ -7,10 +7,11 @@ use Rattle.std.specs.Io.KnownBytes.{Appends, Keeps}
 use Rattle.byte_streams.specs.Prefixes.{AppendsPrefix}
 use Rattle.byte_streams.proofs.Written.{no_front}
 use Rattle.wire.specs.Lines.{lines_of}
+use Rattle.wire.specs.steps.OneLine.{IsOneLine}
 use Rattle.world.specs.Rooms.{Rooms}
 use Rattle.world.specs.State.{WorldState, names_of, rooms_of}
 use Rattle.world.specs.Script.{message_in, text_for, rooms_for, lines_out, lines_end, output_of, end_of}
-use Rattle.world.specs.steps.Endings.{HasNoBreak, Stops}
+use Rattle.world.specs.steps.Endings.{Stops}
 use Rattle.world.specs.declared.script.TheConstants.{LINE_LIMIT}
 use Rattle.world.specs.steps.Answered.{kept_part, line_text, IsHeld, LinesShow, IsPastLine, IsPastEnd, Answered, Adds, AnswersSome, Hands, Wrote, WroteSome}
 use Rattle.world.proofs.LongLines.{lines_cut, out_kept, end_kept, shows_kept, shows_whole}
@@ -124,13 +125,13 @@ module _ {from to : WorldState} {taken held text : List ℕ} (h : Answered from 
 -- ---- more bytes of a line
 
 -- they join it
-pub answered_kept : (s : WorldState) (line bytes longer : List ℕ) → longer ≡ kept_part (line ++ bytes) → HasNoBreak line → HasNoBreak bytes
+pub answered_kept : (s : WorldState) (line bytes longer : List ℕ) → longer ≡ kept_part (line ++ bytes) → IsOneLine line → IsOneLine bytes
     → IsHeld longer × Answered s s (line ++ bytes) longer []
 answered_kept s line bytes longer e clean more =
     let all = line ++ bytes in
     let both = no_break_append line bytes clean more in (
       record {
-        clean = rw e (no_break_parts (kept_part all) (drop LINE_LIMIT all) (subst HasNoBreak (sym (take-append-drop LINE_LIMIT all)) both)).0;
+        clean = rw e (no_break_parts (kept_part all) (drop LINE_LIMIT all) (subst IsOneLine (sym (take-append-drop LINE_LIMIT all)) both)).0;
         short = omega (arith, ap length e, length-take LINE_LIMIT all);
       },
       subst (λ l. Answered s s all l []) (sym e) (record { lines = []; rooms = refl; names = refl; is_text = refl; shown = tt; same = λ rest. lines_cut all rest both }),
@@ -151,7 +152,7 @@ answers_nothing s new taken same = subst (λ n. AnswersSome s n taken) (sym same
 
 -- ---- a line ends
 
-pub answered_line : (s new : WorldState) (line : List ℕ) → HasNoBreak line → IsPastLine s line new → Answered s new (line ++ 10 ∷ []) [] (line_text s line)
+pub answered_line : (s new : WorldState) (line : List ℕ) → IsOneLine line → IsPastLine s line new → Answered s new (line ++ 10 ∷ []) [] (line_text s line)
 answered_line s new line clean past = record {
   lines = line ∷ [];
   rooms = past.rooms;
@@ -162,7 +163,7 @@ answered_line s new line clean past = record {
 }
 
 -- it was answered, but the answer is lost, or it was not answered
-pub answered_lost : (s new : WorldState) (line : List ℕ) → HasNoBreak line → (new ≡ s) ⊎ IsPastLine s line new → AnswersSome s new (line ++ 10 ∷ [])
+pub answered_lost : (s new : WorldState) (line : List ℕ) → IsOneLine line → (new ≡ s) ⊎ IsPastLine s line new → AnswersSome s new (line ++ 10 ∷ [])
 answered_lost s new line clean (inl same) = answers_nothing s new (line ++ 10 ∷ []) same
 answered_lost s new line clean (inr past) = record { held = []; text = line_text s line; answered = answered_line s new line clean past }
 
@@ -290,7 +291,7 @@ stops_then {a = a} {b = b} {c = c} {s1 = s1} {held = held} rest h k = record {
 }
 
 -- the last line was answered, and some of the answer written
-pub stops_line : (a c : Option (List ℕ)) (s new : WorldState) (line : List ℕ) → HasNoBreak line → 0 < length line → IsPastLine s line new → AppendsPrefix a c (line_text s line) → Stops a c s new line
+pub stops_line : (a c : Option (List ℕ)) (s new : WorldState) (line : List ℕ) → IsOneLine line → 0 < length line → IsPastLine s line new → AppendsPrefix a c (line_text s line) → Stops a c s new line
 stops_line a c s new [] clean some past part = absurd (omega (arith, some))
 stops_line a c s new (x ∷ line) clean some past part =
     let one : (x ∷ line) ∷ [] ≡ take 1 (lines_of (x ∷ line)) = ap (take 1) (sym (lines_last x line clean)) in
@@ -311,12 +312,12 @@ pub stops_at_once : (a : Option (List ℕ)) (s : WorldState) (bytes : List ℕ) 
 stops_at_once a s bytes = stops_of bytes (wrote_none a s [] [] refl)
 
 -- the last line was answered or not, and nothing is written
-pub stops_lost : (a : Option (List ℕ)) (s new : WorldState) (line : List ℕ) → HasNoBreak line → 0 < length line → (new ≡ s) ⊎ IsPastLine s line new → Stops a a s new line
+pub stops_lost : (a : Option (List ℕ)) (s new : WorldState) (line : List ℕ) → IsOneLine line → 0 < length line → (new ≡ s) ⊎ IsPastLine s line new → Stops a a s new line
 stops_lost a s new line clean some (inl same) = subst (λ n. Stops a a s n line) (sym same) (stops_at_once a s line)
 stops_lost a s new line clean some (inr past) = stops_line a a s new line clean some past (no_front a _)
 
 -- the last line was answered
-pub past_end : (s new : WorldState) (line : List ℕ) → HasNoBreak line → 0 < length line → IsPastLine s line new → IsPastEnd s line new
+pub past_end : (s new : WorldState) (line : List ℕ) → IsOneLine line → 0 < length line → IsPastLine s line new → IsPastEnd s line new
 past_end s new [] clean some past = absurd (omega (arith, some))
 past_end s new (x ∷ line) clean some past = record {
   rooms = past.rooms ∙ sym (end_last s (x ∷ line) clean some);

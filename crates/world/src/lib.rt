@@ -2,7 +2,6 @@
 #![tactic(auto)]
 
 ghost use Rattle.std.specs.Prelude.{◌≡◌, ◌↔◌, ℕ, map, option_map, Some, None, IfOk, OnOk, OnErr, IsErrOf, string_bytes, bytes_eq};
-ghost use Rattle.std.specs.Arc.{arc_value};
 ghost use Rattle.base_types.specs.Repeats.{first_repeat};
 ghost use Rattle.rules.specs.declared.refusal.Refusal.{Refusal};
 ghost use Rattle.wire_reader.specs.steps.Reads.{request_read};
@@ -10,7 +9,7 @@ ghost use Rattle.wire.specs.declared.reply.Reply.TheVariants.{No};
 ghost use Rattle.wire.specs.Entering.{room_to_enter};
 ghost use Rattle.world.specs.Alone.{message_of};
 ghost use Rattle.world.specs.Rooms.{place_of, lone_refusal};
-ghost use Rattle.world.specs.State.{WorldState, names_in, names_of, room_at, new_world};
+ghost use Rattle.world.specs.State.{WorldState, names_in, names_of, new_world};
 ghost use Rattle.world.specs.steps.Steps.{asker_of, IsTextFor};
 ghost use Rattle.world.specs.Run.{IsAnswer, AnswersSomeOf};
 
@@ -21,16 +20,14 @@ mod script;
 mod seats;
 mod sites;
 
-use base_types::{NoMemory, RoomName, repeated_name};
+use base_types::{NoMemory, RoomName, RoomsFault, repeated_name};
 pub use fault::ScriptFault;
 use named_room::{NamedRoom, answer_at, empty_rooms, place_of};
-pub use room_core::RoomsFault;
-use rules::{Entry, Limits};
+use rules::Limits;
 use seats::{Asker, Seat, seat_at};
 use std::alloc::Global;
 use std::collections::BTreeMap;
 use std::marker::Model;
-use std::sync::Arc;
 use wire::{Refusal, Reply, Request, write_reply};
 use wire_reader::{Scratch, if_in_form, read_request};
 
@@ -133,19 +130,6 @@ impl World {
         let rooms = empty_rooms(alloc, names, limits)?;
         let seats = BTreeMap::new(alloc);
         Ok(World { rooms, seats })
-    }
-
-    /// The record of the room of this name, or `None` if there is no such room.
-    #[tactic(auto, using(crate::proofs::Places::place_of_within, crate::proofs::Places::room_at_read))]
-    pub fn entries(&self, name: &RoomName) -> Option<&[Arc<Entry>]>
-        ensures { let place = place_of (names_of self.now) name.now in
-            option_map (λ entries. map arc_value entries.now) result
-            ≡ option_map (λ place. (room_at self.now.rooms place).entries) place }
-    {
-        match place_of(&self.rooms, name) {
-            Some(place) => Some(self.rooms[place].entries()),
-            None => None,
-        }
     }
 
     /// Answers a message of a session with the text of the reply. The reply is that of the room

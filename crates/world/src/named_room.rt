@@ -1,7 +1,6 @@
 //! A room under its name, and the list of the rooms.
 
 ghost use Rattle.std.specs.Prelude.{◌≡◌, ◌<◌, ℕ, List, length, map, Some, None, IfOk, OnOk, OnErr, string_bytes, slice_set};
-ghost use Rattle.std.specs.Arc.{arc_value};
 ghost use Rattle.rules.specs.Records.{IsLegal};
 ghost use Rattle.wire.specs.Form.{IsReply, IsRequest};
 ghost use Rattle.room_core.specs.Room.{with_entry};
@@ -15,11 +14,10 @@ use crate::seats::{Asker, Seat, move_of, move_seat};
 use crate::sites::SitesInUse;
 use base_types::{NoMemory, RoomName};
 use room_core::{Planned, RoomState};
-use rules::{Entry, Limits, Refusal};
+use rules::{Limits, Refusal};
 use std::alloc::Global;
 use std::collections::BTreeMap;
 use std::marker::Model;
-use std::sync::Arc;
 use wire::{Reply, Request, write_reply};
 
 /// A room under its name.
@@ -158,13 +156,6 @@ fn put_in_place(
 }
 
 impl NamedRoom {
-    /// Its record.
-    pub(crate) fn entries(&self) -> &[Arc<Entry>]
-        ensures { map arc_value result.now ≡ self.now.room.entries }
-    {
-        self.state.entries()
-    }
-
     /// Answers a request of a site, or of a session that is in no room. On `Err` nothing changes.
     fn answer(
         &mut self,

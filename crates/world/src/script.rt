@@ -3,11 +3,12 @@
 ghost use Rattle.std.specs.Prelude.{◌≡◌, ◌≢◌, ◌⊎◌, ℕ, List, [], ◌∷◌, ◌++◌, length, option_map, IfOk, IfSome, IfErr, OnOk, OnErr, IsErrOf, MatchOption};
 ghost use Rattle.std.specs.Fmt.{decimal};
 ghost use Rattle.std.specs.Io.KnownBytes.{Appends, IsAtEnd, Keeps};
+ghost use Rattle.wire.specs.steps.OneLine.{IsOneLine};
 ghost use Rattle.world.specs.Alone.{message_of};
 ghost use Rattle.world.specs.State.{names_of};
 ghost use Rattle.byte_streams.specs.Prefixes.{AppendsPrefix};
 ghost use Rattle.world.specs.Script.{message_in, output_of, AnswersScript};
-ghost use Rattle.world.specs.steps.Endings.{HasNoBreak, Stops, AnswersRead};
+ghost use Rattle.world.specs.steps.Endings.{Stops, AnswersRead};
 ghost use Rattle.world.specs.steps.Answered.{kept_part, line_text, IsHeld, IsPastLine, IsPastEnd, Adds, AnswersSome, Hands, Wrote, WroteSome};
 
 use crate::World;
@@ -56,8 +57,8 @@ fn message_in(line: &[u8]) -> Option<(u32, &[u8])>
 
 /// The bytes before the first line break, and those after it, if there is one.
 fn split_line(bytes: &[u8]) -> Option<(&[u8], &[u8])>
-    ensures { MatchOption result (HasNoBreak bytes.now) (λ parts.
-        (bytes.now ≡ parts.0.now ++ 10 ∷ parts.1.now) × HasNoBreak parts.0.now) }
+    ensures { MatchOption result (IsOneLine bytes.now) (λ parts.
+        (bytes.now ≡ parts.0.now ++ 10 ∷ parts.1.now) × IsOneLine parts.0.now) }
 {
     let place = memchr(b'\n', bytes)?;
     Some((&bytes[..place], &bytes[place + 1..]))
@@ -171,7 +172,7 @@ impl World {
         answers: &mut Vec<u8>,
     ) -> Result<(), NoMemory>
         requires held { IsHeld line.old.items }
-        requires bytes { HasNoBreak bytes.now }
+        requires bytes { IsOneLine bytes.now }
         ensures empty { OnOk result (line.new.items ≡ []) }
         ensures ok { let whole = line.old.items ++ bytes.now ++ 10 ∷ [] in
             OnOk result (Adds self.old self.new
@@ -204,7 +205,7 @@ impl World {
         requires none { answers.old.items ≡ [] }
         // What is held then, and what was written:
         ensures held { OnOk result (IsHeld line.new.items) }
-        ensures rest { IfOk result (λ rest. HasNoBreak rest.now) }
+        ensures rest { IfOk result (λ rest. IsOneLine rest.now) }
         ensures ok { let taken = line.old.items ++ bytes.now in
             IfOk result (λ rest. Wrote (W.contents output.old) (W.contents output.new)
             self.old self.new taken (line.new.items ++ rest.now) answers.new.items) }
@@ -262,7 +263,7 @@ impl World {
         answers: &mut Vec<u8>,
         output: &mut W,
     ) -> Result<(), ScriptFault>
-        requires clean { HasNoBreak line.now }
+        requires clean { IsOneLine line.now }
         requires none { answers.old.items ≡ [] }
         // What was written, and where the rooms are:
         ensures ok { let text = output_of self.old line.now in

@@ -2,8 +2,8 @@
 use Rattle.command_fault.specs.declared.fault.Fault.{Fault}
 use Rattle.command_fault.specs.declared.fault.Fault.TheVariants.{RoomNamedTwice, Input, Output}
 use Rattle.command_fault.specs.declared.fault.Fault.TheVariants.{NoMemory}
-use Rattle.room_core.specs.declared.fault.RoomsFault.{RoomsFault}
-use Rattle.room_core.specs.declared.fault.RoomsFault.TheVariants as rooms
+use Rattle.base_types.specs.declared.fault.RoomsFault.{RoomsFault}
+use Rattle.base_types.specs.declared.fault.RoomsFault.TheVariants as rooms
 use Rattle.world.specs.declared.fault.ScriptFault.{ScriptFault}
 use Rattle.world.specs.declared.fault.ScriptFault.TheVariants as script
 

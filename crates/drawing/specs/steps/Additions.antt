@@ -9,10 +9,10 @@ use Rattle.rules.specs.declared.history.Op.{Op}
 use Rattle.rules.specs.declared.history.Entry.{Entry}
 use Rattle.rules.specs.declared.history.Entry.TheVariants.{Join, Operation}
 use Rattle.rules.specs.declared.refusal.Refusal.{Refusal}
-use Rattle.rules.specs.Admission.{Condition, causal_refusal, first_that_applies}
+use Rattle.rules.specs.Admission.{causal_refusal, first_that_applies}
 use Rattle.rules.specs.Bodies.{is_change_body}
 use Rattle.rules.specs.Operations.{object_of}
-use Rattle.rules.specs.Records.{operations, creation_conditions, change_conditions}
+use Rattle.rules.specs.Records.{operations, body_conditions}
 use Rattle.shape.specs.steps.Objects.{Stored}
 use Rattle.shape.specs.steps.Planned.{IsPlanned, Plan as ChangePlan}
 use Rattle.drawing.specs.Room.{Room}
@@ -23,16 +23,9 @@ use Rattle.drawing.specs.declared.addition.Part.TheVariants as part
 
 -- ---- what may come next
 
--- what is asked of an operation for what it does
-abbrev pub body_conditions : Room → Op → List Condition
-body_conditions room op =
-    if is_change_body op.body
-    then change_conditions room.limits (operations room.entries) op
-    else creation_conditions room.limits room.entries
-
--- why it is refused for what it does, if it is
+-- why an operation is refused for what it does, if it is
 abbrev pub body_refusal : Room → Op → Option Refusal
-body_refusal room op = first_that_applies (body_conditions room op)
+body_refusal room op = first_that_applies (body_conditions room.limits room.entries op)
 
 -- the operation may come next, whatever it does
 pub record IsNext (room : Room) (op : Op) : Type 0 where

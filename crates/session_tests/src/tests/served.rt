@@ -8,7 +8,7 @@ use base_types::RoomName;
 use log::sink::Locked;
 use log::{LevelFilter, Log, Logged};
 use room_lock::{KeepFault, Keeper, NewRooms, Prefix, RoomHistories, Rooms};
-use sessions::{Addition, Arrival, Cause, Client, Observer, ServeFault, serve_streams};
+use sessions::{Arrival, Cause, Client, Observer, ServeFault, serve_streams};
 use std::alloc::Global;
 use std::io::{Read, Write};
 use std::marker::Brand;
@@ -17,6 +17,7 @@ use std::sync::Wait;
 use std::sync::atomic::{AtomicU64, Ordering};
 use std::thread::Threads;
 use tungstenite::Duplex;
+use wire::EntryKind;
 
 /// The head of a request that asks for a WebSocket, with the key of RFC 6455, section 1.3.
 const HEAD: &str =
@@ -147,7 +148,7 @@ impl Told {
 }
 
 impl Observer for Told {
-    fn after_entry(&self, _place: usize, _addition: Addition) {
+    fn after_entry(&self, _place: usize, _kind: EntryKind) {
         self.entries.fetch_add(1, Ordering::SeqCst);
     }
 

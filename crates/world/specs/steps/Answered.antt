@@ -3,6 +3,7 @@ use Rattle.std.specs.Prelude.{ℕ, ◌≡◌, ◌≤◌, List, [], ◌∷◌, �
 use Rattle.std.specs.Prelude.{None}
 use Rattle.std.specs.Io.KnownBytes.{Appends}
 use Rattle.wire.specs.Lines.{lines_of}
+use Rattle.wire.specs.steps.OneLine.{IsOneLine}
 use Rattle.wire.specs.Texts.{reply_text}
 use Rattle.world.specs.declared.script.TheConstants.{LINE_LIMIT}
 use Rattle.world.specs.Alone.{Message}
@@ -10,7 +11,6 @@ use Rattle.world.specs.Rooms.{Rooms, reply_to}
 use Rattle.world.specs.State.{WorldState, names_of, rooms_of}
 use Rattle.world.specs.Shown.{ShowsGroups}
 use Rattle.world.specs.Script.{message_in, text_for, rooms_for, lines_out, lines_end, end_of}
-use Rattle.world.specs.steps.Endings.{HasNoBreak}
 
 -- as much of a line as is kept
 abbrev pub kept_part : List ℕ → List ℕ
@@ -18,7 +18,7 @@ kept_part line = take LINE_LIMIT line
 
 -- a line whose end has not come, as much as is kept of it
 pub record IsHeld (line : List ℕ) : Type 0 where
-  pub clean : HasNoBreak line
+  pub clean : IsOneLine line
   pub short : length line ≤ LINE_LIMIT
 
 -- where the answers to a line, and to lines, show objects, these have their groups

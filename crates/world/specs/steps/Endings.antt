@@ -1,5 +1,5 @@
 -- Scripts that end early: which lines are answered, and what is written. And the form of a line.
-use Rattle.std.specs.Prelude.{ℕ, ◌+◌, ◌^◌, ◌≡◌, ◌≢◌, ◌<◌, take, List, [], ◌∷◌, ◌++◌, Option}
+use Rattle.std.specs.Prelude.{ℕ, ◌+◌, ◌^◌, ◌≡◌, ◌<◌, take, List, [], ◌∷◌, ◌++◌, Option}
 use Rattle.std.specs.Prelude.{if◌then◌else◌}
 use Rattle.std.specs.Fmt.{decimal}
 use Rattle.std.specs.Io.KnownBytes.{Appends, Consumes}
@@ -13,11 +13,6 @@ use Rattle.world.specs.Script.{lines_out, lines_end}
 pub record IsLineOf (line : List ℕ) (message : Message) : Type 0 where
   pub small : message.session < 2 ^ 32
   pub form : line ≡ decimal message.session ++ 32 ∷ message.bytes
-
--- no line ends in these bytes
-abbrev pub HasNoBreak : List ℕ → Type 0
-HasNoBreak [] = Unit {0}
-HasNoBreak (byte ∷ bytes) = (byte ≢ 10) × HasNoBreak bytes
 
 -- some of the first lines of these bytes were answered, and a prefix of the answers was written
 pub record Stops (old new : Option (List ℕ)) (from to : WorldState) (bytes : List ℕ) : Type 0 where

@@ -8,12 +8,12 @@ use Rattle.wire.specs.declared.request.Request.TheVariants.{Leave}
 use Rattle.wire.specs.declared.reply.Reply.{Reply}
 use Rattle.wire.specs.declared.reply.Reply.TheVariants.{Left, No}
 use Rattle.rules.specs.declared.refusal.Refusal.TheVariants.{NotJoined}
-use Rattle.room_core.specs.Room.{Room}
+use Rattle.room_core.specs.Room.{room_of, Room}
 use Rattle.room_core.specs.Answers.{answer, has_site, site_answer, reply_alone}
 use Rattle.room_lock.specs.Passes.{PartView}
 use Rattle.room_lock.specs.Kept.{IsRoomKept, Placed}
 use Rattle.room_lock.specs.Shelves.{Shelf, IsShelfOf}
-use Rattle.room_lock.specs.Told.{IsLeaveOver, room_of}
+use Rattle.room_lock.specs.Told.{IsLeaveOver}
 use Rattle.room_lock.proofs.Balance.{with_shelf}
 use Rattle.room_lock.proofs.Fronts.{seen_begins}
 use Rattle.room_lock.proofs.Shelves.{shelf_put}

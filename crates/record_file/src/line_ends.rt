@@ -1,4 +1,4 @@
-//! The lines of a file.
+//! Where the first line of a file ends.
 
 ghost use Rattle.std.specs.Prelude.{◌≡◌, ◌<◌, ◌∷◌, length};
 ghost use Rattle.std.specs.List.{position};

@@ -158,7 +158,7 @@ def invalid_request(source):
         lambda: b"[" * source.randrange(1, 16_000),
         lambda: (lambda depth: b"[" * depth + b"]" * depth)(source.randrange(2, 8000)),
         lambda: b"a" * 100_000,
-        lambda: f'["{source.choice(("list", "pull"))}",{source.choice(NUMBERS)}]'.encode(),
+        lambda: f'["{source.choice(("list", "pull", "wait"))}",{source.choice(NUMBERS)}]'.encode(),
         lambda: source.choice(FORMS).encode(),
         lambda: LEAVE.ljust(source.randrange(16_385, LONGEST_MESSAGE)),
         lambda: ('["sit","' + chr(source.randrange(0xE000, 0x110000)) + '"]').encode(),

@@ -107,6 +107,12 @@ PAGES_OF_THE_RECORD = """
 1 ["pull",2] -> ["entries",3,2,[["join",2]]]
 1 ["pull",3] -> ["entries",3,3,[]]
 """
+WAITS = TWO_VERSIONS + """
+1 ["wait",99] -> ["no",5,17,"too-far"]
+1 ["wait",4] -> ["entries",5,4,[["put",[2,1],[[1,1]],[1,1],[],[["x",9]]]]]
+1 ["wait",5] -> ["entries",5,5,[]]
+3 ["wait",0] -> ["no",0,2,"not-joined"]
+"""
 REPLACED = ONE_PUT + """
 1 ["put",3,[[1,2]],[1,1],[],[["x",6]]] -> ["taken",4,[[]]]
 2 ["put",1,[[1,1]],[1,1],[],[["x",5]]] -> ["taken",5,[[[1,3]],[[2,1]]]]
@@ -359,6 +365,7 @@ ROWS = [
     ("bad messages and refusals", NO_REQUESTS),
     ("pages, leaving and joining anew", PAGES),
     ("pages of the record, and the same ones again", PAGES_OF_THE_RECORD),
+    ("waits, answered as pulls", WAITS),
     ("a value that was replaced", REPLACED),
     ("letters of all kinds", OTHER_LETTERS),
     ("two that agree against one", TWO_AGAINST_ONE),

@@ -41,7 +41,7 @@ OUTPUTS = [
     (["migrate", "--help"],
      "Prints a room's record in today's forms\n\nUsage: grace migrate <RECORD>\n\nArguments:\n"
      "  <RECORD>  A file of the record's entries, one a line\n"),
-    (["--version"], "grace 0.3.0\n"),
+    (["--version"], "grace 0.4.0\n"),
 ]
 
 

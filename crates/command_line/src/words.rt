@@ -4,7 +4,7 @@ use clap::{Arg, ArgAction, Command, value_parser};
 use std::alloc::{AllocError, Global};
 
 /// The version that `--version` prints. docs/DECISIONS.md says what the number means.
-const VERSION: &str = "0.3.0";
+const VERSION: &str = "0.4.0";
 
 /// A required argument.
 fn word<'a>(alloc: Global, name: &'a str, help: &'a str) -> Arg<'a> {

@@ -110,7 +110,7 @@ module _ (room : Room) (at : ℕ) (object : Name) (kind : Bytes) (vs : List Vers
   site_shows site (request.Change seq seen b) e = operation_shows (record { name = (site, seq); seen = seen; body = b }) e
   site_shows site (request.Show name) e = shown_by name (creation_of (operations room.entries) name) refl e
   site_shows site (request.List from) e = absurd (either_not _ _ _ (refused_not _ _) (objects_not _ _ _ _) e)
-  site_shows site (request.Pull from) e = absurd (either_not _ _ _ (refused_not _ _) (entries_not _ _ _) e)
+  site_shows site (request.Pull from waits) e = absurd (either_not _ _ _ (refused_not _ _) (entries_not _ _ _) e)
   site_shows site request.Leave e = absurd cc
 
   by_site : (b : Bool) (site : ℕ) (asks : Request) (why : Refusal) → (cond b (site_answer room site asks) (reply_alone (No 0 why))).0 ≡ Versions at object kind vs

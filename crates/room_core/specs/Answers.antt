@@ -90,7 +90,7 @@ site_answer room site (Request.Change seq seen body) =
     operation_answer room (operation_by site seq seen body)
 site_answer room site (Request.Show object) = reply_alone (show_reply room object)
 site_answer room site (Request.List from) = reply_alone (list_reply room from)
-site_answer room site (Request.Pull from) = reply_alone (pull_reply room from)
+site_answer room site (Request.Pull from waits) = reply_alone (pull_reply room from)
 site_answer room site Request.Leave = reply_alone (Left (length room.entries))
 
 -- is it the number of a site that has joined

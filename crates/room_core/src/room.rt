@@ -143,7 +143,7 @@ impl RoomState {
             }
             Request::Show { object } => Ok(Planned::of_reply(self.drawing.show(alloc, object)?)),
             Request::List { from } => self.plan_list(alloc, from),
-            Request::Pull { from } => self.plan_pull(alloc, from),
+            Request::Pull { from, waits: _ } => self.plan_pull(alloc, from),
             Request::Leave => Ok(Planned::of_reply(Reply::Left {
                 at: self.drawing.len(),
             })),

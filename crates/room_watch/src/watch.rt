@@ -184,7 +184,7 @@ fn pull_record<S: Read + Write + Drop, K: MaskKeys + Drop>(
     // Each page but the last has an entry, so there are at most this many pages.
     for _page in 0..=Limits::MAX_ENTRIES {
         let from = replica.count_taken();
-        let text = ask(alloc, socket, &Request::Pull { from })?;
+        let text = ask(alloc, socket, &Request::Pull { from, waits: false })?;
         let fed = replica.feed_page(alloc, text.as_bytes())?;
         if fed.from != from || replica.count_taken() > fed.at {
             return Err(WatchFault::Session);

@@ -54,7 +54,7 @@ inside_stays limits was now Leave told reply is = absurd (cc is.4)
 inside_stays limits was now (Change seq seen body) told reply is = call_stays limits was now (Change seq seen body) told reply is
 inside_stays limits was now (Show object) told reply is = call_stays limits was now (Show object) told reply is
 inside_stays limits was now (Listing from) told reply is = call_stays limits was now (Listing from) told reply is
-inside_stays limits was now (Pull from) told reply is = call_stays limits was now (Pull from) told reply is
+inside_stays limits was now (Pull from waits) told reply is = call_stays limits was now (Pull from waits) told reply is
 
 -- a call reports on the room of the session
 call_told : (limits : LimitValues) (was : PassView) (new : SessionView) (request : Request) (told : PrefixView) (reply : Reply)
@@ -71,7 +71,7 @@ inside_told limits was new Leave told reply is = let same : told ≡ is.0 = cc i
 inside_told limits was new (Change seq seen body) told reply is = call_told limits was new (Change seq seen body) told reply is
 inside_told limits was new (Show object) told reply is = call_told limits was new (Show object) told reply is
 inside_told limits was new (Listing from) told reply is = call_told limits was new (Listing from) told reply is
-inside_told limits was new (Pull from) told reply is = call_told limits was new (Pull from) told reply is
+inside_told limits was new (Pull from waits) told reply is = call_told limits was new (Pull from waits) told reply is
 
 pub turn_stays : (limits : LimitValues) (names : List Bytes) (was now : PassView) (bytes : Bytes) (told : Option PrefixView) (reply : Reply)
     → IsTurn limits names (Some was) (Some now) bytes told reply → (now.room ≡ was.room) × (now.part.place ≡ was.part.place)

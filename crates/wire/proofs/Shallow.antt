@@ -1,5 +1,5 @@
 -- No form nests deep.
-use Rattle.std.proofs.Common.{ℕ, suc, ◌≤◌, ℤ, pos, negsuc, List, [], ◌∷◌, map, codes, arith}
+use Rattle.std.proofs.Common.{ℕ, suc, ◌≤◌, ℤ, pos, negsuc, List, [], ◌∷◌, map, codes, true, false, arith}
 use Rattle.std.specs.List.{AllByRecursion}
 use Rattle.serde_json.specs.Data.{Data, string, number, depth, items_depth}
 use Rattle.serde_json.specs.Find.{of_integer}
@@ -92,7 +92,8 @@ shallow_request (Join room) = shallow_fields 2 (codes "join") (string room ∷ [
 shallow_request (Back room site) = shallow_fields 2 (codes "back") (string room ∷ whole_form site ∷ []) (shallow_text 2 room, (shallow_whole 2 site, tt))
 shallow_request (Change seq seen body) = shallow_operation (whole_form seq) seen body (shallow_whole 2 seq)
 shallow_request (ListObjects from) = shallow_fields 2 (codes "list") (whole_form from ∷ []) (shallow_whole 2 from, tt)
-shallow_request (Pull from) = shallow_fields 2 (codes "pull") (whole_form from ∷ []) (shallow_whole 2 from, tt)
+shallow_request (Pull from false) = shallow_fields 2 (codes "pull") (whole_form from ∷ []) (shallow_whole 2 from, tt)
+shallow_request (Pull from true) = shallow_fields 2 (codes "wait") (whole_form from ∷ []) (shallow_whole 2 from, tt)
 shallow_request (Show name) = shallow_fields 2 (codes "show") (name_form name ∷ []) (shallow_name 1 name, tt)
 shallow_request Leave = shallow_fields 2 (codes "leave") [] tt
 

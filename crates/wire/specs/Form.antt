@@ -1,6 +1,6 @@
 -- The JSON forms of requests, replies and entries, and of their parts.
 use Rattle.std.specs.Prelude.{◌≡◌, ℕ, ◌^◌, ◌<◌, ◌≤◌, ℤ, pos, negsuc, List, [], ◌∷◌, map, length}
-use Rattle.std.specs.Prelude.{codes, Bool, nat_le, true, Some, IsUtf8, ◌⊎◌}
+use Rattle.std.specs.Prelude.{codes, Bool, nat_le, true, false, Some, IsUtf8, ◌⊎◌}
 use Rattle.std.specs.List.{AllByRecursion}
 use Rattle.serde_json.specs.Data.{Data, number, unsigned, string, array}
 use Rattle.serde_json.specs.Find.{of_integer}
@@ -128,7 +128,8 @@ request_form_by of_body (Change seq seen body) = operation_form (whole_form seq)
 request_form_by of_body (Show name) = list_form (string (codes "show") ∷ name_form name ∷ [])
 request_form_by of_body (ListObjects from) =
     list_form (string (codes "list") ∷ whole_form from ∷ [])
-request_form_by of_body (Pull from) = list_form (string (codes "pull") ∷ whole_form from ∷ [])
+request_form_by of_body (Pull from false) = list_form (string (codes "pull") ∷ whole_form from ∷ [])
+request_form_by of_body (Pull from true) = list_form (string (codes "wait") ∷ whole_form from ∷ [])
 request_form_by of_body Leave = list_form (string (codes "leave") ∷ [])
 
 -- the form in which a request is written
@@ -142,7 +143,7 @@ IsRequest (Back room site) = (is_room_name room ≡ true) × (is_site site ≡ t
 IsRequest (Change seq seen body) = (is_seq seq ≡ true) × (is_vector seen ≡ true) × IsBody body
 IsRequest (Show name) = is_op_name name ≡ true
 IsRequest (ListObjects from) = is_from from ≡ true
-IsRequest (Pull from) = is_from from ≡ true
+IsRequest (Pull from waits) = is_from from ≡ true
 IsRequest Leave = Unit {0}
 
 -- the JSON value is a form of x: the one that is written, or the old one

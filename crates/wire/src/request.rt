@@ -38,9 +38,11 @@ pub enum Request {
     List {
         from: u32,
     },
-    /// Read a page of the room's record.
+    /// Read a page of the room's record. If `waits`, the answer may be held until the record has an
+    /// entry at `from`.
     Pull {
         from: u32,
+        waits: bool,
     },
     /// Leave the room.
     Leave,
@@ -87,7 +89,10 @@ impl Request {
             }),
             Request::Show { object } => Ok(Request::Show { object: *object }),
             Request::List { from } => Ok(Request::List { from: *from }),
-            Request::Pull { from } => Ok(Request::Pull { from: *from }),
+            Request::Pull { from, waits } => Ok(Request::Pull {
+                from: *from,
+                waits: *waits,
+            }),
             Request::Leave => Ok(Request::Leave),
         }
     }

@@ -1,5 +1,5 @@
 -- How what follows the word of a request is read, step by step.
-use Rattle.std.proofs.Common.{◌≡◌, ℕ, List, Some}
+use Rattle.std.proofs.Common.{◌≡◌, ℕ, Bool, List, Some}
 use Rattle.json.specs.Token.{Token}
 use Rattle.base_types.specs.declared.op_name.TheConstants.{MAX_SEQ, MAX_SITE}
 use Rattle.wire.specs.declared.request.TheConstants.{MAX_FROM}
@@ -32,9 +32,9 @@ pub list_steps : (n : ℕ) (ts : List Token) → rest_in list_at n ts ≡ (rest_
 unfolding list_at
 list_steps n ts = rest_then (field_at (whole_in 0 MAX_FROM) end_at) (λ p. Some (ListObjects p.0)) n ts
 
-pub pull_steps : (n : ℕ) (ts : List Token) → rest_in pull_at n ts ≡ (rest_in (field_at (whole_in 0 MAX_FROM) end_at) n ts >>= λ q. Some ((Pull q.0.0), q.1))
+pub pull_steps : (waits : Bool) (n : ℕ) (ts : List Token) → rest_in (pull_at waits) n ts ≡ (rest_in (field_at (whole_in 0 MAX_FROM) end_at) n ts >>= λ q. Some ((Pull q.0.0 waits), q.1))
 unfolding pull_at
-pull_steps n ts = rest_then (field_at (whole_in 0 MAX_FROM) end_at) (λ p. Some (Pull p.0)) n ts
+pull_steps waits n ts = rest_then (field_at (whole_in 0 MAX_FROM) end_at) (λ p. Some (Pull p.0 waits)) n ts
 
 pub leave_steps : (n : ℕ) (ts : List Token) → rest_in leave_at n ts ≡ (rest_in (end_at) n ts >>= λ q. Some (Leave, q.1))
 unfolding leave_at

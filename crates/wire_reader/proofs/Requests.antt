@@ -1,5 +1,5 @@
 -- The reader of requests is exact.
-use Rattle.std.proofs.Common.{◌≡◌, inl, ℕ, Option, List, [], ◌∷◌, codes, Some, refl, subst, ◌∙◌}
+use Rattle.std.proofs.Common.{◌≡◌, inl, ℕ, Option, List, [], ◌∷◌, codes, Some, true, false, refl, subst, ◌∙◌}
 use Rattle.serde_json.specs.Data.{Data, string}
 use Rattle.base_types.specs.declared.op_name.TheConstants.{MAX_SEQ}
 use Rattle.base_types.specs.Vectors.{Vector}
@@ -43,9 +43,13 @@ list_word : IsRequestWord (codes "list", list_at)
 unfolding list_at
 list_word = word_of_fields (exact_field exact_from exact_end) (codes "list") (λ p. ListObjects p.0) (λ p fit. (fit.0, inl refl))
 
-pull_word : IsRequestWord (codes "pull", pull_at)
+pull_word : IsRequestWord (codes "pull", pull_at false)
 unfolding pull_at
-pull_word = word_of_fields (exact_field exact_from exact_end) (codes "pull") (λ p. Pull p.0) (λ p fit. (fit.0, inl refl))
+pull_word = word_of_fields (exact_field exact_from exact_end) (codes "pull") (λ p. Pull p.0 false) (λ p fit. (fit.0, inl refl))
+
+wait_word : IsRequestWord (codes "wait", pull_at true)
+unfolding pull_at
+wait_word = word_of_fields (exact_field exact_from exact_end) (codes "wait") (λ p. Pull p.0 true) (λ p fit. (fit.0, inl refl))
 
 leave_word : IsRequestWord (codes "leave", leave_at)
 unfolding leave_at
@@ -77,13 +81,14 @@ request_again of_body again alone (Change seq seen body) fit =
     again_by (of_body body).0 fields _ (alone body fields ∙ change_again of_body again seq seen body fit)
 request_again of_body again alone (Show name) fit = again_by (codes "show") (name_form name ∷ []) _ (rw (exact_name.again name fit) refl)
 request_again of_body again alone (ListObjects from) fit = again_by (codes "list") (whole_form from ∷ []) _ (rw (exact_from.again from fit) refl)
-request_again of_body again alone (Pull from) fit = again_by (codes "pull") (whole_form from ∷ []) _ (rw (exact_from.again from fit) refl)
+request_again of_body again alone (Pull from false) fit = again_by (codes "pull") (whole_form from ∷ []) _ (rw (exact_from.again from fit) refl)
+request_again of_body again alone (Pull from true) fit = again_by (codes "wait") (whole_form from ∷ []) _ (rw (exact_from.again from fit) refl)
 request_again of_body again alone Leave fit = again_by (codes "leave") [] _ refl
 
 pub reads_requests : ReadsForms Request request_of IsRequestForm IsRequest
 unfolding request_of
 reads_requests = record {
-  takes = message_takes IsRequestForm IsRequest request_words change_at (join_word, (back_word, (show_word, (list_word, (pull_word, (leave_word, tt)))))) change_word;
+  takes = message_takes IsRequestForm IsRequest request_words change_at (join_word, (back_word, (show_word, (list_word, (pull_word, (wait_word, (leave_word, tt))))))) change_word;
   again = λ d q form fit.
       from_any request_form_by request_of d q form (request_again body_form body_again change_alone q fit)
       (request_again old_body_form old_body_again (old_alone request_words change_at change_alone (λ ds. refl)) q fit);

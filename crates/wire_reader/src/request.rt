@@ -62,13 +62,13 @@ fn list_of(reader: &mut Reader<'_>) -> Result<Request, ReadFault>
     Ok(Request::List { from })
 }
 
-fn pull_of(reader: &mut Reader<'_>) -> Result<Request, ReadFault>
+fn pull_of(reader: &mut Reader<'_>, waits: bool) -> Result<Request, ReadFault>
     ensures { (n : ℕ) → Takes (λ request. request) result
-        (rest_in pull_at n reader.old) reader.new }
+        (rest_in (pull_at waits) n reader.old) reader.new }
 {
     let from = whole_of(reader, 0, MAX_FROM)?;
     close_list(reader)?;
-    Ok(Request::Pull { from })
+    Ok(Request::Pull { from, waits })
 }
 
 fn leave_of(reader: &mut Reader<'_>) -> Result<Request, ReadFault>
@@ -95,7 +95,8 @@ impl Part for Request {
             "back" => back_of(alloc, reader),
             "show" => show_of(reader),
             "list" => list_of(reader),
-            "pull" => pull_of(reader),
+            "pull" => pull_of(reader, false),
+            "wait" => pull_of(reader, true),
             "leave" => leave_of(reader),
             _ => change_of(alloc, word, reader),
         }

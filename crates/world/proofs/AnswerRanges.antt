@@ -193,7 +193,7 @@ module _ (room : Room) (sound : IsSound room) where
       (and_from (is_site site) (is_seq seq) (site_in_range site has) range.0, range.1, range.2)
   answer_of_site site has (request.Show name) range = shown_in_range name (creation_of (operations room.entries) name) range refl
   answer_of_site site has (request.List from) range = list_in_range from (ltb (length (objects room.entries)) from) range
-  answer_of_site site has (request.Pull from) range = pull_in_range from (ltb (length room.entries) from) range
+  answer_of_site site has (request.Pull from waits) range = pull_in_range from (ltb (length room.entries) from) range
   answer_of_site site has request.Leave range = told_in_range _ at_in_range
 
   of_anyone : (b : Bool) (site : ℕ) → has_site room site ≡ b → (asks : Request) → IsRequest asks → InRange (cond b (site_answer room site asks) (reply_alone (No 0 NotJoined)))
@@ -215,7 +215,7 @@ module _ (room : Room) (sound : IsSound room) where
   outside_in_range in_use (request.Change seq seen body) = lone_in_range NotJoined
   outside_in_range in_use (request.Show name) = lone_in_range NotJoined
   outside_in_range in_use (request.List from) = lone_in_range NotJoined
-  outside_in_range in_use (request.Pull from) = lone_in_range NotJoined
+  outside_in_range in_use (request.Pull from waits) = lone_in_range NotJoined
   outside_in_range in_use request.Leave = lone_in_range NotJoined
 
   pub answer_in_range : (in_use : ℕ → Bool) (who : Option ℕ) (asks : Request) → IsRequest asks → InRange (asker_answer room in_use who asks)

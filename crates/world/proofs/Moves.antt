@@ -117,7 +117,7 @@ module _ (room : Room) where
     outside_moves (request.Change seq seen body) = inl refl
     outside_moves (request.Show name) = inl refl
     outside_moves (request.List from) = inl refl
-    outside_moves (request.Pull from) = inl refl
+    outside_moves (request.Pull from waits) = inl refl
     outside_moves request.Leave = inl refl
 
     module _ (site : ℕ) where
@@ -129,7 +129,7 @@ module _ (room : Room) where
           inl (decided_stays room (refusal room.limits room.entries (Operation op)) (Operation op) (operation_reply room op) (either_stays (is_change_body body) _ _ refl refl))
       site_moves (request.Show name) = inl (shown_stays room name (creation_of (operations room.entries) name))
       site_moves (request.List from) = inl (either_stays (ltb (length (objects room.entries)) from) _ _ refl refl)
-      site_moves (request.Pull from) = inl (either_stays (ltb (length room.entries) from) _ _ refl refl)
+      site_moves (request.Pull from waits) = inl (either_stays (ltb (length room.entries) from) _ _ refl refl)
       site_moves request.Leave = inr (inr (record { site = site; was_in = refl; moves = refl }))
 
       of_anyone : (has : Bool) (asks : Request) → Moves room in_use (Some site) (cond has (site_answer room site asks) (reply_alone (No 0 NotJoined)))

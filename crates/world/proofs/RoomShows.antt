@@ -19,7 +19,7 @@ module _ (room : Room) (at : ℕ) (object : Name) (kind : Bytes) (vs : List Vers
   outside_shows (request.Change seq seen body) e = cc
   outside_shows (request.Show name) e = cc
   outside_shows (request.List from) e = cc
-  outside_shows (request.Pull from) e = cc
+  outside_shows (request.Pull from waits) e = cc
   outside_shows request.Leave e = cc
 
   -- a room that answers with versions shows its own, and adds nothing

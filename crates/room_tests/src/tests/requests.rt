@@ -14,6 +14,7 @@ const REQUESTS: &str = r#"["join","a-9"]
 ["show",[256,16384]]
 ["list",65535]
 ["pull",0]
+["wait",65535]
 ["leave"]"#;
 
 fn is_written_again(rt: &(impl Abort + AllocGlobal), text: &str) {

@@ -22,7 +22,8 @@ impl Written for Request {
             Request::Change { seq, seen, body } => send_operation(seq, seen, body, out),
             Request::Show { object } => ("show", *object).send(out),
             Request::List { from } => ("list", *from).send(out),
-            Request::Pull { from } => ("pull", *from).send(out),
+            Request::Pull { from, waits: false } => ("pull", *from).send(out),
+            Request::Pull { from, waits: true } => ("wait", *from).send(out),
             Request::Leave => ("leave",).send(out),
         }
     }

@@ -1,5 +1,5 @@
 -- What the reader of requests reads from a JSON value.
-use Rattle.std.specs.Prelude.{List, [], ◌∷◌, codes, Option, Some}
+use Rattle.std.specs.Prelude.{List, [], ◌∷◌, codes, Option, Some, Bool, true, false}
 use Rattle.serde_json.specs.Data.{Data}
 use Rattle.base_types.specs.declared.op_name.TheConstants.{MAX_SEQ, MAX_SITE}
 use Rattle.wire.specs.declared.request.TheConstants.{MAX_FROM}
@@ -31,9 +31,9 @@ show_at ds = field_at name_in end_at ds >>= λ p. Some (Show p.0)
 unfoldable pub list_at : List Data → Option Request
 list_at ds = field_at (whole_in 0 MAX_FROM) end_at ds >>= λ p. Some (ListObjects p.0)
 
--- what follows "pull"
-unfoldable pub pull_at : List Data → Option Request
-pull_at ds = field_at (whole_in 0 MAX_FROM) end_at ds >>= λ p. Some (Pull p.0)
+-- what follows "pull", or "wait" if the request waits
+unfoldable pub pull_at : Bool → List Data → Option Request
+pull_at waits ds = field_at (whole_in 0 MAX_FROM) end_at ds >>= λ p. Some (Pull p.0 waits)
 
 -- what follows "leave"
 unfoldable pub leave_at : List Data → Option Request
@@ -43,7 +43,7 @@ abbrev pub request_words : Words Request
 request_words =
     (codes "join", join_at) ∷ (codes "back", back_at) ∷ (codes "show", show_at)
     ∷ (codes "list", list_at)
-    ∷ (codes "pull", pull_at) ∷ (codes "leave", leave_at) ∷ []
+    ∷ (codes "pull", pull_at false) ∷ (codes "wait", pull_at true) ∷ (codes "leave", leave_at) ∷ []
 
 -- the request that a JSON value is a form of
 unfoldable pub request_of : Data → Option Request

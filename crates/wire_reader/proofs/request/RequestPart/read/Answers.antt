@@ -39,14 +39,20 @@ returns-in-pull c n h =
     let deep : 0 < n = omega arith in
     rw (message_steps _ _ n _ deep, c.in_ok-word.ensures (n - 1), other_word _ _ c.in-pull.not-join, other_word _ _ c.in-pull.not-back, other_word _ _ c.in-pull.not-show, other_word _ _ c.in-pull.not-list, same_word _ _ c.in-pull.is) (c.pull_of.ensures (n - 1))
 
+pub returns-in-wait : goal.returns-in-wait
+unfolding request_of
+returns-in-wait c n h =
+    let deep : 0 < n = omega arith in
+    rw (message_steps _ _ n _ deep, c.in_ok-word.ensures (n - 1), other_word _ _ c.in-wait.not-join, other_word _ _ c.in-wait.not-back, other_word _ _ c.in-wait.not-show, other_word _ _ c.in-wait.not-list, other_word _ _ c.in-wait.not-pull, same_word _ _ c.in-wait.is) (c.pull_of-in-wait.ensures (n - 1))
+
 pub returns-in-leave : goal.returns-in-leave
 unfolding request_of
 returns-in-leave c n h =
     let deep : 0 < n = omega arith in
-    rw (message_steps _ _ n _ deep, c.in_ok-word.ensures (n - 1), other_word _ _ c.in-leave.not-join, other_word _ _ c.in-leave.not-back, other_word _ _ c.in-leave.not-show, other_word _ _ c.in-leave.not-list, other_word _ _ c.in-leave.not-pull, same_word _ _ c.in-leave.is) (c.leave_of.ensures (n - 1))
+    rw (message_steps _ _ n _ deep, c.in_ok-word.ensures (n - 1), other_word _ _ c.in-leave.not-join, other_word _ _ c.in-leave.not-back, other_word _ _ c.in-leave.not-show, other_word _ _ c.in-leave.not-list, other_word _ _ c.in-leave.not-pull, other_word _ _ c.in-leave.not-wait, same_word _ _ c.in-leave.is) (c.leave_of.ensures (n - 1))
 
 pub returns-in_default : goal.returns-in_default
 unfolding request_of
 returns-in_default c n h =
     let deep : 0 < n = omega arith in
-    rw (message_steps _ _ n _ deep, c.in_ok-word.ensures (n - 1), other_word _ _ c.in_default.not-join, other_word _ _ c.in_default.not-back, other_word _ _ c.in_default.not-show, other_word _ _ c.in_default.not-list, other_word _ _ c.in_default.not-pull, other_word _ _ c.in_default.not-leave) (c.change_of.ensures (n - 1) (omega arith))
+    rw (message_steps _ _ n _ deep, c.in_ok-word.ensures (n - 1), other_word _ _ c.in_default.not-join, other_word _ _ c.in_default.not-back, other_word _ _ c.in_default.not-show, other_word _ _ c.in_default.not-list, other_word _ _ c.in_default.not-pull, other_word _ _ c.in_default.not-wait, other_word _ _ c.in_default.not-leave) (c.change_of.ensures (n - 1) (omega arith))

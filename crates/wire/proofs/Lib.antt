@@ -1,4 +1,3 @@
-pub mod WholeNumbers
 pub mod Maps
 pub mod Parts
 pub mod Pages

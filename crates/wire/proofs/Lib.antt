@@ -1,6 +1,6 @@
 pub mod Maps
-pub mod Parts
 pub mod Pages
 pub mod Shallow
+pub mod Plain
 pub mod Sent
 pub mod Written

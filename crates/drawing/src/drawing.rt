@@ -21,12 +21,13 @@ use crate::pages::objects_page;
 use base_types::{NoMemory, OpName};
 use causal::Past;
 use indexmap::IndexMap;
+use room_record::Record;
 use rules::{Entry, Limits, Refusal, SharedOp};
 use shape::{PlannedChange, Shape};
 use std::alloc::Global;
 use std::marker::Model;
 use std::sync::Arc;
-use wire::{EntryList, ObjectList, Record, Reply, VersionList};
+use wire::{EntryList, ObjectList, Reply, VersionList};
 
 /// The entries of a room so far, and what they draw: the operations, and the objects in order of
 /// creation. The owner decides which entry comes next.

@@ -12,20 +12,10 @@ use crate::part::Part;
 use crate::prefix::Prefix;
 use base_types::NoMemory;
 use room_core::RoomState;
+use room_record::shared_entries;
 use rules::Entry;
 use std::alloc::Global;
 use std::sync::Arc;
-
-/// Shared owners of these entries.
-fn share(alloc: Global, entries: &[Arc<Entry>]) -> Result<Vec<Arc<Entry>>, NoMemory>
-    ensures { IfOk result (λ owners. map arc_value owners.items ≡ map arc_value entries.now) }
-{
-    let mut owners = Vec::with_capacity(alloc, entries.len())?;
-    for entry in entries {
-        owners.push(entry.clone()?)?;
-    }
-    Ok(owners)
-}
 
 /// Shared owners of the entries from a place on. Linear in these.
 pub(crate) fn share_from(
@@ -37,7 +27,7 @@ pub(crate) fn share_from(
     ensures { IfOk result (λ owners. map arc_value owners.items
         ≡ drop from (map arc_value entries.now)) }
 {
-    share(alloc, &entries[from..])
+    shared_entries(alloc, &entries[from..])
 }
 
 /// Returns whether an entry is the site's join or an operation of the site.

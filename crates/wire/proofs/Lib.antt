@@ -1,7 +1,6 @@
-pub mod WholeNumbers
 pub mod Maps
-pub mod Parts
 pub mod Pages
 pub mod Shallow
+pub mod Plain
 pub mod Sent
 pub mod Written

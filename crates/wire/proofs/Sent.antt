@@ -18,7 +18,22 @@ use Rattle.serde_json.specs.View.{items_of}
 use Rattle.serde_json.specs.Written.{number_text, outline, items_outline, compact_text}
 use Rattle.serde_json.proofs.Numbers.{number_of-decimal, number_of-negative}
 use Rattle.serde_json.proofs.Texts.{print-outline}
-use Rattle.wire.specs.steps.Sending.{IsHeldNumber, Sends, SendsItems, IsPlain, ArePlain}
+use Rattle.wire.specs.steps.Sending.{IsHeldNumber, Sends, SendsItems}
+
+-- all numbers of the value are whole and fit, and there is no other value in it than numbers, texts
+-- and lists
+abbrev mutual
+  pub IsPlain : Data → Type 0
+  IsPlain null = ⊥
+  IsPlain (boolean b) = ⊥
+  IsPlain (number n) = IsHeldNumber n
+  IsPlain (string s) = Unit {0}
+  IsPlain (array ds) = ArePlain ds
+  IsPlain (object ms) = ⊥
+
+  pub ArePlain : Items → Type 0
+  ArePlain no_items = Unit {0}
+  ArePlain (item d ds) = IsPlain d × ArePlain ds
 
 pub held_integer : (z : ℤ) → FitsSigned w64 z → IsHeldNumber (of_integer z)
 held_integer (pos n) h = omega arith

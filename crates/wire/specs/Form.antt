@@ -1,6 +1,7 @@
 -- The JSON forms of requests, replies and entries, and of their parts.
-use Rattle.std.specs.Prelude.{◌≡◌, ℕ, ◌^◌, ◌<◌, ◌≤◌, ℤ, pos, negsuc, List, [], ◌∷◌, map, length}
+use Rattle.std.specs.Prelude.{◌≡◌, ℕ, ◌≤◌, FitsSigned, List, [], ◌∷◌, map, length}
 use Rattle.std.specs.Prelude.{codes, Bool, nat_le, true, false, Some, IsUtf8, ◌⊎◌}
+use Rattle.std.specs.Int.{w64}
 use Rattle.std.specs.List.{AllByRecursion}
 use Rattle.serde_json.specs.Data.{Data, number, unsigned, string, array}
 use Rattle.serde_json.specs.Find.{of_integer}
@@ -60,14 +61,9 @@ attr_form p = list_form (string p.0 ∷ value_form p.1 ∷ [])
 abbrev pub attrs_form : List Attr → Data
 attrs_form ps = list_form (map attr_form ps)
 
--- at most the greatest i64; a JSON value holds no whole number below the least one
-abbrev pub IsNumber : ℤ → Type 0
-IsNumber (pos n) = n < 2 ^ 63
-IsNumber (negsuc n) = Unit {0}
-
 -- a value in range
 abbrev pub IsValue : Value → Type 0
-IsValue (Number z) = IsNumber z
+IsValue (Number z) = FitsSigned w64 z
 IsValue (Text s) = is_value_text s ≡ true
 
 -- a version identifier in range

@@ -4,13 +4,11 @@
 
 pub mod laws;
 mod lists;
-mod record;
 mod reply;
 mod request;
 mod write;
 
 pub use lists::{EntryList, IdList, ObjectList, VersionList};
-pub use record::Record;
 pub use reply::{EntryKind, Reply};
 pub use request::{MAX_FROM, MAX_REQUEST_LEN, Request};
 pub use rules::Refusal;

@@ -3,7 +3,8 @@
 ghost use Rattle.std.specs.Prelude.{◌≡◌, ◌∷◌, [], IfOk, IfSome, length, map, string_bytes};
 ghost use Rattle.std.specs.List.{join_by};
 ghost use Rattle.std.specs.Arc.{arc_value};
-ghost use Rattle.wire.specs.steps.Pages.{AreTexts, IsPageText};
+ghost use Rattle.wire.specs.steps.Pages.{entries_text};
+ghost use Rattle.wire.specs.Texts.{entry_text};
 
 use base_types::{Kind, NoMemory, OpName, VersionId};
 use rules::{Entry, Version};
@@ -162,8 +163,8 @@ impl Eq for ObjectList {
     ghost laws = { same_objects-equivalence };
 }
 
-/// Entries of a record. Each is shared with the record that stores it. A list from a `Record` may
-/// have its text, which `write_reply` then copies.
+/// Entries of a record. Each is shared with the record that stores it. A list may have its text,
+/// which `write_reply` then copies.
 #[derive(Drop)]
 pub struct EntryList {
     entries: Vec<Arc<Entry>>,
@@ -171,18 +172,18 @@ pub struct EntryList {
 }
 
 impl Model for EntryList {
-    ghost use Rattle.std.specs.Prelude.{List, IfSome, map, string_bytes};
+    ghost use Rattle.std.specs.Prelude.{◌≡◌, List, IfSome, map, string_bytes};
     ghost use Rattle.std.specs.Arc.{arc_value};
     ghost use Rattle.rules.specs.declared.history.Entry.{Entry};
 
     ghost Value = { List Entry };
 
-    ghost use Rattle.wire.specs.steps.Pages.{IsPageText};
+    ghost use Rattle.wire.specs.steps.Pages.{entries_text};
 
     ghost view = { λ list. map arc_value list.entries.items };
 
     ghost invariant = { λ list. IfSome list.text
-        (λ text. IsPageText (string_bytes text) (map arc_value list.entries.items)) };
+        (λ text. string_bytes text ≡ entries_text (map arc_value list.entries.items)) };
 }
 
 impl EntryList {
@@ -196,18 +197,18 @@ impl EntryList {
         }
     }
 
-    /// These entries, in their order, with their texts.
+    /// These entries, in their order, and their texts joined, which `write_reply` then copies. Linear
+    /// in the texts.
     ///
     /// # Errors
     ///
     /// `NoMemory` if an allocation failed.
-    pub(crate) fn with_texts(
+    pub fn with_texts(
         alloc: Global,
         entries: Vec<Arc<Entry>>,
         texts: &[String],
     ) -> Result<EntryList, NoMemory>
-        requires texts { AreTexts (map string_bytes texts.now) (map arc_value entries.items) }
-        requires all { length texts.now ≡ length entries.items }
+        requires { map string_bytes texts.now ≡ map entry_text (map arc_value entries.items) }
         ensures { IfOk result (λ list. list ≡ map arc_value entries.items) }
     {
         let text = join_texts(alloc, texts)?;
@@ -226,7 +227,7 @@ impl EntryList {
 
     /// The text of the list without its brackets, if the list has it.
     pub(crate) fn text(&self) -> Option<&str>
-        ensures { IfSome result (λ text. IsPageText text.now self.now) }
+        ensures { IfSome result (λ text. text.now ≡ entries_text self.now) }
     {
         match &self.text {
             Some(text) => Some(text.as_str()),

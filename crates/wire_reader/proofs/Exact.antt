@@ -1,13 +1,14 @@
 -- What reads forms reads them exactly: what is read is the value of that form, and each value is read from its forms.
-use Rattle.std.proofs.Common.{◌≡◌, ℕ, ◌^◌, ℤ, pos, negsuc, List, [], ◌∷◌, map, Bool, true, false, cond, ltb, leb, Option, Some, None, refl, sym, ap, subst, ◌∙◌, lt-ltb, ◌&&◌, bytes_eq}
+use Rattle.std.proofs.Common.{◌≡◌, ℕ, ◌^◌, ◌<◌, ℤ, pos, negsuc, List, [], ◌∷◌, map, Bool, true, false, cond, ltb, leb, Option, Some, None, refl, sym, ap, subst, ◌∙◌, lt-ltb, ◌&&◌, bytes_eq, FitsSigned, arith}
 use Rattle.std.specs.Prelude.{⊤}
+use Rattle.std.specs.Int.{w64}
 use Rattle.std.specs.List.{AllByRecursion}
 use Rattle.std.proofs.lemmas.Option.{cond_some}
 use borrow.Author.Tests.{ltb-true}
 use Rattle.serde_json.specs.Data.{unsigned, negative, float, Data, null, boolean, number, string, array, object, Items, no_items, item}
 use Rattle.serde_json.specs.Find.{as_str, of_integer}
 use Rattle.serde_json.specs.View.{items_of}
-use Rattle.wire.specs.Form.{list_form, whole_form, AreForms, IsListForm, IsNumber}
+use Rattle.wire.specs.Form.{list_form, whole_form, AreForms, IsListForm}
 use Rattle.std.proofs.lemmas.Slice.Eq.{bytes_eq-Decides}
 use Rattle.wire_reader.specs.steps.Reading.{◌>>=◌, listed, items_in, passing, all_in, list_in, two_at, two_in, natural_in, whole_in, integer_at, integer_in, end_at, field_at, worded_at, worded_in, Words, WordReader, no_others, by_word, message_in}
 
@@ -197,27 +198,30 @@ pub exact_whole : (low high : ℕ) → IsExact ℕ (whole_in low high) whole_for
 unfolding whole_in
 exact_whole low high = exact_by (exact_passing (λ n. leb low n && leb n high) exact_natural) (λ n fit. fit.1) (λ n fit. (tt, fit))
 
-integer_takes : (d : Data) (z : ℤ) → integer_in d ≡ Some z → IsNumber z × (d ≡ number (of_integer z))
+integer_takes : (d : Data) (z : ℤ) → integer_in d ≡ Some z → FitsSigned w64 z × (d ≡ number (of_integer z))
 unfolding integer_in integer_at
 integer_takes null z e = absurd cc
 integer_takes (boolean b) z e = absurd cc
 integer_takes (number (unsigned m)) z e =
     let a = cond_some (ltb m (2 ^ 63)) (pos m) z e in
-    subst (λ (y : ℤ). IsNumber y × (number (unsigned m) ≡ number (of_integer y))) a.1 (ltb-true m (2 ^ 63) a.0, refl)
+    let below : m < 2 ^ 63 = ltb-true m (2 ^ 63) a.0 in
+    subst (λ (y : ℤ). FitsSigned w64 y × (number (unsigned m) ≡ number (of_integer y))) a.1 (omega arith, refl)
 integer_takes (number (negative (pos n))) z e = absurd cc
 integer_takes (number (negative (negsuc n))) z e =
-    subst (λ (y : ℤ). IsNumber y × (number (negative (negsuc n)) ≡ number (of_integer y))) (some_is (negsuc n) z e) (tt, refl)
+    let a = cond_some (ltb n (2 ^ 63)) (negsuc n) z e in
+    let below : n < 2 ^ 63 = ltb-true n (2 ^ 63) a.0 in
+    subst (λ (y : ℤ). FitsSigned w64 y × (number (negative (negsuc n)) ≡ number (of_integer y))) a.1 (omega arith, refl)
 integer_takes (number (float x)) z e = absurd cc
 integer_takes (string t) z e = absurd cc
 integer_takes (array is) z e = absurd cc
 integer_takes (object ms) z e = absurd cc
 
-integer_again : (z : ℤ) → IsNumber z → integer_in (number (of_integer z)) ≡ Some z
+integer_again : (z : ℤ) → FitsSigned w64 z → integer_in (number (of_integer z)) ≡ Some z
 unfolding integer_in integer_at
-integer_again (pos n) fit = rw (lt-ltb n (2 ^ 63) fit) refl
-integer_again (negsuc n) fit = refl
+integer_again (pos n) fit = let below : n < 2 ^ 63 = omega arith in rw (lt-ltb n (2 ^ 63) below) refl
+integer_again (negsuc n) fit = let below : n < 2 ^ 63 = omega arith in rw (lt-ltb n (2 ^ 63) below) refl
 
-pub exact_integer : IsExact ℤ integer_in (λ z. number (of_integer z)) IsNumber
+pub exact_integer : IsExact ℤ integer_in (λ z. number (of_integer z)) (FitsSigned w64)
 exact_integer = record { takes = integer_takes; again = integer_again }
 
 -- ---- fields

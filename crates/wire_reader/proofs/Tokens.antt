@@ -1,5 +1,5 @@
 -- How values are read from tokens, one after another.
-use Rattle.std.proofs.Common.{◌≡◌, ℕ, zero, suc, ◌-◌, ◌<◌, ◌≤◌, List, [], ◌∷◌, ◌++◌, map, drop, length, append_assoc, Float, ◌^◌, ◌==◌, ◌&&◌, nat_lt, nat_le, Bool, true, false, cond, bytes_eq, Option, Some, None, Result, Ok, Err, option_map, option_and_then, refl, sym, ap, ◌∙◌, arith}
+use Rattle.std.proofs.Common.{◌≡◌, ℕ, zero, suc, ◌-◌, ◌<◌, ◌≤◌, List, [], ◌∷◌, ◌++◌, map, drop, length, append_assoc, Float, ◌^◌, ◌==◌, ◌&&◌, nat_lt, nat_le, Bool, true, false, cond, bytes_eq, Option, Some, None, Result, Ok, Err, option_map, option_and_then, refl, sym, ap, ◌∙◌, arith, lt-ltb}
 use Rattle.json.specs.Token.{Token}
 use Rattle.json.specs.Json as json
 use Rattle.json.specs.Json.{parse_map, after_end_array, items_step, items, members, value, if_last}
@@ -682,7 +682,10 @@ minus_by None p zero true e none = let f = fits_below p 0 e in absurd (omega ari
 minus_by None p (suc m) true e none = let f = fits_below p (suc m) e in let fit : FitsSigned w64 (negsuc m) = omega arith in absurd (none (f.0, fit))
 minus_by None p d false e none = sym (finite_only integer_at (λ x. refl) (float_is_finite (nearest binary64 true p)) (nearest binary64 true p))
 minus_by (Some x) p zero true e some = let f = fits_below p 0 e in absurd (omega arith)
-minus_by (Some x) p (suc m) true e some = ap (λ z. below_zero (Some z)) some.1
+minus_by (Some x) p (suc m) true e some =
+    let fit : FitsSigned w64 (negsuc m) = some.0.1 in
+    let below : m < 2 ^ 63 = omega arith in
+    ap (λ z. below_zero (Some z)) some.1 ∙ sym (rw (lt-ltb m (2 ^ 63) below) refl)
 minus_by (Some x) p zero false e some =
     ap (λ z. below_zero (Some z)) some.1 ∙ sym (finite_only integer_at (λ x. refl) (float_is_finite (nearest binary64 true p)) (nearest binary64 true p))
 minus_by (Some x) p (suc m) false e some = let fit : FitsSigned w64 (negsuc m) = some.0.1 in let is = fits_below_again p (suc m) some.0.0 (omega arith) (omega arith) in absurd cc

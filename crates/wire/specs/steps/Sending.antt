@@ -33,18 +33,3 @@ abbrev mutual
   pub SendsItems : Items → Written → Written → Type 0
   SendsItems no_items old new = SendsToken Token.end_array old new
   SendsItems (item d ds) old new = (mid : Written) × Sends d old mid × SendsItems ds mid new
-
--- all numbers of the value are whole and fit, and there is no other value in it than numbers, texts
--- and lists
-abbrev mutual
-  pub IsPlain : Data → Type 0
-  IsPlain null = ⊥
-  IsPlain (boolean b) = ⊥
-  IsPlain (number n) = IsHeldNumber n
-  IsPlain (string s) = Unit {0}
-  IsPlain (array ds) = ArePlain ds
-  IsPlain (object ms) = ⊥
-
-  pub ArePlain : Items → Type 0
-  ArePlain no_items = Unit {0}
-  ArePlain (item d ds) = IsPlain d × ArePlain ds

@@ -2,8 +2,8 @@
 
 ghost use Rattle.std.specs.Prelude.{◌≡◌, IfOk, string_bytes};
 ghost use Rattle.std.specs.Arc.{arc_value};
-ghost use Rattle.serde_json.specs.Written.{compact_text};
 ghost use Rattle.wire.specs.Form.{entry_form, IsEntry, IsEntryText};
+ghost use Rattle.wire.specs.Texts.{entry_text};
 
 use super::operation::send_operation;
 use super::part::{Written, compact};
@@ -40,7 +40,7 @@ impl Written for Arc<Entry> {
 ///
 /// `NoMemory` if an allocation failed.
 pub fn write_entry(alloc: Global, entry: &Entry) -> Result<String, NoMemory>
-    ensures text { IfOk result (λ text. string_bytes text ≡ compact_text (entry_form entry.now)) }
+    ensures text { IfOk result (λ text. string_bytes text ≡ entry_text entry.now) }
     ensures is_read { IfOk result (λ text. IsEntry entry.now
         → IsEntryText (string_bytes text) entry.now) }
 {

@@ -6,7 +6,7 @@ ghost use Rattle.serde_json.specs.Read.{read, max_depth};
 ghost use Rattle.serde_json.specs.Written.{compact_text};
 ghost use Rattle.wire.specs.Form.{list_form, whole_form, name_form, value_form, names_form};
 ghost use Rattle.wire.specs.Form.{shown_form, version_form};
-ghost use Rattle.wire.specs.steps.Sending.{IsPlain, Sends};
+ghost use Rattle.wire.specs.steps.Sending.{Sends};
 
 use base_types::{Key, Kind, NoMemory, OpName, VersionId};
 use json::Writer;
@@ -26,7 +26,6 @@ pub(crate) trait Written {
 /// The compact text of a part: its form without white space.
 pub(crate) fn compact<W: Written>(alloc: Global, part: &W) -> Result<String, NoMemory>
     ensures text { IfOk result (λ text. string_bytes text ≡ compact_text (W.form part.now)) }
-    ensures plain { OnOk result (IsPlain (W.form part.now)) }
     ensures reads_back { IfOk result (λ text. depth (W.form part.now) ≤ max_depth
         → read (string_bytes text) ≡ Some (W.form part.now)) }
 {

@@ -4,8 +4,7 @@ ghost use Rattle.std.specs.Prelude.{◌≡◌, List, map, IfOk, string_bytes};
 ghost use Rattle.rules.specs.declared.history.Entry.{Entry};
 ghost use Rattle.wire.specs.declared.reply.Reply.TheVariants.{Entries};
 ghost use Rattle.wire.specs.Form.{list_form, entry_form, reply_form, IsReply, IsReplyText};
-ghost use Rattle.wire.specs.steps.Pages.{IsPageText};
-ghost use Rattle.wire.specs.steps.Sending.{IsPlain};
+ghost use Rattle.wire.specs.steps.Pages.{entries_text};
 ghost use Rattle.wire.specs.Texts.{reply_text};
 
 use super::part::{Written, compact};
@@ -78,10 +77,8 @@ const MOST_AROUND_ENTRIES: usize = 36;
 /// The text of a page of the record, from the text of its entries. One allocation.
 #[tactic(auto, unfolding(crate::specs::Texts::reply_text))]
 fn page_text(alloc: Global, at: u32, from: u32, entries: &str) -> Result<String, NoMemory>
-    ensures text { (page : List Entry) → IsPageText entries.now page
+    ensures { (page : List Entry) → entries.now ≡ entries_text page
         → IfOk result (λ text. string_bytes text ≡ reply_text (Entries at from page)) }
-    ensures plain { (page : List Entry) → IsPageText entries.now page
-        → IsPlain (reply_form (Entries at from page)) }
 {
     let mut text = String::with_capacity(alloc, entries.len() + MOST_AROUND_ENTRIES)?;
     write!(text, "[\"entries\",{at},{from},[{entries}]]")?;

@@ -39,11 +39,11 @@ listed (item d ds) = d ∷ listed ds
 unfoldable pub items_in : Data → Option (List Data)
 items_in d = option_map listed (as_array d)
 
--- an i64; what no JSON number holds, as a negative number that isn't below 0, gives none
+-- an i64; a negative number that isn't below 0, which no JSON number holds, gives none
 unfoldable pub integer_at : Num → Option ℤ
 integer_at (unsigned n) = if nat_lt n (2 ^ 63) then Some (pos n) else None
 integer_at (negative (pos n)) = None
-integer_at (negative (negsuc n)) = Some (negsuc n)
+integer_at (negative (negsuc n)) = if nat_lt n (2 ^ 63) then Some (negsuc n) else None
 integer_at (float x) = None
 
 -- a whole number in the range of i64

@@ -5,7 +5,7 @@ use Rattle.base_types.specs.Texts.{Bytes}
 use Rattle.rules.specs.Bodies.{kind_in}
 use Rattle.shape.specs.steps.Objects.{Stored}
 use Rattle.drawing.specs.steps.State.{kinds_of}
-use Rattle.wire.proofs.Parts.{found_more, page_counted}
+use Rattle.room_record.proofs.Parts.{found_more, page_counted}
 use Rattle.drawing.proofs.pages.objects_page.Goals as goal
 
 abbrev kind_of : Name × Stored → Name × Bytes

@@ -10,4 +10,4 @@ returns c =
     let from = c.args.from in
     let long = length-drop from entries in
     let all = take_all (length entries - from) (drop from entries) (omega (arith, long)) in
-    if_ok_so _ _ c.share.result (λ owners is. is ∙ ap (map arc_value) all ∙ sym (drop-map arc_value from entries)) c.share.ensures
+    if_ok_so _ _ c.shared_entries.result (λ owners is. is ∙ ap (map arc_value) all ∙ sym (drop-map arc_value from entries)) c.shared_entries.ensures

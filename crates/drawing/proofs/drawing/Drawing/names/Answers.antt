@@ -6,7 +6,7 @@ use Rattle.rules.specs.Operations.{name_of}
 use Rattle.rules.specs.Records.{objects}
 use Rattle.shape.specs.steps.Objects.{Stored}
 use Rattle.drawing.specs.steps.State.{DrawingState}
-use Rattle.wire.proofs.Parts.{found_more}
+use Rattle.room_record.proofs.Parts.{found_more}
 use Rattle.drawing.proofs.Lookup.{listed}
 use Rattle.drawing.proofs.drawing.Drawing.names.Goals as goal
 

@@ -14,9 +14,6 @@ returns-clause-text g c =
     let sent = c.in_ok-send.ensures in
     ap (λ v. v.items) c.from_utf8_unchecked.ensures.value ∙ print_alone _ _ _ _ empty sent c.into_inner.ensures.items ∙ text_of_sent _ _ _ c.new-out.ensures.tokens sent
 
-pub returns-clause-plain : goal.returns-clause-plain
-returns-clause-plain g c = sent_is_plain _ _ _ c.in_ok-send.ensures
-
 pub returns-clause-reads_back : goal.returns-clause-reads_back
 returns-clause-reads_back g c shallow =
     let empty = c.new-out.ensures.before ∙ c.in_ok-with_capacity.ensures.items in

@@ -7,8 +7,8 @@ use Rattle.wire.specs.declared.reply.Reply.{Reply}
 use Rattle.wire.specs.declared.reply.Reply.TheVariants.{Entries}
 use Rattle.wire.specs.Form.{reply_form, IsReply, IsReplyText}
 use Rattle.wire.specs.Texts.{reply_text}
-use Rattle.wire.specs.steps.Sending.{IsPlain}
-use Rattle.wire.proofs.Sent.{compact_again}
+use Rattle.wire.proofs.Sent.{IsPlain, compact_again}
+use Rattle.wire.proofs.Plain.{plain_page}
 use Rattle.wire.proofs.Shallow.{shallow_reply}
 use Rattle.wire.proofs.Written.{written_reply}
 use Rattle.wire.proofs.write.reply.write_reply.Goals as goal
@@ -24,10 +24,12 @@ is_page_text reply bytes utf8 is plain =
 
 pub returns-in-Some-clause-is_read : goal.returns-in-Some-clause-is_read
 returns-in-Some-clause-is_read c =
-    let page = Entries c.in-Entries.at c.in-Entries.from c.in-Entries.entries in
-    let plain = c.page_text.ensures.plain _ c.in-Some.ensures in
+    let at = c.in-Entries.at in
+    let from = c.in-Entries.from in
+    let entries = c.in-Entries.entries in
+    let page = Entries at from entries in
     subst (λ (reply : Reply). IfOk c.page_text.result (λ text. IsReply reply → IsReplyText (string_bytes text) reply)) (sym c.in-Entries.is)
-    (IfOk-weaker c.page_text.result _ _ (λ text is. is_page_text page (string_bytes text) (IsUtf8-string_bytes text) is plain) (c.page_text.ensures.text _ c.in-Some.ensures))
+    (IfOk-weaker c.page_text.result _ _ (λ text is in_range. is_page_text page (string_bytes text) (IsUtf8-string_bytes text) is (plain_page at from entries in_range) in_range) (c.page_text.ensures _ c.in-Some.ensures))
 
 pub returns-clause-is_read : goal.returns-clause-is_read
 returns-clause-is_read c =

@@ -2,15 +2,14 @@
 
 ghost use Rattle.std.specs.Prelude.{◌≡◌, ◌<◌, ◌≤◌, ◌++◌, ◌∷◌, [], length, drop, map, take, IfOk, OnOk, string_bytes, vec_len};
 ghost use Rattle.std.specs.Arc.{arc_value};
-ghost use Rattle.wire.specs.steps.Pages.{AreTexts};
+ghost use Rattle.room_record.specs.steps.Records.{AreTexts};
 
-use crate::lists::EntryList;
-use crate::write::compact;
 use base_types::NoMemory;
 use rules::Entry;
 use std::alloc::Global;
 use std::marker::Model;
 use std::sync::Arc;
+use wire::{EntryList, write_entry};
 
 /// The entries of a room, and texts of the first of them. A page makes the texts that it lacks and
 /// keeps them, unless it begins after the first entry without a text.
@@ -23,7 +22,7 @@ pub struct Record {
 impl Model for Record {
     ghost use Rattle.std.specs.Prelude.{◌-◌, map, string_bytes, vec_capacity, vec_len};
     ghost use Rattle.std.specs.Arc.{arc_value};
-    ghost use Rattle.wire.specs.steps.Pages.{AreTexts, RecordState};
+    ghost use Rattle.room_record.specs.steps.Records.{AreTexts, RecordState};
 
     ghost Value = { RecordState };
 
@@ -101,7 +100,7 @@ impl Record {
         ensures record { self.new ≡ self.old }
     {
         let end = from + count.min(self.entries.len() - from);
-        let entries = share(alloc, &self.entries[from..end])?;
+        let entries = shared_entries(alloc, &self.entries[from..end])?;
         if from > self.texts.len() {
             return Ok(EntryList::from_vec(entries));
         }
@@ -110,8 +109,12 @@ impl Record {
     }
 }
 
-/// Other owners of these entries.
-fn share(alloc: Global, entries: &[Arc<Entry>]) -> Result<Vec<Arc<Entry>>, NoMemory>
+/// Shared owners of these entries, in their order. Linear in the number of entries.
+///
+/// # Errors
+///
+/// `NoMemory` if an allocation failed.
+pub fn shared_entries(alloc: Global, entries: &[Arc<Entry>]) -> Result<Vec<Arc<Entry>>, NoMemory>
     ensures { IfOk result (λ owners. map arc_value owners.items ≡ map arc_value entries.now) }
 {
     let mut owners = Vec::with_capacity(alloc, entries.len())?;
@@ -134,7 +137,7 @@ fn write_texts(
     ensures all { OnOk result (end ≤ vec_len texts.new) }
 {
     for place in texts.len()..end {
-        let mut text = compact(alloc, &entries[place])?;
+        let mut text = write_entry(alloc, &entries[place])?;
         text.shrink_to_fit();
         texts.push(text)?;
     }

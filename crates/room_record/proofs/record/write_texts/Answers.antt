@@ -1,9 +1,10 @@
 use Rattle.std.proofs.Common.{◌≡◌, ◌<◌, [], ◌∷◌, map, length, get_or, string_bytes, sym, ap, ◌∙◌, subst, arith}
 use Rattle.std.proofs.lemmas.List.{map-append, length-map, get_or-map}
 use Rattle.std.specs.Arc.{arc_value}
-use Rattle.wire.specs.steps.Pages.{AreTexts, IsWritten}
-use Rattle.wire.proofs.Pages.{one_more_text}
-use Rattle.wire.proofs.record.write_texts.Goals as goal
+use Rattle.room_record.specs.steps.Records.{AreTexts}
+use Rattle.wire.specs.Texts.{entry_text}
+use Rattle.room_record.proofs.Texts.{one_more_text}
+use Rattle.room_record.proofs.record.write_texts.Goals as goal
 
 pub loop-place-init : goal.loop-place-init
 loop-place-init c = (c.requires.texts, sym c.len-place.ensures)
@@ -25,7 +26,7 @@ loop-place-preserved c =
     let there : arc_value entry ≡ get_or (map arc_value entries) c.loop-place.place (arc_value entry) =
     ap arc_value c.index-entries-place.is ∙ sym (get_or-map arc_value entries c.loop-place.place entry (arc_value entry) within) in
     let more = ap (map string_bytes) c.in_ok-push.ensures.items ∙ map-append string_bytes texts.items (c.shrink_to_fit.new.self ∷ []) in
-    let is : IsWritten (string_bytes c.shrink_to_fit.new.self) (arc_value entry) = record { compact = c.shrink_to_fit.ensures.bytes ∙ c.in_ok-text.ensures.text; plain = c.in_ok-text.ensures.plain } in (
+    let is : string_bytes c.shrink_to_fit.new.self ≡ entry_text (arc_value entry) = c.shrink_to_fit.ensures.bytes ∙ c.in_ok-text.ensures.text ∙ ap entry_text c.deref.ensures in (
       subst (λ ts. AreTexts ts (map arc_value entries)) (sym more)
           (one_more_text (map string_bytes texts.items) (map arc_value entries) (string_bytes c.shrink_to_fit.new.self) (arc_value entry)
           (omega (arith, count, within, length-map entries arc_value)) (there ∙ ap (λ k. get_or (map arc_value entries) k (arc_value entry)) (sym count)) is c.loop-place.invariant.0),

@@ -1,19 +1,12 @@
 -- Parts of a list whose members are seen through a function.
 use Rattle.std.proofs.Common.{◌≡◌, ℕ, ◌+◌, ◌-◌, ◌<◌, List, [], ◌∷◌, ◌++◌, length, get_or, map, take, drop, sym, ap, ◌∙◌, slice_get, Some, min}
-use Rattle.std.proofs.lemmas.List.{get_or-map, length-drop, length-map, map-append, take-map, take_min, take_more, drop-map}
+use Rattle.std.proofs.lemmas.List.{get_or-map, length-drop, length-map, take-map, take_min, take_more, drop-map}
 use Rattle.std.proofs.lemmas.Option.{get_or_from_slice_get, slice_get_within}
 
 module _ {X Y : Type 0} (f : X → Y) (xs : List X) where
   -- a page of a list, seen, is that page of the list as it is seen
   pub page_seen : (n from : ℕ) → map f (take n (drop from xs)) ≡ take n (drop from (map f xs))
   page_seen n from = sym (take-map f n (drop from xs)) ∙ ap (take n) (sym (drop-map f from xs))
-
-  -- one more of a prefix
-  pub prefix_more : (ys : List X) (k : ℕ) (a b : X) → k < length xs → a ≡ get_or xs k a → f b ≡ f a → map f ys ≡ take k (map f xs) → map f (ys ++ b ∷ []) ≡ take (k + 1) (map f xs)
-  prefix_more ys k a b there is same prefix =
-      let within : k < length (map f xs) = rw length-map there in
-      let next : f b ≡ get_or (map f xs) k (f a) = same ∙ ap f is ∙ sym (get_or-map f xs k a (f a) there) in
-      map-append f ys (b ∷ []) ∙ (λ i. prefix i ++ next i ∷ []) ∙ sym (take_more (map f xs) k (f a) within)
 
   -- one more of a prefix, as it is found
   pub found_more : (ys : List Y) (k : ℕ) (a : X) → slice_get xs k ≡ Some a → ys ≡ take k (map f xs) → ys ++ f a ∷ [] ≡ take (k + 1) (map f xs)

@@ -1,9 +1,9 @@
 use Rattle.std.proofs.Common.{[], ◌∷◌, map, string_bytes, sym, ap, ◌∙◌, subst}
 use Rattle.std.proofs.lemmas.List.{map-append}
 use Rattle.std.specs.Arc.{arc_value}
-use Rattle.wire.specs.steps.Pages.{AreTexts}
-use Rattle.wire.proofs.Pages.{one_more_entry}
-use Rattle.wire.proofs.record.Record.push_reserved.Goals as goal
+use Rattle.room_record.specs.steps.Records.{AreTexts}
+use Rattle.room_record.proofs.Texts.{one_more_entry}
+use Rattle.room_record.proofs.record.Record.push_reserved.Goals as goal
 
 pub invariant_of-self : goal.invariant_of-self
 invariant_of-self c =

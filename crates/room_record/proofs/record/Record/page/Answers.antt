@@ -1,10 +1,12 @@
-use Rattle.std.proofs.Common.{◌≡◌, ◌+◌, ◌-◌, length, map, take, drop, min, string_bytes, sym, ap, ◌∙◌, subst, arith}
+use Rattle.std.proofs.Common.{◌≡◌, ◌+◌, ◌-◌, ◌≤◌, length, map, take, drop, min, string_bytes, sym, ap, ◌∙◌, subst, arith}
+use Rattle.std.proofs.lemmas.List.{length-map}
 use Rattle.std.proofs.lemmas.Result.{IfOk-weaker}
 use Rattle.std.specs.Arc.{arc_value}
-use Rattle.wire.specs.steps.Pages.{AreTexts, RecordState}
-use Rattle.wire.proofs.Pages.{texts_from, texts_up_to}
-use Rattle.wire.proofs.Parts.{page_of, page_seen}
-use Rattle.wire.proofs.record.Record.page.Goals as goal
+use Rattle.wire.specs.Texts.{entry_text}
+use Rattle.room_record.specs.steps.Records.{AreTexts, RecordState}
+use Rattle.room_record.proofs.Texts.{page_texts}
+use Rattle.room_record.proofs.Parts.{page_of, page_seen}
+use Rattle.room_record.proofs.record.Record.page.Goals as goal
 
 pub returns-then-from-len-clause-page : goal.returns-then-from-len-clause-page
 returns-then-from-len-clause-page c =
@@ -15,17 +17,18 @@ returns-then-from-len-clause-page c =
     ∙ page_of arc_value entries.items c.args.from c.args.count _ count
     ∙ ap (λ (s : RecordState). take c.args.count (drop c.args.from s.entries)) c.self.view_is
 
-pub with_texts-requires-clause-texts : goal.with_texts-requires-clause-texts
-with_texts-requires-clause-texts c =
+pub with_texts-requires : goal.with_texts-requires
+with_texts-requires c =
     let count = c.args.from + c.min.result - c.args.from in
     let entries = c.self.inside.entries.items in
     let texts = c.write_texts.new.texts.items in
     let of_entries = c.in_ok-entries.ensures ∙ ap (λ xs. map arc_value (take count (drop c.args.from xs))) c.deref.ensures.value ∙ page_seen arc_value entries count c.args.from in
     let of_texts = ap (λ ts. map string_bytes (take count (drop c.args.from ts))) c.deref-3.ensures.value ∙ page_seen string_bytes texts count c.args.from in
-    subst (λ es. AreTexts (map string_bytes (take count (drop c.args.from c.deref-3.result.now))) es) (sym of_entries)
-    (subst (λ ts. AreTexts ts (take count (drop c.args.from (map arc_value entries)))) (sym of_texts)
-    (subst (λ es. AreTexts (take count (drop c.args.from (map string_bytes texts))) (take count (drop c.args.from (map arc_value es)))) c.deref-2.ensures.value
-    (texts_up_to count _ _ (texts_from c.args.from _ _ c.in_ok-write_texts.ensures.texts))))
+    let are = subst (λ es. AreTexts (map string_bytes texts) (map arc_value es)) c.deref-2.ensures.value c.in_ok-write_texts.ensures.texts in
+    let all : c.args.from + count ≤ length (map string_bytes texts) = omega (arith, c.in_ok-write_texts.ensures.all, c.write_texts.new.texts.ok.0, length-map texts string_bytes) in
+    of_texts
+    ∙ page_texts (map string_bytes texts) (map arc_value entries) c.args.from count are all
+    ∙ ap (map entry_text) (sym of_entries)
 
 pub returns-clause-page : goal.returns-clause-page
 returns-clause-page c =

@@ -1,0 +1,97 @@
+-- The forms of what is in range are plain.
+use Rattle.std.proofs.Common.{◌≡◌, ℕ, ◌^◌, ◌<◌, ◌&&◌, true, false, not, List, [], ◌∷◌, map, Option, Some, None, refl, arith}
+use Rattle.std.specs.Prelude.{nat_le}
+use Rattle.std.specs.List.{AllByRecursion}
+use Rattle.std.specs.Option.{option_or}
+use Rattle.std.proofs.lemmas.Bool.Decides.{nat_tests}
+use Rattle.serde_json.specs.Data.{Data}
+use Rattle.serde_json.specs.View.{items_of}
+use Rattle.base_types.specs.Names.{Name, is_site, is_op_name}
+use Rattle.base_types.specs.Vectors.{Vector, pair_fault, fault_after, vector_fault, is_vector}
+use Rattle.base_types.specs.declared.op_name.TheConstants.{MAX_SEQ}
+use Rattle.base_types.specs.declared.state_vector.VectorFault.TheVariants.{OutOfRange}
+use Rattle.base_types.specs.declared.value.Value.{Value}
+use Rattle.base_types.specs.declared.value.Value.TheVariants.{Number, Text}
+use Rattle.base_types.proofs.Choices.{not_first}
+use Rattle.base_types.proofs.Vectors.{none_if}
+use Rattle.rules.specs.AttrLists.{Attr}
+use Rattle.rules.specs.declared.history.Entry.{Entry}
+use Rattle.rules.specs.declared.history.Entry.TheVariants.{Operation, Join as JoinOf}
+use Rattle.rules.specs.declared.history.Body.{Body}
+use Rattle.rules.specs.declared.history.Body.TheVariants.{New, Put, DropVersion}
+use Rattle.wire.specs.declared.reply.Reply.TheVariants.{Entries}
+use Rattle.wire.specs.Form.{list_form, whole_form, name_form, names_form, value_form, attr_form, attrs_form, body_form, entry_form, reply_form, is_at, is_from, IsValue, IsAttr, IsBody, IsEntry, IsReply}
+use Rattle.wire.proofs.Sent.{IsPlain, ArePlain, held_integer}
+
+-- ---- lists
+
+plain_items : (ds : List Data) → AllByRecursion IsPlain ds → ArePlain (items_of ds)
+plain_items [] h = tt
+plain_items (d ∷ ds) h = (h.0, plain_items ds h.1)
+
+each_plain : {X : Type 0} (form : X → Data) (Fits : X → Type 0) → ((x : X) → Fits x → IsPlain (form x)) → (xs : List X) → AllByRecursion Fits xs → IsPlain (list_form (map form xs))
+each_plain form Fits plain [] h = tt
+each_plain form Fits plain (x ∷ xs) h = (plain x h.0, each_plain form Fits plain xs h.1)
+
+-- ---- names and vectors
+
+plain_site : (n : ℕ) → is_site n ≡ true → IsPlain (whole_form n)
+plain_site n h = let low : n < 2 ^ 64 = grind (arith, nat_tests) in low
+
+name_parts : (name : Name) → is_op_name name ≡ true → (name.0 < 2 ^ 64) × (name.1 < 2 ^ 64)
+name_parts name h = grind (arith, nat_tests)
+
+plain_name : (name : Name) → is_op_name name ≡ true → IsPlain (name_form name)
+plain_name name h = let low = name_parts name h in (low.0, (low.1, tt))
+
+plain_names : (names : List Name) → AllByRecursion (λ name. is_op_name name ≡ true) names → IsPlain (names_form names)
+plain_names = each_plain name_form (λ name. is_op_name name ≡ true) plain_name
+
+both_none : {X : Type 0} (a b : Option X) → option_or a b ≡ None → (a ≡ None) × (b ≡ None)
+both_none None b e = (refl, e)
+both_none (Some x) b e = absurd cc
+
+pair_parts : (pair : ℕ × ℕ) → not (is_site pair.0 && nat_le pair.1 MAX_SEQ) ≡ false → (pair.0 < 2 ^ 64) × (pair.1 < 2 ^ 64)
+pair_parts pair h = grind (arith, nat_tests)
+
+plain_after : (last : ℕ) (pairs : Vector) → fault_after last pairs ≡ None → IsPlain (names_form pairs)
+plain_after last [] e = tt
+plain_after last (pair ∷ pairs) e =
+    let a = both_none (pair_fault last pair) (fault_after pair.0 pairs) e in
+    let low = pair_parts pair (not_first (not (is_site pair.0 && nat_le pair.1 MAX_SEQ)) OutOfRange _ a.0).0 in
+    ((low.0, (low.1, tt)), plain_after pair.0 pairs a.1)
+
+plain_vector : (seen : Vector) → is_vector seen ≡ true → IsPlain (names_form seen)
+unfolding vector_fault
+plain_vector seen h = plain_after 0 seen (none_if (fault_after 0 seen) h)
+
+-- ---- operations
+
+plain_value : (v : Value) → IsValue v → IsPlain (value_form v)
+plain_value (Number z) h = held_integer z h
+plain_value (Text s) h = tt
+
+plain_attr : (p : Attr) → IsAttr p → IsPlain (attr_form p)
+plain_attr p h = (tt, (plain_value p.1 h.1, tt))
+
+plain_attrs : (ps : List Attr) → AllByRecursion IsAttr ps → IsPlain (attrs_form ps)
+plain_attrs = each_plain attr_form IsAttr plain_attr
+
+plain_body : (b : Body) → IsBody b → AllByRecursion IsPlain (body_form b).1
+plain_body (New kind attrs) h = (tt, (plain_attrs attrs h.1.0, tt))
+plain_body (Put object version pairs) h = (plain_name object h.0, (plain_names version h.1.0, (plain_attrs pairs h.2.0, tt)))
+plain_body (DropVersion object version) h = (plain_name object h.0, (plain_names version h.1.0, tt))
+
+-- ---- entries
+
+plain_entry : (e : Entry) → IsEntry e → IsPlain (entry_form e)
+plain_entry (JoinOf site) h = (tt, (plain_site site h, tt))
+plain_entry (Operation o) h = (tt, (plain_name o.name h.0, (plain_vector o.seen h.1, plain_items (body_form o.body).1 (plain_body o.body h.2))))
+
+page_parts : (at from : ℕ) → is_at at ≡ true → is_from from ≡ true → (at < 2 ^ 64) × (from < 2 ^ 64)
+page_parts at from h k = grind (arith, nat_tests)
+
+pub plain_page : (at from : ℕ) (page : List Entry) → IsReply (Entries at from page) → IsPlain (reply_form (Entries at from page))
+plain_page at from page h =
+    let low = page_parts at from h.0 h.1 in
+    (tt, (low.0, (low.1, (each_plain entry_form IsEntry plain_entry page h.2, tt))))

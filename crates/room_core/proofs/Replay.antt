@@ -8,7 +8,7 @@ use Rattle.rules.specs.declared.history.Entry.TheVariants.{Join, Operation}
 use Rattle.rules.specs.declared.refusal.Refusal.{Refusal}
 use Rattle.rules.specs.declared.refusal.Refusal.TheVariants.{RecordFull}
 use Rattle.rules.specs.Admission.{causal_conditions, causal_refusal, first_that_applies}
-use Rattle.rules.specs.Records.{is_join, is_placed, operations, order_conditions, refusal, sites}
+use Rattle.rules.specs.Records.{body_conditions, is_join, is_placed, operations, order_conditions, refusal, sites}
 use Rattle.rules.proofs.Conditions.{not_first, room_for_join}
 use Rattle.rules.proofs.Records.{legal_push, sites-join, sites-operation}
 use Rattle.base_types.specs.Vectors.{is_vector}

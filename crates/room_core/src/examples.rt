@@ -75,12 +75,14 @@ pub fn pages_from_a_place()
         ≡ (Objects 5 1 1 [], None) }
     ensures objects_too_far { answer (full_room two_puts) 1 (ListObjects 2) ≡ (No 5 TooFar, None) }
     // Of the record.
-    ensures entries { answer (full_room two_puts) 1 (Pull 4)
+    ensures entries { answer (full_room two_puts) 1 (Pull 4 false)
         ≡ (Entries 5 4 (puts (2, 1) creation_alone [] (x 9 ∷ []) ∷ []), None) }
-    ensures past_the_last_entry { answer (full_room two_puts) 1 (Pull 5) ≡ (Entries 5 5 [], None) }
-    ensures entries_too_far { answer (full_room two_puts) 1 (Pull 99) ≡ (No 5 TooFar, None) }
+    ensures past_the_last_entry { answer (full_room two_puts) 1 (Pull 5 false)
+        ≡ (Entries 5 5 [], None) }
+    ensures waits { answer (full_room two_puts) 1 (Pull 5 true) ≡ (Entries 5 5 [], None) }
+    ensures entries_too_far { answer (full_room two_puts) 1 (Pull 99 false) ≡ (No 5 TooFar, None) }
     ensures one_on_a_page { let small = record full_limits { page = 1 }
-        in answer (record { limits = small; entries = two_puts }) 1 (Pull 0)
+        in answer (record { limits = small; entries = two_puts }) 1 (Pull 0 false)
         ≡ (Entries 5 0 (Joins 1 ∷ []), None) }
 {}
 

@@ -1,4 +1,4 @@
-/** One WebSocket connection to a server. It carries one request at a time. */
+/** One WebSocket connection to a server. The server answers its requests in order. */
 
 import { ProtocolFault } from "./forms.js"
 import { readText } from "./json_text.js"
@@ -7,6 +7,9 @@ import { readText } from "./json_text.js"
 export class Lost extends Error {
   name = "Lost"
 }
+
+/** How long a server may hold the reply to a wait, in milliseconds. */
+export const HOLD_MILLISECONDS = 25000
 
 /**
  * @typedef {{ send(text: string): void, close(code?: number): void, onopen: any, onmessage: any, onclose: any, onerror:
@@ -17,8 +20,8 @@ export class Lost extends Error {
 export class Connection {
   #socket
   #replyMilliseconds
-  #outstanding = null
-  #requestedAt = 0
+  // What the server owes, oldest first: each with the time from which it is owed.
+  #outstanding = []
   #hasEnded = false
   #resolveEnded
 
@@ -40,21 +43,40 @@ export class Connection {
    * @throws {Lost} the connection could not be opened in time
    */
   opened() {
-    const opened = this.#startWaiting()
+    const opened = this.#expect(0)
     this.#socket.onopen = () => this.#settle(null)
     return opened
   }
 
   /**
-   * Sends a request and waits for the reply. Call it only when no other request is outstanding.
+   * Sends a request at once, behind the outstanding ones, and waits for the reply. You may await the promise late: a
+   * failure that nobody awaits is no uncaught error.
    * @param {string} text the request
+   * @param {number} [holdMilliseconds] how long the server may hold the reply, beside the usual time
    * @returns {Promise<any[]>} the reply
    * @throws {Lost} the connection ended before the reply: the server may or may not have carried out the request
    * @throws {ProtocolFault} the reply is not a valid message
    */
-  async request(text) {
+  request(text, holdMilliseconds = 0) {
+    const reply = this.#request(text, holdMilliseconds)
+    reply.catch(() => {})
+    return reply
+  }
+
+  /** How long the server has owed a reply, in milliseconds; 0 if it owes none. A wait that it may hold is not owed. */
+  get silentMilliseconds() {
+    const now = performance.now()
+    return Math.max(0, ...this.#outstanding.map(({ owedFrom }) => now - owedFrom))
+  }
+
+  /** Closes the connection with close code 1000. Outstanding requests fail with `Lost`. */
+  close() {
+    this.#end("The connection was closed.")
+  }
+
+  async #request(text, holdMilliseconds) {
     if (this.#hasEnded) throw new Lost("The connection has ended.")
-    const replyText = this.#startWaiting()
+    const replyText = this.#expect(holdMilliseconds)
     try {
       this.#socket.send(text)
     } catch {
@@ -68,30 +90,20 @@ export class Connection {
     }
   }
 
-  /** How long the current request has waited for its reply, in milliseconds; 0 if there is none. */
-  get silentMilliseconds() {
-    return this.#outstanding === null ? 0 : performance.now() - this.#requestedAt
-  }
-
-  /** Closes the connection with close code 1000. An outstanding request fails with `Lost`. */
-  close() {
-    this.#end("The connection was closed.")
-  }
-
-  #startWaiting() {
-    this.#requestedAt = performance.now()
+  /** The next thing that the server owes when it has sent all outstanding ones. */
+  #expect(holdMilliseconds) {
+    const milliseconds = holdMilliseconds + this.#replyMilliseconds
     return new Promise((resolve, reject) => {
-      const timer = setTimeout(() => this.#end("The server did not answer in time."), this.#replyMilliseconds)
-      this.#outstanding = { resolve, reject, timer }
+      const timer = setTimeout(() => this.#end("The server did not answer in time."), milliseconds)
+      this.#outstanding.push({ resolve, reject, timer, owedFrom: performance.now() + holdMilliseconds })
     })
   }
 
   #settle(value) {
-    if (this.#outstanding === null) return
-    const { resolve, timer } = this.#outstanding
-    this.#outstanding = null
-    clearTimeout(timer)
-    resolve(value)
+    const oldest = this.#outstanding.shift()
+    if (oldest === undefined) return
+    clearTimeout(oldest.timer)
+    oldest.resolve(value)
   }
 
   #receive(data) {
@@ -102,9 +114,7 @@ export class Connection {
   #end(words) {
     if (this.#hasEnded) return
     this.#hasEnded = true
-    if (this.#outstanding !== null) {
-      const { reject, timer } = this.#outstanding
-      this.#outstanding = null
+    for (const { reject, timer } of this.#outstanding.splice(0)) {
       clearTimeout(timer)
       reject(new Lost(words))
     }

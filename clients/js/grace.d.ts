@@ -190,17 +190,13 @@ export interface Storage {
 export interface Options {
   /** Opens a socket. The default is the global `WebSocket`. */
   connect?: ((address: string) => Socket) | undefined
-  /** The time from a reply to the next poll, while the room is busy: 20. */
-  pollMilliseconds?: number | undefined
-  /** How long the room counts as busy after a change: 5,000. After that each wait is 1.25 times the one before. */
-  busyMilliseconds?: number | undefined
-  /** The longest wait between polls: 1,000. */
-  idleMilliseconds?: number | undefined
-  /** The least wait between polls while the page is hidden, if there is a `document`: 5,000. */
-  hiddenMilliseconds?: number | undefined
-  /** The client drops a connection if a reply takes longer than this: 15,000. */
+  /** The first pause before the next wait, if the server answers waits at once without news: 20. Pauses grow. */
+  pauseMilliseconds?: number | undefined
+  /** The longest of these pauses: 1,000. */
+  longestPauseMilliseconds?: number | undefined
+  /** The client drops a connection if a reply takes longer than this: 15,000. A wait may take 25 seconds more. */
   replyMilliseconds?: number | undefined
-  /** How long the client tries to rejoin as its old site while the server still has its old session: 5,000. */
+  /** How long the client tries to rejoin as its old site while the server still has its old session: 90,000. */
   backMilliseconds?: number | undefined
   /** The backoff: the waits before the first, second and later attempts to reconnect. The last one repeats. */
   retryMilliseconds?: readonly number[] | undefined

@@ -4,15 +4,13 @@
  * @typedef {object} Options
  * @property {(address: string) => import("./connection.js").Socket} [connect] opens a socket that behaves like a
  *   `WebSocket`. The default is the global `WebSocket` of browsers, and of node from version 22
- * @property {number} [pollMilliseconds] the time from a reply to the next poll, while the room is busy: 20
- * @property {number} [busyMilliseconds] how long the room counts as busy after a change by anyone: 5,000. After that
- *   each wait is 1.25 times the one before
- * @property {number} [idleMilliseconds] the longest wait between polls: 1,000
- * @property {number} [hiddenMilliseconds] the least wait while the page is hidden, if there is a `document`: 5,000. The
- *   client polls at once when the page becomes visible
- * @property {number} [replyMilliseconds] the client drops a connection if a reply takes longer than this: 15,000
+ * @property {number} [pauseMilliseconds] the first pause before the next wait, if the server answered a wait at once
+ *   and without news: 20. Each such pause is 1.25 times the one before. After news the next one is short again
+ * @property {number} [longestPauseMilliseconds] the longest of these pauses: 1,000
+ * @property {number} [replyMilliseconds] the client drops a connection if a reply takes longer than this: 15,000. The
+ *   25 seconds for which a server may hold a wait do not count
  * @property {number} [backMilliseconds] how long the client tries to rejoin as its old site while the server still has
- *   its old session: 5,000. Then it joins as a new site
+ *   its old session: 90,000. Then it joins as a new site
  * @property {number[]} [retryMilliseconds] the backoff: the waits before the first, second and later attempts to
  *   reconnect. The last one repeats
  * @property {boolean | import("./storage.js").Storage} [storage] where the client saves its site, the record and its
@@ -23,12 +21,10 @@
 
 const DEFAULTS = {
   connect: (address) => new WebSocket(address),
-  pollMilliseconds: 20,
-  busyMilliseconds: 5000,
-  idleMilliseconds: 1000,
-  hiddenMilliseconds: 5000,
+  pauseMilliseconds: 20,
+  longestPauseMilliseconds: 1000,
   replyMilliseconds: 15000,
-  backMilliseconds: 5000,
+  backMilliseconds: 90000,
   retryMilliseconds: [100, 500, 1000, 2000, 5000],
   storage: false,
 }

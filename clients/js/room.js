@@ -8,8 +8,9 @@ import { Drawing } from "./drawing.js"
 import { LIMITS, ProtocolFault, Refused, codeOf, entryOf, idOf, nameOf, operationOf, requestOf } from "./forms.js"
 import { writeText } from "./json_text.js"
 import { NO_WEB_SOCKET, storageOf, withDefaults } from "./options.js"
-import { PollTimer } from "./polling.js"
+import { Pause } from "./pause.js"
 import { SavedState } from "./storage.js"
+import { Waits } from "./waits.js"
 
 /** @typedef {import("./forms.js").Name} Name */
 /** @typedef {import("./forms.js").VersionId} VersionId */
@@ -21,14 +22,16 @@ import { SavedState } from "./storage.js"
 
 const OTHER_ROOM = "The room was started again, and your old drawing is not in it. You can save a copy of it."
 const STILL_CONNECTED = "The server still has your previous connection. Trying again."
+const SHORTER_RECORD = "The room was started again."
 const CANNOT_JOIN = "The server still has your previous connection, and the room is too full for a new one."
 
 // A connection that lasted this long resets the backoff. A connection that breaks sooner does not: otherwise the client
 // would reconnect too often.
 const STEADY_MILLISECONDS = 5000
 
-// The wait between attempts to rejoin as a site that the server says is in use.
+// The first and the longest pause between attempts to rejoin as a site that the server says is in use.
 const REJOIN_MILLISECONDS = 100
+const LONGEST_REJOIN_MILLISECONDS = 1000
 
 /**
  * A client in a room. It shows a prefix of the record, and its own changes as soon as they are made.
@@ -52,7 +55,7 @@ export class Room {
     change: new Set(), state: new Set(), progress: new Set(), refusal: new Set(), renewed: new Set(),
   }
   #connectionState
-  #pollTimer
+  #waits
   #site = null
   #record = []
   #drawing = new Drawing()
@@ -72,10 +75,6 @@ export class Room {
   #isClosing = false
   #connection = null
   #wake = () => {}
-  // A page that becomes visible polls at once.
-  #onVisible = () => {
-    if (globalThis.document.visibilityState === "visible") this.#wake()
-  }
   #settled = []
 
   /**
@@ -92,13 +91,12 @@ export class Room {
     this.#name = name
     this.#options = withDefaults(options)
     this.#saved = new SavedState(storageOf(this.#options.storage), address, name)
-    this.#pollTimer = new PollTimer(this.#options, globalThis.document)
+    this.#waits = new Waits(this.#options)
     this.#connectionState = new ConnectionState(
       (news) => this.#emit("state", news),
       () => (this.#pending.length > 0 ? performance.now() - this.#pending[0].made : null),
       () => this.#connection?.silentMilliseconds ?? 0,
     )
-    globalThis.document?.addEventListener("visibilitychange", this.#onVisible)
     this.#restore()
     // In a later turn, so that the caller can set listeners first.
     Promise.resolve().then(() => {
@@ -293,7 +291,7 @@ export class Room {
 
   /**
    * Stops showing other people's changes until you release the hold. Use it while a person drags or chooses. A change
-   * then counts as seen only what the person saw. The client keeps pulling, and shows the new entries when the last
+   * then counts as seen only what the person saw. The client keeps loading, and shows the new entries when the last
    * hold is released.
    * @returns {() => void} releases the hold; a second call does nothing
    */
@@ -358,7 +356,7 @@ export class Room {
     this.#draw(change, operation)
     this.#pending.push(change)
     this.#saveChanges()
-    this.#pollTimer.speedUp()
+    this.#waits.hurry()
     this.#connectionState.update()
     if (this.#connectionState.isIn) this.#wake()
     this.#emitChange([codeOf(operation.object)])
@@ -426,7 +424,7 @@ export class Room {
         }
         this.#connectionState.leave("waiting", `${fault.message} Trying again.`)
         const { retryMilliseconds } = this.#options
-        await this.#wait(retryMilliseconds[Math.min(tries++, retryMilliseconds.length - 1)], null)
+        await this.#sleep(retryMilliseconds[Math.min(tries++, retryMilliseconds.length - 1)])
       }
     }
   }
@@ -469,6 +467,7 @@ export class Room {
   /** The reply to `back`, or null if the client cannot rejoin as its old site. */
   async #requestBack() {
     const end = Date.now() + this.#options.backMilliseconds
+    const pause = new Pause(REJOIN_MILLISECONDS, LONGEST_REJOIN_MILLISECONDS)
     for (;;) {
       try {
         return await this.#request(["back", this.#name, this.#site], "back")
@@ -478,7 +477,7 @@ export class Room {
         if (this.#site === null || Date.now() >= end) return null
       }
       if (this.words !== STILL_CONNECTED) this.#connectionState.connect(STILL_CONNECTED)
-      await this.#wait(REJOIN_MILLISECONDS, this.#connection)
+      await this.#sleep(pause.take(), this.#connection.ended)
     }
   }
 
@@ -509,31 +508,52 @@ export class Room {
     }
   }
 
-  /** Sends changes and polls until the connection is lost. */
+  /** Sends changes and waits for news until the connection is lost. At most one wait is outstanding. */
   async #serve() {
+    let wait = null
     while (!this.#isClosing) {
-      if (this.#pending.length > 0) await this.#send(this.#pending[0])
-      const wait = this.#pollTimer.timeLeft()
-      if (this.#record.length < this.#length || wait <= 0) await this.#pull()
-      else if (this.#pending.length === 0) await this.#wait(wait, this.#connection)
+      if (wait === null && this.#isWaitDue()) wait = this.#waits.send(this.#connection, this.#record.length)
+      if (this.#pending.length === 0) await this.#sleepUntilWork(wait)
+      const [change] = this.#pending
+      const reply = change === undefined ? null : this.#startChange(change)
+      // A server that held the wait answers it now, before the change.
+      if (wait !== null && (reply !== null || wait.isAnswered)) {
+        await this.#finishWait(wait, reply !== null)
+        wait = null
+      }
+      if (reply !== null) await this.#finishChange(change, reply)
     }
   }
 
-  /** Waits this long. A new change, or the end of the connection or the room, ends the wait early. */
-  async #wait(milliseconds, connection) {
+  /** Whether to ask for news. While changes are pending, the numbers of their replies say whether there are any. */
+  #isWaitDue() {
+    return this.#record.length < this.#length || (this.#pending.length === 0 && this.#waits.timeLeft <= 0)
+  }
+
+  /** Waits until a change is made, the outstanding wait is answered, or the next one is due. */
+  #sleepUntilWork(wait) {
+    if (wait !== null) return this.#sleep(Infinity, wait.reply)
+    return this.#sleep(this.#waits.timeLeft, this.#connection.ended)
+  }
+
+  /** Waits this long. A new change, the end of the room, or `end` ends the wait early. */
+  async #sleep(milliseconds, end = new Promise(() => {})) {
     let timer
-    const waited = new Promise((resolve) => {
-      timer = setTimeout(resolve, milliseconds)
+    const slept = new Promise((resolve) => {
+      if (milliseconds < Infinity) timer = setTimeout(resolve, milliseconds)
       this.#wake = resolve
     })
-    await Promise.race(connection === null ? [waited] : [waited, connection.ended])
-    clearTimeout(timer)
+    await Promise.race([slept, end]).finally(() => clearTimeout(timer))
     this.#wake = () => {}
   }
 
   /** Sends a request and checks that the reply is of this kind. */
   async #request(request, kind) {
-    const reply = await this.#connection.request(typeof request === "string" ? request : writeText(request))
+    return this.#checked(await this.#connection.request(writeText(request)), kind)
+  }
+
+  /** Checks that a reply is of this kind. */
+  #checked(reply, kind) {
     const [word, at, , refusal] = reply
     if (word === "no" && typeof refusal === "string") throw new Refused(refusal)
     if (word !== kind || typeof at !== "number") throw new ProtocolFault(`The server replied ${word}, not ${kind}.`)
@@ -541,12 +561,23 @@ export class Room {
     return reply
   }
 
-  /** Sends a change and processes the reply. */
-  async #send(change) {
-    change.isSent = true
+  /** Sends a change. The result is the promise of the reply, or null if a new name made the change too long. */
+  #startChange(change) {
+    try {
+      const text = requestOf(change.operation)
+      change.isSent = true
+      return this.#connection.request(text)
+    } catch (refusal) {
+      this.#withdraw(change, refusal)
+      return null
+    }
+  }
+
+  /** Processes the reply to a change. */
+  async #finishChange(change, reply) {
     const { operation } = change
     try {
-      const [, at] = await this.#request(requestOf(operation), operation.word === "new" ? "made" : "taken")
+      const [, at] = this.#checked(await reply, operation.word === "new" ? "made" : "taken")
       this.#length = Math.max(this.#length, at + 1)
       if (at === this.#record.length) this.#append([entryOf(operation)])
       else if (!this.#isClosing) {
@@ -561,16 +592,30 @@ export class Room {
 
   /** Pulls the next page and shows it. */
   async #pull() {
-    const from = this.#record.length
-    this.#append(await this.#page(from))
-    this.#pollTimer.polled()
-    if (this.#record.length === from && from < this.#length) throw new ProtocolFault("The server sent an empty page.")
+    this.#append(await this.#page(this.#record.length))
   }
 
   async #page(from) {
-    const [, , place, entries] = await this.#request(["pull", from], "entries")
+    return this.#entriesOf(await this.#connection.request(writeText(["pull", from])), from)
+  }
+
+  /** The entries of a page from this one on. */
+  #entriesOf(reply, from) {
+    const [, , place, entries] = this.#checked(reply, "entries")
     if (place !== from || !Array.isArray(entries)) throw new ProtocolFault("The server sent the wrong page.")
     return entries
+  }
+
+  /** Shows what a wait brought. */
+  async #finishWait(wait, isMessageBehind) {
+    try {
+      const entries = this.#entriesOf(await wait.reply, wait.from)
+      if (entries.length === 0 && !isMessageBehind) this.#waits.broughtNothing(wait)
+      this.#append(entries)
+    } catch (fault) {
+      // Coming back finds the other record.
+      throw fault.word === "too-far" ? new Lost(SHORTER_RECORD) : fault
+    }
   }
 
   /**
@@ -653,12 +698,13 @@ export class Room {
     // Another client may own the storage now.
     if (this.#isClosing) return
     const from = this.#record.length
+    if (entries.length === 0 && from < this.#length) throw new ProtocolFault("The server sent an empty page.")
     for (const entry of entries) {
       const operation = operationOf(entry)
       this.#record.push(entry)
       if (operation !== null) this.#settleIfOwn(entryOf(operation))
     }
-    if (entries.length > 0) this.#pollTimer.speedUp()
+    if (entries.length > 0) this.#waits.hurry()
     this.#saved.saveRecord(this.#record, from)
     this.#show()
   }
@@ -744,7 +790,6 @@ export class Room {
     this.#isClosing = true
     this.#connection?.close()
     this.#wake()
-    globalThis.document?.removeEventListener("visibilitychange", this.#onVisible)
     const pending = this.#pending.splice(0)
     this.#connectionState.leave("closed", words)
     this.#reject(pending, new Refused("closed"))

@@ -12,9 +12,10 @@ ADDRESS is such as 127.0.0.1:7000 or wss://draw.example.org/studio. OBJECT and V
 show printed them. Other people's changes count as seen only after the next show. A VALUE is an integer if it reads as
 one, otherwise a string.
 
-With --site the client rejoins as that site, otherwise it joins as a new one. It reports a lost connection on standard
-error, and reconnects. At the end of its input it closes the session. The exit status is 1 if the server, the room or
-the site is not available. Programs can use the module `grace` beside it. It needs only Python's standard library."""
+With --site the client rejoins as that site, otherwise it joins as a new one. While the site is in use it keeps trying,
+for 90 seconds or those of --back-seconds. It reports a lost connection on standard error, and reconnects. At the end of
+its input it closes the session. The exit status is 1 if the server, the room or the site is not available. Programs can
+use the module `grace` beside it. It needs only Python's standard library."""
 
 import argparse
 import queue
@@ -165,11 +166,11 @@ def enter(room, states):
         return words_of(refusal)
 
 
-def run(address, name, site):
-    """Draws in the room, as a new site or as this one, and closes the session. Returns None, or why the client could
-    not join."""
+def run(address, name, **options):
+    """Draws in the room, as a new site or as the one that the options name, and closes the session. Returns None, or
+    why the client could not join."""
     states = queue.SimpleQueue()
-    with Room(address, name, site=site, listeners={"state": states.put}) as room:
+    with Room(address, name, listeners={"state": states.put}, **options) as room:
         fault = enter(room, states)
         if fault is not None:
             return fault
@@ -199,9 +200,11 @@ def main():
     parser.add_argument("address", metavar="ADDRESS", type=address_of, help="address of the server, such as 127.0.0.1:7000")
     parser.add_argument("room", metavar="ROOM", help="the name of the room")
     parser.add_argument("--site", type=int, help="the site to rejoin as, from 1 to 256 (default: a new site)")
+    parser.add_argument("--back-seconds", metavar="SECONDS", type=float, default=90,
+                        help="how long to try to rejoin while the site is in use (default: 90)")
     words = parser.parse_args()
     try:
-        fault = run(words.address, words.room, words.site)
+        fault = run(words.address, words.room, site=words.site, back_seconds=words.back_seconds)
     except ValueError as mistake:
         fault = str(mistake)
     sys.exit(fault and f"grace_client.py: {fault}")

@@ -1,5 +1,6 @@
 /** Clients that continue from stored state, as a reloaded page does. */
 
+import { withDefaults } from "../options.js"
 import { agree, enter, versionsOf, withServer } from "./rooms.js"
 import { expect, expectEqual, numbersFrom, waitUntil } from "./checks.js"
 import { CUT_AFTER, CUT_BEFORE, CUT_LATE, PASS } from "./proxy.js"
@@ -92,7 +93,7 @@ const onItsWay = (what) => async (proxy, room, other) => {
   again.close()
 }
 
-/** If the site is in use, the client waits a moment for it, and then gets a new site. */
+/** If the site is in use, the client tries for a while, by default 90 seconds, and then gets a new site. */
 async function siteInUse(client) {
   const storage = new Storage()
   const first = await client({ storage })
@@ -103,11 +104,12 @@ async function siteInUse(client) {
   const still = "The server still has your previous connection. Trying again."
   expectEqual("the words", words, ["Connecting.", still, "Connected as site 2."])
   expectEqual("the sites", [first.site, second.site, second.objects()], [1, 2, [[1, 1]]])
-  setTimeout(() => first.close(), 300)
+  setTimeout(() => first.close(), 6000)
   const third = await client({ storage: new Storage(storage), connecting: recordWords })
   expectEqual("the later words", words.slice(3), ["Connecting.", still, "Connected as site 1."])
   await third.create("line").done
   expectEqual("the sites", [third.site, third.record.at(-1)[1], sitesOf(third)], [1, [1, 2], [1, 2]])
+  expectEqual("how long it tries", withDefaults({}).backMilliseconds, 90000)
 }
 
 /** Any client can come back as a free site. If another was in as its site meanwhile, a client gets a new one. */

@@ -1,55 +1,60 @@
 /**
- * Measures how soon news arrives: milliseconds from a change of one client to the `change` event of another. Also
- * measures how many pairs of changes of one attribute, within 100 ms of each other, make two versions, and what polling
- * costs the server. All clients are in this process, beside the server's. An argument sets the option
- * `pollMilliseconds`.
+ * Measures how soon news arrives: milliseconds from the reply to one client's change to the `change` event of each
+ * other client. An event may come before the reply: then they are below 0. Also measures how many pairs of changes of
+ * one attribute, within 100 ms of each other, make two versions, and what waiting costs the server. All clients are in
+ * this process, beside the server's.
+ *
+ * The first argument is the number of clients (30), the second that of changes (300). A third, `at-once` or `held`,
+ * puts a proxy before the server, which has waits answered at once or holds them itself.
  */
 
 import { readFileSync } from "node:fs"
 import { numbersFrom } from "./checks.js"
 import { Server, build } from "./program.js"
+import { AT_ONCE, HELD, LEFT, Proxy } from "./proxy.js"
 import { agree, enter } from "./rooms.js"
 import { WebSocket } from "./websocket.js"
 
-const CHANGES = 300
 const PAIRS = 30
 const APART_MILLISECONDS = 100
-const CLIENTS = 30
 const SECONDS = 10
 // Linux counts a process's processor time in this many ticks a second.
 const TICKS = 100
 
 const sleep = (milliseconds) => new Promise((resolve) => setTimeout(resolve, milliseconds))
 const draw = numbersFrom(1)
-// The random pause between a person's changes, which is never in step with polling.
-const pause = () => sleep(200 + draw(300))
+// The random pause between a person's changes.
+const pause = () => sleep(100 + draw(200))
 
-let pulls = 0
+let waits = 0
 
-/** A socket that counts pulls. */
+/** A socket that counts waits. */
 class Counting extends WebSocket {
   send(text) {
-    if (text.startsWith('["pull"')) pulls += 1
+    if (text.startsWith('["wait"')) waits += 1
     super.send(text)
   }
 }
 
-/** Returns the sorted delays until another client shows a change. */
-async function waits(author, other) {
+/** Returns the time of the next change that a room shows. */
+const nextNews = (room) => new Promise((resolve) => {
+  const end = room.on("change", () => {
+    end()
+    resolve(performance.now())
+  })
+})
+
+/** Returns the sorted delays from the reply to a change until each other client shows it. */
+async function delaysOf(changes, author, ...others) {
   const made = author.create("rect")
-  await agree(author, other)
+  await agree(author, ...others)
   const delays = []
-  for (let x = 0; x < CHANGES; x++) {
+  for (let x = 0; x < changes; x++) {
     await pause()
-    const start = performance.now()
-    author.set(made.name, [], "x", x)
-    await new Promise((resolve) => {
-      const end = other.on("change", () => {
-        end()
-        resolve()
-      })
-    })
-    delays.push(performance.now() - start)
+    const arrivals = others.map(nextNews)
+    await author.set(made.name, [], "x", x).done
+    const replied = performance.now()
+    delays.push(...(await Promise.all(arrivals)).map((time) => time - replied))
   }
   return delays.sort((one, next) => one - next)
 }
@@ -76,35 +81,43 @@ function processorTime(pid) {
   return (Number(fields[11]) + Number(fields[12])) / TICKS
 }
 
-/** Measures the pulls a second of many clients, and the share of a processor that the server needs for them. */
+/** Measures the waits a second of many clients, and the share of a processor that the server needs for them. */
 async function cost(server, author, rooms) {
-  const before = [pulls, processorTime(server.program.pid)]
+  const before = [waits, processorTime(server.program.pid)]
   for (let second = 0; second < SECONDS; second++) {
     author?.create("rect")
     await sleep(1000)
   }
-  const passed = [pulls - before[0], processorTime(server.program.pid) - before[1]]
+  const passed = [waits - before[0], processorTime(server.program.pid) - before[1]]
   const part = (100 * passed[1]) / SECONDS
   const [each, all] = [passed[0] / SECONDS / rooms.length, Math.round(passed[0] / SECONDS)]
   const share = `${part.toFixed(1)} % of a processor`
-  return `${rooms.length} clients pull ${all} times a second, ${each.toFixed(1)} each: ${share}`
+  return `${rooms.length} clients send ${all} waits a second, ${each.toFixed(1)} each: ${share}`
+}
+
+async function measure(server, rooms, changes) {
+  const delays = await delaysOf(changes, ...rooms)
+  const part = (share) => `${delays[Math.floor(share * delays.length)].toFixed(1)} ms`
+  const heads = `${changes} changes, ${rooms.length} clients`
+  console.log(`${heads}: median ${part(0.5)}, 90% within ${part(0.9)}, 99% within ${part(0.99)}`)
+  console.log(`${PAIRS} pairs within ${APART_MILLISECONDS} ms: ${await conflicts(...rooms)} made two versions`)
+  console.log(`a change a second: ${await cost(server, rooms[0], rooms)}`)
+  await sleep(5000)
+  console.log(`no change for 5 seconds: ${await cost(server, null, rooms)}`)
 }
 
 build()
-const [poll] = process.argv.slice(2).map(Number)
+const [clients = 30, changes = 300] = process.argv.slice(2, 4).map(Number)
 const server = await Server.start()
-const options = { pollMilliseconds: poll, connect: (address) => new Counting(address) }
-const rooms = [await enter(server.address, options), await enter(server.address, options)]
+const proxy = await Proxy.start(server.port)
+proxy.waits = { "at-once": AT_ONCE, held: HELD }[process.argv[4]] ?? LEFT
+const address = proxy.waits === LEFT ? server.address : proxy.address
+const rooms = []
 try {
-  const delays = await waits(...rooms)
-  const part = (share) => delays[Math.floor(share * delays.length)].toFixed(1)
-  console.log(`${CHANGES} changes: median ${part(0.5)} ms, 90% within ${part(0.9)} ms, 99% within ${part(0.99)} ms`)
-  console.log(`${PAIRS} pairs within ${APART_MILLISECONDS} ms: ${await conflicts(...rooms)} made two versions`)
-  while (rooms.length < CLIENTS) rooms.push(await enter(server.address, options))
-  console.log(`a change a second: ${await cost(server, rooms[0], rooms)}`)
-  await sleep(15000)
-  console.log(`no change for 15 seconds: ${await cost(server, null, rooms)}`)
+  while (rooms.length < clients) rooms.push(await enter(address, { connect: (it) => new Counting(it) }))
+  await measure(server, rooms, changes)
 } finally {
   rooms.forEach((room) => room.close())
+  proxy.end()
   await server.end()
 }

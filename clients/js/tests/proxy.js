@@ -1,6 +1,6 @@
 /**
- * A proxy between clients and `grace serve`. It can cut connections between a request and its reply. `whatToDo` decides
- * about each message of a client.
+ * A proxy between clients and `grace serve`. It can cut connections between a request and its reply, and hold waits.
+ * `whatToDo` decides about each message of a client.
  */
 
 import { connect, createServer } from "node:net"
@@ -15,28 +15,50 @@ export const CUT_AFTER = "cut after"
 export const CUT_LATE = "cut late"
 
 const LATE_MILLISECONDS = 100
+const HOLD_MILLISECONDS = 25000
+
+/** What the proxy does with waits: it leaves them to the server, has them answered at once, or holds them itself. */
+export const LEFT = "left"
+export const AT_ONCE = "at once"
+export const HELD = "held"
 
 /** The connections of one client and to the server. */
 class Pair {
   #bytes = Buffer.alloc(0)
   #isHandshake = true
   #isCutting = false
+  #held = null
+  #timer = null
 
-  constructor(client, port, whatToDo) {
+  constructor(client, proxy) {
     this.client = client
-    this.whatToDo = whatToDo
-    this.server = connect({ port, host: "127.0.0.1", noDelay: true })
+    this.proxy = proxy
+    this.server = connect({ port: proxy.port, host: "127.0.0.1", noDelay: true })
     for (const socket of [client, this.server]) {
       socket.on("error", () => this.cut())
       socket.on("close", () => this.cut())
     }
     client.on("data", (piece) => this.#fromClient(piece))
-    this.server.on("data", (piece) => (this.#isCutting ? this.cut() : client.write(piece)))
+    this.server.on("data", (piece) => this.#fromServer(piece))
   }
 
   cut() {
+    clearTimeout(this.#timer)
     this.client.destroy()
     this.server.destroy()
+  }
+
+  /** Passes the held wait on. */
+  release() {
+    clearTimeout(this.#timer)
+    if (this.#held !== null) this.server.write(this.#held)
+    this.#held = null
+  }
+
+  #fromServer(piece) {
+    if (this.#isCutting) return this.cut()
+    this.client.write(piece)
+    this.proxy.hear(piece.toString())
   }
 
   #hangUp(last) {
@@ -54,14 +76,41 @@ class Pair {
     this.#bytes = Buffer.concat([this.#bytes, piece])
     for (let frame = firstFrame(this.#bytes); frame !== null && !this.#isCutting; frame = firstFrame(this.#bytes)) {
       const whole = this.#bytes.subarray(0, frame.size)
-      const what = this.whatToDo(textOf(whole, frame))
+      const text = textOf(whole, frame)
+      const what = this.proxy.decide(text)
       this.#bytes = this.#bytes.subarray(frame.size)
       if (what === CUT_BEFORE) return this.cut()
       if (what === CUT_LATE) return this.#hangUp(whole)
-      if (what === CUT_AFTER) this.#isCutting = true
-      this.server.write(whole)
+      if (what === CUT_AFTER) this.#cutSoon()
+      this.#pass(whole, text, frame)
     }
   }
+
+  /** Cuts at the reply, or soon if the server holds it. */
+  #cutSoon() {
+    this.#isCutting = true
+    setTimeout(() => this.cut(), LATE_MILLISECONDS)
+  }
+
+  #pass(whole, text, frame) {
+    this.release()
+    const [word, from] = text.startsWith('["wait"') ? JSON.parse(text) : []
+    if (word === undefined || this.proxy.waits === LEFT) return this.server.write(whole)
+    if (this.proxy.waits === AT_ONCE) return this.server.write(asPull(whole, frame))
+    this.#held = whole
+    if (from < this.proxy.length) this.release()
+    else this.#timer = setTimeout(() => this.release(), HOLD_MILLISECONDS)
+  }
+}
+
+/** Returns the frame of a wait as that of a pull, which has the same size. */
+function asPull(whole, { payload }) {
+  const pull = Buffer.from(whole)
+  const start = whole.length - payload.length
+  for (const [place, letter] of [..."pull"].entries()) {
+    pull[start + 2 + place] = letter.charCodeAt(0) ^ whole[start - 4 + ((2 + place) % 4)]
+  }
+  return pull
 }
 
 /** Returns the unmasked text of a client's frame. */
@@ -74,14 +123,17 @@ function textOf(whole, { payload }) {
 export class Proxy {
   /** Decides about a message, by its text: returns one of the constants above. */
   whatToDo = () => PASS
+  waits = LEFT
   cuts = 0
+  /** How many entries the record has, if all clients are behind this proxy. */
+  length = 0
   #pairs = new Set()
 
   static async start(port) {
     const proxy = new Proxy()
     proxy.port = port
     proxy.server = createServer({ noDelay: true }, (client) => {
-      const pair = new Pair(client, proxy.port, (text) => proxy.#decide(text))
+      const pair = new Pair(client, proxy)
       proxy.#pairs.add(pair)
       client.on("close", () => proxy.#pairs.delete(pair))
     })
@@ -109,9 +161,18 @@ export class Proxy {
     this.cut()
   }
 
-  #decide(text) {
+  /** Decides about a message. */
+  decide(text) {
     const what = this.whatToDo(text)
     if (what !== PASS) this.cuts += 1
     return what
+  }
+
+  /** Hears what the server sends: a new entry ends all held waits. */
+  hear(text) {
+    const added = text.match(/\["(?:joined|made|taken)",\d+/g)
+    if (added === null) return
+    this.length = Math.max(this.length, ...added.map((reply) => Number(reply.split(",")[1]) + 1))
+    for (const pair of this.#pairs) pair.release()
   }
 }

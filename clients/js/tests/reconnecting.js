@@ -45,8 +45,9 @@ const cutOnce = (what) => async (proxy, room, other) => {
   const drop = room.drop(line.name, [])
   await drop.done
   expectEqual("the dropped one", room.versions(line.name).map(({ isGone }) => isGone), [true])
-  proxy.cutOnce('["pull"', what)
-  await waitUntil("a pull was cut", () => proxy.cuts === 4)
+  proxy.cutOnce('["wait"', what)
+  await room.set(made.name, [], "y", 8).done
+  await waitUntil("a wait was cut", () => proxy.cuts === 4)
   proxy.cutOnce('["back"', what)
   proxy.cut()
   await waitUntil("a coming back was cut", () => proxy.cuts === 5)
@@ -55,9 +56,9 @@ const cutOnce = (what) => async (proxy, room, other) => {
   await agree(room, other)
   expectEqual("the changes", operations(other).map(([word, , , ...rest]) => [word, rest.at(-1)]), [
     ["new", [["x", 0]]], ["put", [["x", 5], ["y", 7]]], ["put", [["fill", "red"]]], ["new", []], ["drop", []],
-    ["put", [["x", 6]]],
+    ["put", [["y", 8]]], ["put", [["x", 6]]],
   ])
-  const one = [[[], [["fill", "red"], ["x", 6], ["y", 7]]]]
+  const one = [[[], [["fill", "red"], ["x", 6], ["y", 8]]]]
   expectEqual("what both show", [versionsOf(room, made.name), versionsOf(other, made.name)], [one, one])
   expectEqual("the refusals", room.refused, [])
   expectEqual("the sites", sitesOf(other), [1, 2])

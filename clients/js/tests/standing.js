@@ -1,12 +1,10 @@
-/**
- * The state of a room's connection: waiting changes, a silent server, the progress of loading, and the pace of polling.
- */
+/** The state of a room's connection: waiting changes, a silent server, the progress of loading, and waits for news. */
 
 import { readFileSync, readdirSync } from "node:fs"
 import { createServer } from "node:net"
 import { Room } from "../grace.js"
 import { expect, expectEqual, waitUntil } from "./checks.js"
-import { PASS, Proxy } from "./proxy.js"
+import { AT_ONCE, HELD, PASS, Proxy } from "./proxy.js"
 import { agree, enter, withServer } from "./rooms.js"
 import { WebSocket } from "./websocket.js"
 
@@ -171,72 +169,99 @@ async function progress(client) {
   expectEqual("the later news", [told.length, second.progress, second.isLoaded], [4, { have: 153, of: 153 }, true])
 }
 
-/** Runs a test with a proxy that counts pulls. */
-const withPullCount = (test) => withServer(async (client, server) => {
+/** Runs a test with a proxy that does this with waits, and counts them. */
+const withWaits = (what, test) => withServer(async (client, server) => {
   const proxy = await Proxy.start(server.port)
-  const counts = { pulls: 0 }
+  const texts = []
+  proxy.waits = what
   proxy.whatToDo = (text) => {
-    if (text.startsWith('["pull"')) counts.pulls += 1
+    texts.push(text)
     return PASS
   }
   const during = async (milliseconds) => {
-    const before = counts.pulls
+    const before = texts.length
     await sleep(milliseconds)
-    return counts.pulls - before
+    return texts.slice(before).filter((text) => text.startsWith('["wait"')).length
+  }
+  const rooms = []
+  const enterBehind = async (options) => {
+    rooms.push(await enter(proxy.address, options))
+    return rooms.at(-1)
   }
   try {
-    return await test(proxy.address, during, client)
+    return await test(enterBehind, during, texts)
   } finally {
+    rooms.forEach((room) => room.close())
     proxy.end()
   }
 })
 
-/** The client polls often while there is news, then slower, and often again at the next news. */
-async function pace(address, during, client) {
-  const other = await client()
-  const room = await enter(address, { busyMilliseconds: 600, idleMilliseconds: 400 })
-  try {
-    await room.create("rect").done
-    const busy = await during(500)
-    // A wait of 20 ms after each reply lets at most 25 through. A busy machine lets fewer.
-    expect(`${busy} questions while there is news`, busy >= 8 && busy <= 26)
-    // From the 600th millisecond on the waits are 25, 31, .. up to 400: they are that long after 2 s more.
-    await sleep(2200)
-    const idle = await during(1300)
-    expect(`${idle} questions while there is none`, idle >= 2 && idle <= 4)
-    other.create("rect")
-    await waitUntil("the news", () => room.objects().length === 2)
-    const again = await during(500)
-    expect(`${again} questions after news`, again >= 8 && again <= 26)
-    return `${busy}, ${idle} and ${again} questions`
-  } finally {
-    room.close()
-  }
+/** A server answers waits at once. The client waits often while there is news, then less often, and often again. */
+async function answeredAtOnce(enterBehind, during) {
+  const other = await enterBehind({ pauseMilliseconds: 60000, longestPauseMilliseconds: 60000 })
+  const room = await enterBehind({ longestPauseMilliseconds: 400 })
+  await room.create("rect").done
+  const busy = await during(500)
+  // The pauses are 20, 25, 31, .. milliseconds: at most ten fit. A busy machine lets fewer through.
+  expect(`${busy} waits after news`, busy >= 4 && busy <= 10)
+  await sleep(2500)
+  const idle = await during(1300)
+  expect(`${idle} waits without news`, idle >= 2 && idle <= 4)
+  other.create("rect")
+  await waitUntil("the news", () => room.objects().length === 2)
+  const again = await during(500)
+  expect(`${again} waits after news`, again >= 4 && again <= 10)
+  return `${busy}, ${idle} and ${again} waits`
 }
 
-/** A hidden page polls seldom, and at once when it becomes visible. */
-async function hidden(address, during) {
-  const page = new EventTarget()
-  page.visibilityState = "visible"
-  globalThis.document = page
-  const become = (state) => {
-    page.visibilityState = state
-    page.dispatchEvent(new Event("visibilitychange"))
-  }
-  const room = await enter(address, { hiddenMilliseconds: 2000 })
+/** A server holds waits. The client sends nothing meanwhile. A change over a held wait is answered at once. */
+async function held(enterBehind, during, texts) {
+  const [other, room] = [await enterBehind(), await enterBehind({ replyMilliseconds: 1000 })]
+  const made = room.create("rect")
+  await agree(room, other)
+  const news = recordNews(room)
+  expectEqual("the waits of both while nothing happens", await during(2000), 0)
+  const start = performance.now()
+  const before = texts.length
+  await room.set(made.name, [], "x", 1).done
+  await waitUntil("the news", () => other.record.length === room.record.length)
+  const passed = performance.now() - start
+  expect(`the news came after ${passed} ms`, passed < LATE)
+  // Both waits have ended, and each client has sent the next one.
+  await waitUntil("the next waits", () => texts.length >= before + 3)
+  expectEqual("what was sent", texts.slice(before).sort(), [
+    '["put",2,[[2,1]],[2,1],[],[["x",1]]]', '["wait",4]', '["wait",4]',
+  ])
+  expectEqual("the changes of the connection's state", news, [])
+}
+
+/** Answers the requests of each connection in turn by a table. It never answers what the table lacks. */
+const answering = (...tables) => () => {
+  const answers = tables.shift() ?? {}
+  const socket = { close: () => {}, send: (text) => setTimeout(() => {
+    if (text in answers) socket.onmessage({ data: answers[text] })
+  }) }
+  setTimeout(() => socket.onopen())
+  return socket
+}
+
+/** A server refuses a wait because it has fewer entries: the room was started again. */
+async function tooFar() {
+  const joined = { '["join","r"]': '["joined",0,1]', '["pull",0]': '["entries",1,0,[["join",1]]]' }
+  const connect = answering(
+    { ...joined, '["wait",1]': '["no",0,17,"too-far"]' },
+    { ...joined, '["back","r",1]': '["no",0,19,"no-such-site"]' },
+  )
+  const room = new Room("ws://127.0.0.1:1/", "r", { connect, retryMilliseconds: [10] })
   try {
-    await room.create("rect").done
-    become("hidden")
-    await sleep(100)
-    expectEqual("the questions of a hidden page", await during(1000), 0)
-    const change = room.create("rect")
-    await change.done
-    become("visible")
-    const visible = await during(300)
-    expect(`${visible} questions of a visible page`, visible >= 3)
+    const news = recordNews(room)
+    const renewals = []
+    room.on("renewed", ({ text }) => renewals.push(text))
+    await waitUntil("the room again", () => renewals.length === 1 && room.state === "open")
+    expectEqual("the old room", renewals, ['["join",1]\n'])
+    expectEqual("the states", news.map(({ state }) => state), ["connecting", "open", "waiting", "connecting", "open"])
   } finally {
     room.close()
-    delete globalThis.document
   }
 }
 
@@ -247,6 +272,7 @@ export const TESTS = [
   ["closed while it connects", closedEarly],
   ["attempts at a silent server", silentTries],
   ["the progress of loading", withServer(progress)],
-  ["the pace of polling", withPullCount(pace)],
-  ["a hidden page", withPullCount(hidden)],
+  ["waits that are answered at once", withWaits(AT_ONCE, answeredAtOnce)],
+  ["waits that are held", withWaits(HELD, held)],
+  ["a wait that is refused", tooFar],
 ]

@@ -16,8 +16,8 @@ const socket: Socket = {
 const storage: Storage = { getItem: () => null, setItem: () => {}, removeItem: () => {} }
 const options: Options = {
   connect: (address: string) => (address === "" ? socket : socket),
-  pollMilliseconds: 20, busyMilliseconds: 5000, idleMilliseconds: 1000, hiddenMilliseconds: 5000,
-  replyMilliseconds: 15000, backMilliseconds: 5000, retryMilliseconds: [100, 500], storage,
+  pauseMilliseconds: 20, longestPauseMilliseconds: 1000, replyMilliseconds: 15000, backMilliseconds: 90000,
+  retryMilliseconds: [100, 500], storage,
 }
 const room = new Room("ws://localhost:7000/", "r", options)
 new Room("ws://localhost:7000/", "r", { storage: true, connect: undefined })
@@ -92,7 +92,7 @@ room.on("news", () => {})
 // @ts-expect-error the news has no such field
 room.on("progress", ({ percent }) => percent)
 // @ts-expect-error no such option
-new Room("ws://localhost:7000/", "r", { poll: 20 })
+new Room("ws://localhost:7000/", "r", { pause: 20 })
 // @ts-expect-error no such state
 const state: State = "offline"
 // @ts-expect-error it can't be assigned

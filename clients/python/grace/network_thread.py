@@ -1,6 +1,7 @@
-"""The thread that talks to the server for a room, one request at a time."""
+"""The thread that talks to the server for a room."""
 
 import contextlib
+import math
 import selectors
 import socket
 import ssl
@@ -8,28 +9,41 @@ import sys
 import threading
 import time
 from collections import deque
+from dataclasses import dataclass
 
 from .connection_state import ConnectionState
 from .forms import Lost, ProtocolFault, Refused, operation_of, read_text, request_of, write_text
-from .polling import PollTimer
+from .pause import Pause, WaitTimer
 from .websocket import WebSocket
 
 STILL_CONNECTED = "The server still has your previous connection. Trying again."
 CANNOT_JOIN = "The server still has your previous connection, and the room is too full for a new one."
+SHORTER_RECORD = "The room was started again."
 CLOSED = "The room was closed."
 
 # A connection that lasted this long resets the backoff. A connection that breaks sooner does not: otherwise the client
 # would reconnect too often.
 STEADY_SECONDS = 5
-# The wait between attempts to rejoin as a site that the server says is in use.
+# The first and the longest pause between attempts to rejoin as a site that the server says is in use.
 REJOIN_SECONDS = 0.1
+LONGEST_REJOIN_SECONDS = 1
+# How long a server may hold the reply to a wait.
+HOLD_SECONDS = 25
 # How long to wait for the server's close frame.
 CLOSE_SECONDS = 1
 
 
+@dataclass(frozen=True)
+class Owed:
+    """What the server owes: the time from which it owes it, and the time until which the client waits for it."""
+
+    since: float
+    deadline: float
+
+
 class NetworkThread:
-    """Connects, joins, sends changes, polls, and reconnects. `room_state` is the client's copy of the room, which
-    `lock` protects. `listeners` has the listeners of each event."""
+    """Connects, joins, sends changes, waits for news, and reconnects. `room_state` is the client's copy of the room,
+    which `lock` protects. `listeners` has the listeners of each event."""
 
     def __init__(self, address, name, options, lock, listeners):
         self.address, self.name, self.options = address, name, options
@@ -39,7 +53,7 @@ class NetworkThread:
         self.news = threading.Condition(lock)
         self.listeners = listeners
         self.events = deque()
-        self.poll_timer = PollTimer(options.poll_seconds, options.busy_seconds, options.idle_seconds)
+        self.wait_timer = WaitTimer(options.pause_seconds, options.longest_pause_seconds)
         self.connection_state = ConnectionState(self.emit, self._pending_time, self._silent_time)
         self.is_closing = False
         # The error that closed the room, or None.
@@ -49,8 +63,11 @@ class NetworkThread:
         self._socket = None
         # Whether it is sending the close frame.
         self._is_leaving = False
-        self._requested_at = None
-        self._deadline = 0
+        # What the server owes, oldest first, and the replies that have arrived but are not processed.
+        self._owed = deque()
+        self._replies = deque()
+        # The place from which the outstanding wait asks, or None.
+        self._wait_from = None
         self._tries = 0
         self._wakes, self._waker = socket.socketpair()
         self._wakes.setblocking(False)
@@ -77,7 +94,7 @@ class NetworkThread:
 
     def changed(self):
         """There is a new change to send."""
-        self.poll_timer.speed_up()
+        self.wait_timer.hurry()
         self.connection_state.update()
         self.wake()
 
@@ -95,7 +112,8 @@ class NetworkThread:
         return time.monotonic() - pending[0].made if pending else None
 
     def _silent_time(self):
-        return 0 if self._requested_at is None else time.monotonic() - self._requested_at
+        now = time.monotonic()
+        return max((now - owed.since for owed in self._owed), default=0)
 
     # ---- events and waiting
 
@@ -138,7 +156,8 @@ class NetworkThread:
         if sock is not None:
             self._selector.register(sock, selectors.EVENT_WRITE if for_writing else selectors.EVENT_READ)
         try:
-            ready = self._selector.select(max(0, min(until, self.connection_state.due) - time.monotonic()))
+            seconds = max(0, min(until, self.connection_state.due) - time.monotonic())
+            ready = self._selector.select(None if seconds == math.inf else seconds)
         finally:
             if sock is not None:
                 self._selector.unregister(sock)
@@ -152,23 +171,41 @@ class NetworkThread:
         while True:
             if not self._is_leaving:
                 self._handle_events()
-            if self._select(sock, for_writing, self._deadline):
+            if self._select(sock, for_writing, self._deadline()):
                 return
-            if time.monotonic() >= self._deadline:
-                raise Lost("The server did not answer in time.")
+            self._check_deadline()
 
     def _sleep(self, seconds, is_over=lambda: False):
-        """Waits this long, or until `is_over` returns true. Raises `Lost` if the connection ends in the meantime."""
+        """Waits this long, or until `is_over` returns true. Raises `Lost` if the connection ends in the meantime, or a
+        reply takes too long."""
         until = time.monotonic() + seconds
         while not is_over() and time.monotonic() < until:
             self._handle_events()
             if is_over():
                 return
             sock = self._socket and self._socket.socket
-            if self._select(sock, False, until):
+            if self._select(sock, False, min(until, self._deadline())):
                 self._socket.take_ready()
-                if self._socket.next_message() is not None:
-                    raise ProtocolFault("The server sent a message without a request.")
+                self._take_replies()
+            self._check_deadline()
+
+    def _take_replies(self):
+        while (message := self._socket.next_message()) is not None:
+            if len(self._replies) == len(self._owed):
+                raise ProtocolFault("The server sent a message without a request.")
+            self._replies.append(message)
+
+    def _expect(self, hold=0):
+        """The server owes a reply, which it may hold this long."""
+        since = time.monotonic() + hold
+        self._owed.append(Owed(since, since + self.options.reply_seconds))
+
+    def _deadline(self):
+        return min((owed.deadline for owed in self._owed), default=math.inf)
+
+    def _check_deadline(self):
+        if time.monotonic() >= self._deadline():
+            raise Lost("The server did not answer in time.")
 
     # ---- the connection
 
@@ -208,15 +245,23 @@ class NetworkThread:
         """Ends the connection. A room that is closed sends a close frame first."""
         if self._socket is None:
             return
+        self._forget_requests()
         try:
             if self.is_closing and self._socket.is_open:
                 self._is_leaving = True
-                self._deadline = time.monotonic() + CLOSE_SECONDS
+                now = time.monotonic()
+                self._owed.append(Owed(now, now + CLOSE_SECONDS))
                 self._socket.say_close()
         except Lost:
             pass
+        self._forget_requests()
         self._socket.end()
         self._socket = None
+
+    def _forget_requests(self):
+        self._owed.clear()
+        self._replies.clear()
+        self._wait_from = None
 
     def _close(self):
         self._disconnect()
@@ -229,13 +274,13 @@ class NetworkThread:
         """Connects and joins. Then it pulls what the record has more, which shows which changes the server accepted."""
         with self._locked():
             self.connection_state.connect()
-            self._start_deadline()
+            self._expect()
         self._socket = WebSocket(self._wait)
         context = self.options.context
         if context is None and self.address.scheme == "wss":
             context = ssl.create_default_context()
         self._socket.open(self.address, context)
-        self._requested_at = None
+        self._owed.popleft()
         self.room_state.is_entering = True
         if not self._rejoin():
             self._join()
@@ -277,6 +322,7 @@ class NetworkThread:
     def _request_back(self):
         """The reply to `back`, or None if the client cannot rejoin as its old site."""
         end = time.monotonic() + self.options.back_seconds
+        pause = Pause(REJOIN_SECONDS, LONGEST_REJOIN_SECONDS)
         while True:
             try:
                 return self._request(["back", self.name, self.room_state.site or self.options.site], "back")
@@ -286,7 +332,7 @@ class NetworkThread:
             with self._locked():
                 if self.connection_state.words != STILL_CONNECTED:
                     self.connection_state.connect(STILL_CONNECTED)
-            self._sleep(REJOIN_SECONDS)
+            self._sleep(pause.take())
 
     def _may_rejoin(self, refusal, end):
         """Whether to try again to rejoin. Raises the refusal if the client must not join as a new site."""
@@ -338,19 +384,37 @@ class NetworkThread:
                 self._tries = 0
 
     def _serve(self):
-        """Sends changes and polls until the connection is lost."""
+        """Sends changes and waits for news until the connection is lost. At most one wait is outstanding."""
         while True:
             self._handle_events()
             with self.lock:
                 change = self.room_state.pending[0] if self.room_state.pending else None
                 refreshes = self.refreshes_asked
+            if self._wait_from is None and self._is_wait_due():
+                self._send_wait()
             if change is not None:
                 self._send(change)
-            if self.room_state.lacks or refreshes > self.refreshes_done or self.poll_timer.time_left() <= 0:
+            elif refreshes > self.refreshes_done:
                 self._pull()
                 self._finish_refreshes(refreshes)
-            elif not self.room_state.pending:
-                self._sleep(self.poll_timer.time_left(), self._has_work)
+            else:
+                self._await_news()
+
+    def _is_wait_due(self):
+        """Whether to ask for news. While changes are pending, the numbers of their replies say whether there are
+        any."""
+        if self.refreshes_asked > self.refreshes_done:
+            return False
+        return self.room_state.lacks or not self.room_state.pending and self.wait_timer.time_left() <= 0
+
+    def _await_news(self):
+        """Waits until there is something to send, the outstanding wait is answered, or the next one is due."""
+        if self._wait_from is None:
+            self._sleep(self.wait_timer.time_left(), self._has_work)
+            return
+        self._sleep(math.inf, lambda: self._replies or self._has_work())
+        if self._replies:
+            self._finish_wait()
 
     def _has_work(self):
         return bool(self.room_state.pending) or self.refreshes_asked > self.refreshes_done
@@ -364,18 +428,15 @@ class NetworkThread:
 
     # ---- requests
 
-    def _start_deadline(self):
-        self._requested_at = time.monotonic()
-        self._deadline = self._requested_at + self.options.reply_seconds
+    def _start(self, request, hold=0):
+        """Sends a request. The server may hold the reply this long."""
+        self._expect(hold)
+        self._socket.send(request if isinstance(request, str) else write_text(request))
 
-    def _request(self, request, kind):
-        """Sends a request and checks that the reply is of this kind."""
-        self._start_deadline()
-        try:
-            self._socket.send(request if isinstance(request, str) else write_text(request))
-            reply = read_text(self._socket.read())
-        finally:
-            self._requested_at = None
+    def _finish(self, kind):
+        """The reply to the oldest outstanding request. Checks that it is of this kind."""
+        reply = read_text(self._replies.popleft() if self._replies else self._socket.read())
+        self._owed.popleft()
         match reply:
             case ("no", _, _, str(word)):
                 raise Refused(word)
@@ -384,6 +445,32 @@ class NetworkThread:
                     self.room_state.length = max(self.room_state.length, at)
                 return reply
         raise ProtocolFault(f"The server sent another reply instead of {kind}: {reply!r:.200}")
+
+    def _request(self, request, kind):
+        """Sends a request and waits for the reply. A server that holds a wait answers that first."""
+        self._start(request)
+        if self._wait_from is not None:
+            self._finish_wait(is_message_behind=True)
+        return self._finish(kind)
+
+    def _send_wait(self):
+        """Sends a wait for the entries that the record lacks."""
+        self._wait_from = len(self.room_state.record)
+        self.wait_timer.sent()
+        self._start(["wait", self._wait_from], HOLD_SECONDS)
+
+    def _finish_wait(self, is_message_behind=False):
+        """Shows what the outstanding wait brings."""
+        start, self._wait_from = self._wait_from, None
+        try:
+            entries = self._entries(self._finish("entries"), start)
+        except Refused as refusal:
+            # Coming back finds the other record.
+            raise Lost(SHORTER_RECORD) if refusal.word == "too-far" else refusal
+        if not entries and not is_message_behind:
+            with self._locked():
+                self.wait_timer.brought_nothing()
+        self._append(entries)
 
     def _send(self, change):
         """Sends a change and processes the reply."""
@@ -406,20 +493,28 @@ class NetworkThread:
         """Pulls the next page and shows it."""
         start = len(self.room_state.record)
         entries = self._page(start)
+        # A wait that was answered before it may have brought the first ones.
+        self._append(entries[len(self.room_state.record) - start:])
+
+    def _page(self, start):
+        return self._entries(self._request(["pull", start], "entries"), start)
+
+    def _entries(self, reply, start):
+        """The entries of a page from this one on."""
+        match reply:
+            case (_, _, place, tuple(entries)) if place == start:
+                return entries
+        raise ProtocolFault("The server sent the wrong page.")
+
+    def _append(self, entries):
+        """Shows new entries."""
         with self._locked():
             self.room_state.append(entries)
             self._notify()
             if entries:
-                self.poll_timer.speed_up()
-            self.poll_timer.polled()
-            if not entries and self.room_state.lacks:
+                self.wait_timer.hurry()
+            elif self.room_state.lacks:
                 raise ProtocolFault("The server sent an empty page.")
-
-    def _page(self, start):
-        match self._request(["pull", start], "entries"):
-            case (_, _, place, tuple(entries)) if place == start:
-                return entries
-        raise ProtocolFault("The server sent the wrong page.")
 
     def _is_other_record(self, at):
         """Whether the server has a different record than the one that this client pulled, as after a restart without

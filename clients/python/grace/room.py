@@ -45,8 +45,8 @@ class Room:
     - `renewed` (`Renewed`): the server now has a different room of this name."""
 
     def __init__(
-        self, address, name, *, site=None, context=None, poll_seconds=0.02, busy_seconds=5, idle_seconds=1,
-        reply_seconds=15, back_seconds=5, retry_seconds=(0.1, 0.5, 1, 2, 5), listeners=None,
+        self, address, name, *, site=None, context=None, pause_seconds=0.02, longest_pause_seconds=1,
+        reply_seconds=15, back_seconds=90, retry_seconds=(0.1, 0.5, 1, 2, 5), listeners=None,
     ):
         """Starts to connect to a room.
 
@@ -57,19 +57,21 @@ class Room:
         Without it the client joins as a new site. After a lost connection the client rejoins as its old site. While the
         server still has the old session, it keeps trying for `back_seconds`. Then it joins as a new site.
 
-        `poll_seconds` is the wait from a reply to the next poll, for `busy_seconds` after the last change in the room.
-        After that each wait is 1.25 times the one before, up to `idle_seconds`. A reply that takes longer than
-        `reply_seconds` ends the connection. `retry_seconds` is the backoff: the waits before the first, second and
-        later attempts to reconnect. The last one repeats.
+        The client hears news by a wait, which the server holds until there is an entry. If a server answers one at once
+        without news, the client pauses for `pause_seconds` before the next. Each such pause is 1.25 times the one
+        before, up to `longest_pause_seconds`. After news the next one is short again.
+
+        A reply that takes longer than `reply_seconds` ends the connection. The 25 seconds for which a server may hold a
+        wait do not count. `retry_seconds` is the backoff: the waits before the first, second and later attempts to
+        reconnect. The last one repeats.
 
         `listeners` maps names of events to listeners that receive all events from the start.
 
         Raises `TypeError` or `ValueError` if the address or the name is invalid."""
         as_room_name(name)
         options = SimpleNamespace(
-            site=site, context=context, poll_seconds=poll_seconds, busy_seconds=busy_seconds,
-            idle_seconds=idle_seconds, reply_seconds=reply_seconds, back_seconds=back_seconds,
-            retry_seconds=tuple(retry_seconds),
+            site=site, context=context, pause_seconds=pause_seconds, longest_pause_seconds=longest_pause_seconds,
+            reply_seconds=reply_seconds, back_seconds=back_seconds, retry_seconds=tuple(retry_seconds),
         )
         self._lock = threading.RLock()
         self._listeners = {event: [] for event in EVENTS}
@@ -241,7 +243,7 @@ class Room:
         return self._network.connection_state.is_in
 
     def refresh(self, seconds=None):
-        """Polls at once and waits for the reply, for at most `seconds`. Returns whether this client has all entries
+        """Pulls at once and waits for the reply, for at most `seconds`. Returns whether this client has all entries
         that the server had when you called this. A hold keeps them from being shown."""
         with self._lock:
             self._network.refreshes_asked += 1

@@ -211,7 +211,10 @@ class WebSocket:
                 raise Lost("The server did not accept the WebSocket handshake.")
             self._fill()
         head = self._take(self._received.index(b"\r\n\r\n") + 4)
-        if head.split(b" ", 2)[1] != b"101" or accepted not in head:
+        status = head.split(b" ", 2)[1]
+        if status == b"503":
+            raise Lost("All places of the server are taken.")
+        if status != b"101" or accepted not in head:
             raise Lost("The server did not accept the WebSocket handshake.")
 
     def _next_frame(self):

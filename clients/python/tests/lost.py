@@ -44,8 +44,9 @@ def cut_once(what):
         line.done.result(PATIENCE)
         relay.cut_once('["drop"', what)
         room.drop(line.name, ()).done.result(PATIENCE)
-        relay.cut_once('["pull"', what)
-        wait_until("a pull was cut", lambda: relay.cuts == 4)
+        relay.cut_once('["wait"', what)
+        room.set(made.name, (), "y", 8).done.result(PATIENCE)
+        wait_until("a wait was cut", lambda: relay.cuts == 4)
         relay.cut_once('["back"', what)
         relay.cut()
         wait_until("a coming back was cut", lambda: relay.cuts == 5)
@@ -53,9 +54,9 @@ def cut_once(what):
         agree(room, other)
         expect_equal("the changes", [(entry[0], entry[1], entry[-1]) for entry in operations(other)], [
             ("new", (1, 1), (("x", 0),)), ("put", (1, 2), (("x", 5), ("y", 7))), ("put", (1, 3), (("fill", "red"),)),
-            ("new", (1, 4), ()), ("drop", (1, 5), ()), ("put", (1, 6), (("x", 6),)),
+            ("new", (1, 4), ()), ("drop", (1, 5), ()), ("put", (1, 6), (("y", 8),)), ("put", (1, 7), (("x", 6),)),
         ])
-        one = [((), {"fill": "red", "x": 6, "y": 7})]
+        one = [((), {"fill": "red", "x": 6, "y": 8})]
         expect_equal("what both show", (versions_of(room, made.name), versions_of(other, made.name)), (one, one))
         expect_equal("the sites", (room.site, sites(other)), (1, [1, 2]))
 

@@ -1,8 +1,10 @@
-"""A relay between clients and `grace serve`. It can cut connections between a request and its reply, and speak TLS to
-clients. `what_to_do` decides about each message of a client, by its text."""
+"""A relay between clients and `grace serve`. It can cut connections between a request and its reply, hold waits, and
+speak TLS to clients. `what_to_do` decides about each message of a client, by its text."""
 
 import asyncio
 import contextlib
+import json
+import re
 import threading
 
 PASS = "pass"
@@ -10,6 +12,24 @@ PASS = "pass"
 CUT_BEFORE = "cut before"
 # The message reaches the server, but its reply does not reach the client.
 CUT_AFTER = "cut after"
+
+# What the relay does with waits: it leaves them to the server, has them answered at once, or holds them itself.
+LEFT = "left"
+AT_ONCE = "at once"
+HELD = "held"
+
+# How long it waits for the reply after which it cuts: the server may hold it. How long it holds a wait itself.
+CUT_SECONDS = 0.1
+HOLD_SECONDS = 25
+ADDED = re.compile(rb'\["(?:joined|made|taken)",(\d+)')
+
+
+def as_pull(data):
+    """Returns the frame of a short wait as that of a pull, which has the same size."""
+    changed = bytearray(data)
+    for place, letter in enumerate(b"pull", 2):
+        changed[6 + place] = letter ^ data[2 + place % 4]
+    return bytes(changed)
 
 
 async def frame_from(reader):
@@ -31,10 +51,15 @@ class Relay:
         self.port = port
         self.context = context
         self.what_to_do = lambda text: PASS
+        self.waits = LEFT
         # The messages of clients, and the number of connections cut at one.
         self.texts = []
         self.cuts = 0
         self.writers = set()
+        # The held waits, by the writer to the server. How many entries the record has, if all clients are behind this
+        # relay.
+        self.held = {}
+        self.length = 0
 
     def __enter__(self):
         self.loop = asyncio.new_event_loop()
@@ -74,7 +99,7 @@ class Relay:
             try:
                 await self.hand_on(reader, server, cut)
                 # After a cut the other task meets the reply and disconnects.
-                await beside
+                await asyncio.wait([beside], timeout=CUT_SECONDS)
             finally:
                 self.abort(writer, server)
 
@@ -90,20 +115,48 @@ class Relay:
                 raise ConnectionAbortedError
             if what == CUT_AFTER:
                 cut.set()
+            self.pass_on(data, text, server)
+
+    def pass_on(self, data, text, server):
+        """Passes a message on, as `waits` says."""
+        self.release(server)
+        if self.waits == LEFT or not text.startswith('["wait"'):
             server.write(data)
+        elif self.waits == AT_ONCE:
+            server.write(as_pull(data))
+        elif json.loads(text)[1] < self.length:
+            server.write(data)
+        else:
+            self.held[server] = data
+            self.loop.call_later(HOLD_SECONDS, self.release, server, data)
+
+    def release(self, server, data=None):
+        """Passes the held wait on, if it is this one."""
+        if server in self.held and data in (None, self.held[server]):
+            server.write(self.held.pop(server))
 
     async def hand_back(self, answers, writer, cut):
         """Forwards the server's bytes to the client, up to a cut."""
         with contextlib.suppress(OSError):
             while (data := await answers.read(65536)) and not cut.is_set():
                 writer.write(data)
+                self.hear(data)
         self.abort(writer)
+
+    def hear(self, data):
+        """Hears what the server sends: a new entry ends all held waits."""
+        added = [int(at) + 1 for at in ADDED.findall(data)]
+        self.length = max(self.length, *added, 0)
+        if added:
+            for server in tuple(self.held):
+                self.release(server)
 
     def abort(self, *writers):
         """Aborts connections in any state."""
         for writer in tuple(writers):
             writer.transport.abort()
             self.writers.discard(writer)
+            self.held.pop(writer, None)
 
     def cut(self):
         """Cuts all connections."""

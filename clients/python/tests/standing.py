@@ -1,7 +1,7 @@
-"""The state of a room's connection: waiting changes, a silent server, the progress of loading, and the pace of
-polling."""
+"""The state of a room's connection: waiting changes, a silent server, the progress of loading, and waits for news."""
 
 import contextlib
+import inspect
 import operator
 import signal
 import socket
@@ -9,7 +9,7 @@ import threading
 import time
 
 from grace import Room
-from relay import Relay
+from relay import AT_ONCE, HELD, Relay
 from rooms import PATIENCE, EventLog, agree, wait_until, open_rooms, stop
 from lib.serving import CheckFailed, Server, expect_equal
 
@@ -121,26 +121,70 @@ def progress():
                 expect_equal("what there is", (second.is_loaded, len(second.objects())), (True, 150))
 
 
-def pace():
-    """It asks often while there is news, then slower, and often again at the next news."""
-    with Server(10, 4) as server, Relay(server.address[1]) as relay, open_rooms(server.name) as (other,):
-        with open_rooms(relay.name, busy_seconds=0.6, idle_seconds=0.4) as (room,):
-            def during(seconds):
-                before = len(relay.texts)
-                time.sleep(seconds)
-                return len(relay.texts) - before
+@contextlib.contextmanager
+def behind_relay(waits):
+    """Yields a relay that does this with waits, and a function that counts the waits of so many seconds."""
+    with Server(10, 4) as server, Relay(server.address[1]) as relay:
+        relay.waits = waits
 
+        def during(seconds):
+            before = len(relay.texts)
+            time.sleep(seconds)
+            return sum(text.startswith('["wait"') for text in relay.texts[before:])
+
+        yield relay, during
+
+
+def answered_at_once():
+    """A server answers waits at once. The client waits often while there is news, then less often, and often again."""
+    with behind_relay(AT_ONCE) as (relay, during):
+        with open_rooms(relay.name, pause_seconds=60) as (other,), open_rooms(
+            relay.name, longest_pause_seconds=0.4,
+        ) as (room,):
             room.create("rect").done.result(PATIENCE)
             busy = during(0.5)
-            # From the 600th millisecond on the waits are 25, 31, .. up to 400: they are that long after 2 s more.
-            time.sleep(2.2)
+            time.sleep(2.5)
             idle = during(1.3)
             other.create("rect")
             wait_until("the news", lambda: len(room.objects()) == 2)
             again = during(0.5)
-    # A wait of 20 ms after each reply lets at most 25 through. A busy machine lets fewer.
-    if not (8 <= busy <= 26 and 2 <= idle <= 4 and 8 <= again <= 26):
-        raise CheckFailed(f"{busy} questions while there is news, then {idle}, then {again}")
+    # The first pauses are 20, 25, 31, .. milliseconds: at most ten fit. A busy machine lets fewer through.
+    if not (4 <= busy <= 10 and 2 <= idle <= 4 and 4 <= again <= 10):
+        raise CheckFailed(f"{busy} waits while there is news, then {idle}, then {again}")
+
+
+def held():
+    """A server holds waits. The client sends nothing meanwhile. A change over a held wait is answered at once."""
+    events = EventLog("state")
+    with behind_relay(HELD) as (relay, during):
+        with open_rooms(relay.name) as (other,), open_rooms(relay.name, reply_seconds=1) as (room,):
+            made = room.create("rect")
+            made.done.result(PATIENCE)
+            wait_until("the news", lambda: len(other.record) == 3)
+            wait_until("the next waits", lambda: relay.texts[-2:] == ['["wait",3]'] * 2)
+            room.on("state", events.listeners["state"])
+            expect_equal("the waits of both while nothing happens", during(2), 0)
+            before, start = len(relay.texts), time.monotonic()
+            room.set(made.name, (), "x", 1).done.result(PATIENCE)
+            wait_until("the news", lambda: len(other.record) == 4)
+            expect_delay("the news came", time.monotonic() - start, 0)
+            wait_until("the next waits", lambda: len(relay.texts) >= before + 3)
+            expect_equal("what was sent", sorted(relay.texts[before:]), [
+                '["put",2,[[2,1]],[2,1],[],[["x",1]]]', '["wait",4]', '["wait",4]',
+            ])
+            expect_equal("whether a refresh is answered", room.refresh(PATIENCE), True)
+            wait_until("the next wait", lambda: relay.texts[-2:] == ['["pull",4]', '["wait",4]'])
+            expect_equal("the changes of the connection's state", events.news, [])
+
+
+def long_in_use():
+    """While a site is in use, a client tries to come back as it, by default for 90 seconds."""
+    seconds = inspect.signature(Room).parameters["back_seconds"].default
+    expect_equal("how long it tries", seconds, 90)
+    with Server(10, 4) as server, open_rooms(server.name) as (first,):
+        threading.Timer(6, first.close).start()
+        with open_rooms(server.name, site=1) as (again,):
+            expect_equal("the site", (again.site, len(again.record)), (1, 1))
 
 
 TESTS = [
@@ -148,5 +192,7 @@ TESTS = [
     ("a silent server", silent_words),
     ("attempts at a silent server", silent_tries),
     ("the progress of loading", progress),
-    ("the pace of questions", pace),
+    ("waits that are answered at once", answered_at_once),
+    ("waits that are held", held),
+    ("a site that is long in use", long_in_use),
 ]

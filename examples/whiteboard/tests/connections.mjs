@@ -6,7 +6,7 @@ import { join } from "node:path"
 import { expect, expectEqual } from "../../../clients/js/tests/checks.js"
 import { CUT_BEFORE, PASS, Proxy } from "../../../clients/js/tests/proxy.js"
 import {
-  BODIES, COUNT, PICTURES, STATE, waitForPull, draw, endAll, faults, isOpen, pageOf, serve, tabTo,
+  BODIES, COUNT, PICTURES, STATE, waitForNews, draw, endAll, faults, isOpen, pageOf, serve, tabTo,
 } from "./people.mjs"
 
 /** The page reports a lost connection in words, and sends the changes made meanwhile once it is connected again. */
@@ -64,7 +64,7 @@ export async function begunAnew(browser, address) {
   await isOpen(person)
   await draw(person, "rect", [20, 700], [80, 760])
   await person.waitUntil("it is taken", `!/not saved yet/.test(${STATE})`)
-  await waitForPull()
+  await waitForNews()
   const other = await serve()
   try {
     proxy.port = new URL((await pageOf(other.address)).searchParams.get("server")).port

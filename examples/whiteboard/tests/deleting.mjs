@@ -3,7 +3,7 @@
 import { join } from "node:path"
 import { expect, expectEqual } from "../../../clients/js/tests/checks.js"
 import {
-  BODIES, CARDS, COUNT, HEADING, LIST, NOTICE, PICTURES, VERSIONS, added, allDrag, waitForPull, draw, isOpen,
+  BODIES, CARDS, COUNT, HEADING, LIST, NOTICE, PICTURES, VERSIONS, added, allDrag, waitForNews, draw, isOpen,
   objectsOf, onScreen, tabTo,
 } from "./people.mjs"
 
@@ -113,7 +113,7 @@ async function deleteWhileDragged(first, second, grip, [x, y]) {
   const count = await first.look(COUNT)
   await first.key("Delete")
   await first.waitUntil("it is gone", `${COUNT} === ${count - 1}`)
-  await waitForPull()
+  await waitForNews()
   await second.release(to)
   await first.waitUntil("it is there again", `${COUNT} === ${count}`)
 }
@@ -160,7 +160,7 @@ export async function versionDeletedMeanwhile(first, second, third) {
   const place = await third.middleOf(grip)
   await third.press(place)
   await deleteWhileDragged(first, second, grip, [-200, 80])
-  await waitForPull()
+  await waitForNews()
   await third.release(place)
   const [, letter] = (await second.look(VERSIONS)).find(([, , , words]) => words.startsWith("Ellipse “Moon”"))
   const words = "Somebody deleted a version while others changed it. Still here: " +

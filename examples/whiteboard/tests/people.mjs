@@ -51,8 +51,7 @@ export const pageOf = async (address) =>
 /** Connects a client beside the pages. Its record shows what they did. */
 export async function watch(address) {
   const server = (await pageOf(address)).searchParams.get("server")
-  const often = { pollMilliseconds: 30, idleMilliseconds: 30 }
-  const room = new Room(server, "people", { connect: (it) => new WebSocket(it), ...often })
+  const room = new Room(server, "people", { connect: (it) => new WebSocket(it) })
   await waitUntil("a client beside the pages", () => room.state === "open")
   return room
 }
@@ -102,8 +101,8 @@ export function onScreen(page, [x, y]) {
   })()`)
 }
 
-/** Waits longer than a page waits before it pulls: a person does not overwrite what the page has not shown. */
-export const waitForPull = () => new Promise((resolve) => setTimeout(resolve, 1500))
+/** Waits longer than news takes to a page: a person does not overwrite what the page has not shown. */
+export const waitForNews = () => new Promise((resolve) => setTimeout(resolve, 1500))
 
 /** Presses the tab key until the expression is true. */
 export async function tabTo(page, expression) {

@@ -2,7 +2,7 @@
 
 import { expect, expectEqual } from "../../../clients/js/tests/checks.js"
 import {
-  BODIES, CARDS, COUNT, HEADING, STATE, VERSIONS, added, waitForPull, draw, isOpen, onScreen, tabTo,
+  BODIES, CARDS, COUNT, HEADING, STATE, VERSIONS, added, waitForNews, draw, isOpen, onScreen, tabTo,
 } from "./people.mjs"
 
 export async function twoDraw(first, second) {
@@ -33,7 +33,7 @@ export async function dragAtOnce(first, second) {
   await first.moveTo(await onScreen(first, [260, 420]))
   await second.moveTo(await onScreen(second, [560, 470]))
   await first.release(await onScreen(first, [260, 420]))
-  await waitForPull()
+  await waitForNews()
   expectEqual("what the second shows while she drags", await second.look(COUNT), 3)
   await second.release(await onScreen(second, [560, 470]))
   for (const page of [first, second]) await page.waitUntil("two versions", `${COUNT} === 4`)
@@ -78,7 +78,7 @@ export async function nameAtOnce(first, second) {
     await page.write(word)
   }
   await first.key("Enter")
-  await waitForPull()
+  await waitForNews()
   await second.key("Enter")
   const count = `document.querySelectorAll('.version[aria-label*="version"]').length`
   for (const page of [first, second]) await page.waitUntil("two versions", `${count} === 4`)

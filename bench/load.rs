@@ -7,16 +7,16 @@
 //! IN_FLIGHT requests in flight. Then it prints `done` with the nanoseconds of all puts, and waits for another line.
 //! The clients close, and it prints the median and 99th percentile of the time to a reply, in nanoseconds.
 
+mod socket;
+
+use socket::{Socket, fail};
 use std::collections::VecDeque;
-use std::io::{self, BufRead, Read, Write};
-use std::net::TcpStream;
+use std::io::{self, BufRead};
 use std::sync::{Arc, Barrier};
-use std::time::{Duration, Instant};
-use std::{env, process, thread};
+use std::time::Instant;
+use std::{env, thread};
 
 const PUTS_AN_OBJECT: usize = 1000;
-const WAIT: Duration = Duration::from_secs(60);
-const HEAD_END: &[u8] = b"\r\n\r\n";
 
 /// The command line.
 struct Load {
@@ -25,19 +25,6 @@ struct Load {
     puts: usize,
     in_flight: usize,
     rooms: Vec<String>,
-}
-
-/// A WebSocket, with the received bytes and how many of them are consumed.
-struct Socket {
-    stream: TcpStream,
-    input: Vec<u8>,
-    taken: usize,
-    mask: u32,
-}
-
-fn fail(text: &str) -> ! {
-    eprintln!("load: {text}");
-    process::exit(1)
 }
 
 fn load_of(words: &[String]) -> Option<Load> {
@@ -53,111 +40,6 @@ fn load_of(words: &[String]) -> Option<Load> {
     };
     let is_some = load.clients > 0 && load.puts > 0 && load.in_flight > 0;
     (is_some && !load.rooms.is_empty()).then_some(load)
-}
-
-impl Socket {
-    /// Connects and performs the handshake.
-    fn open(address: &str, number: usize) -> io::Result<Socket> {
-        let stream = TcpStream::connect(address)?;
-        stream.set_nodelay(true)?;
-        stream.set_read_timeout(Some(WAIT))?;
-        stream.set_write_timeout(Some(WAIT))?;
-        let mask = 0x9e37_79b9_u32.wrapping_mul(number as u32 + 1);
-        let mut socket = Socket {
-            stream,
-            input: Vec::new(),
-            taken: 0,
-            mask,
-        };
-        socket.stream.write_all(
-            b"GET / HTTP/1.1\r\nHost: localhost\r\nUpgrade: websocket\r\nConnection: Upgrade\r\n\
-              Sec-WebSocket-Key: dGhlIHNhbXBsZSBub25jZQ==\r\nSec-WebSocket-Version: 13\r\n\r\n",
-        )?;
-        let end = loop {
-            socket.fill()?;
-            if let Some(place) = socket.input.windows(4).position(|part| part == HEAD_END) {
-                break place + 4;
-            }
-        };
-        if !socket.input.starts_with(b"HTTP/1.1 101") {
-            fail("the handshake was refused");
-        }
-        socket.taken = end;
-        Ok(socket)
-    }
-
-    /// Reads more bytes.
-    fn fill(&mut self) -> io::Result<()> {
-        self.input.drain(..self.taken);
-        self.taken = 0;
-        let mut part = [0; 16384];
-        let count = self.stream.read(&mut part)?;
-        if count == 0 {
-            fail("the server ended a session");
-        }
-        self.input.extend_from_slice(&part[..count]);
-        Ok(())
-    }
-
-    /// Sends one frame.
-    fn send(&mut self, opcode: u8, payload: &[u8]) -> io::Result<()> {
-        self.mask = self
-            .mask
-            .wrapping_mul(1_664_525)
-            .wrapping_add(1_013_904_223);
-        let key = self.mask.to_be_bytes();
-        let mut frame = vec![0x80 | opcode];
-        match payload.len() {
-            length @ 0..126 => frame.push(0x80 | length as u8),
-            length => {
-                frame.push(0x80 | 126);
-                frame.extend_from_slice(&(length as u16).to_be_bytes());
-            }
-        }
-        frame.extend_from_slice(&key);
-        frame.extend(
-            payload
-                .iter()
-                .enumerate()
-                .map(|(place, byte)| byte ^ key[place % 4]),
-        );
-        self.stream.write_all(&frame)
-    }
-
-    /// Reads the payload of the next frame.
-    fn receive(&mut self) -> io::Result<String> {
-        loop {
-            if let Some((start, end)) = frame_in(&self.input[self.taken..]) {
-                let payload = &self.input[self.taken + start..self.taken + end];
-                let text = String::from_utf8_lossy(payload).into_owned();
-                self.taken += end;
-                return Ok(text);
-            }
-            self.fill()?;
-        }
-    }
-
-    /// Sends a request and returns the reply.
-    fn ask(&mut self, request: &str) -> io::Result<String> {
-        self.send(1, request.as_bytes())?;
-        self.receive()
-    }
-}
-
-/// Returns where the payload of the first frame begins and ends, if the frame is complete.
-fn frame_in(input: &[u8]) -> Option<(usize, usize)> {
-    let (start, length) = match *input.get(1)? {
-        126 => (
-            4,
-            u16::from_be_bytes(input.get(2..4)?.try_into().ok()?) as usize,
-        ),
-        127 => (
-            10,
-            u64::from_be_bytes(input.get(2..10)?.try_into().ok()?) as usize,
-        ),
-        length => (2, length as usize),
-    };
-    (input.len() >= start + length).then_some((start, start + length))
 }
 
 /// A client in its room, with its objects created.

@@ -1,7 +1,8 @@
 #!/usr/bin/env python3
 """Measures `grace serve` on loopback, and prints a Markdown table, with clients each in a room of its own and all in
 one room. It has puts a second, the median and 99th percentile of the time to a reply, and the server's processor time a
-put. The clients are bench/load.rs, which `rustc` compiles. They share the cores with the server, so the figures are for
+put. The clients are bench/load.rs, which
+`rustc` compiles. They share the cores with the server, so the figures are for
 one machine that runs both. Each run has a fresh server. Times are the median of the runs; processor time is that of all
 runs. Run it from anywhere. It measures the program that `./test` proved."""
 

@@ -69,10 +69,12 @@ def use_proved_program():
 
 
 class Server(serving.Server):
-    """`grace serve` with a worker for each session, at most 64, and its times."""
+    """`grace serve` with a thread for each processor, and its times. The variable WORKERS gives another number of
+    threads: a server of version 0.3 needs one for each client."""
 
     def __init__(self, sessions, rooms, patience=SECONDS, keep=None):
-        super().__init__(sessions, min(sessions, 64), rooms, patience=patience, keep=keep)
+        workers = os.environ.get("WORKERS", "0")
+        super().__init__(sessions, int(workers), rooms, patience=patience, keep=keep)
         self.seconds_to_listen = None
 
     def listen(self):

@@ -1,6 +1,6 @@
 """Handshakes that open no WebSocket."""
 
-from lib.websocket_client import TEXT, frame, head
+from lib.websocket_client import head
 
 KEY = "dGhlIHNhbXBsZSBub25jZQ=="
 PLAIN = b"GET / HTTP/1.1\r\nHost: localhost\r\nAccept: */*\r\n\r\n"
@@ -11,7 +11,6 @@ HANDSHAKES = [
     ("a handshake of another version", head(KEY, version=8)),
     ("a handshake with no key", head(KEY).replace(b"Sec-WebSocket-Key", b"X-Key")),
     ("a handshake with a short key", head("AAAA")),
-    ("a frame in one piece with the head", head(KEY) + frame(TEXT, b'["join","r"]')),
     ("a hello of TLS", b"\x16\x03\x01\x02\x00\x01\x00\x01\xfc\x03\x03" + bytes(range(200))),
     ("garbage", bytes(range(255, 0, -1)) * 4),
     ("a head without an end", b"GET / HTTP/1.1\r\n" + b"X-Long: value\r\n" * 5000),

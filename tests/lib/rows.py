@@ -110,8 +110,10 @@ PAGES_OF_THE_RECORD = """
 WAITS = TWO_VERSIONS + """
 1 ["wait",99] -> ["no",5,17,"too-far"]
 1 ["wait",4] -> ["entries",5,4,[["put",[2,1],[[1,1]],[1,1],[],[["x",9]]]]]
-1 ["wait",5] -> ["entries",5,5,[]]
 3 ["wait",0] -> ["no",0,2,"not-joined"]
+"""
+WAIT_FOR_MORE = ONE_PUT + """
+1 ["wait",3] -> ["entries",3,3,[]]
 """
 REPLACED = ONE_PUT + """
 1 ["put",3,[[1,2]],[1,1],[],[["x",6]]] -> ["taken",4,[[]]]
@@ -392,6 +394,9 @@ ROWS = [
     ("clients come back to two rooms", BACK_IN_TWO_ROOMS),
     ("rooms of three sizes", THREE_SIZES),
 ]
+
+# A script answers at once what the server holds.
+ROWS_OF_SCRIPTS = [*ROWS, ("a wait for more", WAIT_FOR_MORE)]
 
 
 def lines_of(rows):

@@ -17,11 +17,12 @@ HEAD = (
 class ScriptedServer:
     """Accepts one client in a thread of its own. Answers each of its messages by the next of the replies, and a close
     by a close. With `most` it sends at most this many bytes and then hangs up, and with `piece` it sends them in pieces
-    of this size. After a run `requests` has the client's messages, and `is_closed` says whether it sent a close of
-    1000."""
+    of this size. With `hangs_up` it hangs up at a message for which no reply is left. After a run `requests` has the
+    client's messages, and `is_closed` says whether it sent a close of 1000."""
 
-    def __init__(self, replies, most=None, piece=None):
+    def __init__(self, replies, most=None, piece=None, hangs_up=False):
         self.replies = list(replies)
+        self.hangs_up = hangs_up
         self.left = most
         self.piece = piece
         self.requests = []
@@ -67,7 +68,8 @@ class ScriptedServer:
         reader = FrameReader()
         while has_more and reader.end is None and (data := self.client.recv(65536)):
             for opcode, payload in reader.feed(data):
-                has_more = has_more and self.send(self.answer_to(opcode, payload), self.piece)
+                answer = self.answer_to(opcode, payload)
+                has_more = has_more and (bool(answer) or not self.hangs_up) and self.send(answer, self.piece)
 
     def read_key(self):
         """Reads the client's head. Returns its key."""

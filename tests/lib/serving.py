@@ -216,7 +216,8 @@ class Server:
     has the transcripts of clients of earlier runs over it."""
 
     def __init__(
-        self, sessions=1, workers=4, rooms=("r",), idle=None, patience=SECONDS, keep=None, before=(), report=None
+        self, sessions=1, workers=4, rooms=("r",), idle=None, patience=SECONDS, keep=None, before=(), report=None,
+        clients=None,
     ):
         self.port = 0
         self.sessions = sessions
@@ -229,6 +230,9 @@ class Server:
             self.words += ["--keep", str(keep)]
         if report is not None:
             self.words += ["--report", str(report)]
+        if clients is not None:
+            self.words += ["--clients", str(clients)]
+        self.places = 10_000 if clients is None else clients
         self.keep = keep
         self.before = list(before)
         self.other_notices = []

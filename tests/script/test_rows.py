@@ -1,12 +1,12 @@
 """The worked examples and invalid lines, as scripts."""
 
-from lib.rows import ROWS, lines_of, rooms_of
+from lib.rows import ROWS_OF_SCRIPTS, lines_of, rooms_of
 from lib.running import cases
 from lib.scripts import expect_answers
 from lib.serving import expect_equal, run
 
 
-@cases(ROWS)
+@cases(ROWS_OF_SCRIPTS)
 def test_rows(rows):
     """The answers of a script are the replies of the worked example."""
     lines = list(lines_of(rows))

@@ -33,12 +33,12 @@ ADDRESSES = [
     ("another machine's", "Cannot assign requested address (os error 99)", "192.0.2.1:0"),
 ]
 BAD_COMMAND_LINES = [
-    ("no session", ANYWHERE, 0, 1, "r"),
     ("100,001 sessions", ANYWHERE, 100001, 1, "r"),
     ("a number of sessions that is not a number", ANYWHERE, "many", 1, "r"),
-    ("no worker", ANYWHERE, 1, 0, "r"),
     ("65 workers", ANYWHERE, 1, 65, "r"),
     ("no room", ANYWHERE, 1, 1),
+    ("no client", ANYWHERE, 1, 1, "r", "--clients", 0),
+    ("100,001 clients", ANYWHERE, 1, 1, "r", "--clients", 100001),
     ("seconds that are not a number", ANYWHERE, 1, 1, "r", "--idle", "long"),
     ("an unknown option", ANYWHERE, 1, 1, "r", "--quiet"),
 ]

@@ -1,4 +1,4 @@
-"""Many requests in flight, many clients in parallel, and clients that wait for a worker."""
+"""Many requests in flight, many clients in parallel, and many clients of one thread."""
 
 import statistics
 import threading
@@ -109,7 +109,7 @@ def test_many_at_once():
 
 
 def test_many_sessions():
-    """Four workers serve 200 sessions, one after another on each. The rooms keep their state between sessions."""
+    """The server serves 200 sessions, one after another. The rooms keep their state between sessions."""
     with Server(200, 4) as server:
         for turn in range(200):
             client = server.client()
@@ -147,39 +147,14 @@ def test_memory_of_ended_sessions():
         raise CheckFailed(f"{COUNTED} ended sessions occupy {grown} KiB")
 
 
-def test_one_too_many():
-    """With two workers the third client's handshake waits until one of the first two sessions ends."""
-    with Server(3, 2) as server:
-        first, second = server.client(), server.client()
-        third = server.connect()
-        key = new_key()
-        third.send(head(key))
-        third.socket.settimeout(0.5)
-        try:
-            third.fill()
-            raise CheckFailed("two workers serve a third client")
-        except TimeoutError:
-            third.socket.settimeout(SECONDS)
-        first.expect_reply(JOIN, '["joined",0,1]')
-        first.close()
-        third.read_answer(key)
-        third.expect_reply(JOIN, '["joined",1,2]')
-        second.expect_reply(JOIN, '["joined",2,3]')
-        server.finish()
-
-
-def test_many_wait():
-    """24 clients wait for one worker, which serves them one after another."""
-    with Server(24, 1) as server:
-        waiting = []
-        for _ in range(24):
-            client, key = server.connect(), new_key()
-            client.send(head(key))
-            waiting.append((client, key))
-        for turn, (client, key) in enumerate(waiting):
-            client.read_answer(key)
+def test_one_thread():
+    """One thread serves 200 clients at once, each in turn."""
+    with Server(200, 1) as server:
+        clients = [server.client() for _ in range(200)]
+        for turn, client in enumerate(clients):
             client.expect_reply(JOIN, f'["joined",{turn},{turn + 1}]')
-            client.close()
+        for turn, client in enumerate(reversed(clients)):
+            client.expect_reply('["leave"]', '["left",200]')
         server.finish()
 
 

@@ -15,6 +15,9 @@ ANSWER = (
     b"HTTP/1.1 200 OK\r\nContent-Type: text/plain\r\nContent-Length: 3\r\nCache-Control: no-store\r\n"
     b"Connection: close\r\n\r\nok\n"
 )
+FULL = (
+    b"HTTP/1.1 503 Service Unavailable\r\nRetry-After: 5\r\nContent-Length: 0\r\nConnection: close\r\n\r\n"
+)
 PROBE = b"GET /health HTTP/1.1\r\nHost: localhost\r\nUser-Agent: monitor\r\n\r\n"
 
 
@@ -51,10 +54,10 @@ def test_who_and_where():
 # ---- reports
 
 
-def report_of(server, sessions, begun, workers, rooms):
-    """Returns the lines of a report: current and started sessions, workers in use, and joins, entries and objects of
-    each room."""
-    lines = [f"report: server sessions {sessions} begun {begun}/{server.sessions} workers {workers}"]
+def report_of(server, clients, begun, rooms):
+    """Returns the lines of a report: current and started sessions, and joins, entries and objects of each room."""
+    of_all = f"/{server.sessions}" if server.sessions else ""
+    lines = [f"report: server clients {clients}/{server.places} begun {begun}{of_all}"]
     for room, (joins, entries, objects) in rooms.items():
         lines.append(f"report: room {room} joins {joins}/256 entries {entries}/16384 objects {objects}/512")
     return [("INFO", line) for line in lines]
@@ -72,8 +75,8 @@ def test_reports():
     """The server reports its sessions and rooms each second. There are at most as many reports as seconds since before
     the start, so a stall only allows more. The test waits at most 30 seconds for the report of a state."""
     start = time.monotonic()
-    with Server(4, 3, ["r", "s"], report=1) as server:
-        await_report(server, report_of(server, 0, 0, "0/3", {"r": (0, 0, 0), "s": (0, 0, 0)}))
+    with Server(4, 3, ["r", "s"], report=1, clients=3) as server:
+        await_report(server, report_of(server, 0, 0, {"r": (0, 0, 0), "s": (0, 0, 0)}))
         first, second = server.client(), server.client()
         first.expect_reply(JOIN, '["joined",0,1]')
         first.expect_reply('["new",1,[],"rect",[]]', '["made",1,[1,1]]')
@@ -82,12 +85,12 @@ def test_reports():
         second.expect_reply(JOIN, '["joined",3,2]')
         second.expect_reply('["leave"]', '["left",4]')
         second.expect_reply('["back","r",2]', '["back",4,2,0]')
-        await_report(server, report_of(server, 2, 2, "2/3", {"r": (2, 4, 1), "s": (0, 0, 0)}))
+        await_report(server, report_of(server, 2, 2, {"r": (2, 4, 1), "s": (0, 0, 0)}))
         second.close()
         third = server.client()
         third.expect_reply('["join","s"]', '["joined",0,1]')
         third.hang_up()
-        await_report(server, report_of(server, 1, 3, "1/3", {"r": (2, 4, 1), "s": (1, 1, 0)}))
+        await_report(server, report_of(server, 1, 3, {"r": (2, 4, 1), "s": (1, 1, 0)}))
         count = sum(text.startswith("report: server") for _, text in server.notices())
         if count > time.monotonic() - start:
             raise CheckFailed(f"{count} reports in {time.monotonic() - start:.1f} seconds")
@@ -146,7 +149,7 @@ def test_entries(start, added, count):
         file = pathlib.Path(folder) / "r.record"
         file.write_text("".join(f"{compact(entry)}\n" for entry in record_of(start)))
         with Server(1, 2, keep=folder, report=1) as server:
-            await_report(server, report_of(server, 0, 0, "0/2", {"r": (1, start, 32)}))
+            await_report(server, report_of(server, 0, 0, {"r": (1, start, 32)}))
             client = server.client()
             client.expect_reply('["back","r",1]', f'["back",{start},1,{start - 1}]')
             for seq in range(start, start + added):
@@ -158,27 +161,44 @@ def test_entries(start, added, count):
     expect_equal("the notices", notices, [("WARN", f"room r has {count} of 16384 entries")])
 
 
-def test_workers():
-    """The server warns when the last worker is taken, and again only after one was free. Twice the test allows 2
-    seconds for what no client can see: that the server accepts a waiting client, and that it frees a worker."""
-    line = "WARN", "all 2 workers are taken"
-    with Server(4, 2) as server:
+def expect_turned_away(server):
+    """Expects that the server turns a further client away."""
+    with socket.create_connection(server.address, SECONDS) as client:
+        client.sendall(head(new_key()))
+        received = b""
+        while data := client.recv(4096):
+            received += data
+    expect_equal("the answer", received, FULL)
+
+
+def test_places():
+    """The server turns clients away while all places are taken. It warns once until a session ends. Who is turned away
+    is no session."""
+    line = "WARN", "all 2 clients are in"
+    with Server(4, 1, clients=2) as server:
         first, second = server.client(), server.client()
-        first.expect_reply('["leave"]', '["no",0,2,"not-joined"]')
-        wait_until("two sessions", lambda: server.notices() == [line])
-        # A waiting client takes the worker at once, so it was never free.
-        third = server.connect()
-        key = new_key()
-        third.send(head(key))
-        time.sleep(2)
-        second.close()
-        third.read_answer(key)
+        first.expect_reply(JOIN, '["joined",0,1]')
+        for _ in range(3):
+            expect_turned_away(server)
         expect_equal("the notices", server.notices(), [line])
-        third.close()
-        time.sleep(2)
-        server.client().expect_reply('["leave"]', '["no",0,2,"not-joined"]')
-        wait_until("two sessions again", lambda: server.notices() == [line, line])
+        second.close()
+        server.client().expect_reply(JOIN, '["joined",1,2]')
+        expect_turned_away(server)
+        first.close()
+        server.client().expect_reply(JOIN, '["joined",2,3]')
         server.finish()
+        expect_equal("the notices", server.other_notices, [line, line])
+
+
+def test_without_end():
+    """With SESSIONS 0 the server goes on after any number of sessions, and says how many began."""
+    with Server(0, 1, report=1) as server:
+        for turn in range(40):
+            client = server.client()
+            client.expect_reply(JOIN, f'["joined",{turn},{turn + 1}]')
+            client.close()
+        await_report(server, report_of(server, 0, 40, {"r": (40, 40, 0)}))
+        expect_equal("the status", server.process.poll(), None)
 
 
 # ---- probes
@@ -197,92 +217,36 @@ def probe_answer(server, *pieces):
 
 
 def test_probes():
-    """The server answers a probe and does not count it as a session: the only allowed session comes after it. The probe
-    may use the worker for a moment, so the number of warnings about workers varies."""
+    """The server answers a probe and does not count it as a session: the only allowed session comes after it."""
     with Server(1, 1) as server:
         for pieces in ([PROBE], [PROBE[:3], PROBE[3:40], PROBE[40:]], [PROBE.replace(b"1.1", b"1.0")]):
             expect_equal("the answer", probe_answer(server, *pieces), ANSWER)
         server.client().expect_reply(JOIN, '["joined",0,1]')
         server.finish()
-        expect_equal("the notices", set(server.other_notices), {("WARN", "all 1 workers are taken")})
+        expect_equal("the notices", server.other_notices, [])
 
 
-def probe_seconds(server):
-    """Sends a probe and expects the answer. Returns the seconds that it took."""
-    start = time.monotonic()
-    expect_equal("the answer", probe_answer(server, PROBE), ANSWER)
-    return time.monotonic() - start
-
-
-def test_probes_of_a_busy_server():
-    """All workers are taken and 43 clients wait, three of them silent. The server still answers a probe within two
-    seconds: it waits a quarter of a second for each silent one. The bound is for the fastest of three probes, so the
-    machine may stall during two of them."""
-    with Server(45, 1) as server:
+def test_probes_of_a_full_server():
+    """The only place is taken, and 40 clients are silent before their handshake. The server still answers a probe."""
+    with Server(42, 1, clients=1) as server:
         client = server.client()
         client.expect_reply(JOIN, '["joined",0,1]')
-        silent = [server.connect() for _ in range(3)]
-        waiting = [server.connect() for _ in range(40)]
-        keys = [new_key() for _ in waiting]
-        for other, key in zip(waiting, keys):
-            other.send(head(key))
-        fastest = min(probe_seconds(server) for _ in range(3))
-        if fastest > 2:
-            raise CheckFailed(f"the fastest probe took {fastest:.1f} seconds")
-        client.close()
+        silent = [server.connect() for _ in range(40)]
+        for _ in range(3):
+            expect_equal("the answer", probe_answer(server, PROBE), ANSWER)
         for other in silent:
             other.hang_up()
-        for place, (other, key) in enumerate(zip(waiting, keys), 2):
-            other.read_answer(key)
-            other.expect_reply(JOIN, f'["joined",{place - 1},{place}]')
-            other.close()
-        # The probes did not count as sessions.
-        server.client().expect_reply(JOIN, '["joined",41,42]')
-        server.finish(warnings=dict.fromkeys((2, 3, 4), "handshake failed"))
-
-
-def test_probe_of_an_overcrowded_server():
-    """While 257 clients wait for a worker, the server does not answer a probe within a second; a stall cannot make that
-    fail. It answers once it has served one of them."""
-    with Server(259, 1) as server:
-        client = server.client()
-        client.expect_reply(JOIN, '["joined",0,1]')
-        waiting = [server.connect() for _ in range(257)]
-        keys = [new_key() for _ in waiting]
-        for other, key in zip(waiting, keys):
-            other.send(head(key))
-        with socket.create_connection(server.address, SECONDS) as probe:
-            probe.sendall(PROBE)
-            probe.settimeout(1)
-            try:
-                raise CheckFailed(f"unexpected answer {probe.recv(4096)!r}")
-            except TimeoutError:
-                probe.settimeout(SECONDS)
-            client.close()
-            received = b""
-            while data := probe.recv(4096):
-                received += data
-            expect_equal("the answer", received, ANSWER)
-        for other, key in zip(waiting, keys):
-            other.read_answer(key)
-            other.close()
+        client.close()
         server.client()
-        server.finish()
+        server.finish(warnings=dict.fromkeys(range(2, 42), "handshake failed"))
 
 
 def test_path_of_a_probe():
-    """A WebSocket may use the path of a probe, whether a worker is free or not."""
-    with Server(2, 1) as server:
-        first = server.connect()
-        first.open("/health")
-        first.expect_reply(JOIN, '["joined",0,1]')
-        second = server.connect()
-        key = new_key()
-        second.send(head(key, "/health"))
-        time.sleep(0.1)
-        first.close()
-        second.read_answer(key)
-        second.expect_reply(JOIN, '["joined",1,2]')
+    """A WebSocket may use the path of a probe."""
+    with Server(1, 1) as server:
+        client = server.connect()
+        client.open("/health")
+        client.expect_reply(JOIN, '["joined",0,1]')
         server.finish()
 
 
@@ -304,6 +268,7 @@ def test_no_probe(data):
             raise CheckFailed(f"unexpected answer {bytes(client.received)!r:.200}")
         except Ended:
             client.is_over = True
+        client.socket.close()
         server.client().expect_reply(JOIN, '["joined",0,1]')
         server.finish(warnings={1: "handshake failed"})
 

@@ -22,10 +22,10 @@ OTHERS = [
     b"POST /health HTTP/1.1\r\n\r\n",
     b"get /health HTTP/1.1\r\n\r\n",
     b"GET  /health HTTP/1.1\r\n\r\n",
-]
-# Heads that begin as that of a probe: one that asks for a WebSocket, and some that are not complete.
-BEGUN = [
     b"GET /health HTTP/1.1\r\nHost: localhost\r\nuPGRADE: websocket\r\n\r\n",
+]
+# Heads that begin as that of a probe and are not complete.
+BEGUN = [
     *(PROBES[1][:count] for count in range(8, len(PROBES[1]), 9)),
     PROBES[1][:-1],
 ]
@@ -71,12 +71,11 @@ def test_other_heads():
         server.finish(dict.fromkeys(range(1, len(OTHERS) + 1), "handshake failed"))
 
 
-def test_heads_at_a_busy_server():
-    """While the only worker is taken, the server answers each probe, and no other head. It looks at connections in
-    order, so it has seen the other head once it answers the probe after it."""
-    with Server(100, 1) as server:
+def test_heads_at_a_full_server():
+    """While all places are taken, the server answers each probe, and no head that is not complete."""
+    with Server(100, 1, clients=1) as server:
         server.client().expect_reply('["join","r"]', '["joined",0,1]')
-        for place, head in enumerate([*OTHERS, *BEGUN]):
+        for place, head in enumerate(BEGUN):
             client = server.connect()
             client.send(head)
             expect_equal("the answer to a probe", answer_to(server, PROBES[place % len(PROBES)]), ANSWER)

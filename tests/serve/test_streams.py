@@ -35,6 +35,7 @@ def test_handshake_fails(data, server_ends=True):
                 client.fill()
         except Ended:
             client.is_over = True
+        client.socket.close()
         if b" 101 " in client.received:
             raise CheckFailed(f"unexpected answer {bytes(client.received)!r:.200}")
         expect_next_served(server)
@@ -52,6 +53,18 @@ def test_head_in_pieces():
             time.sleep(0.02)
         client.read_answer(key)
         client.expect_reply(JOIN, '["joined",0,1]')
+        server.finish()
+
+
+def test_frames_behind_the_head():
+    """Frames may come in one piece with the head."""
+    with Server() as server:
+        client = server.connect()
+        key = new_key()
+        client.send(head(key) + client.frame_of(JOIN) + client.frame_of('["leave"]'))
+        client.read_answer(key)
+        expect_equal("the reply", client.read_reply(), '["joined",0,1]')
+        expect_equal("the reply", client.read_reply(), '["left",1]')
         server.finish()
 
 

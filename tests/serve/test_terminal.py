@@ -110,7 +110,7 @@ def test_comes_back():
         third.enter("put 1 1 x 7")
         for site, refusal in (("1", "20 site-in-use: somebody is in"), ("3", "19 no-such-site: the room has let in no")):
             server.other_client()
-            expect_failure(1, f"refused: {refusal}", server.name, "r", "--site", site)
+            expect_failure(1, f"refused: {refusal}", server.name, "r", "--site", site, "--back-seconds", "1")
         third.close()
         second.close()
         first.record(["join", "r"], ["joined", 0, 1])

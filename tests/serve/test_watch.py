@@ -1,10 +1,12 @@
 """`grace watch` against a server whose replies are given: what it asks, what it shows, and how it ends."""
 
 import itertools
+import subprocess
 
 from lib.running import cases
 from lib.scripted_server import ScriptedServer
-from lib.serving import expect_equal, run
+from lib.serving import Server, expect_equal, program, run
+from lib.websocket_client import SECONDS
 
 FAILED = 3, "", "grace: session failed\n"
 ENTRIES = ['["join",1]', '["new",[1,1],[],"rect",[["x",0]]]', '["join",2]']
@@ -139,6 +141,72 @@ def test_each_causal_order():
         others |= {(*order[:place], order[place + 1], order[place], *order[place + 2 :]) for place in range(7)}
     for order in sorted(others - set(orders)):
         expect_equal(f"the end for the order {order}", watched_in(order), FAILED)
+
+
+# ---- following
+
+
+def followed(*talk):
+    """Runs `grace watch --follow` against a server with these replies after those of entering and pulling. The server
+    hangs up at the message after them. Returns the last message and the end of the program."""
+    talk = [*TALK[:3], *talk]
+    with ScriptedServer([reply for _, reply in talk], hangs_up=True) as server:
+        end = run("watch", "--follow", server.name, "r")
+        server.end()
+    expect_equal("the requests", server.requests[: len(talk)], [request for request, _ in talk])
+    return server.requests[len(talk) :], end
+
+
+def test_follow():
+    """For each new entry that creates or changes an object it shows the object after this entry."""
+    last, end = followed(
+        ('["wait",3]', page(4, 3, ['["put",[1,2],[[1,1]],[1,1],[],[["x",5]]]'])),
+        ('["wait",4]', page(4, 4, [])),
+        ('["wait",4]', page(9, 4, [
+            '["put",[2,1],[[1,1]],[1,1],[],[["x",9]]]', '["join",3]', '["new",[3,1],[],"line",[]]',
+        ])),
+        ('["wait",7]', page(8, 7, ['["drop",[3,2],[[3,1]],[3,1],[]]'])),
+    )
+    expect_equal("the last message", last, ['["wait",8]'])
+    expect_equal("the end", end, (3, SHOWN + """\
+["versions",4,[1,1],"rect",[[[],[["x",5]]]]]
+["versions",5,[1,1],"rect",[[[[1,2]],[["x",5]]],[[[2,1]],[["x",9]]]]]
+["versions",7,[3,1],"line",[[[],[]]]]
+["versions",8,[3,1],"line",[[[],"gone"]]]
+""", FAILED[2]))
+
+
+@cases([
+    ("no page", '["left",3]'),
+    ("a refusal", '["no",3,17,"too-far"]'),
+    ("a page from another place", page(4, 2, ['["join",3]'])),
+    ("an entry twice", page(4, 3, ENTRIES[:1])),
+    ("an operation that the rules refuse", page(5, 3, ['["join",3]', '["put",[3,1],[],[1,1],[],[["x",9]]]'])),
+])
+def test_bad_news(reply):
+    """It ends if the answer to a wait does not continue the record."""
+    expect_equal("the end", followed(('["wait",3]', reply)), ([], (3, SHOWN, FAILED[2])))
+
+
+def test_follows_live():
+    """It shows each change of a live room as it comes, until the reader of its output has gone away."""
+    with Server(2) as server:
+        client = server.client()
+        client.expect_reply(["join", "r"], '["joined",0,1]')
+        client.expect_reply(["new", 1, [], "rect", [["x", 0]]], '["made",1,[1,1]]')
+        words = ["grace", "watch", "--follow", server.name, "r"]
+        process = subprocess.Popen(
+            words, executable=program(), stdout=subprocess.PIPE, stderr=subprocess.PIPE, text=True,
+        )
+        server.other_client().joined("r", 2, 2)
+        expect_equal("the first line", process.stdout.readline(), SHOWN)
+        client.expect_reply(["put", 2, [[1, 1]], [1, 1], [], [["x", 5]]], '["taken",3,[[]]]')
+        expect_equal("the news", process.stdout.readline(), '["versions",4,[1,1],"rect",[[[],[["x",5]]]]]\n')
+        process.stdout.close()
+        client.expect_reply(["put", 3, [[1, 2]], [1, 1], [], [["x", 6]]], '["taken",4,[[]]]')
+        expect_equal("the end", (process.wait(SECONDS), process.stderr.read()), (3, "grace: output failed\n"))
+        process.stderr.close()
+        server.finish({2: "stream fault"})
 
 
 # ---- the connection and the output

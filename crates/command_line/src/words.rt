@@ -47,6 +47,25 @@ fn keep<'a>(alloc: Global) -> Arg<'a> {
         )
 }
 
+/// The option for the number of clients.
+fn clients<'a>(alloc: Global) -> Arg<'a> {
+    Arg::new(alloc, "clients")
+        .long("clients")
+        .value_name("N")
+        .action(ArgAction::Set)
+        .value_parser(value_parser!(u32).range(1..=100_000))
+        .default_value("10000")
+        .help("How many sessions to serve at a time, 1 to 100000; others are answered by 503")
+}
+
+/// The option to go on watching.
+fn follow<'a>(alloc: Global) -> Arg<'a> {
+    Arg::new(alloc, "follow")
+        .long("follow")
+        .action(ArgAction::SetTrue)
+        .help("Go on, and show each object again when it changes")
+}
+
 /// The names of rooms, last on the command line.
 fn rooms<'a>(alloc: Global) -> Arg<'a> {
     Arg::new(alloc, "ROOM")
@@ -70,6 +89,7 @@ fn serve_command<'a>(alloc: Global) -> Result<Command<'a>, AllocError> {
         .arg(keep(alloc))?
         .arg(idle(alloc))?
         .arg(report(alloc))?
+        .arg(clients(alloc))?
         .arg(word(
             alloc,
             "ADDRESS",
@@ -78,15 +98,15 @@ fn serve_command<'a>(alloc: Global) -> Result<Command<'a>, AllocError> {
         .arg(word(
             alloc,
             "SESSIONS",
-            "How many sessions to serve in all, 1 to 100000",
+            "How many sessions to serve in all, 1 to 100000; 0 serves without end",
         )
-        .value_parser(value_parser!(u32).range(1..=100_000)))?
+        .value_parser(value_parser!(u32).range(0..=100_000)))?
         .arg(word(
             alloc,
             "WORKERS",
-            "How many sessions to serve at a time, 1 to 64",
+            "How many threads serve the sessions, 1 to 64; 0 starts one for each processor",
         )
-        .value_parser(value_parser!(u32).range(1..=64)))?
+        .value_parser(value_parser!(u32).range(0..=64)))?
         .arg(rooms(alloc))
 }
 
@@ -94,6 +114,7 @@ fn serve_command<'a>(alloc: Global) -> Result<Command<'a>, AllocError> {
 fn watch_command<'a>(alloc: Global) -> Result<Command<'a>, AllocError> {
     Command::new(alloc, "watch")
         .about("Shows the objects of a live room with their versions")
+        .arg(follow(alloc))?
         .arg(word(
             alloc,
             "ADDRESS",

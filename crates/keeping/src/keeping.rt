@@ -69,4 +69,14 @@ impl<P: RoomHistories, J: Journal + Drop> Keeper<P> for Keeping<P, J> {
             None => Err(KeepFault::NotKept),
         }
     }
+
+    /// The place of the first room whose file has failed. Linear in the number of rooms.
+    fn failing(&self, rt: &impl Wait) -> Option<usize> {
+        for (place, room) in self.rooms.iter().enumerate() {
+            if !room.is_clean(rt) {
+                return Some(place);
+            }
+        }
+        None
+    }
 }

@@ -1,6 +1,6 @@
 //! The trait of what keeps rooms: a reply is sent when the keeper has kept what it reports.
 
-ghost use Rattle.std.specs.Prelude.{IfErr, IfOk};
+ghost use Rattle.std.specs.Prelude.{◌≡◌, IfErr, IfOk, None};
 
 use crate::histories::RoomHistories;
 use crate::prefix::Prefix;
@@ -49,6 +49,9 @@ pub trait Keeper<P: RoomHistories> {
     ) -> Result<Self::Receipt, KeepFault>
         ensures kept { IfOk result (λ receipt. shows receipt told.now) }
         ensures fault { IfErr result (λ fault. fails fault told.now) };
+
+    /// The place of the first room that cannot be kept, or `None` if each can.
+    fn failing(&self, rt: &impl Wait) -> Option<usize>;
 }
 
 /// The keeper that keeps nothing: replies are sent at once. It never fails.
@@ -69,5 +72,11 @@ impl<P: RoomHistories> Keeper<P> for Forgets {
         _told: &Prefix<P>,
     ) -> Result<(), KeepFault> {
         Ok(())
+    }
+
+    fn failing(&self, _rt: &impl Wait) -> Option<usize>
+        ensures { result ≡ None }
+    {
+        None
     }
 }

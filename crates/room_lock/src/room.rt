@@ -122,6 +122,13 @@ impl<P: RoomHistories> Room<P> {
         self.state.entries()
     }
 
+    /// The number of entries of its record.
+    pub(crate) fn count_entries(&self) -> usize
+        ensures { result ≡ length self.now.entries }
+    {
+        len_of(&self.state)
+    }
+
     /// Returns whether a session is in as this site.
     pub(crate) fn is_away(&self, site: u32) -> bool
         ensures { result ≡ is_away self.now.shelf site }

@@ -2,7 +2,7 @@
 
 ghost use Rattle.std.specs.Prelude.{◌≡◌, ◌↔◌, ◌++◌, ◌<◌, ◌≤◌, All, Contains, Err, IfErr, IfOk};
 ghost use Rattle.std.specs.Prelude.{IfSome, IsErr, IsNone, IsSome, OnErr, Ok, Some, bytes_eq};
-ghost use Rattle.std.specs.Prelude.{false, length, map, option_map, position, true};
+ghost use Rattle.std.specs.Prelude.{false, length, map, option_map, position, slice_get, true};
 ghost use Rattle.std.specs.Arc.{arc_value};
 ghost use Rattle.room_lock.specs.declared.fault.CallFault.TheVariants as call_fault;
 ghost use Rattle.room_lock.specs.Closing.{IsClosed};
@@ -80,6 +80,30 @@ impl<P: RoomHistories> Rooms<P> {
     {
         let (_name, room) = self.rooms.get_index(place)?;
         Some(room)
+    }
+
+    /// The number of rooms.
+    pub fn count(&self) -> usize
+        ensures { result ≡ length self.now }
+    {
+        self.rooms.len()
+    }
+
+    /// The name of the room at a place, from 0, or `None` if there is no such room.
+    pub fn name_at(&self, place: usize) -> Option<&RoomName>
+        ensures { option_map (λ name. name.now) result ≡ slice_get self.now place }
+    {
+        let (name, _room) = self.rooms.get_index(place)?;
+        Some(name)
+    }
+
+    /// The number of entries in the record of the pass's room, or `None` if the pass belongs to
+    /// other rooms. Waits for the room's lock. Constant time.
+    pub fn count_entries(&self, rt: &impl Wait, pass: &Pass<P>) -> Option<usize>
+        ensures { IsSome result ↔ IsOfRooms self.now pass.now }
+    {
+        let room = self.find_of_pass(pass)?;
+        Some(room.lock(rt).count_entries())
     }
 
     /// Lets the next site into the room of this name if the room's limits allow it. Gives its pass

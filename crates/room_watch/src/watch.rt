@@ -1,5 +1,8 @@
 //! `grace watch ADDRESS ROOM`: shows the objects of a live room by a replica.
 
+ghost use Rattle.std.specs.Prelude.{◌≡◌, IfOk, string_bytes};
+ghost use Rattle.room_watch.specs.steps.Lines.{shown_line};
+
 use base_types::{MAX_SITE, NoMemory, OpName, RoomName};
 use byte_streams::Uninterrupted;
 use command_fault::Fault;
@@ -12,7 +15,8 @@ use std::random::RandomSource;
 use thiserror::Error;
 use tungstenite::handshake::client::request_of;
 use tungstenite::{
-    CloseCode, CloseFrame, Error, HandshakeError, MaskKeys, Message, Utf8Bytes, WebSocket, client,
+    CloseCode, CloseFrame, Error, HandshakeError, MaskKeys, Message, RandomKeys, Utf8Bytes,
+    WebSocket, client,
 };
 use wire::{Reply, Request, write_reply, write_request};
 use wire_reader::{ReadFault, read_reply};
@@ -64,14 +68,20 @@ impl From<ReadFault> for WatchFault {
     }
 }
 
+impl From<TakeFault> for WatchFault {
+    fn from(fault: TakeFault) -> WatchFault {
+        match fault {
+            TakeFault::NoMemory => WatchFault::NoMemory,
+            _ => WatchFault::Session,
+        }
+    }
+}
+
 impl From<FeedFault> for WatchFault {
     fn from(fault: FeedFault) -> WatchFault {
         match fault {
             FeedFault::NoMemory => WatchFault::NoMemory,
-            FeedFault::Take { place: _, fault } => match fault {
-                TakeFault::NoMemory => WatchFault::NoMemory,
-                _ => WatchFault::Session,
-            },
+            FeedFault::Take { place: _, fault } => WatchFault::from(fault),
             FeedFault::NotAPage => WatchFault::Session,
         }
     }
@@ -117,7 +127,7 @@ fn ask<S: Read + Write + Drop, K: MaskKeys + Drop>(
 }
 
 /// Sends a request, and returns the reply.
-fn reply_to<S: Read + Write + Drop, K: MaskKeys + Drop>(
+pub(crate) fn reply_to<S: Read + Write + Drop, K: MaskKeys + Drop>(
     alloc: Global,
     socket: &mut WebSocket<S, K>,
     request: &Request,
@@ -200,7 +210,13 @@ fn pull_record<S: Read + Write + Drop, K: MaskKeys + Drop>(
 }
 
 /// The line of what the replica shows of an object.
-fn line_of(alloc: Global, replica: &Replica, object: OpName) -> Result<String, WatchFault> {
+pub(crate) fn line_of(
+    alloc: Global,
+    replica: &Replica,
+    object: OpName,
+) -> Result<String, WatchFault>
+    ensures { IfOk result (λ line. string_bytes line ≡ shown_line replica.now.taken object) }
+{
     let reply = replica.show(alloc, object)?;
     let mut line = write_reply(alloc, &reply)?;
     line.push('\n')?;
@@ -240,6 +256,52 @@ fn leave<S: Read + Write + Drop, K: MaskKeys + Drop>(
     Err(WatchFault::Session)
 }
 
+/// Writes the lines, and flushes the output.
+pub(crate) fn write_lines<W: Write>(output: &mut W, lines: &str) -> Result<(), WatchFault> {
+    if output.write_all(lines.as_bytes()).is_err() || output.flush().is_err() {
+        return Err(WatchFault::Write);
+    }
+    Ok(())
+}
+
+/// Opens a session over the stream.
+pub(crate) fn session_over<R, S>(
+    rt: &R,
+    alloc: Global,
+    stream: S,
+) -> Result<WebSocket<S, RandomKeys<&R>>, WatchFault>
+where
+    R: RandomSource,
+    S: Read + Write + Drop,
+{
+    let request = request_of(alloc, "ws://localhost/")?;
+    match client(alloc, rt, request, stream) {
+        Ok((socket, _response)) => Ok(socket),
+        Err(HandshakeError::Failure(fault)) => Err(fault.into()),
+        Err(HandshakeError::Interrupted(_handshake)) => Err(WatchFault::Session),
+    }
+}
+
+/// Enters the room of this name, and writes the lines of all its objects. Returns the replica that
+/// it read.
+pub(crate) fn show_room<S, K, W>(
+    alloc: Global,
+    socket: &mut WebSocket<S, K>,
+    room: &RoomName,
+    output: &mut W,
+) -> Result<Replica, WatchFault>
+where
+    S: Read + Write + Drop,
+    K: MaskKeys + Drop,
+    W: Write,
+{
+    enter(alloc, socket, room)?;
+    let replica = pull_record(alloc, socket)?;
+    let lines = lines_of(alloc, &replica)?;
+    write_lines(output, lines.as_str())?;
+    Ok(replica)
+}
+
 /// Enters the room of this name over a stream, and reads its record into a replica. Writes what the
 /// replica shows of each object, one line each in the order of the record. Then leaves the room and
 /// closes the session. Comes back as the first site that no session is in as, or joins if there is
@@ -261,19 +323,20 @@ where
     S: Read + Write + Drop,
     W: Write,
 {
-    let request = request_of(alloc, "ws://localhost/")?;
-    let mut socket = match client(alloc, rt, request, stream) {
-        Ok((socket, _response)) => socket,
-        Err(HandshakeError::Failure(fault)) => return Err(fault.into()),
-        Err(HandshakeError::Interrupted(_handshake)) => return Err(WatchFault::Session),
-    };
-    enter(alloc, &mut socket, room)?;
-    let replica = pull_record(alloc, &mut socket)?;
-    let lines = lines_of(alloc, &replica)?;
-    if output.write_all(lines.as_bytes()).is_err() || output.flush().is_err() {
-        return Err(WatchFault::Write);
-    }
+    let mut socket = session_over(rt, alloc, stream)?;
+    show_room(alloc, &mut socket, room, output)?;
     leave(alloc, &mut socket)
+}
+
+/// Connects to the server at this address.
+pub(crate) fn connect<R: Net>(rt: &R, address: &str) -> Result<Uninterrupted<R::Stream>, Fault> {
+    match TcpStream::connect(rt, address) {
+        Ok(stream) => {
+            let _ = stream.set_nodelay(true);
+            Ok(Uninterrupted { stream })
+        }
+        Err(why) => Err(Fault::CannotConnect(why)),
+    }
 }
 
 /// Connects, and shows the room.
@@ -289,13 +352,20 @@ where
     W: Write,
 {
     let room = RoomName::parse(alloc, room.as_bytes())?;
-    let stream = match TcpStream::connect(rt, address) {
-        Ok(stream) => stream,
-        Err(why) => return Err(Fault::CannotConnect(why)),
-    };
-    let _ = stream.set_nodelay(true);
-    watch_over(rt, alloc, Uninterrupted { stream }, &room, output)?;
+    let stream = connect(rt, address)?;
+    watch_over(rt, alloc, stream, &room, output)?;
     Ok(())
+}
+
+/// The exit status of the end. Before all but 0 it writes a line to `errors`.
+pub(crate) fn status_of<E: Write>(end: Result<(), Fault>, errors: &mut E) -> u8 {
+    match end {
+        Ok(()) => 0,
+        Err(fault) => {
+            fault.write_line(errors);
+            fault.status()
+        }
+    }
 }
 
 /// Shows the objects of the room of this name on the server at this address, and returns the exit
@@ -320,11 +390,5 @@ where
     W: Write,
     E: Write,
 {
-    match watch(rt, alloc, address, room, output) {
-        Ok(()) => 0,
-        Err(fault) => {
-            fault.write_line(errors);
-            fault.status()
-        }
-    }
+    status_of(watch(rt, alloc, address, room, output), errors)
 }

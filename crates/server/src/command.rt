@@ -2,22 +2,16 @@
 
 ghost use Rattle.std.specs.Prelude.{◌≡◌, ◌↔◌, IsNone};
 
+use crate::platform::Platform;
 use crate::serve::Service;
 use clap::ArgMatches;
 use command_fault::Fault;
 use command_line::{grace, show_error};
 use commands::{check_at, migrate_at, script_over};
-use log::Log;
-use room_watch::watch_at;
+use room_watch::{follow_at, watch_at};
 use std::alloc::Global;
-use std::fs::File;
 use std::io::{Read, Write};
-use std::net::Net;
-use std::random::RandomSource;
-use std::rt::Files;
-use std::sync::Wait;
-use std::thread::Threads;
-use std::time::{Clock, Duration};
+use std::time::Duration;
 
 /// This many seconds, or `None` for 0.
 fn seconds(count: u64) -> Option<Duration>
@@ -42,12 +36,14 @@ fn service_of<'a, 'w, R, W>(
     let workers = words.get_one("WORKERS")?;
     let idle = words.get_one("idle")?;
     let report = words.get_one("report")?;
+    let clients = words.get_one("clients")?;
     Some(Service {
         rt,
         alloc,
         address,
         sessions,
         workers,
+        clients,
         idle: seconds(idle),
         report: seconds(report),
         is_kept: words.get_str("keep").is_some(),
@@ -64,8 +60,7 @@ fn run_serve<H, W, E>(
     errors: &mut E,
 ) -> u8
 where
-    H: Files<File = File> + Threads + Wait + Clock + Log + Net + RandomSource + Sync,
-    H::Stream: Send,
+    H: Platform,
     W: Write,
     E: Write,
 {
@@ -74,6 +69,28 @@ where
         (Some(service), Some(dir)) => service.run_kept(dir, names, errors),
         (Some(service), None) => service.run(names, errors),
         (None, _) => 2,
+    }
+}
+
+/// Runs `grace watch`.
+fn run_watch<H, W, E>(
+    rt: &H,
+    alloc: Global,
+    words: &ArgMatches,
+    output: &mut W,
+    errors: &mut E,
+) -> u8
+where
+    H: Platform,
+    W: Write,
+    E: Write,
+{
+    match (words.get_str("ADDRESS"), words.get_str("ROOM")) {
+        (Some(address), Some(room)) if words.get_flag("follow") => {
+            follow_at(rt, alloc, address, room, output, errors)
+        }
+        (Some(address), Some(room)) => watch_at(rt, alloc, address, room, output, errors),
+        _ => 2,
     }
 }
 
@@ -87,8 +104,7 @@ fn run_read<H, R, W, E>(
     errors: &mut E,
 ) -> u8
 where
-    H: Files<File = File> + Threads + Wait + Clock + Log + Net + RandomSource + Sync,
-    H::Stream: Send,
+    H: Platform,
     R: Read,
     W: Write,
     E: Write,
@@ -99,10 +115,7 @@ where
             script_over(alloc, names, input, output, errors)
         }
         Some(("serve", words)) => run_serve(rt, alloc, words, output, errors),
-        Some(("watch", words)) => match (words.get_str("ADDRESS"), words.get_str("ROOM")) {
-            (Some(address), Some(room)) => watch_at(rt, alloc, address, room, output, errors),
-            _ => 2,
-        },
+        Some(("watch", words)) => run_watch(rt, alloc, words, output, errors),
         Some(("check", words)) => match (words.get_str("RECORD"), words.get_str("TRANSCRIPT")) {
             (Some(record), Some(transcript)) => {
                 check_at(rt, alloc, record, transcript, output, errors)
@@ -134,8 +147,7 @@ pub fn run<H, R, W, E>(
     errors: &mut E,
 ) -> u8
 where
-    H: Files<File = File> + Threads + Wait + Clock + Log + Net + RandomSource + Sync,
-    H::Stream: Send,
+    H: Platform,
     R: Read,
     W: Write,
     E: Write,

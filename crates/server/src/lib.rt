@@ -4,6 +4,7 @@
 mod accept;
 mod command;
 mod early_end;
+mod platform;
 mod serve;
 mod server_observer;
 mod stamped_log;
@@ -11,4 +12,5 @@ mod tally;
 mod turnstile;
 
 pub use command::run;
+pub use platform::Platform;
 pub use stamped_log::StampedLog;

@@ -7,6 +7,7 @@ ghost use Rattle.server.specs.steps.Faults.{of_serving};
 
 use crate::accept::Accepted;
 use crate::early_end::EarlyEnd;
+use crate::platform::Platform;
 use crate::server_observer::ServerObserver;
 use crate::tally::{Tally, empty_tallies, tallies_of};
 use base_types::repeated_name;
@@ -14,23 +15,22 @@ use command_fault::Fault;
 use commands::{fault_of_rooms, room_names};
 use journal::Synced;
 use keeping::{Keeping, RoomFile};
-use log::{Log, warn};
+use log::warn;
+use loops::{Bell, MAX_LOOPS, Settings};
+use mio::Poll;
 use restore::RestoredFile;
 use room_folder::Folder;
 use room_lock::{Forgets, Keeper, NewRooms, RoomHistories, Rooms};
 use rules::Limits;
-use sessions::{ServeFault, serve_streams};
+use sessions::{ServeFault, Served, serve_streams};
 use std::alloc::{AllocError, Global};
 use std::fs::File;
 use std::io::Write;
 use std::marker::Brand;
 use std::net::{Net, OpenListener, TcpListener};
-use std::rt::Files;
-use std::sync::Wait;
 use std::sync::atomic::{AtomicBool, Ordering};
 use std::thread;
-use std::thread::Threads;
-use std::time::{Clock, Duration};
+use std::time::Duration;
 
 /// The program's fault for a fault of serving.
 fn fault_of(fault: ServeFault) -> Fault
@@ -52,11 +52,13 @@ pub(crate) struct Service<'a, 'w, R, W> {
     /// The address to listen on, in the form of std's `bind`: a host and a port. Port 0 asks for
     /// any free port.
     pub(crate) address: &'w str,
-    /// The number of sessions to serve, 1 to 100,000.
+    /// The number of sessions to serve, 1 to 100,000; 0 for no limit.
     pub(crate) sessions: u32,
-    /// The number of sessions to serve at a time, 1 to 64.
+    /// The number of threads that serve, 1 to 64; 0 for one for each processor.
     pub(crate) workers: u32,
-    /// How long a connection may keep a worker waiting; `None` for no limit.
+    /// The number of sessions to serve at a time, 1 to 100,000.
+    pub(crate) clients: u32,
+    /// How long a client may be silent; `None` for no limit.
     pub(crate) idle: Option<Duration>,
     /// The period of reports; `None` for no reports.
     pub(crate) report: Option<Duration>,
@@ -86,12 +88,7 @@ fn listening_line<L: OpenListener>(
     }
 }
 
-impl<R, W> Service<'_, '_, R, W>
-where
-    R: Threads + Wait + Clock + Log + Net + Sync,
-    R::Stream: Send,
-    W: Write,
-{
+impl<R: Platform, W: Write> Service<'_, '_, R, W> {
     /// Listens, reports so on the output, and serves what it accepts in these rooms.
     fn serve_rooms<P, K>(
         self,
@@ -108,85 +105,136 @@ where
         if !self.is_kept {
             warn!(self.rt; "rooms are in memory only; --keep DIR keeps them");
         }
-        let observer = ServerObserver::new(self.rt, tallies, self.sessions, self.workers);
+        let observer = ServerObserver::new(self.rt, tallies, self.sessions, self.clients);
         observer.begin();
         let line = listening_line(self.alloc, self.address, &listener)?;
         write_line(self.output, &line)?;
-        self.serve_listening(rooms, &listener, &observer, keeper)
+        let options = Options {
+            alloc: self.alloc,
+            loops: self.count_loops(),
+            settings: self.settings(),
+            report: self.report,
+        };
+        serve_listening(options, rooms, &listener, &observer, keeper, self.output)
     }
 
     /// Listens on the address.
-    fn listen(&self) -> Result<R::Listener, Fault> {
+    fn listen(&self) -> Result<TcpListener, Fault> {
         match TcpListener::bind(self.rt, self.address) {
             Ok(listener) => Ok(listener),
             Err(why) => Err(Fault::CannotListen(why)),
         }
     }
 
-    /// Serves what the listener accepts.
-    fn serve_listening<P, K>(
-        self,
-        rooms: Rooms<P>,
-        listener: &R::Listener,
-        observer: &ServerObserver<'_, R>,
-        keeper: &K,
-    ) -> Result<(), Fault>
-    where
-        P: RoomHistories + Send + Sync,
-        K: Keeper<P> + Sync,
-        K::Receipt: Send,
-    {
-        let failed = AtomicBool::new(false);
-        let streams = Accepted {
-            listener,
-            observer,
-            left: u64::MAX,
-            idle: self.idle,
-            failed: &failed,
-        };
-        serve_reporting(
-            self.rt,
-            self.alloc,
-            rooms,
-            streams,
-            self.workers,
-            self.report,
-            keeper,
-            self.output,
-        )?;
-        if failed.load(Ordering::SeqCst) {
-            return Err(Fault::Accept);
+    /// The number of threads that serve: as many as the processors if none is given, from 1 to
+    /// `MAX_LOOPS`.
+    fn count_loops(&self) -> usize {
+        if self.workers > 0 {
+            return (self.workers as usize).min(MAX_LOOPS);
         }
-        Ok(())
+        match thread::available_parallelism(self.rt) {
+            Ok(count) => count.get().min(MAX_LOOPS),
+            Err(_) => 1,
+        }
+    }
+
+    /// The limits of the loops.
+    fn settings(&self) -> Settings {
+        Settings {
+            clients: self.clients as usize,
+            idle: self.idle,
+        }
     }
 }
 
-/// Serves these connections to their end, and reports once each period if there is one.
-fn serve_reporting<P, R, K, W>(
-    rt: &R,
+/// How connections are served.
+#[derive(Clone, Copy)]
+struct Options {
     alloc: Global,
+    /// The number of loops.
+    loops: usize,
+    settings: Settings,
+    /// The period of reports; `None` for no reports.
+    report: Option<Duration>,
+}
+
+/// The bell of the loops for so many rooms, and the polls of the loops.
+fn open_loops(
+    rt: &impl Net,
+    options: Options,
+    rooms: usize,
+) -> Result<(Bell, Vec<Poll>), ServeFault> {
+    Ok(Bell::new(rt, options.alloc, options.loops, rooms)?)
+}
+
+/// Serves what the listener accepts.
+fn serve_listening<'a, P, R, K, W>(
+    options: Options,
     rooms: Rooms<P>,
-    streams: Accepted<'_, R, R::Listener>,
-    workers: u32,
-    period: Option<Duration>,
-    keeper: &K,
+    listener: &'a TcpListener,
+    observer: &'a ServerObserver<'a, R>,
+    keeper: &'a K,
     output: &mut W,
 ) -> Result<(), Fault>
 where
     P: RoomHistories + Send + Sync,
-    R: Threads + Wait + Clock + Log + Net + Sync,
-    R::Stream: Send,
+    R: Platform,
     K: Keeper<P> + Sync,
     K::Receipt: Send,
     W: Write,
 {
-    let observer = streams.observer;
-    let (running, stop) = crossbeam_channel::bounded::<(), _>(alloc, 1)?;
+    let (rt, alloc) = (observer.runtime(), options.alloc);
+    let failed = AtomicBool::new(false);
+    let streams = Accepted {
+        rt,
+        listener,
+        observer,
+        left: u64::MAX,
+        is_told: false,
+        failed: &failed,
+    };
+    let (bell, polls) = match open_loops(rt, options, rooms.count()) {
+        Ok(opened) => opened,
+        Err(fault) => return Err(fault_of(fault)),
+    };
+    let served = Served {
+        rt,
+        alloc,
+        bell: &bell,
+        polls,
+        settings: options.settings,
+        observer,
+        keeper,
+    };
+    serve_reporting(served, rooms, streams, options.report, output)?;
+    if failed.load(Ordering::SeqCst) {
+        return Err(Fault::Accept);
+    }
+    Ok(())
+}
+
+/// Serves these connections to their end, and reports once each period if there is one.
+fn serve_reporting<P, R, K, W>(
+    served: Served<'_, R, ServerObserver<'_, R>, K>,
+    rooms: Rooms<P>,
+    streams: Accepted<'_, '_, R>,
+    period: Option<Duration>,
+    output: &mut W,
+) -> Result<(), Fault>
+where
+    P: RoomHistories + Send + Sync,
+    R: Platform,
+    K: Keeper<P> + Sync,
+    K::Receipt: Send,
+    W: Write,
+{
+    let (rt, observer) = (served.rt, served.observer);
+    let (running, stop) = crossbeam_channel::bounded::<(), _>(served.alloc, 1)?;
     let served = thread::scope(
         thread::scope_env(),
         rt,
         |scope| -> Result<(), ServeFault>
-            requires { IsSend P.row × IsSend R.Stream.row × IsSend K.Receipt.row }
+            requires { IsSend P.row × IsSend K.Receipt.row }
         {
             let reporter = match period {
                 Some(period) => scope
@@ -194,9 +242,7 @@ where
                     .ok(),
                 None => None,
             };
-            let served = serve_streams(
-                rt, alloc, rooms, streams, workers, observer, keeper, output,
-            );
+            let served = serve_streams(served, rooms, streams, output);
             drop(running);
             if let Some(reporter) = reporter {
                 reporter.join(rt);
@@ -218,8 +264,7 @@ fn serve_in_memory<P, R, W>(
 ) -> Result<(), Fault>
 where
     P: RoomHistories + Send + Sync,
-    R: Threads + Wait + Clock + Log + Net + Sync,
-    R::Stream: Send,
+    R: Platform,
     W: Write,
     requires { AreHistoriesOf planned P.limits P.books }
 {
@@ -237,8 +282,7 @@ fn serve_in_files<'a, P, R, W>(
 ) -> Result<(), EarlyEnd<'a>>
 where
     P: RoomHistories + Send + Sync,
-    R: Threads + Wait + Clock + Log + Net + Sync,
-    R::Stream: Send,
+    R: Platform,
     W: Write,
     requires histories { AreHistoriesOf planned P.limits P.books }
     requires names { map (λ file. file.name) files.items ≡ planned.names }
@@ -256,12 +300,7 @@ where
     }
 }
 
-impl<'w, R, W> Service<'_, 'w, R, W>
-where
-    R: Files<File = File> + Threads + Wait + Clock + Log + Net + Sync,
-    R::Stream: Send,
-    W: Write,
-{
+impl<'w, R: Platform, W: Write> Service<'_, 'w, R, W> {
     /// Serves in rooms of these names with full limits.
     fn serve(self, names: &[&'w str]) -> Result<(), Fault> {
         let rooms = room_names(self.alloc, names)?;

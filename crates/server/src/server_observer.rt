@@ -1,11 +1,14 @@
 //! What an operator is told while a server runs.
 
+ghost use Rattle.std.specs.Prelude.{◌≡◌, ◌↔◌, IsNone};
+
 use crate::tally::Tally;
 use crate::turnstile::Turnstile;
 use base_types::RoomName;
 use crossbeam_channel::Receiver;
 use log::{Log, info, warn};
-use sessions::{Cause, Client, Observer};
+use loops::Client;
+use sessions::{Cause, Observer};
 use std::sync::Wait;
 use std::sync::atomic::{AtomicBool, AtomicU64, Ordering};
 use std::time::{Clock, Duration};
@@ -17,12 +20,13 @@ use wire::EntryKind;
 pub(crate) struct ServerObserver<'a, R> {
     rt: &'a R,
     rooms: &'a [Tally<'a>],
-    /// The most sessions in all.
+    /// The most sessions in all; 0 for no limit.
     sessions: u32,
-    turnstile: Turnstile,
-    workers: u64,
-    taken: AtomicU64,
-    /// Whether a warning was logged since a worker was last free.
+    /// `None` if nothing limits the sessions.
+    turnstile: Option<Turnstile>,
+    /// The most sessions at a time.
+    clients: u32,
+    /// Whether a warning was logged since a session last ended.
     is_told: AtomicBool,
     begun: AtomicU64,
     ended: AtomicU64,
@@ -34,24 +38,36 @@ impl<'a, R> ServerObserver<'a, R> {
         rt: &'a R,
         rooms: &'a [Tally<'a>],
         sessions: u32,
-        workers: u32,
+        clients: u32,
     ) -> ServerObserver<'a, R> {
         ServerObserver {
             rt,
             rooms,
             sessions,
-            turnstile: Turnstile::new(sessions),
-            workers: u64::from(workers),
-            taken: AtomicU64::new(0),
+            turnstile: turnstile_of(sessions),
+            clients,
             is_told: AtomicBool::new(false),
             begun: AtomicU64::new(0),
             ended: AtomicU64::new(0),
         }
     }
+}
 
-    /// Returns whether each worker has a connection.
-    pub(crate) fn has_no_free_worker(&self) -> bool {
-        self.taken.load(Ordering::SeqCst) >= self.workers
+impl<'a, R> ServerObserver<'a, R> {
+    /// The runtime.
+    pub(crate) fn runtime(&self) -> &'a R {
+        self.rt
+    }
+}
+
+/// Admits this many sessions, or any number for 0.
+fn turnstile_of(sessions: u32) -> Option<Turnstile>
+    ensures { IsNone result ↔ (sessions ≡ 0) }
+{
+    if sessions == 0 {
+        None
+    } else {
+        Some(Turnstile::new(sessions))
     }
 }
 
@@ -59,14 +75,9 @@ impl<R: Wait + Log> ServerObserver<'_, R> {
     /// Admits a connection, or returns false if there may be no more sessions. May wait until that
     /// is known.
     pub(crate) fn let_in(&self) -> bool {
-        self.turnstile.let_in(self.rt)
-    }
-
-    /// Warns that no worker is free, once until one is.
-    pub(crate) fn warn_of_workers(&self) {
-        if self.has_no_free_worker() && !self.is_told.swap(true, Ordering::SeqCst) {
-            let workers = self.workers;
-            warn!(self.rt; "all {workers} workers are taken");
+        match &self.turnstile {
+            Some(turnstile) => turnstile.let_in(self.rt),
+            None => true,
         }
     }
 
@@ -81,9 +92,12 @@ impl<R: Wait + Log> ServerObserver<'_, R> {
     fn report(&self) {
         let begun = self.begun.load(Ordering::SeqCst);
         let now = begun.saturating_sub(self.ended.load(Ordering::SeqCst));
-        let (sessions, workers) = (self.sessions, self.workers);
-        let taken = self.taken.load(Ordering::SeqCst);
-        info!(self.rt; "report: server sessions {now} begun {begun}/{sessions} workers {taken}/{workers}");
+        let (sessions, clients) = (self.sessions, self.clients);
+        if sessions == 0 {
+            info!(self.rt; "report: server clients {now}/{clients} begun {begun}");
+        } else {
+            info!(self.rt; "report: server clients {now}/{clients} begun {begun}/{sessions}");
+        }
         for room in self.rooms {
             room.report(self.rt);
         }
@@ -110,26 +124,32 @@ impl<R: Wait + Log> Observer for ServerObserver<'_, R> {
         }
     }
 
-    fn worker_taken(&self) {
-        self.taken.fetch_add(1, Ordering::SeqCst);
-    }
-
-    fn worker_free(&self) {
-        self.taken.fetch_sub(1, Ordering::SeqCst);
-        self.is_told.store(false, Ordering::SeqCst);
-    }
-
     fn before_session(&self) {
         self.begun.fetch_add(1, Ordering::SeqCst);
-        self.warn_of_workers();
-        self.turnstile.is_session(self.rt);
+        if let Some(turnstile) = &self.turnstile {
+            turnstile.is_session(self.rt);
+        }
     }
 
     fn after_probe(&self) {
-        self.turnstile.is_probe(self.rt);
+        if let Some(turnstile) = &self.turnstile {
+            turnstile.is_no_session(self.rt);
+        }
+    }
+
+    /// Warns that all places are taken, once until a session ends.
+    fn turned_away(&self) {
+        if let Some(turnstile) = &self.turnstile {
+            turnstile.is_no_session(self.rt);
+        }
+        if !self.is_told.swap(true, Ordering::SeqCst) {
+            let clients = self.clients;
+            warn!(self.rt; "all {clients} clients are in");
+        }
     }
 
     fn after_session(&self, _client: &Client, _room: Option<&RoomName>, _cause: Cause) {
         self.ended.fetch_add(1, Ordering::SeqCst);
+        self.is_told.store(false, Ordering::SeqCst);
     }
 }

@@ -4,8 +4,8 @@ ghost use Rattle.std.specs.Prelude.{◌≡◌, ◌↔◌, ◌<◌, ◌+◌, ◌^
 
 use std::sync::{Condvar, Mutex, Wait};
 
-/// Admits a number of sessions. A connection is admitted before it is known to be a session or a
-/// probe. A probe gives its place back.
+/// Admits a number of sessions. A connection is admitted before it is known to be a session. One
+/// that is none gives its place back.
 #[derive(Drop)]
 pub(crate) struct Turnstile {
     counts: Mutex<Counts>,
@@ -86,8 +86,9 @@ impl Turnstile {
         self.changed.notify_all();
     }
 
-    /// An admitted connection is a probe: its place is free again.
-    pub(crate) fn is_probe(&self, rt: &impl Wait) {
+    /// An admitted connection is no session, as a probe or who is turned away: its place is free
+    /// again.
+    pub(crate) fn is_no_session(&self, rt: &impl Wait) {
         let mut counts = self.counts.lock(rt);
         counts.know();
         counts.give_back();

@@ -2,6 +2,7 @@
 
 mod faults;
 mod kept;
+mod line;
 mod locks;
 mod served;
 mod watched;
@@ -62,12 +63,11 @@ fn add_part(rt: &(impl Abort + AllocGlobal), parts: &mut Vec<Vec<u8>>, bytes: &[
     parts.push(part).expect(rt, "memory");
 }
 
-/// The same bytes: so many parts as they are, and the others in single bytes.
-fn bytewise(rt: &(impl Abort + AllocGlobal), parts: &[Vec<u8>], whole: usize) -> Vec<Vec<u8>> {
+/// The same bytes, each a part.
+fn bytewise(rt: &(impl Abort + AllocGlobal), parts: &[Vec<u8>]) -> Vec<Vec<u8>> {
     let mut pieces = Vec::new(rt.alloc());
-    for (place, part) in parts.iter().enumerate() {
-        let size = if place < whole { part.len() } else { 1 };
-        for piece in part.chunks(size.max(1)) {
+    for part in parts {
+        for piece in part.chunks(1) {
             add_part(rt, &mut pieces, piece);
         }
     }

@@ -1,6 +1,6 @@
 -- One message of a session and its reply. `told` is the prefix of a room's record that the reply
 -- reports on, if it does.
-use Rattle.std.specs.Prelude.{◌≡◌, ◌⊎◌, ℕ, Bool, List, Option, Some, None, Contains, MatchOption}
+use Rattle.std.specs.Prelude.{◌≡◌, ◌⊎◌, ℕ, Bool, List, Option, Some, None, Contains, MatchOption, true}
 use Rattle.std.specs.Prelude.{bytes_eq, position}
 use Rattle.base_types.specs.Texts.{Bytes}
 use Rattle.rules.specs.declared.history.Entry.{Entry}
@@ -9,7 +9,7 @@ use Rattle.rules.specs.declared.refusal.Refusal.{Refusal}
 use Rattle.rules.specs.declared.refusal.Refusal.TheVariants.{BadMessage, NotJoined, AlreadyJoined}
 use Rattle.rules.specs.declared.refusal.Refusal.TheVariants.{NoSuchRoom}
 use Rattle.wire.specs.declared.request.Request.{Request}
-use Rattle.wire.specs.declared.request.Request.TheVariants.{Join, Back, Leave}
+use Rattle.wire.specs.declared.request.Request.TheVariants.{Join, Back, Leave, Pull}
 use Rattle.wire.specs.declared.reply.Reply.{Reply}
 use Rattle.wire.specs.declared.reply.Reply.TheVariants.{No}
 use Rattle.wire.specs.Texts.{reply_text}
@@ -122,11 +122,14 @@ abbrev pub IsTextOfTurn : LimitValues → List Bytes → SessionView → Session
 IsTextOfTurn limits names old new bytes told text =
     (reply : Reply) × (text ≡ reply_text reply) × IsTurn limits names old new bytes told reply
 
--- The receipt shows that what is reported of a room is kept. There is none if nothing is reported.
-abbrev pub IsKept : {R : Type 0} → (R → PrefixView → Type 0) → Option PrefixView → Option R → Type 0
-IsKept shows (Some told) (Some receipt) = shows receipt told
-IsKept shows None None = Unit {0}
-IsKept shows _ _ = ⊥
+-- a session that is in a room asks to wait for an entry
+abbrev pub IsWaitInRoom : SessionView → Request → Type 0
+IsWaitInRoom (Some pass) (Pull from true) = Unit {0}
+IsWaitInRoom _ _ = ⊥
+
+-- the message of a session that is in a room asks to wait for an entry
+abbrev pub IsWait : SessionView → Bytes → Type 0
+IsWait session bytes = MatchOption (request_read bytes) ⊥ (IsWaitInRoom session)
 
 -- the message changed nothing, or it was answered, but the reply was lost
 abbrev pub MayStand : LimitValues → List Bytes → SessionView → SessionView → Bytes → Type 0
@@ -134,10 +137,3 @@ MayStand limits names old new bytes =
     (new ≡ old)
     ⊎ ((told : Option PrefixView) × (reply : Reply)
     × IsTurn limits names old new bytes told reply)
-
--- The message was answered, but the keeper failed so, and the reply was lost.
-abbrev pub IsNotKept : (PrefixView → Type 0) → LimitValues → List Bytes → SessionView → SessionView
-    → Bytes → Type 0
-IsNotKept fails limits names old new bytes =
-    (told : PrefixView) × (reply : Reply) × fails told
-    × IsTurn limits names old new bytes (Some told) reply

@@ -2,4 +2,4 @@ pub mod Calls
 pub mod Entrances
 pub mod Causes
 pub mod Ends
-pub mod Sent
+pub mod Faults

@@ -1,13 +1,66 @@
-//! Why a session ends.
+//! Why messages fail, and why sessions end.
 
-ghost use Rattle.std.specs.Prelude.{◌≡◌, ◌≢◌};
-ghost use Rattle.sessions.specs.steps.Causes.{cause_of_stream};
-ghost use Rattle.sessions.specs.declared.cause.Cause.TheVariants as cause;
+ghost use Rattle.std.specs.Prelude.{◌≡◌};
+ghost use Rattle.sessions.specs.steps.Causes.{end_of_keep_fault, end_of_message_fault};
+ghost use Rattle.sessions.specs.declared.cause.MessageFault.TheVariants as message_fault;
 
 use base_types::NoMemory;
+use connection::End;
+use loops::Ending;
 use room_lock::{CallFault, KeepFault};
 use thiserror::Error;
-use tungstenite::Error as StreamError;
+
+/// Why a message of a session is not answered.
+#[derive(Clone, Copy, Debug, PartialEq, Eq, Error)]
+pub enum MessageFault {
+    /// An allocation failed.
+    #[error("out of memory")]
+    NoMemory,
+    /// The session's pass belongs to other rooms.
+    #[error("torn from its room")]
+    Torn,
+}
+
+impl From<NoMemory> for MessageFault {
+    ghost from_gives = { λ _ gives. gives ≡ message_fault.NoMemory };
+
+    fn from(_fault: NoMemory) -> MessageFault {
+        MessageFault::NoMemory
+    }
+}
+
+impl From<CallFault> for MessageFault {
+    ghost use Rattle.sessions.specs.steps.Causes.{fault_of_call};
+
+    ghost from_gives = { λ fault gives. gives ≡ fault_of_call fault };
+
+    fn from(fault: CallFault) -> MessageFault {
+        match fault {
+            CallFault::Torn { place: _ } => MessageFault::Torn,
+            CallFault::NoMemory => MessageFault::NoMemory,
+        }
+    }
+}
+
+/// The end of the connection for a message that is not answered.
+pub(crate) fn end_of_message(fault: MessageFault) -> End
+    ensures { result ≡ end_of_message_fault fault }
+{
+    match fault {
+        MessageFault::NoMemory => End::NoMemory,
+        MessageFault::Torn => End::Stray,
+    }
+}
+
+/// The end of the connection for what is not kept.
+pub(crate) fn end_of_keep(fault: KeepFault) -> End
+    ensures { result ≡ end_of_keep_fault fault }
+{
+    match fault {
+        KeepFault::NotKept => End::NotKept,
+        KeepFault::NoMemory => End::NoMemory,
+    }
+}
 
 /// Why a session ended.
 #[derive(Clone, Copy, Debug, PartialEq, Eq, Error)]
@@ -35,48 +88,20 @@ pub enum Cause {
     NotKept,
 }
 
-impl From<NoMemory> for Cause {
-    ghost from_gives = { λ _ gives. gives ≡ cause.NoMemory };
+impl Cause {
+    ghost use Rattle.sessions.specs.steps.Causes.{cause_of_ending};
 
-    fn from(_fault: NoMemory) -> Cause {
-        Cause::NoMemory
-    }
-}
-
-impl From<CallFault> for Cause {
-    ghost use Rattle.sessions.specs.steps.Causes.{cause_of_call};
-
-    ghost from_gives = { λ fault gives. gives ≡ cause_of_call fault };
-
-    fn from(fault: CallFault) -> Cause {
-        match fault {
-            CallFault::Torn { place: _ } => Cause::Torn,
-            CallFault::NoMemory => Cause::NoMemory,
+    /// The cause for the ending of a client's line.
+    pub(crate) fn of_ending(ending: Ending) -> Cause
+        ensures { result ≡ cause_of_ending ending }
+    {
+        match ending {
+            Ending::NoHandshake => Cause::HandshakeFailed,
+            Ending::Stream | Ending::Connection(End::Fault) => Cause::StreamFault,
+            Ending::Connection(End::Closed) => Cause::Closed,
+            Ending::Connection(End::NoMemory) => Cause::NoMemory,
+            Ending::Connection(End::NotKept) => Cause::NotKept,
+            Ending::Connection(End::Stray) => Cause::Torn,
         }
-    }
-}
-
-impl From<KeepFault> for Cause {
-    ghost use Rattle.sessions.specs.steps.Causes.{cause_of_keep};
-
-    ghost from_gives = { λ fault gives. gives ≡ cause_of_keep fault };
-
-    fn from(fault: KeepFault) -> Cause {
-        match fault {
-            KeepFault::NotKept => Cause::NotKept,
-            KeepFault::NoMemory => Cause::NoMemory,
-        }
-    }
-}
-
-/// The cause for an error of the stream after the handshake.
-pub(crate) fn cause_of(fault: &StreamError) -> Cause
-    ensures cause { result ≡ cause_of_stream fault.now }
-    ensures not_handshake { result ≢ cause.HandshakeFailed }
-{
-    match fault {
-        StreamError::ConnectionClosed | StreamError::AlreadyClosed => Cause::Closed,
-        StreamError::OutOfMemory => Cause::NoMemory,
-        _ => Cause::StreamFault,
     }
 }

@@ -1,27 +1,24 @@
 //! Observing what sessions do.
 
 use crate::cause::Cause;
-use crate::client::Client;
 use base_types::RoomName;
+use loops::Client;
 use wire::EntryKind;
 
-/// Hears of entries, workers, probes and sessions, in the thread that serves them. A method may
-/// block its thread, and must change nothing else.
+/// Hears of entries, probes and sessions, in the thread that serves them. A method may block its
+/// thread, and must change nothing else.
 pub trait Observer {
     /// The room at this place, from 0, has added an entry of this kind.
     fn after_entry(&self, _place: usize, _kind: EntryKind) {}
-
-    /// A worker that was free has taken a connection.
-    fn worker_taken(&self) {}
-
-    /// A worker has no connection, and none waits for it.
-    fn worker_free(&self) {}
 
     /// A connection is no probe: a session begins.
     fn before_session(&self) {}
 
     /// A connection was a probe, and has been answered.
     fn after_probe(&self) {}
+
+    /// A client was turned away, since all places are taken. It was no session.
+    fn turned_away(&self) {}
 
     /// The session ends. `room` is the room that it is still in.
     fn after_session(&self, client: &Client, room: Option<&RoomName>, cause: Cause);

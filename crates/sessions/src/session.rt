@@ -1,22 +1,23 @@
 //! A session: the messages of one client, one after the other.
 
-ghost use Rattle.std.specs.Prelude.{◌≡◌, ◌⊎◌, Err, IfErr, IfOk, OnErr, None, Some};
+ghost use Rattle.std.specs.Prelude.{◌≡◌, ◌⊎◌, Err, IfErr, IfOk, IfSome, IsTrue, OnErr, None, Ok};
+ghost use Rattle.std.specs.Prelude.{Some, true};
 ghost use Rattle.std.specs.Prelude.{MatchOption, option_map, string_bytes};
 ghost use Rattle.wire.specs.declared.request.Request.TheVariants.{Join, Back, Leave};
 ghost use Rattle.room_lock.specs.Passes.{IsOfRooms};
-ghost use Rattle.room_lock.specs.declared.keeper.KeepFault.TheVariants as keep_fault;
-ghost use Rattle.sessions.specs.declared.cause.Cause.TheVariants as cause;
+ghost use Rattle.sessions.specs.declared.cause.MessageFault.TheVariants as message_fault;
 ghost use Rattle.sessions.specs.steps.Calls.{IsCallIf};
 ghost use Rattle.sessions.specs.steps.Entrances.{IsAfter};
-ghost use Rattle.sessions.specs.Turns.{IsAnswer, IsCallBy, IsKept, IsNotKept, IsTextOfTurn, IsTurn};
+ghost use Rattle.sessions.specs.Turns.{IsAnswer, IsCallBy, IsTextOfTurn, IsTurn, IsWait, IsWaitInRoom};
 ghost use Rattle.sessions.specs.Turns.{MayStand};
 
-use crate::answer::{Answer, Answered};
-use crate::cause::Cause;
+use crate::cause::MessageFault;
 use crate::host::Host;
 use crate::observer::Observer;
+use crate::session_reply::SessionReply;
 use base_types::RoomName;
-use room_lock::{Entrance, Keeper, Pass, RoomHistories};
+use connection::Answer;
+use room_lock::{Entrance, Pass, Prefix, RoomHistories};
 use std::marker::Model;
 use std::sync::Wait;
 use wire::{Refusal, Request};
@@ -60,59 +61,79 @@ impl<P: RoomHistories> Session<P> {
         }
     }
 
-    /// Answers one message, and returns the text of the reply.
+    /// Answers one message, and returns the text of the reply with what it reports of a room. Or
+    /// holds the message: then it is `None`, and nothing has changed.
     /// The session itself refuses four things. These are bytes that are no request, `join` and
     /// `back` in a room, other requests in no room, and rooms that do not exist. Every other
     /// request is one call of the rooms: `join` and `back` may give a pass, `leave` hands it back,
     /// and the rest call the room by it.
-    /// The reply of a room is returned once what it reports of the room is kept, with the receipt.
-    /// The session's own refusals have no receipt.
+    /// With `may_hold` it holds a `wait` in a room whose record has exactly the number of entries
+    /// that the request names. Without, a `wait` is a pull.
+    /// The text may be sent once what it reports is kept. The session's own refusals report
+    /// nothing.
     /// The scratch is memory for reading; nothing of an earlier message counts. Keep one between
     /// messages, because a new one costs as much as a short message.
     ///
     /// # Errors
     /// `NoMemory` if an allocation failed. The call of the rooms may stand, although no reply is
     /// sent.
-    /// `NotKept` if the keeper has not kept what the reply of the room reports. The call of the
-    /// rooms stands, although no reply is sent.
     /// `Torn` if the pass belongs to other rooms; the session is unchanged.
-    pub fn message<R: Wait, O: Observer, K: Keeper<P>>(
+    pub fn message<R: Wait, O: Observer, K>(
         &mut self,
         host: &Host<'_, P, R, O, K>,
         scratch: &mut Scratch,
         bytes: &[u8],
-    ) -> Result<Answered<K::Receipt>, Cause>
-        ensures ok { IfOk result (λ answered. (told : _) × IsTextOfTurn P.limits
-            host.now.rooms.now self.old self.new bytes.now told (string_bytes answered.text)
-            × IsKept K.shows told answered.receipt) }
+        may_hold: bool,
+    ) -> Result<Option<Answer<Prefix<P>>>, MessageFault>
+        ensures ok { IfOk result (λ found. IfSome found (λ answer. IsTextOfTurn P.limits
+            host.now.rooms.now self.old self.new bytes.now answer.told
+            (string_bytes answer.text))) }
+        ensures held { result ≡ Ok None → (may_hold ≡ true) × (self.new ≡ self.old)
+            × IsWait self.old bytes.now }
         ensures err { OnErr result
             (MayStand P.limits host.now.rooms.now self.old self.new bytes.now) }
-        ensures cause { IfErr result (λ why. (why ≡ cause.NoMemory)
-            ⊎ ((why ≡ cause.NotKept) × IsNotKept (K.fails keep_fault.NotKept) P.limits
-            host.now.rooms.now self.old self.new bytes.now)
-            ⊎ ((why ≡ cause.Torn) × (self.new ≡ self.old))) }
+        ensures torn { result ≡ Err message_fault.Torn → self.new ≡ self.old }
     {
-        let answer = self.answer(host, scratch, bytes)?;
-        answer.keep(host)
+        match self.reply_to(host, scratch, bytes, may_hold)? {
+            Some(reply) => Ok(Some(reply.into_answer(host)?)),
+            None => Ok(None),
+        }
     }
 
-    /// The answer to a message. On `Err` nothing has changed.
-    fn answer<R: Wait, O: Observer, K>(
+    /// The reply to a message, or `None` if it is held. On `Err` nothing has changed.
+    fn reply_to<R: Wait, O: Observer, K>(
         &mut self,
         host: &Host<'_, P, R, O, K>,
         scratch: &mut Scratch,
         bytes: &[u8],
-    ) -> Result<Answer<P>, Cause>
-        ensures ok { IfOk result (λ answer. IsTurn P.limits
-            host.now.rooms.now self.old self.new bytes.now answer.told answer.reply) }
+        may_hold: bool,
+    ) -> Result<Option<SessionReply<P>>, MessageFault>
+        ensures ok { IfOk result (λ found. IfSome found (λ answer. IsTurn P.limits
+            host.now.rooms.now self.old self.new bytes.now answer.told answer.reply)) }
+        ensures held { result ≡ Ok None → (may_hold ≡ true) × (self.new ≡ self.old)
+            × IsWait self.old bytes.now }
         ensures err { OnErr result (self.new ≡ self.old) }
-        ensures cause { IfErr result (λ why. (why ≡ cause.NoMemory) ⊎ (why ≡ cause.Torn)) }
     {
         match read_request(host.alloc, scratch, bytes) {
-            Ok(request) => self.ask(host, request),
-            Err(ReadFault::Bad) => Ok(Answer::own_refusal(Refusal::BadMessage)),
-            Err(ReadFault::NoMemory) => Err(Cause::NoMemory),
+            Ok(request) => {
+                if may_hold && self.waits(host, &request) {
+                    return Ok(None);
+                }
+                Ok(Some(self.ask(host, request)?))
+            }
+            Err(ReadFault::Bad) => Ok(Some(SessionReply::own_refusal(Refusal::BadMessage))),
+            Err(ReadFault::NoMemory) => Err(MessageFault::NoMemory),
         }
+    }
+
+    /// Returns whether the request waits for the entry behind all that the room's record has.
+    fn waits<R: Wait, O, K>(&self, host: &Host<'_, P, R, O, K>, request: &Request) -> bool
+        ensures { IsTrue result → IsWaitInRoom self.now request.now }
+    {
+        let (Some(pass), Request::Pull { from, waits: true }) = (&self.pass, request) else {
+            return false;
+        };
+        host.rooms.count_entries(host.rt, pass) == Some(*from as usize)
     }
 
     /// The answer to a request. On `Err` nothing has changed.
@@ -120,11 +141,10 @@ impl<P: RoomHistories> Session<P> {
         &mut self,
         host: &Host<'_, P, R, O, K>,
         request: Request,
-    ) -> Result<Answer<P>, Cause>
+    ) -> Result<SessionReply<P>, MessageFault>
         ensures ok { IfOk result (λ answer. IsAnswer P.limits
             host.now.rooms.now self.old self.new request answer.told answer.reply) }
         ensures err { OnErr result (self.new ≡ self.old) }
-        ensures cause { IfErr result (λ why. (why ≡ cause.NoMemory) ⊎ (why ≡ cause.Torn)) }
     {
         match request {
             Request::Join { room } => self.join(host, &room),
@@ -139,14 +159,14 @@ impl<P: RoomHistories> Session<P> {
         &mut self,
         host: &Host<'_, P, R, O, K>,
         name: &RoomName,
-    ) -> Result<Answer<P>, Cause>
+    ) -> Result<SessionReply<P>, MessageFault>
         ensures ok { IfOk result (λ answer. IsAnswer P.limits
             host.now.rooms.now self.old self.new (Join name.now) answer.told answer.reply) }
         ensures err { OnErr result (self.new ≡ self.old) }
-        ensures cause { IfErr result (λ why. why ≡ cause.NoMemory) }
+        ensures cause { IfErr result (λ why. why ≡ message_fault.NoMemory) }
     {
         if self.pass.is_some() {
-            return Ok(Answer::own_refusal(Refusal::AlreadyJoined));
+            return Ok(SessionReply::own_refusal(Refusal::AlreadyJoined));
         }
         let entrance = host.rooms.join(host.rt, host.alloc, name)?;
         Ok(self.enter(entrance))
@@ -158,14 +178,14 @@ impl<P: RoomHistories> Session<P> {
         host: &Host<'_, P, R, O, K>,
         name: &RoomName,
         site: u32,
-    ) -> Result<Answer<P>, Cause>
+    ) -> Result<SessionReply<P>, MessageFault>
         ensures ok { IfOk result (λ answer. IsAnswer P.limits
             host.now.rooms.now self.old self.new (Back name.now site) answer.told answer.reply) }
         ensures err { OnErr result (self.new ≡ self.old) }
-        ensures cause { IfErr result (λ why. why ≡ cause.NoMemory) }
+        ensures cause { IfErr result (λ why. why ≡ message_fault.NoMemory) }
     {
         if self.pass.is_some() {
-            return Ok(Answer::own_refusal(Refusal::AlreadyJoined));
+            return Ok(SessionReply::own_refusal(Refusal::AlreadyJoined));
         }
         let entrance = host.rooms.back(host.rt, host.alloc, name, site)?;
         Ok(self.enter(entrance))
@@ -175,22 +195,22 @@ impl<P: RoomHistories> Session<P> {
     fn leave<R: Wait, O: Observer, K>(
         &mut self,
         host: &Host<'_, P, R, O, K>,
-    ) -> Result<Answer<P>, Cause>
+    ) -> Result<SessionReply<P>, MessageFault>
         ensures ok { IfOk result (λ answer. IsAnswer P.limits
             host.now.rooms.now self.old self.new Leave answer.told answer.reply) }
         ensures err { OnErr result (self.new ≡ self.old) }
-        ensures cause { IfErr result (λ why. why ≡ cause.Torn) }
+        ensures cause { IfErr result (λ why. why ≡ message_fault.Torn) }
         ensures other_rooms { MatchOption self.old (Unit {0})
-            (λ was. ¬ IsOfRooms host.now.rooms.now was → result ≡ Err cause.Torn) }
+            (λ was. ¬ IsOfRooms host.now.rooms.now was → result ≡ Err message_fault.Torn) }
     {
         let Some(pass) = self.pass.take() else {
-            return Ok(Answer::own_refusal(Refusal::NotJoined));
+            return Ok(SessionReply::own_refusal(Refusal::NotJoined));
         };
         match host.rooms.hand_back(host.rt, pass) {
-            Ok((told, reply)) => Ok(Answer::of_room(told, reply)),
+            Ok((told, reply)) => Ok(SessionReply::of_room(told, reply)),
             Err(pass) => {
                 self.set_pass(pass);
-                Err(Cause::Torn)
+                Err(MessageFault::Torn)
             }
         }
     }
@@ -200,34 +220,33 @@ impl<P: RoomHistories> Session<P> {
         &mut self,
         host: &Host<'_, P, R, O, K>,
         request: Request,
-    ) -> Result<Answer<P>, Cause>
+    ) -> Result<SessionReply<P>, MessageFault>
         ensures ok { IfOk result (λ answer.
             IsCallIf P.limits self.old self.new request answer.told answer.reply) }
         ensures err { OnErr result (self.new ≡ self.old) }
-        ensures cause { IfErr result (λ why. (why ≡ cause.NoMemory) ⊎ (why ≡ cause.Torn)) }
         ensures other_rooms { MatchOption self.old (Unit {0})
-            (λ was. ¬ IsOfRooms host.now.rooms.now was → result ≡ Err cause.Torn) }
+            (λ was. ¬ IsOfRooms host.now.rooms.now was → result ≡ Err message_fault.Torn) }
     {
         match &mut self.pass {
             Some(pass) => call_by(host, pass, request),
-            None => Ok(Answer::own_refusal(Refusal::NotJoined)),
+            None => Ok(SessionReply::own_refusal(Refusal::NotJoined)),
         }
     }
 
     /// Takes the pass of who was let in. Gives the answer to who asked to be let in.
-    fn enter(&mut self, entrance: Entrance<P>) -> Answer<P>
+    fn enter(&mut self, entrance: Entrance<P>) -> SessionReply<P>
         requires { self.old ≡ None }
         ensures { IsAfter entrance self.new result.told result.reply }
     {
         match entrance {
             Entrance::Entered(pass, reply) => {
-                let answer = Answer::of_room(pass.part().prefix(), reply);
+                let answer = SessionReply::of_room(pass.part().prefix(), reply);
                 self.set_pass(pass);
                 answer
             }
-            Entrance::Refused(told, reply) => Answer::of_room(told, reply),
-            Entrance::InUse(in_use, reply) => Answer::of_room(in_use.into_prefix(), reply),
-            Entrance::NoRoom => Answer::own_refusal(Refusal::NoSuchRoom),
+            Entrance::Refused(told, reply) => SessionReply::of_room(told, reply),
+            Entrance::InUse(in_use, reply) => SessionReply::of_room(in_use.into_prefix(), reply),
+            Entrance::NoRoom => SessionReply::own_refusal(Refusal::NoSuchRoom),
         }
     }
 
@@ -248,13 +267,12 @@ fn call_by<P: RoomHistories, R: Wait, O, K>(
     host: &Host<'_, P, R, O, K>,
     pass: &mut Pass<P>,
     request: Request,
-) -> Result<Answer<P>, Cause>
+) -> Result<SessionReply<P>, MessageFault>
     ensures ok { IfOk result (λ answer. IsCallBy P.limits
         pass.old (Some pass.new) request answer.told answer.reply) }
     ensures err { OnErr result (pass.new ≡ pass.old) }
-    ensures cause { IfErr result (λ why. (why ≡ cause.NoMemory) ⊎ (why ≡ cause.Torn)) }
-    ensures other_rooms { ¬ IsOfRooms host.now.rooms.now pass.old → result ≡ Err cause.Torn }
+    ensures other_rooms { ¬ IsOfRooms host.now.rooms.now pass.old → result ≡ Err message_fault.Torn }
 {
     let reply = host.rooms.call(host.rt, host.alloc, pass, request)?;
-    Ok(Answer::of_room(pass.part().prefix(), reply))
+    Ok(SessionReply::of_room(pass.part().prefix(), reply))
 }

@@ -1,10 +1,10 @@
 //! Warnings of sessions.
 
 use crate::cause::Cause;
-use crate::client::Client;
 use crate::observer::Observer;
 use base_types::RoomName;
 use log::{Log, warn};
+use loops::Client;
 use wire::EntryKind;
 
 /// An observer that logs a warning for each session that did not end `Closed`. It hands all events
@@ -20,20 +20,16 @@ impl<R: Log, O: Observer> Observer for WarningObserver<'_, R, O> {
         self.observer.after_entry(place, kind);
     }
 
-    fn worker_taken(&self) {
-        self.observer.worker_taken();
-    }
-
-    fn worker_free(&self) {
-        self.observer.worker_free();
-    }
-
     fn before_session(&self) {
         self.observer.before_session();
     }
 
     fn after_probe(&self) {
         self.observer.after_probe();
+    }
+
+    fn turned_away(&self) {
+        self.observer.turned_away();
     }
 
     fn after_session(&self, client: &Client, room: Option<&RoomName>, cause: Cause) {

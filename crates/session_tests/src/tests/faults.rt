@@ -11,7 +11,6 @@ pub(super) struct Calls {
     made: AtomicU64,
     /// The number of the call that fails, from 1; 0 for none.
     fails: u64,
-    reads: AtomicU64,
     given: AtomicU64,
     taken: AtomicU64,
     /// How many writes took something else than was expected.
@@ -31,7 +30,6 @@ impl Calls {
         Calls {
             made: AtomicU64::new(0),
             fails,
-            reads: AtomicU64::new(0),
             given: AtomicU64::new(0),
             taken: AtomicU64::new(0),
             others: AtomicU64::new(0),
@@ -51,11 +49,6 @@ impl Calls {
     /// Was the call that fails made?
     pub(super) fn have_failed(&self) -> bool {
         self.fails > 0 && self.made.load(Ordering::SeqCst) >= self.fails
-    }
-
-    /// How many reads there were, with one that failed.
-    pub(super) fn reads(&self) -> usize {
-        read(&self.reads)
     }
 
     /// How many parts were given whole.
@@ -97,7 +90,6 @@ impl<'a> Parts<'a> {
 
 impl Read for Parts<'_> {
     fn read(&mut self, buf: &mut [u8]) -> io::Result<usize> {
-        self.calls.reads.fetch_add(1, Ordering::SeqCst);
         self.calls.count()?;
         if self.part.is_empty()
             && let Some((first, others)) = self.parts.split_first()

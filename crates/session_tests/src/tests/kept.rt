@@ -5,12 +5,14 @@ use super::faults::Calls;
 use super::served::{
     ANSWERED, ASKED, ENTRIES, Streams, Told, answer_bytes, asked_parts, records_of, serve, stream,
 };
-use log::sink::Locked;
-use log::{LevelFilter, Logged};
+use log::Log;
 use room_lock::KeepFault;
+use sessions::Cause;
+use std::net::Net;
 use std::process::Abort;
 use std::sync::Wait;
 use std::thread::Threads;
+use std::time::Clock;
 
 /// The server's close of 1011.
 const AT_FAULT: &[u8] = b"\x88\x02\x03\xf3";
@@ -56,15 +58,6 @@ fn first_replies(rt: &(impl Abort + AllocGlobal), count: usize) -> String {
     replies
 }
 
-/// The warning about the first session, whose reply of this number is not kept. It has left the
-/// room before the last one.
-fn warning_of(rt: &(impl Abort + AllocGlobal), number: usize, cause: &str) -> String {
-    let room = if number <= ENTRIES { " room r" } else { "" };
-    let target = "[WARN  sessions::warning_observer]";
-    let line = format!(in rt.alloc(); "{target} session 1{room}: {cause}\n");
-    line.expect(rt, "memory")
-}
-
 /// What a session sends, what it is to be answered, and the calls of its stream.
 #[derive(Drop)]
 struct Talk {
@@ -100,15 +93,13 @@ fn talks_of(rt: &(impl Abort + AllocGlobal), number: usize) -> Vec<Talk> {
 }
 
 /// Serves these sessions one after the other, where the reply of this number is not kept. Looks at
-/// what they were sent and at the records, and returns the warnings.
-fn serve_talks<R: Threads + Wait + Sync + Abort + AllocGlobal>(
+/// what they were sent and at the records, and returns why the first ended.
+fn serve_talks<R: Threads + Wait + Clock + Net + Log + Sync + Abort + AllocGlobal>(
     rt: &R,
     talks: &[Talk],
     number: usize,
     fault: KeepFault,
-) -> Vec<u8> {
-    let sink = Locked::new(rt, Vec::new(rt.alloc()));
-    let logged = Logged::new(rt, LevelFilter::Warn, &sink);
+) -> Option<Cause> {
     let mut all = Vec::new(rt.alloc());
     for talk in talks {
         all.push(stream(&talk.parts, &talk.expected, usize::MAX, &talk.calls))
@@ -116,33 +107,31 @@ fn serve_talks<R: Threads + Wait + Sync + Abort + AllocGlobal>(
     }
     let told = Told::new(Some((number as u64, fault)));
     let mut records = Vec::new(rt.alloc());
-    let end = serve(&logged, Streams { all, workers: 1 }, &told, &mut records);
-    assert!(rt; end.is_ok());
+    let streams = Streams {
+        all,
+        has_loop: true,
+    };
+    assert!(rt; serve(rt, streams, &told, &mut records).is_ok());
     for talk in talks {
         assert_eq!(rt; talk.calls.taken(), Some(talk.expected.len()), "{number}");
     }
     let expected = records_of(rt, number.min(ENTRIES), RECORD_ELSEWHERE);
     assert_eq!(rt; records.as_slice(), expected.as_bytes());
     assert_eq!(rt; told.asked(), (number as u64).saturating_add(6));
-    sink.into_inner()
-}
-
-fn not_kept_at<R: Threads + Wait + Sync + Abort + AllocGlobal>(
-    rt: &R,
-    number: usize,
-    fault: KeepFault,
-    cause: &str,
-) {
-    let talks = talks_of(rt, number);
-    let warnings = serve_talks(rt, &talks, number, fault);
-    let expected = warning_of(rt, number, cause);
-    assert_eq!(rt; warnings.as_slice(), expected.as_bytes());
+    told.cause()
 }
 
 #[test]
 fn a_reply_that_is_not_kept_is_not_sent(rt: HostRuntime) {
+    let faults = [
+        (KeepFault::NotKept, Cause::NotKept),
+        (KeepFault::NoMemory, Cause::NoMemory),
+    ];
     for number in 1..5 {
-        not_kept_at(&rt, number, KeepFault::NotKept, "record not kept");
-        not_kept_at(&rt, number, KeepFault::NoMemory, "out of memory");
+        for (fault, cause) in faults {
+            let talks = talks_of(&rt, number);
+            let ended = serve_talks(&rt, &talks, number, fault);
+            assert_eq!(rt; ended, Some(cause), "{number}");
+        }
     }
 }

@@ -3,19 +3,22 @@
 ghost use Rattle.room_lock.specs.steps.Planned.{AreHistoriesOf};
 
 use super::faults::{Calls, Expecting, Parts};
+use super::line::serve_one;
 use super::{CLOSE, CLOSED, add_part, add_reply, add_request, bytewise, plan_rooms};
 use base_types::RoomName;
-use log::sink::Locked;
-use log::{LevelFilter, Log, Logged};
+use log::Log;
+use loops::{Bell, Client, Settings};
 use room_lock::{KeepFault, Keeper, NewRooms, Prefix, RoomHistories, Rooms};
-use sessions::{Arrival, Cause, Client, Observer, ServeFault, serve_streams};
+use sessions::{Cause, Host, Observer, ServeFault, Served, serve_streams};
 use std::alloc::Global;
 use std::io::{Read, Write};
 use std::marker::Brand;
+use std::net::Net;
 use std::process::Abort;
 use std::sync::Wait;
 use std::sync::atomic::{AtomicU64, Ordering};
 use std::thread::Threads;
+use std::time::Clock;
 use tungstenite::Duplex;
 use wire::EntryKind;
 
@@ -26,6 +29,16 @@ const HEAD: &str =
 /// The head of the server's answer to it. RFC 6455, section 4.2.2, has the value of the last field.
 pub(super) const ACCEPTED: &str =
     "HTTP/1.1 101 Switching Protocols\r\nconnection: Upgrade\r\nupgrade: websocket\r\nsec-websocket-accept: s3pPLMBiTxaQ9kYGzzhZRbK+xOo=\r\n\r\n";
+
+/// Why a session may end.
+const CAUSES: [Cause; 6] = [
+    Cause::Closed,
+    Cause::HandshakeFailed,
+    Cause::StreamFault,
+    Cause::NoMemory,
+    Cause::Torn,
+    Cause::NotKept,
+];
 
 /// What a session asks.
 pub(super) const ASKED: &str = r#"["join","r"]
@@ -47,33 +60,26 @@ pub(super) const RECORD: &str = r#"["join",1]
 /// How many of the replies come with an entry of the record.
 pub(super) const ENTRIES: usize = 3;
 
-/// Streams, and the number of workers that serve them.
-pub(super) struct Streams<S> {
-    pub(super) all: Vec<Arrival<S>>,
-    pub(super) workers: u32,
-}
-
 /// The stream of a session that sends these parts, and is to be answered so. It takes so many bytes
-/// at a write. No address is known.
+/// at a write.
 pub(super) fn stream<'a>(
     parts: &'a [Vec<u8>],
     expected: &'a [u8],
     most: usize,
     calls: &'a Calls,
-) -> Arrival<Duplex<Parts<'a>, Expecting<'a>>> {
-    Arrival {
-        stream: Duplex {
-            reader: Parts::new(parts, calls),
-            writer: Expecting {
-                expected,
-                most,
-                calls,
-            },
+) -> Duplex<Parts<'a>, Expecting<'a>> {
+    Duplex {
+        reader: Parts::new(parts, calls),
+        writer: Expecting {
+            expected,
+            most,
+            calls,
         },
-        address: None,
     }
 }
 
+/// Serves the streams one after the other in these rooms. Then has no more served by so many loops,
+/// and writes the records.
 fn serve_in<P, R, S, W>(
     rt: &R,
     planned: NewRooms,
@@ -83,23 +89,62 @@ fn serve_in<P, R, S, W>(
 ) -> Result<(), ServeFault>
 where
     P: RoomHistories + Send + Sync,
-    R: Threads + Wait + Log + Sync + Abort + AllocGlobal,
-    S: Read + Write + Drop + Send,
+    R: Threads + Wait + Clock + Net + Log + Sync + Abort + AllocGlobal,
+    S: Read + Write + Drop,
     W: Write,
     requires { AreHistoriesOf planned P.limits P.books }
 {
     let (rooms, _begun) = Rooms::<P>::new(rt, rt.alloc(), planned).expect(rt, "rooms");
-    let Streams { all, workers } = streams;
-    serve_streams(
+    let (bell, mut polls) = Bell::new(rt, rt.alloc(), 1, rooms.count()).expect(rt, "a bell");
+    if !streams.has_loop {
+        polls.clear();
+    }
+    serve_streams_in(rt, &rooms, &bell, streams.all, told);
+    let served = Served {
         rt,
-        rt.alloc(),
+        alloc: rt.alloc(),
+        bell: &bell,
+        polls,
+        settings: Settings {
+            clients: 1,
+            idle: None,
+        },
+        observer: told,
+        keeper: told,
+    };
+    serve_streams(served, rooms, Vec::new(rt.alloc()).into_iter(), output)
+}
+
+/// Serves the streams one after the other, numbered from 1.
+fn serve_streams_in<P, R, S>(rt: &R, rooms: &Rooms<P>, bell: &Bell, streams: Vec<S>, told: &Told)
+where
+    P: RoomHistories,
+    R: Wait + AllocGlobal,
+    S: Read + Write + Drop,
+{
+    let host = Host {
+        rt,
+        alloc: rt.alloc(),
         rooms,
-        all.into_iter(),
-        workers,
-        told,
-        told,
-        output,
-    )
+        observer: told,
+        keeper: told,
+        bell,
+    };
+    let mut client = Client {
+        session: 0,
+        address: None,
+    };
+    for stream in streams {
+        client.session = client.session.saturating_add(1);
+        serve_one(&host, &client, stream);
+    }
+}
+
+/// Streams, and whether there is a loop for more.
+#[derive(Drop)]
+pub(super) struct Streams<S> {
+    pub(super) all: Vec<S>,
+    pub(super) has_loop: bool,
 }
 
 /// Serves the streams to the end, in the rooms `r` and `s`, and writes the records.
@@ -110,18 +155,20 @@ pub(super) fn serve<R, S, W>(
     output: &mut W,
 ) -> Result<(), ServeFault>
 where
-    R: Threads + Wait + Log + Sync + Abort + AllocGlobal,
-    S: Read + Write + Drop + Send,
+    R: Threads + Wait + Clock + Net + Log + Sync + Abort + AllocGlobal,
+    S: Read + Write + Drop,
     W: Write,
 {
     serve_in::<Brand, R, S, W>(rt, plan_rooms(rt, "r s"), streams, told, output)
 }
 
-/// An observer that counts the entries that rooms have added, and a keeper that counts the replies
-/// that it is asked for.
+/// An observer that counts the entries that rooms have added, and notes why the first session ended;
+/// and a keeper that counts the replies that it is asked for.
 #[derive(Drop)]
 pub(super) struct Told {
     entries: AtomicU64,
+    /// The number of the first session's cause in `CAUSES`.
+    cause: AtomicU64,
     asked: AtomicU64,
     /// The reply that is not kept, counted from 1, and why.
     fails: Option<(u64, KeepFault)>,
@@ -131,6 +178,7 @@ impl Told {
     pub(super) fn new(fails: Option<(u64, KeepFault)>) -> Told {
         Told {
             entries: AtomicU64::new(0),
+            cause: AtomicU64::new(u64::MAX),
             asked: AtomicU64::new(0),
             fails,
         }
@@ -139,6 +187,12 @@ impl Told {
     /// How many entries the rooms have added.
     fn entries(&self) -> usize {
         usize::try_from(self.entries.load(Ordering::SeqCst)).unwrap_or(usize::MAX)
+    }
+
+    /// Why the first session ended.
+    pub(super) fn cause(&self) -> Option<Cause> {
+        let number = usize::try_from(self.cause.load(Ordering::SeqCst)).unwrap_or(usize::MAX);
+        CAUSES.get(number).copied()
     }
 
     /// How many replies were to be kept.
@@ -152,7 +206,13 @@ impl Observer for Told {
         self.entries.fetch_add(1, Ordering::SeqCst);
     }
 
-    fn after_session(&self, _client: &Client, _room: Option<&RoomName>, _cause: Cause) {}
+    fn after_session(&self, client: &Client, _room: Option<&RoomName>, cause: Cause) {
+        if client.session == 1 {
+            let number = CAUSES.iter().position(|known| *known == cause);
+            self.cause
+                .store(number.unwrap_or(usize::MAX) as u64, Ordering::SeqCst);
+        }
+    }
 }
 
 impl<P: RoomHistories> Keeper<P> for Told {
@@ -174,6 +234,10 @@ impl<P: RoomHistories> Keeper<P> for Told {
             Some((number, fault)) if number == asked => Err(fault),
             _ => Ok(()),
         }
+    }
+
+    fn failing(&self, _rt: &impl Wait) -> Option<usize> {
+        None
     }
 }
 
@@ -214,35 +278,36 @@ pub(super) fn records_of(rt: &(impl Abort + AllocGlobal), entries: usize, others
 
 /// What came of serving one stream.
 #[derive(Drop)]
-struct Served {
+struct Outcome {
     /// How many entries the rooms have added.
     entries: usize,
     records: Vec<u8>,
-    warnings: Vec<u8>,
+    cause: Option<Cause>,
 }
 
 /// What comes of a session that sends these parts, over a stream that takes so many bytes at a
 /// write.
-fn serve_alone<R: Threads + Wait + Sync + Abort + AllocGlobal>(
+fn serve_alone<R: Threads + Wait + Clock + Net + Log + Sync + Abort + AllocGlobal>(
     rt: &R,
     parts: &[Vec<u8>],
     most: usize,
     calls: &Calls,
-) -> Served {
-    let sink = Locked::new(rt, Vec::new(rt.alloc()));
-    let logged = Logged::new(rt, LevelFilter::Warn, &sink);
+) -> Outcome {
     let expected = answer_bytes(rt, ANSWERED, CLOSED);
     let mut all = Vec::new(rt.alloc());
     all.push(stream(parts, &expected, most, calls))
         .expect(rt, "memory");
     let told = Told::new(None);
     let mut records = Vec::new(rt.alloc());
-    let end = serve(&logged, Streams { all, workers: 1 }, &told, &mut records);
-    assert!(rt; end.is_ok());
-    Served {
+    let streams = Streams {
+        all,
+        has_loop: true,
+    };
+    assert!(rt; serve(rt, streams, &told, &mut records).is_ok());
+    Outcome {
         entries: told.entries(),
         records,
-        warnings: sink.into_inner(),
+        cause: told.cause(),
     }
 }
 
@@ -259,22 +324,23 @@ fn entries_told(sent: usize) -> usize {
     told
 }
 
-/// Is this the warning about a session that failed after it asked so much? There is none if it
-/// closed.
-fn is_warning(warnings: &[u8], calls: &Calls, asked: usize) -> bool {
-    if calls.reads() < 2 {
-        return warnings.ends_with("session 1: handshake failed\n".as_bytes());
+/// Returns whether this is why a session ends whose stream failed after it asked so much.
+fn is_cause(cause: Option<Cause>, calls: &Calls, asked: usize) -> bool {
+    match cause {
+        Some(Cause::HandshakeFailed) => calls.given() <= 1 && asked == 0,
+        Some(Cause::StreamFault) => asked <= ANSWERED.lines().count(),
+        // The close was read, and its reply could not be written.
+        Some(Cause::Closed) => asked > ANSWERED.lines().count(),
+        _ => false,
     }
-    let is_closed = asked > ANSWERED.lines().count() && warnings.is_empty();
-    is_closed || warnings.ends_with(": stream fault\n".as_bytes())
 }
 
-/// Looks at a session whose stream has failed: its warning, what it was sent, and the room's record.
+/// Looks at a session whose stream has failed: its cause, what it was sent, and the room's record.
 /// The room has an entry for each call that added one, whether or not its reply was sent.
-fn look_at(rt: &(impl Abort + AllocGlobal), run: &Served, calls: &Calls, fails: u64) {
+fn look_at(rt: &(impl Abort + AllocGlobal), run: &Outcome, calls: &Calls, fails: u64) {
     // The head of the request is one part, each message another, the close the last.
     let asked = calls.given().saturating_sub(1);
-    assert!(rt; is_warning(&run.warnings, calls, asked), "call {fails}");
+    assert!(rt; is_cause(run.cause, calls, asked), "call {fails}");
     assert!(rt; run.entries <= asked.min(ENTRIES), "call {fails}");
     let records = records_of(rt, run.entries, "");
     assert_eq!(rt; run.records.as_slice(), records.as_bytes(), "call {fails}");
@@ -301,35 +367,26 @@ fn a_session_fails_at_each_call(rt: HostRuntime) {
 }
 
 /// Did the session end well, with all that it was to be answered?
-fn is_whole(rt: &(impl Abort + AllocGlobal), run: &Served, calls: &Calls) -> bool {
+fn is_whole(rt: &(impl Abort + AllocGlobal), run: &Outcome, calls: &Calls) -> bool {
     let sent = answer_bytes(rt, ANSWERED, CLOSED).len();
-    run.warnings.is_empty()
+    run.cause == Some(Cause::Closed)
         && run.records.as_slice() == records_of(rt, ENTRIES, "").as_bytes()
         && calls.taken() == Some(sent)
 }
 
-/// A head that comes in single bytes is not answered; behind one that comes whole, single bytes
-/// are.
 #[test]
 fn a_session_in_single_bytes(rt: HostRuntime) {
     let asked = asked_parts(&rt, ASKED);
     let calls = Calls::failing(0);
-    let run = serve_alone(&rt, &bytewise(&rt, &asked, 0), 1, &calls);
-    assert!(rt;
-        run.warnings
-            .ends_with("session 1: handshake failed\n".as_bytes())
-    );
-    assert!(rt; run.entries == 0 && calls.taken() == Some(0));
-    let calls = Calls::failing(0);
-    let run = serve_alone(&rt, &bytewise(&rt, &asked, 1), 1, &calls);
+    let run = serve_alone(&rt, &bytewise(&rt, &asked), 1, &calls);
     assert!(rt; is_whole(&rt, &run, &calls));
 }
 
 /// Serves a session, and writes the records by these calls and so many bytes at a write. Returns
 /// how it ended.
-fn write_records<R: Threads + Wait + Log + Sync + Abort + AllocGlobal>(
+fn write_records<R: Threads + Wait + Clock + Net + Log + Sync + Abort + AllocGlobal>(
     rt: &R,
-    workers: u32,
+    has_loop: bool,
     most: usize,
     calls: &Calls,
 ) -> Result<(), ServeFault> {
@@ -345,7 +402,7 @@ fn write_records<R: Threads + Wait + Log + Sync + Abort + AllocGlobal>(
         most,
         calls,
     };
-    serve(rt, Streams { all, workers }, &Told::new(None), &mut output)
+    serve(rt, Streams { all, has_loop }, &Told::new(None), &mut output)
 }
 
 #[test]
@@ -354,7 +411,7 @@ fn records_on_an_output_that_fails_at_each_call(rt: HostRuntime) {
     let mut failed = 0;
     for fails in 1..1_000 {
         let calls = Calls::failing(fails);
-        let end = write_records(&rt, 1, usize::MAX, &calls);
+        let end = write_records(&rt, true, usize::MAX, &calls);
         if !calls.have_failed() {
             assert!(rt; end.is_ok() && calls.taken() == whole);
             assert!(rt; calls.end_with_the_only_flush());
@@ -371,13 +428,13 @@ fn records_on_an_output_that_fails_at_each_call(rt: HostRuntime) {
 #[test]
 fn records_in_single_bytes(rt: HostRuntime) {
     let calls = Calls::failing(0);
-    assert!(rt; write_records(&rt, 1, 1, &calls).is_ok());
+    assert!(rt; write_records(&rt, true, 1, &calls).is_ok());
     assert_eq!(rt; calls.taken(), Some(records_of(&rt, ENTRIES, "").len()));
 }
 
 #[test]
-fn no_worker(rt: HostRuntime) {
+fn no_loop(rt: HostRuntime) {
     let calls = Calls::failing(0);
-    let end = write_records(&rt, 0, 1, &calls);
+    let end = write_records(&rt, false, 1, &calls);
     assert_eq!(rt; end.err(), Some(ServeFault::NoWorker));
 }

@@ -1,33 +1,37 @@
--- Why a failed call of the rooms, or a failed keep, ends a session.
-use Rattle.tungstenite.specs.declared.error.Error.{Error}
-use Rattle.tungstenite.specs.declared.error.Error.TheVariants.{ConnectionClosed, AlreadyClosed}
-use Rattle.tungstenite.specs.declared.error.Error.TheVariants.{OutOfMemory}
+-- Why a message is not answered, why its connection ends, and why the session ended.
+use Rattle.connection.specs.declared.end.End.{End}
+use Rattle.connection.specs.declared.end.End.TheVariants as end
+use Rattle.loops.specs.declared.ending.Ending.{Ending}
+use Rattle.loops.specs.declared.ending.Ending.TheVariants.{NoHandshake, Stream, Connection}
 use Rattle.room_lock.specs.declared.fault.CallFault.{CallFault}
-use Rattle.room_lock.specs.declared.fault.CallFault.TheVariants.{Torn as CallTorn}
-use Rattle.room_lock.specs.declared.fault.CallFault.TheVariants.{NoMemory as CallNoMemory}
-use Rattle.sessions.specs.declared.cause.Cause.{Cause}
-use Rattle.sessions.specs.declared.cause.Cause.TheVariants.{Closed, HandshakeFailed, StreamFault}
-use Rattle.sessions.specs.declared.cause.Cause.TheVariants.{Torn, NoMemory, NotKept}
+use Rattle.room_lock.specs.declared.fault.CallFault.TheVariants as call
 use Rattle.room_lock.specs.declared.keeper.KeepFault.{KeepFault}
-use Rattle.room_lock.specs.declared.keeper.KeepFault.TheVariants.{NotKept as KeepNotKept}
-use Rattle.room_lock.specs.declared.keeper.KeepFault.TheVariants.{NoMemory as KeepNoMemory}
+use Rattle.room_lock.specs.declared.keeper.KeepFault.TheVariants as keep
+use Rattle.sessions.specs.declared.cause.Cause.{Cause}
+use Rattle.sessions.specs.declared.cause.Cause.TheVariants as cause
+use Rattle.sessions.specs.declared.cause.MessageFault.{MessageFault}
+use Rattle.sessions.specs.declared.cause.MessageFault.TheVariants as message
 
-abbrev pub cause_of_call : CallFault → Cause
-cause_of_call (CallTorn place) = Torn
-cause_of_call CallNoMemory = NoMemory
+abbrev pub fault_of_call : CallFault → MessageFault
+fault_of_call (call.Torn place) = message.Torn
+fault_of_call call.NoMemory = message.NoMemory
 
-abbrev pub cause_of_keep : KeepFault → Cause
-cause_of_keep KeepNotKept = NotKept
-cause_of_keep KeepNoMemory = NoMemory
+abbrev pub end_of_message_fault : MessageFault → End
+end_of_message_fault message.NoMemory = end.NoMemory
+end_of_message_fault message.Torn = end.Stray
 
--- an error of the stream after the handshake
-abbrev pub cause_of_stream : Error → Cause
-cause_of_stream ConnectionClosed = Closed
-cause_of_stream AlreadyClosed = Closed
-cause_of_stream OutOfMemory = NoMemory
-cause_of_stream _ = StreamFault
+abbrev pub end_of_keep_fault : KeepFault → End
+end_of_keep_fault keep.NotKept = end.NotKept
+end_of_keep_fault keep.NoMemory = end.NoMemory
 
--- a failed handshake
-abbrev pub cause_of_handshake : Error → Cause
-cause_of_handshake OutOfMemory = NoMemory
-cause_of_handshake _ = HandshakeFailed
+abbrev pub cause_of_end : End → Cause
+cause_of_end end.Closed = cause.Closed
+cause_of_end end.Fault = cause.StreamFault
+cause_of_end end.NoMemory = cause.NoMemory
+cause_of_end end.NotKept = cause.NotKept
+cause_of_end end.Stray = cause.Torn
+
+abbrev pub cause_of_ending : Ending → Cause
+cause_of_ending NoHandshake = cause.HandshakeFailed
+cause_of_ending Stream = cause.StreamFault
+cause_of_ending (Connection end) = cause_of_end end

@@ -1,14 +1,15 @@
 -- Why serving ends early, for each fault of a layer below.
 use Rattle.room_lock.specs.declared.fault.CloseFault.{CloseFault}
 use Rattle.room_lock.specs.declared.fault.CloseFault.TheVariants as closing
-use Rattle.sessions.specs.declared.pool.PoolFault.{PoolFault}
-use Rattle.sessions.specs.declared.pool.PoolFault.TheVariants as pool
+use Rattle.loops.specs.declared.fault.LoopsFault.{LoopsFault}
+use Rattle.loops.specs.declared.fault.LoopsFault.TheVariants as loops
 use Rattle.sessions.specs.declared.streams.ServeFault.{ServeFault}
 use Rattle.sessions.specs.declared.streams.ServeFault.TheVariants.{NoWorker, Torn, NoMemory}
 
-abbrev pub of_pool : PoolFault → ServeFault
-of_pool pool.NoWorker = NoWorker
-of_pool pool.NoMemory = NoMemory
+abbrev pub of_loops : LoopsFault → ServeFault
+of_loops loops.NoLoop = NoWorker
+of_loops loops.NoPoll = NoWorker
+of_loops loops.NoMemory = NoMemory
 
 -- a missing pass means that the rooms are torn
 abbrev pub of_closing : CloseFault → ServeFault

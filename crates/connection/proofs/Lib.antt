@@ -1,0 +1,6 @@
+pub mod Frames
+pub mod Hearing
+pub mod Runs
+pub mod Queues
+pub mod Pieces
+pub mod Orders

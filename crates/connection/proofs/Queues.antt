@@ -1,0 +1,80 @@
+-- Frames that wait.
+use Rattle.std.proofs.Common.{◌≡◌, ◌<◌, ◌≤◌, ◌+◌, ◌⊎◌, inl, inr, ℕ, zero, suc, List, [], ◌∷◌, ◌++◌, take, length, get_or, refl, ap, arith, ◌∙◌, Option, Some, None, length-append}
+use Rattle.websocket.specs.Connection.{Effect}
+use Rattle.websocket.specs.Content.{Content, text, binary, ping, pong, close}
+use Rattle.websocket.specs.declared.protocol.config.Role.{Role}
+use Rattle.connection.specs.declared.item.TheConstants.{MAX_WAITING}
+use Rattle.connection.specs.Talks.{Turn, Wait}
+use Rattle.connection.specs.Standing.{ConnectionState, QueuedFrame, Standing, waiting_len}
+use Rattle.connection.specs.Serving.{Answered, Does, Freed, Heard, Holds, Takes, queued_reply, unheld}
+use Rattle.connection.specs.Receiving.{Run, Served}
+use Rattle.connection.specs.Connections.{Receives}
+
+-- one more frame is as many bytes more
+pub waiting_len_more : {D : Type 0} (i : ℕ) (frames : List (QueuedFrame D)) (item : QueuedFrame D) → i < length frames → item ≡ get_or frames i item
+    → waiting_len (take (i + 1) frames) ≡ waiting_len (take i frames) + length item.bytes
+waiting_len_more i [] item inside is = absurd (omega (arith, inside))
+waiting_len_more zero (x ∷ rest) item inside is = rw is (omega arith)
+waiting_len_more (suc i) (x ∷ rest) item inside is =
+    let step : waiting_len (take (i + 1) rest) ≡ waiting_len (take i rest) + length item.bytes = waiting_len_more i rest item (omega (arith, inside)) is in
+    let e : suc i + 1 ≡ suc (i + 1) = omega arith in rw e (omega (arith, step))
+
+module _ {S D : Type 0} (turn : Turn S D) where
+  answered_adds : (role : Role) (message : List ℕ) (a b : Standing S D) → Answered turn role message a b
+      → length b.waiting ≡ length a.waiting + 1
+  answered_adds role message a b h =
+      ap length h.6 ∙ length-append a.waiting (record { bytes = h.2; told = h.1 } ∷ [])
+
+  freed_adds : (role : Role) (held : Option (List ℕ)) (a b : Standing S D) → Freed turn role held a b
+      → length b.waiting ≤ length a.waiting + 1
+  freed_adds role None a b h =
+      let e : length b.waiting ≡ length a.waiting = ap (λ (x : Standing S D). length x.waiting) h in omega (arith, e)
+  freed_adds role (Some message) a b h = omega (arith, answered_adds role message (unheld a) b h)
+
+module _ {S D : Type 0} (turn : Turn S D) (waits : Wait S) where
+  last_adds : (role : Role) (message : List ℕ) (a b : Standing S D) → (Answered turn role message a b ⊎ Holds waits message a b)
+      → length b.waiting ≤ length a.waiting + 1
+  last_adds role message a b (inl h) = omega (arith, answered_adds turn role message a b h)
+  last_adds role message a b (inr h) =
+      let e : length b.waiting ≡ length a.waiting = ap (λ (x : Standing S D). length x.waiting) h.2 in omega (arith, e)
+
+  heard_adds : (role : Role) (message : List ℕ) (a b : Standing S D) → Heard turn waits role message a b
+      → length b.waiting ≤ length a.waiting + 2
+  heard_adds role message a b h =
+      omega (arith, freed_adds turn role a.held a h.0 h.1, last_adds role message h.0 b h.2)
+
+  same_adds : (a b c : Standing S D) → b ≡ c → length c.waiting ≡ length a.waiting → length b.waiting ≤ length a.waiting + 2
+  same_adds a b c same e =
+      let k : length b.waiting ≡ length c.waiting = ap (λ (x : Standing S D). length x.waiting) same in omega (arith, k, e)
+
+  taken_adds : (content : Option Content) (role : Role) (a b : Standing S D) → Takes turn waits content role a b
+      → length b.waiting ≤ length a.waiting + 2
+  taken_adds None role a b h = same_adds a b a h refl
+  taken_adds (Some (text bytes)) role a b h = heard_adds role bytes a b h
+  taken_adds (Some (binary bytes)) role a b h = heard_adds role bytes a b h
+  taken_adds (Some (ping bytes)) role a b h = same_adds a b a h refl
+  taken_adds (Some (pong bytes)) role a b h = same_adds a b a h refl
+  taken_adds (Some (close frame)) role a b h = same_adds a b (unheld a) h refl
+
+  reply_adds : (reply : List ℕ) → length (queued_reply {D = D} reply) ≤ 1
+  reply_adds [] = omega arith
+  reply_adds (b ∷ bs) = omega arith
+
+  done_adds : (effect : Effect) (a b : Standing S D) → Does turn waits effect a b → length b.waiting ≤ length a.waiting + 3
+  done_adds effect a b h =
+      let e : length b.waiting ≡ length (h.0.waiting ++ queued_reply h.2) = ap (λ (x : Standing S D). length x.waiting) h.4 in
+      omega (arith, e, length-append h.0.waiting (queued_reply h.2), reply_adds h.2, taken_adds effect.message effect.next.role a h.0 h.1)
+
+  served_adds : (ps : Run) (a b : Standing S D) → Served turn waits ps a b → length a.waiting ≤ MAX_WAITING + 2
+      → length b.waiting ≤ MAX_WAITING + 2
+  served_adds [] a b h few =
+      let e : length b.waiting ≡ length a.waiting = ap (λ (x : Standing S D). length x.waiting) h in omega (arith, e, few)
+  served_adds (p ∷ ps) a b h few =
+      let step = done_adds p.1 a h.1 h.2 in
+      let here : length h.1.waiting ≤ MAX_WAITING + 2 = omega (arith, step, h.0.0) in
+      served_adds ps h.1 b h.3 here
+
+  -- no more frames wait than these, whatever comes
+  pub few_wait : (before after : ConnectionState S D) (bytes : List ℕ) → Receives turn waits before bytes after
+      → length before.standing.waiting ≤ MAX_WAITING + 2 → length after.standing.waiting ≤ MAX_WAITING + 2
+  few_wait before after bytes r few = served_adds r.received.frames before.standing after.standing r.received.served few

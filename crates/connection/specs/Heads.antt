@@ -1,0 +1,66 @@
+-- What the head of a request asks for.
+use Rattle.std.specs.Prelude.{◌≡◌, ◌≤◌, ◌<◌, ◌⊎◌, ℕ, List, ◌++◌, Option, Some, None, Ok, length, drop, map}
+use Rattle.std.specs.Prelude.{codes, nat_eq, IsTrue}
+use Rattle.std.specs.List.{starts_with}
+use Rattle.std.specs.Fmt.{decimal}
+use Rattle.httparse.specs.Grammar.{HasNoRequest, MayBecomeRequest, ReadsRequest, RequestHead, print_request}
+use Rattle.httparse.specs.Spans.{RequestOverflows, name_and_value}
+use Rattle.websocket.specs.Handshake.{IsValidKey, accept_key_of, requested_key}
+use Rattle.websocket.specs.Headers.{Fields, header_value}
+use Rattle.connection.specs.declared.head.Head.{Head}
+use Rattle.connection.specs.declared.head.Head.TheVariants.{Partial, Upgrade, Probe, Refused}
+use Rattle.connection.specs.declared.head.TheConstants.{MAX_FIELDS, MAX_HEAD_LEN}
+
+-- the bytes begin with this head of a request, which has so many of them
+pub record BeginsWith (bytes : List ℕ) (head : RequestHead) (len : ℕ) : Type 0 where
+  pub reads : ReadsRequest bytes head (drop len bytes)
+  pub len_is : len ≡ length (print_request head)
+  pub is_short : len ≤ MAX_HEAD_LEN
+
+-- the names and the values of a head's fields
+abbrev pub fields_in : RequestHead → Fields
+fields_in head = map name_and_value head.fields
+
+-- The head is the opening handshake of a WebSocket (RFC 6455, section 4.2.1), and this value answers
+-- its key.
+abbrev pub AsksUpgrade : RequestHead → List ℕ → Type 0
+AsksUpgrade head accept_key =
+    (key : List ℕ) × (requested_key head.method head.minor (fields_in head) ≡ Ok key)
+    × IsValidKey key × (accept_key ≡ accept_key_of key)
+
+abbrev pub AsksNoUpgrade : RequestHead → Type 0
+AsksNoUpgrade head = (accept_key : List ℕ) → ¬ (AsksUpgrade head accept_key)
+
+-- The bytes, which begin with this head, are the probe of a monitor.
+abbrev pub IsProbe : List ℕ → RequestHead → Type 0
+IsProbe bytes head =
+    IsTrue (starts_with nat_eq bytes (codes "GET /health HTTP/1."))
+    × (header_value (fields_in head) (codes "Upgrade") ≡ None)
+
+-- what bytes ask for
+abbrev pub Asks : Head → List ℕ → Type 0
+Asks Partial bytes = HasNoRequest bytes × MayBecomeRequest bytes × (length bytes < MAX_HEAD_LEN)
+Asks (Upgrade accept_key len) bytes =
+    (head : RequestHead) × BeginsWith bytes head len × AsksUpgrade head accept_key
+Asks Probe bytes =
+    (head : RequestHead) × (len : ℕ) × BeginsWith bytes head len × AsksNoUpgrade head
+    × IsProbe bytes head
+Asks Refused bytes =
+    (MAX_HEAD_LEN ≤ length bytes) ⊎ (RequestOverflows MAX_FIELDS bytes
+    ⊎ ((head : RequestHead) × (len : ℕ) × BeginsWith bytes head len × AsksNoUpgrade head
+    × ¬ (IsProbe bytes head)))
+
+-- ---- the answer to a probe
+
+-- the text of a response with this status and this body
+abbrev pub health_response : List ℕ → List ℕ → List ℕ
+health_response status body =
+    codes "HTTP/1.1 " ++ status ++ codes "\r\nContent-Type: text/plain\r\nContent-Length: "
+    ++ decimal (length body) ++ codes "\r\nCache-Control: no-store\r\nConnection: close\r\n\r\n" ++ body
+
+-- the answer while no room fails, and while this one does
+abbrev pub health_answer : Option (List ℕ) → List ℕ
+health_answer None = health_response (codes "200 OK") (codes "ok\n")
+health_answer (Some room) =
+    health_response (codes "503 Service Unavailable")
+    (codes "room " ++ room ++ codes " is not kept\n")

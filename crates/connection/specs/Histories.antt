@@ -1,0 +1,66 @@
+-- What was said over a connection, in order.
+use Rattle.std.specs.Prelude.{◌≡◌, ◌⊎◌, ℕ, List, [], ◌∷◌, ◌++◌, map, Option, Some, None, IfSome, IsFalse}
+use Rattle.std.specs.Prelude.{option_to_list}
+use Rattle.websocket.specs.Connection.{Sends}
+use Rattle.websocket.specs.Content.{Content, text, binary, ping, pong, close, is_close}
+use Rattle.websocket.specs.declared.protocol.config.Role.{Role}
+use Rattle.connection.specs.Standing.{QueuedFrame, Standing}
+use Rattle.connection.specs.Serving.{sent_text}
+use Rattle.connection.specs.Receiving.{Run}
+use Rattle.connection.specs.Talks.{Turn}
+
+-- a message that was answered, the answer's text, and what that reports
+pub record Exchange (D : Type 0) : Type 0 where
+  pub message : List ℕ
+  pub words : List ℕ
+  pub told : Option D
+
+-- the text or binary message of a frame, if it gave one
+abbrev pub data_of : Option Content → List (List ℕ)
+data_of None = []
+data_of (Some (text bytes)) = bytes ∷ []
+data_of (Some (binary bytes)) = bytes ∷ []
+data_of (Some (ping bytes)) = []
+data_of (Some (pong bytes)) = []
+data_of (Some (close frame)) = []
+
+-- the text and the binary messages of a run of frames, in order
+abbrev pub messages : Run → List (List ℕ)
+messages [] = []
+messages (p ∷ ps) = data_of p.1.message ++ messages ps
+
+-- no frame of the run is a close
+abbrev pub HasNoClose : Run → Type 0
+HasNoClose [] = Unit {0}
+HasNoClose (p ∷ ps) = IfSome p.1.message (λ content. IsFalse (is_close content)) × HasNoClose ps
+
+-- The frames are those of the answers' texts, in order, each with what it reports, and between them
+-- replies of the protocol, which report nothing.
+abbrev pub Carries : {D : Type 0} → List (QueuedFrame D) → List (Exchange D) → Type 0
+Carries [] exchanges = exchanges ≡ []
+Carries {D} (frame ∷ frames) exchanges =
+    ((frame.told ≡ None) × Carries frames exchanges)
+    ⊎ ((one : Exchange D) × (others : List (Exchange D)) × (exchanges ≡ one ∷ others)
+    × ((role : Role) × Sends role (Some (sent_text one.words)) [] frame.bytes)
+    × (frame.told ≡ one.told)
+    × Carries frames others)
+
+module _ {S D : Type 0} (turn : Turn S D) where
+  -- one turn of the session for each exchange, in order
+  abbrev pub Turns : S → List (Exchange D) → S → Type 0
+  Turns before [] after = after ≡ before
+  Turns before (one ∷ others) after =
+      (mid : S) × turn before mid one.message one.words one.told × Turns mid others after
+
+  -- The message that was held and those that came are those that were answered, by one turn each and
+  -- in order, and at most one that is held now. The frames of the answers are in this order behind
+  -- those that waited.
+  pub record AnsweredInOrder (came : List (List ℕ)) (before after : Standing S D) : Type 0 where
+    pub exchanges : List (Exchange D)
+    pub frames : List (QueuedFrame D)
+    pub turns : Turns before.session exchanges after.session
+    pub order :
+        option_to_list before.held ++ came
+        ≡ map (λ one. one.message) exchanges ++ option_to_list after.held
+    pub queued : after.waiting ≡ before.waiting ++ frames
+    pub carried : Carries frames exchanges

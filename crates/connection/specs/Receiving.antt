@@ -1,0 +1,74 @@
+-- What a connection does with the bytes that come.
+use Rattle.std.specs.Prelude.{◌≡◌, ◌⊎◌, ℕ, Bool, true, false, List, [], ◌∷◌, drop, Ok, Err}
+use Rattle.websocket.specs.declared.error.Error.{Error}
+use Rattle.websocket.specs.Connection.{Connection, Effect, failed_connection, read_step}
+use Rattle.websocket.specs.declared.protocol.frame.codec.FrameStatus.TheVariants.{Partial, Complete}
+use Rattle.connection.specs.declared.end.End.{End}
+use Rattle.connection.specs.declared.end.End.TheVariants as end
+use Rattle.connection.specs.Standing.{QueuedFrame, Standing}
+use Rattle.connection.specs.Serving.{Does, FailsDoing, HasRoom, IsFull, end_of}
+use Rattle.connection.specs.Talks.{Fault, Turn, Wait}
+
+-- the frames of a run, each with the number of its bytes
+abbrev pub Run : Type 0
+Run = List (ℕ × Effect)
+
+-- each frame is the one that stands at the front of the bytes that the frames before left
+abbrev pub Runs : Connection → List ℕ → Run → Connection → List ℕ → Type 0
+Runs protocol input [] protocol' input' = (protocol' ≡ protocol) × (input' ≡ input)
+Runs protocol input (p ∷ ps) protocol' input' =
+    (read_step protocol input ≡ Ok (Complete p))
+    × Runs p.1.next (drop p.0 input) ps protocol' input'
+
+-- the bytes are no whole frame yet
+abbrev pub Waits : Connection → List ℕ → Type 0
+Waits protocol input = (needed : ℕ) × (read_step protocol input ≡ Ok (Partial needed))
+
+-- the protocol refuses these bytes, or there is no memory to read them
+abbrev pub Refuses : Connection → List ℕ → End → Type 0
+Refuses protocol input why =
+    (why ≡ end.NoMemory)
+    ⊎ ((e : Error) × (read_step protocol input ≡ Err e) × (why ≡ end_of e))
+
+-- Why no more frames were served: too much waits, or what is left is no whole frame.
+abbrev pub Rests : {D : Type 0} → Bool → Connection → List ℕ → List (QueuedFrame D) → Type 0
+Rests true protocol input waiting = IsFull waiting
+Rests false protocol input waiting = Waits protocol input
+
+module _ {S D : Type 0} (turn : Turn S D) (waits : Wait S) where
+  -- the frames of a run were served one after the other, and none while too much waited
+  abbrev pub Served : Run → Standing S D → Standing S D → Type 0
+  Served [] before after = after ≡ before
+  Served (p ∷ ps) before after =
+      HasRoom before.waiting
+      × (mid : Standing S D) × Does turn waits p.1 before mid × Served ps mid after
+
+  -- The whole frames among the bytes were served in order, as far as what waits left room.
+  pub record Received
+      (protocol : Connection) (input : List ℕ) (before : Standing S D)
+      (protocol' : Connection) (input' : List ℕ) (after : Standing S D) (is_behind : Bool) : Type 0 where
+    pub frames : Run
+    pub read : Runs protocol input frames protocol' input'
+    pub served : Served frames before after
+    pub rests : Rests is_behind protocol' input' after.waiting
+
+module _ {S D : Type 0} (turn : Turn S D) (waits : Wait S) (fails : Fault S) where
+  -- The connection ends at these bytes: the protocol refuses them, or the frame at their front is
+  -- not served.
+  abbrev pub EndsAt : Connection → List ℕ → End → Standing S D → Connection → Standing S D → Type 0
+  EndsAt protocol input why before protocol' after =
+      (Refuses protocol input why × (protocol' ≡ failed_connection protocol) × (after ≡ before))
+      ⊎ ((p : ℕ × Effect) × (read_step protocol input ≡ Ok (Complete p)) × (protocol' ≡ p.1.next)
+      × FailsDoing turn waits fails p.1 why before after)
+
+  -- A first part of the frames was served, and the connection ends behind them.
+  pub record Stopped
+      (protocol : Connection) (input : List ℕ) (before : Standing S D)
+      (why : End) (protocol' : Connection) (after : Standing S D) : Type 0 where
+    pub frames : Run
+    pub reached : Connection
+    pub rest : List ℕ
+    pub mid : Standing S D
+    pub read : Runs protocol input frames reached rest
+    pub served : Served turn waits frames before mid
+    pub ends : EndsAt reached rest why mid protocol' after

@@ -1,0 +1,24 @@
+-- When a frame that waits is sent.
+use Rattle.std.specs.Prelude.{◌≡◌, ℕ, List, [], ◌∷◌, ◌++◌, IfSome, IsSome, IsSomeAnd}
+use Rattle.connection.specs.declared.end.End.{End}
+use Rattle.connection.specs.Standing.{QueuedFrame, Standing}
+
+module _ {S D R : Type 0} (shows : R → D → Type 0) where
+  -- The first frame that waited was moved to the output, and a receipt shows that what it reports is
+  -- kept. Nothing else has changed.
+  abbrev pub Released : Standing S D → Standing S D → List ℕ → List ℕ → Type 0
+  Released before after output output' =
+      (item : QueuedFrame D)
+      × (before ≡ record after { waiting = item ∷ after.waiting })
+      × (output' ≡ output ++ item.bytes)
+      × IfSome item.told (λ told. (receipt : R) × shows receipt told)
+
+-- no frame waits, or the first one reports something
+abbrev pub IsFirstUntold : {D : Type 0} → List (QueuedFrame D) → Type 0
+IsFirstUntold [] = Unit {0}
+IsFirstUntold (item ∷ rest) = IsSome item.told
+
+-- what the first frame reports will not be kept
+abbrev pub IsFirstLost : {D : Type 0} → (D → End → Type 0) → List (QueuedFrame D) → End → Type 0
+IsFirstLost lacks [] why = ⊥
+IsFirstLost lacks (item ∷ rest) why = IsSomeAnd item.told (λ told. lacks told why)

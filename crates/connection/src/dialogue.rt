@@ -1,0 +1,441 @@
+//! What is said with one client: the session, a message that is held, and the frames that wait.
+
+ghost use Rattle.std.specs.Prelude.{ℕ, List, ◌≡◌, ◌≢◌, ◌⊎◌, ◌++◌, [], ◌∷◌, IfErr, IfOk, IfSome};
+ghost use Rattle.std.specs.Prelude.{IsSomeAnd, None, Ok, OnErr, OnOk, Some, drop, false, is_some};
+ghost use Rattle.std.specs.Prelude.{min, option_map, string_bytes, true};
+ghost use Rattle.websocket.specs.Connection.{Effect, Sends, read_step};
+ghost use Rattle.websocket.specs.declared.protocol.frame.codec.FrameStatus.TheVariants.{Complete};
+ghost use Rattle.websocket.specs.Content.{HasValidText, IsReceivedInside, message_content};
+ghost use Rattle.websocket.specs.Content.{received_content};
+ghost use Rattle.connection.specs.Receiving.{EndsAt, Received, Stopped, Waits};
+ghost use Rattle.connection.specs.Releasing.{IsFirstLost, IsFirstUntold, Released};
+ghost use Rattle.connection.specs.Standing.{waiting_len};
+ghost use Rattle.connection.specs.declared.item.TheConstants.{MAX_WAITING_LEN};
+ghost use Rattle.connection.specs.Serving.{CannotSend, Does, FailsAtHeld, FailsHearing};
+ghost use Rattle.connection.specs.Serving.{FailsTaking, Freed, HasRoom, Heard, IsFull, StaysHeld};
+ghost use Rattle.connection.specs.Serving.{Takes, queue, queued_reply, sent_text, unheld};
+ghost use Rattle.connection.specs.declared.end.End.TheVariants as end;
+
+use crate::end::{End, end_of};
+use crate::input::Input;
+use crate::item::{Item, MAX_WAITING, MAX_WAITING_LEN};
+use crate::talk::{Answer, MAX_HELD_LEN, Talk};
+use std::alloc::Global;
+use std::collections::VecDeque;
+use std::marker::Model;
+use websocket::protocol::{FrameStatus, Message, NoMask, Step, WebSocketContext};
+
+/// What a frame gave, and the bytes that it points into.
+#[derive(Clone, Copy)]
+struct Given<'a> {
+    step: &'a Step,
+    bytes: &'a [u8],
+}
+
+/// The session of a client, the message that is held, and the frames that wait, in order. It is no
+/// `Drop`: `end` gives the session back.
+pub(crate) struct Dialogue<S, D> {
+    alloc: Global,
+    session: S,
+    held: Option<Vec<u8>>,
+    waiting: VecDeque<Item<D>>,
+}
+
+impl<S, D> Model for Dialogue<S, D> {
+    ghost use Rattle.std.specs.Prelude.{option_map};
+    ghost use Rattle.connection.specs.Standing.{Standing};
+
+    ghost Value = { Standing S D };
+
+    ghost view = { λ d. record {
+      session = d.session;
+      held = option_map (λ message. message.items) d.held;
+      waiting = d.waiting.items;
+    } };
+}
+
+impl<S, D: Drop> Dialogue<S, D> {
+    /// Nothing is held, and nothing waits.
+    pub(crate) fn new(alloc: Global, session: S) -> Dialogue<S, D>
+        ensures { result ≡ record { session = session; held = None; waiting = [] } }
+    {
+        Dialogue {
+            alloc,
+            session,
+            held: None,
+            waiting: VecDeque::new(alloc),
+        }
+    }
+
+    /// The session.
+    pub(crate) fn session(&self) -> &S
+        ensures { result.now ≡ self.now.session }
+    {
+        &self.session
+    }
+
+    /// Returns whether a message is held.
+    pub(crate) fn is_held(&self) -> bool
+        ensures { result ≡ is_some self.now.held }
+    {
+        self.held.is_some()
+    }
+
+    /// Returns whether frames wait.
+    pub(crate) fn has_waiting(&self) -> bool
+        ensures some { result ≡ true → self.now.waiting ≢ [] }
+        ensures none { result ≡ false → self.now.waiting ≡ [] }
+    {
+        !self.waiting.is_empty()
+    }
+
+    /// Puts a frame behind those that wait.
+    ///
+    /// # Errors
+    /// `NoMemory` if an allocation failed. Nothing has changed.
+    fn push(&mut self, frame: Vec<u8>, told: Option<D>) -> Result<(), End>
+        ensures ok { OnOk result (self.new
+            ≡ queue self.old (record { bytes = frame.items; told = told } ∷ [])) }
+        ensures err { OnErr result (self.new ≡ self.old) }
+        ensures why { IfErr result (λ why. why ≡ end.NoMemory) }
+    {
+        match self.waiting.push_back(Item { frame, told }) {
+            Ok(()) => Ok(()),
+            Err(_) => Err(End::NoMemory),
+        }
+    }
+
+    /// Puts a reply of the protocol behind the frames that wait, if there is one.
+    ///
+    /// # Errors
+    /// `NoMemory` if an allocation failed. Nothing has changed.
+    pub(crate) fn push_reply(&mut self, frame: Vec<u8>) -> Result<(), End>
+        ensures ok { OnOk result (self.new ≡ queue self.old (queued_reply frame.items)) }
+        ensures err { OnErr result (self.new ≡ self.old) }
+        ensures why { IfErr result (λ why. why ≡ end.NoMemory) }
+    {
+        if frame.is_empty() {
+            return Ok(());
+        }
+        self.push(frame, None)
+    }
+
+    /// Puts the frame of an answer's text behind the frames that wait.
+    ///
+    /// # Errors
+    /// Why the frame cannot be made. Nothing has changed.
+    fn send(&mut self, context: &mut WebSocketContext, answer: Answer<D>) -> Result<(), End>
+        ensures ok { OnOk result ((frame : List ℕ)
+            × Sends context.old.role (Some (sent_text (string_bytes answer.text))) [] frame
+            × (self.new ≡ queue self.old (record { bytes = frame; told = answer.told } ∷ []))) }
+        ensures context { context.new ≡ context.old }
+        ensures err { OnErr result (self.new ≡ self.old) }
+        ensures why { IfErr result (CannotSend context.old (string_bytes answer.text)) }
+    {
+        let Answer { text, told } = answer;
+        let frame = frame_of(self.alloc, context, &text)?;
+        self.push(frame, told)
+    }
+
+    /// Has the held message heard again, if there is one. With `may_hold` it may stay held;
+    /// without, it is answered.
+    ///
+    /// # Errors
+    /// Why the connection ends.
+    pub(crate) fn answer_held<T: Talk<Session = S, Told = D>>(
+        &mut self,
+        context: &mut WebSocketContext,
+        talk: &T,
+        scratch: &mut T::Scratch,
+        may_hold: bool,
+    ) -> Result<(), End>
+        ensures ok { OnOk result (
+            Freed (T.turn talk.now) context.old.role self.old.held self.old self.new
+            ⊎ ((may_hold ≡ true) × StaysHeld (T.waits talk.now) self.old.held self.old self.new)) }
+        ensures err { IfErr result (λ why. FailsAtHeld (T.turn talk.now) (T.fails talk.now)
+            context.old self.old.held why self.old self.new) }
+        ensures context { context.new ≡ context.old }
+    {
+        let Some(message) = self.held.take() else {
+            return Ok(());
+        };
+        match talk.hear(&mut self.session, scratch, &message, may_hold)? {
+            Some(answer) => self.send(context, answer),
+            None => {
+                self.held = Some(message);
+                Ok(())
+            }
+        }
+    }
+
+    /// Holds a message.
+    ///
+    /// # Errors
+    /// `NoMemory` if an allocation failed. Nothing has changed.
+    fn hold(&mut self, message: &[u8]) -> Result<(), End>
+        ensures ok { OnOk result (self.new ≡ record self.old { held = Some message.now }) }
+        ensures err { OnErr result (self.new ≡ self.old) }
+        ensures why { IfErr result (λ why. why ≡ end.NoMemory) }
+    {
+        match Vec::from_slice(self.alloc, message) {
+            Ok(held) => {
+                self.held = Some(held);
+                Ok(())
+            }
+            Err(_) => Err(End::NoMemory),
+        }
+    }
+
+    /// Has a message answered or held. The message that was held is answered before it.
+    ///
+    /// # Errors
+    /// Why the connection ends.
+    fn hear<T: Talk<Session = S, Told = D>>(
+        &mut self,
+        context: &mut WebSocketContext,
+        talk: &T,
+        scratch: &mut T::Scratch,
+        message: &[u8],
+    ) -> Result<(), End>
+        ensures ok { OnOk result (Heard (T.turn talk.now) (T.waits talk.now)
+            context.old.role message.now self.old self.new) }
+        ensures err { IfErr result (λ why. FailsHearing (T.turn talk.now) (T.fails talk.now)
+            context.old message.now why self.old self.new) }
+        ensures context { context.new ≡ context.old }
+    {
+        self.answer_held(context, talk, scratch, false)?;
+        let may_hold = message.len() <= MAX_HELD_LEN;
+        match talk.hear(&mut self.session, scratch, message, may_hold) {
+            Ok(Some(answer)) => self.send(context, answer),
+            Ok(None) => self.hold(message),
+            Err(end) => Err(end),
+        }
+    }
+
+    /// Serves a message.
+    ///
+    /// # Errors
+    /// Why the connection ends.
+    fn take<T: Talk<Session = S, Told = D>>(
+        &mut self,
+        context: &mut WebSocketContext,
+        talk: &T,
+        scratch: &mut T::Scratch,
+        message: Message<'_>,
+    ) -> Result<(), End>
+        ensures ok { OnOk result (Takes (T.turn talk.now) (T.waits talk.now)
+            (Some (message_content message.entry)) context.old.role self.old self.new) }
+        ensures err { IfErr result (λ why. FailsTaking (T.turn talk.now) (T.fails talk.now)
+            (Some (message_content message.entry)) context.old why self.old self.new) }
+        ensures context { context.new ≡ context.old }
+    {
+        match message {
+            Message::Text(text) => self.hear(context, talk, scratch, text.as_bytes()),
+            Message::Binary(bytes) => self.hear(context, talk, scratch, bytes),
+            Message::Ping(_) | Message::Pong(_) => Ok(()),
+            Message::Close(_) => {
+                self.held = None;
+                Ok(())
+            }
+        }
+    }
+
+    /// Serves what a frame gave.
+    ///
+    /// # Errors
+    /// Why the connection ends.
+    fn take_given<T: Talk<Session = S, Told = D>>(
+        &mut self,
+        context: &mut WebSocketContext,
+        talk: &T,
+        scratch: &mut T::Scratch,
+        given: &Given<'_>,
+    ) -> Result<(), End>
+        requires inside { IfSome given.now.step.now.message (IsReceivedInside given.now.bytes.now) }
+        requires text { IfSome given.now.step.now.message (λ m.
+            HasValidText (received_content given.now.bytes.now m)) }
+        ensures ok { OnOk result (Takes (T.turn talk.now) (T.waits talk.now)
+            (option_map (received_content given.now.bytes.now) given.now.step.now.message)
+            context.old.role self.old self.new) }
+        ensures err { IfErr result (λ why. FailsTaking (T.turn talk.now) (T.fails talk.now)
+            (option_map (received_content given.now.bytes.now) given.now.step.now.message) context.old
+            why self.old self.new) }
+        ensures context { context.new ≡ context.old }
+    {
+        match &given.step.message {
+            Some(received) => self.take(context, talk, scratch, received.message(given.bytes)),
+            None => Ok(()),
+        }
+    }
+
+    /// Serves the frame at the front of the input. Returns false if no whole frame is there.
+    ///
+    /// # Errors
+    /// Why the connection ends.
+    pub(crate) fn serve_frame<T: Talk<Session = S, Told = D>>(
+        &mut self,
+        context: &mut WebSocketContext,
+        talk: &T,
+        scratch: &mut T::Scratch,
+        input: &mut Input,
+    ) -> Result<bool, End>
+        ensures served { result ≡ Ok true → (p : ℕ × Effect)
+            × (read_step context.old input.old ≡ Ok (Complete p))
+            × (context.new ≡ p.1.next) × (input.new ≡ drop p.0 input.old)
+            × Does (T.turn talk.now) (T.waits talk.now) p.1 self.old self.new }
+        ensures waits { result ≡ Ok false → Waits context.old input.old
+            × (context.new ≡ context.old) × (input.new ≡ input.old) × (self.new ≡ self.old) }
+        ensures err { IfErr result (λ why. EndsAt (T.turn talk.now) (T.waits talk.now)
+            (T.fails talk.now) context.old input.old why self.old context.new self.new) }
+    {
+        let mut reply = Vec::new(self.alloc);
+        let step = match input.read(context, &mut reply) {
+            Ok(FrameStatus::Complete(step)) => step,
+            Ok(FrameStatus::Partial(_)) => return Ok(false),
+            Err(fault) => return Err(end_of(&fault)),
+        };
+        let taken = step.consumed;
+        let given = Given {
+            step: &step,
+            bytes: input.bytes(),
+        };
+        self.take_given(context, talk, scratch, &given)?;
+        self.push_reply(reply)?;
+        input.advance(taken);
+        Ok(true)
+    }
+
+    /// Serves the whole frames of the input in order, until too much waits. Returns whether it does.
+    ///
+    /// # Errors
+    /// Why the connection ends.
+    pub(crate) fn serve<T: Talk<Session = S, Told = D>>(
+        &mut self,
+        context: &mut WebSocketContext,
+        talk: &T,
+        scratch: &mut T::Scratch,
+        input: &mut Input,
+    ) -> Result<bool, End>
+        ensures ok { IfOk result (Received (T.turn talk.now) (T.waits talk.now)
+            context.old input.old self.old context.new input.new self.new) }
+        ensures err { IfErr result (λ why. Stopped (T.turn talk.now) (T.waits talk.now)
+            (T.fails talk.now) context.old input.old self.old why context.new self.new) }
+    {
+        while !self.is_full() {
+            match self.serve_frame(context, talk, scratch, input) {
+                Ok(true) => {}
+                Ok(false) => return Ok(false),
+                Err(end) => return Err(end),
+            }
+        }
+        Ok(true)
+    }
+
+    /// Moves the first frame that waits to the output, if what it reports is kept. Returns whether
+    /// it did.
+    ///
+    /// # Errors
+    /// Why the connection ends. Nothing has changed.
+    pub(crate) fn release_first<T: Talk<Session = S, Told = D>>(
+        &mut self,
+        talk: &T,
+        output: &mut Vec<u8>,
+    ) -> Result<bool, End>
+        ensures moved { result ≡ Ok true → Released T.shows self.old self.new output.old.items
+            output.new.items }
+        ensures stays { result ≢ Ok true → (self.new ≡ self.old)
+            × (output.new.items ≡ output.old.items) }
+        ensures waits { result ≡ Ok false → IsFirstUntold self.old.waiting }
+        ensures err { IfErr result (λ why. (why ≡ end.NoMemory)
+            ⊎ IsFirstLost T.lacks self.old.waiting why) }
+    {
+        let Some(first) = self.waiting.front() else {
+            return Ok(false);
+        };
+        if !is_kept(talk, first)? {
+            return Ok(false);
+        }
+        if output.extend_from_slice(&first.frame).is_err() {
+            return Err(End::NoMemory);
+        }
+        self.drop_first();
+        Ok(true)
+    }
+
+    /// Drops the first frame that waits. Gives back the memory if no other does.
+    fn drop_first(&mut self)
+        ensures { self.new ≡ record self.old { waiting = drop 1 self.old.waiting } }
+    {
+        let _first = self.waiting.pop_front();
+        if self.waiting.is_empty() {
+            self.waiting.shrink_to_fit();
+        }
+    }
+
+    /// Returns whether so much waits that no more frames are served.
+    fn is_full(&self) -> bool
+        ensures full { result ≡ true → IsFull self.now.waiting }
+        ensures room { result ≡ false → HasRoom self.now.waiting }
+    {
+        self.waiting.len() >= MAX_WAITING || waiting_len(&self.waiting) >= MAX_WAITING_LEN
+    }
+
+    /// Ends it, and gives the session back.
+    pub(crate) fn end(self) -> S
+        ensures { result ≡ self.session }
+    {
+        let Dialogue {
+            alloc: _,
+            session,
+            held: _,
+            waiting: _,
+        } = self;
+        session
+    }
+}
+
+/// How many bytes wait, and `MAX_WAITING_LEN` where more do.
+fn waiting_len<D>(waiting: &VecDeque<Item<D>>) -> usize
+    ensures { result ≡ min (waiting_len waiting.now.items) MAX_WAITING_LEN }
+{
+    let mut len: usize = 0;
+    for i in 0..waiting.len() {
+        len = len.saturating_add(waiting[i].len()).min(MAX_WAITING_LEN);
+    }
+    len
+}
+
+/// Returns whether what a frame reports is kept, if it reports anything.
+///
+/// # Errors
+/// Why it will not be kept.
+fn is_kept<T: Talk>(talk: &T, item: &Item<T::Told>) -> Result<bool, End>
+    ensures yes { result ≡ Ok true → IfSome item.now.told (λ told. (receipt : T.Receipt)
+        × T.shows receipt told) }
+    ensures no { result ≡ Ok false → item.now.told ≢ None }
+    ensures err { IfErr result (λ why. IsSomeAnd item.now.told (λ told. T.lacks told why)) }
+{
+    let Some(told) = &item.told else {
+        return Ok(true);
+    };
+    match talk.receipt(told) {
+        Ok(Some(_receipt)) => Ok(true),
+        Ok(None) => Ok(false),
+        Err(end) => Err(end),
+    }
+}
+
+/// The frame of a text.
+#[tactic(auto, using(crate::proofs::Frames::sent))]
+fn frame_of(alloc: Global, context: &mut WebSocketContext, text: &str) -> Result<Vec<u8>, End>
+    ensures frame { IfOk result (λ frame. Sends context.old.role (Some (sent_text text.now)) []
+        frame.items) }
+    ensures why { IfErr result (CannotSend context.old text.now) }
+    ensures context { context.new ≡ context.old }
+{
+    let mut frame = Vec::new(alloc);
+    match context.write(Message::Text(text), &mut frame, &mut NoMask) {
+        Ok(()) => Ok(frame),
+        Err(fault) => Err(end_of(&fault)),
+    }
+}

@@ -1,0 +1,78 @@
+//! What answers the messages of a connection.
+
+ghost use Rattle.std.specs.Prelude.{◌≡◌, IfErr, IfOk, IfSome, None, Ok, string_bytes, true};
+
+use crate::end::End;
+
+/// A longer message is never held.
+pub const MAX_HELD_LEN: usize = 64;
+
+/// The answer to a message: the text, and what it reports.
+#[derive(Drop)]
+pub struct Answer<D> {
+    /// The text.
+    pub text: String,
+    /// What the text reports. The text may be sent once that is kept.
+    pub told: Option<D>,
+}
+
+/// Answers the messages of sessions. One value serves all connections; it is only read.
+pub trait Talk {
+    ghost use Rattle.std.specs.Prelude.{ℕ, List, Option};
+    ghost use Rattle.connection.specs.declared.end.End.{End};
+
+    /// What is known of one client.
+    type Session;
+
+    /// What an answer reports.
+    type Told: Drop;
+
+    /// The proof at run time that something is kept.
+    type Receipt: Drop;
+
+    /// Memory for reading. Nothing of an earlier message counts.
+    type Scratch;
+
+    /// One message is answered: the session before and after it, its bytes, the bytes of the
+    /// answer's text, and what the text reports.
+    ghost turn: { Self → Self.Session → Self.Session → List ℕ → List ℕ → Option Self.Told → Type 0 };
+
+    /// This message of the session may be held.
+    ghost waits: { Self → Self.Session → List ℕ → Type 0 };
+
+    /// The session may stand so after a message at which the connection ends.
+    ghost fails: { Self → Self.Session → Self.Session → List ℕ → End → Type 0 };
+
+    /// The receipt shows that this is kept.
+    ghost shows: { Self.Receipt → Self.Told → Type 0 };
+
+    /// This may be why something is not kept.
+    ghost lacks: { Self.Told → End → Type 0 };
+
+    /// Answers a message. `Ok(None)` if it may wait, which is never without `may_hold`; then
+    /// nothing has changed.
+    ///
+    /// # Errors
+    /// Why the connection ends.
+    fn hear(
+        &self,
+        session: &mut Self::Session,
+        scratch: &mut Self::Scratch,
+        bytes: &[u8],
+        may_hold: bool,
+    ) -> Result<Option<Answer<Self::Told>>, End>
+        ensures answered { IfOk result (λ found. IfSome found (λ answer. Self.turn self.now
+            session.old session.new bytes.now (string_bytes answer.text) answer.told)) }
+        ensures held { result ≡ Ok None → (may_hold ≡ true) × (session.new ≡ session.old)
+            × Self.waits self.now session.old bytes.now }
+        ensures failed { IfErr result (λ end. Self.fails self.now session.old session.new
+            bytes.now end) };
+
+    /// The receipt, if this is kept already. Does not wait.
+    ///
+    /// # Errors
+    /// Why it will not be kept.
+    fn receipt(&self, told: &Self::Told) -> Result<Option<Self::Receipt>, End>
+        ensures found { IfOk result (λ found. IfSome found (λ receipt. Self.shows receipt told.now)) }
+        ensures failed { IfErr result (λ end. Self.lacks told.now end) };
+}

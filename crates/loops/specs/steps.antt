@@ -1,0 +1,7 @@
+pub mod Delivering
+pub mod Endings
+pub mod Overdue
+pub mod Places
+pub mod Sending
+pub mod Served
+pub mod Turns

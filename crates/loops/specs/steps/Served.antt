@@ -1,0 +1,34 @@
+-- What is done with the bytes of a client, and what stays once its connection has ended.
+use Rattle.std.specs.Prelude.{◌≡◌, ◌⊎◌, ℕ, Bool, true, List, Option, Some, unwrap_or}
+use Rattle.connection.specs.declared.end.End.{End}
+use Rattle.connection.specs.Connections.{AnswersHeld, Closes, FailsAnsweringHeld, Receives, StopsReceiving}
+use Rattle.connection.specs.Standing.{ConnectionState}
+use Rattle.connection.specs.Talks.{Fault, Turn, Wait}
+use Rattle.loops.specs.declared.ending.Ending.{Ending}
+use Rattle.loops.specs.declared.ending.Ending.TheVariants.{Connection}
+use Rattle.loops.specs.declared.stage.Served.{Served}
+use Rattle.loops.specs.steps.Endings.{is_fault_of_server}
+
+module _ {S D : Type 0} where
+  -- The connection has ended. Why it did first stays, and what waits too. If the server is at fault,
+  -- a close may stand behind.
+  abbrev pub Stops : End → ConnectionState S D → Option Ending → Served S D → Type 0
+  Stops why connection over after =
+      (after.over ≡ Some (unwrap_or over (Connection why)))
+      × ((after.connection.standing ≡ connection.standing)
+      ⊎ ((is_fault_of_server why ≡ true) × Closes connection after.connection))
+
+  module _ (turn : Turn S D) (waits : Wait S) (fails : Fault S) where
+    -- These bytes came: the connection received them, or ends at them.
+    abbrev pub ReceivesOrStops : Served S D → List ℕ → Served S D → Type 0
+    ReceivesOrStops before bytes after =
+        (Receives turn waits before.connection bytes after.connection × (after.over ≡ before.over))
+        ⊎ ((why : End) × (mid : ConnectionState S D)
+        × StopsReceiving turn waits fails before.connection bytes why mid × Stops why mid before.over after)
+
+    -- The held message was heard again, or the connection ends at it.
+    abbrev pub AnswersOrStops : Bool → Served S D → Served S D → Type 0
+    AnswersOrStops may_hold before after =
+        (AnswersHeld turn waits may_hold before.connection after.connection × (after.over ≡ before.over))
+        ⊎ ((why : End) × (mid : ConnectionState S D)
+        × FailsAnsweringHeld turn fails before.connection why mid × Stops why mid before.over after)

@@ -1,0 +1,256 @@
+//! A loop over many lines.
+
+use crate::bell::WAKE;
+use crate::ending::Ending;
+use crate::line::{Line, Next};
+use crate::mail::News;
+use crate::parked::Parked;
+use crate::parts::Parts;
+use crate::service::Service;
+use crate::shared::{Bench, Shared};
+use crate::slots::Slots;
+use crate::times::{SWEEP_MILLIS, has_passed, millis_since};
+use mio::event::Event;
+use mio::{Events, Poll};
+use std::sync::Wait;
+use std::time::{Clock, Duration, Instant};
+
+/// A loop over many lines. It cannot be dropped: `end` ends its lines.
+pub(crate) struct EventLoop<S, D, C: Drop> {
+    pub(crate) number: usize,
+    pub(crate) poll: Poll,
+    pub(crate) lines: Slots<Line<S, D>>,
+    pub(crate) parked: Parked,
+    /// The lines with more to do.
+    pub(crate) queue: Vec<usize>,
+    /// Room for what comes.
+    pub(crate) news: News,
+    pub(crate) bench: Bench<C>,
+    /// The time of this round.
+    pub(crate) now: u64,
+    /// When all lines were looked at.
+    pub(crate) swept: u64,
+    /// There are no more arrivals.
+    pub(crate) is_last: bool,
+}
+
+/// Runs a loop until there are no more arrivals and its last line has ended, or waiting fails.
+pub(crate) fn run_loop<R: Wait + Clock, V: Service>(
+    shared: &Shared<'_, R, V>,
+    parts: Parts,
+    began: Instant,
+)
+where
+    V::Scratch: Drop,
+{
+    let Parts {
+        number,
+        poll,
+        mut events,
+        chunk,
+        news,
+        parked,
+    } = parts;
+    let mut served: EventLoop<V::Session, V::Told, V::Scratch> = EventLoop {
+        number,
+        poll,
+        lines: Slots::new(shared.alloc),
+        parked,
+        queue: Vec::new(shared.alloc),
+        news,
+        bench: Bench {
+            scratch: shared.service.new_scratch(),
+            chunk,
+        },
+        now: 0,
+        swept: 0,
+        is_last: false,
+    };
+    for _ in shared.rt.forever() {
+        if !served.wait(&mut events) {
+            break;
+        }
+        served.now = millis_since(shared.rt, began, served.now);
+        served.round(shared, &events);
+    }
+    served.end(shared);
+}
+
+impl<S, D: Drop, C: Drop> EventLoop<S, D, C> {
+    /// Waits for the next reports: a second at most, and not at all while lines have more to do.
+    /// Returns false if all is done, or waiting fails.
+    fn wait(&mut self, events: &mut Events) -> bool {
+        if self.is_last && self.lines.is_empty() {
+            return false;
+        }
+        let limit = if self.queue.is_empty() { 1 } else { 0 };
+        self.poll
+            .poll(events, Some(Duration::from_secs(limit)))
+            .is_ok()
+    }
+
+    /// One round: the lines that are reported, those that had more to do, what came by mail, and
+    /// once a second all lines.
+    fn round<R: Wait, V: Service<Session = S, Told = D, Scratch = C>>(
+        &mut self,
+        shared: &Shared<'_, R, V>,
+        events: &Events,
+    ) {
+        let queue = std::mem::replace(&mut self.queue, Vec::new(shared.alloc));
+        for event in events {
+            self.report(shared, event);
+        }
+        for key in queue {
+            if let Some(line) = self.lines.get_mut(key) {
+                line.is_queued = false;
+            }
+            self.give_turn(shared, key);
+        }
+        self.take_mail(shared);
+        if has_passed(self.now, self.swept, SWEEP_MILLIS) {
+            self.swept = self.now;
+            self.sweep(shared);
+        }
+    }
+
+    /// The system reports a line.
+    fn report<R: Wait, V: Service<Session = S, Told = D, Scratch = C>>(
+        &mut self,
+        shared: &Shared<'_, R, V>,
+        event: &Event,
+    ) {
+        let token = event.token();
+        if token == WAKE {
+            return;
+        }
+        if let Some(line) = self.lines.get_mut(token.0) {
+            line.readiness.report(
+                event.is_readable(),
+                event.is_read_closed() || event.is_error(),
+            );
+            self.give_turn(shared, token.0);
+        }
+    }
+
+    /// A line has its turn.
+    fn give_turn<R: Wait, V: Service<Session = S, Told = D, Scratch = C>>(
+        &mut self,
+        shared: &Shared<'_, R, V>,
+        key: usize,
+    ) {
+        let Some(line) = self.lines.get_mut(key) else {
+            return;
+        };
+        let before = line.place(shared.service);
+        let next = line.turn(shared, &mut self.bench, self.now);
+        self.follow(shared, key, next);
+        self.park(shared, key, before, None);
+    }
+
+    /// Does what becomes of a line after its turn.
+    pub(crate) fn follow<R: Wait, V: Service<Session = S, Told = D, Scratch = C>>(
+        &mut self,
+        shared: &Shared<'_, R, V>,
+        key: usize,
+        next: Next,
+    ) {
+        match next {
+            Next::Rests => {}
+            Next::Again => {
+                if !self.enqueue(key) {
+                    self.end_line(shared, key);
+                }
+            }
+            Next::Ends => self.end_line(shared, key),
+        }
+    }
+
+    /// The line has another turn in the next round. Returns false if an allocation failed.
+    fn enqueue(&mut self, key: usize) -> bool {
+        match self.lines.get_mut(key) {
+            Some(line) => {
+                if !line.is_queued {
+                    line.is_queued = self.queue.push(key).is_ok();
+                }
+                line.is_queued
+            }
+            None => true,
+        }
+    }
+
+    /// Ends a line.
+    pub(crate) fn end_line<R: Wait, V: Service<Session = S, Told = D, Scratch = C>>(
+        &mut self,
+        shared: &Shared<'_, R, V>,
+        key: usize,
+    ) {
+        if let Some(line) = self.lines.take(key) {
+            self.lines.give_key(key);
+            if let Some(place) = line.parked_at {
+                self.parked.leave(place, key);
+            }
+            line.end(shared, Ending::Stream);
+        }
+    }
+
+    /// Has the line wait for news, if it has to. The loop first says that it wants to hear of them,
+    /// and then the line looks once more: either it sees what is new, or the loop hears of it. The
+    /// loop has said so already at the place `watched`.
+    pub(crate) fn park<R: Wait, V: Service<Session = S, Told = D, Scratch = C>>(
+        &mut self,
+        shared: &Shared<'_, R, V>,
+        key: usize,
+        before: Option<usize>,
+        watched: Option<usize>,
+    ) {
+        let Some(line) = self.lines.get_mut(key) else {
+            return;
+        };
+        let Some(place) = line.place_to_wait(shared.service, before) else {
+            return;
+        };
+        if line.parked_at == Some(place) {
+            return;
+        }
+        if let Some(other) = line.parked_at {
+            line.parked_at = None;
+            self.parked.leave(other, key);
+        }
+        if watched != Some(place) {
+            shared.bell.watch(self.number, place);
+            let next = line.look(shared, &mut self.bench.scratch, true, self.now);
+            if next != Next::Rests {
+                self.follow(shared, key, next);
+                return;
+            }
+            if line.place_to_wait(shared.service, Some(place)) != Some(place) {
+                return;
+            }
+        }
+        if self.parked.park(place, key) {
+            line.parked_at = Some(place);
+        }
+    }
+
+    /// There is news in the room at this place: each line that waits for it looks.
+    pub(crate) fn hear_news<R: Wait, V: Service<Session = S, Told = D, Scratch = C>>(
+        &mut self,
+        shared: &Shared<'_, R, V>,
+        place: usize,
+    ) {
+        let keys = self.parked.take(place);
+        if keys.is_empty() {
+            return;
+        }
+        shared.bell.watch(self.number, place);
+        for key in keys {
+            let Some(line) = self.lines.get_mut(key) else {
+                continue;
+            };
+            line.parked_at = None;
+            let next = line.look(shared, &mut self.bench.scratch, true, self.now);
+            self.follow(shared, key, next);
+            self.park(shared, key, Some(place), Some(place));
+        }
+    }
+}

@@ -1,0 +1,35 @@
+//! Event loops that serve WebSocket connections: many connections on a few threads. A `Service`
+//! says what is served.
+#![tactic(auto)]
+
+mod bell;
+mod client;
+mod ending;
+mod event_loop;
+mod fault;
+mod line;
+mod mail;
+mod opening;
+mod output;
+mod parked;
+mod parts;
+mod place;
+mod readiness;
+mod rounds;
+mod run;
+mod seats;
+mod service;
+mod shared;
+mod slots;
+mod stage;
+mod times;
+
+pub use bell::{Bell, MAX_LOOPS};
+pub use client::{Arrival, Client};
+pub use ending::Ending;
+pub use fault::LoopsFault;
+pub use run::{Loops, Settings, run_loops};
+pub use service::Service;
+
+#[cfg(test)]
+mod tests;

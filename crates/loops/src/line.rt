@@ -1,0 +1,368 @@
+//! A line: a socket, and what is served on it.
+
+use crate::client::Client;
+use crate::ending::{Ending, unopened};
+use crate::output::Output;
+use crate::place::place_to_wait;
+use crate::readiness::{Load, Readiness, Step, next_step};
+use crate::service::Service;
+use crate::shared::{Bench, Shared};
+use crate::stage::Stage;
+use crate::times::{HELD_MILLIS, Phase, Times, has_passed, is_overdue};
+use mio::net::TcpStream;
+use std::alloc::Global;
+use std::io::{ErrorKind, Read};
+use std::net::Shutdown;
+use std::sync::Wait;
+
+/// A socket, and what is served on it. It cannot be dropped: `end` gives its session back.
+pub(crate) struct Line<S, D> {
+    pub(crate) stream: TcpStream,
+    pub(crate) client: Client,
+    pub(crate) stage: Stage<S, D>,
+    pub(crate) output: Output,
+    pub(crate) readiness: Readiness,
+    pub(crate) times: Times,
+    /// The place at whose news the loop looks at it.
+    pub(crate) parked_at: Option<usize>,
+    /// It has its next turn without a report of the system.
+    pub(crate) is_queued: bool,
+}
+
+/// What becomes of a line after its turn.
+#[derive(Clone, Copy, Debug, PartialEq, Eq)]
+pub(crate) enum Next {
+    /// It waits for the socket, or for its room.
+    Rests,
+    /// It has more to do.
+    Again,
+    /// The stream has failed, or all is sent and the client is gone.
+    Ends,
+}
+
+impl<S, D: Drop> Line<S, D> {
+    /// A line of which nothing was heard.
+    pub(crate) fn new(alloc: Global, client: Client, stream: TcpStream, now: u64) -> Line<S, D> {
+        Line {
+            stream,
+            client,
+            stage: Stage::Opening(Vec::new(alloc)),
+            output: Output::new(alloc),
+            readiness: Readiness::UNKNOWN,
+            times: Times::new(now),
+            parked_at: None,
+            is_queued: false,
+        }
+    }
+
+    /// What can be done.
+    fn load(&self) -> Load {
+        let output_len = self.output.len();
+        let (is_behind, has_waiting, is_over) = match &self.stage {
+            Stage::Opening(_) => (false, false, false),
+            Stage::Open(served) => (
+                served.connection.is_behind(),
+                served.connection.has_waiting(),
+                served.is_over(),
+            ),
+            Stage::Leaving { is_sent } => (false, false, !*is_sent),
+        };
+        Load {
+            output_len,
+            is_behind,
+            has_waiting,
+            is_over,
+        }
+    }
+
+    /// Returns whether a message is held.
+    fn is_held(&self) -> bool {
+        match &self.stage {
+            Stage::Open(served) => served.connection.is_held(),
+            Stage::Opening(_) | Stage::Leaving { .. } => false,
+        }
+    }
+
+    /// Returns whether a message is held for too long.
+    pub(crate) fn is_held_long(&self, now: u64) -> bool {
+        self.is_held() && has_passed(now, self.times.held, HELD_MILLIS)
+    }
+
+    /// Returns whether frames wait for what they report to be kept.
+    pub(crate) fn has_waiting(&self) -> bool {
+        match &self.stage {
+            Stage::Open(served) => served.connection.has_waiting(),
+            Stage::Opening(_) | Stage::Leaving { .. } => false,
+        }
+    }
+
+    /// What is awaited.
+    fn phase(&self) -> Phase {
+        match &self.stage {
+            Stage::Opening(_) => Phase::Opening,
+            Stage::Open(served) => Phase::Open {
+                is_held: served.connection.is_held(),
+            },
+            Stage::Leaving { is_sent: false } => Phase::Leaving,
+            Stage::Leaving { is_sent: true } => Phase::Lingering,
+        }
+    }
+
+    /// Returns whether the client has taken too long.
+    pub(crate) fn is_overdue(&self, now: u64, idle: Option<u64>) -> bool {
+        let has_output = self.output.len() > 0;
+        is_overdue(self.phase(), self.times, has_output, idle, now)
+    }
+
+    /// The place of the room that the session is in.
+    pub(crate) fn place<V: Service<Session = S, Told = D>>(&self, service: &V) -> Option<usize> {
+        match &self.stage {
+            Stage::Open(served) => service.place(served.connection.session()),
+            Stage::Opening(_) | Stage::Leaving { .. } => None,
+        }
+    }
+
+    /// The place at which the line waits. The session was at the place `before` when its first
+    /// frame that waits was made.
+    pub(crate) fn place_to_wait<V: Service<Session = S, Told = D>>(
+        &self,
+        service: &V,
+        before: Option<usize>,
+    ) -> Option<usize> {
+        place_to_wait(
+            self.is_held(),
+            self.has_waiting(),
+            before,
+            self.place(service),
+        )
+    }
+
+    /// A turn: sends what waits, reads once or serves more of what was read, and sends what is
+    /// kept.
+    pub(crate) fn turn<R: Wait, V: Service<Session = S, Told = D>>(
+        &mut self,
+        shared: &Shared<'_, R, V>,
+        bench: &mut Bench<V::Scratch>,
+        now: u64,
+    ) -> Next
+    where
+        V::Scratch: Drop,
+    {
+        if !self.send(now) {
+            return Next::Ends;
+        }
+        match next_step(self.load(), self.readiness.is_readable) {
+            Step::Read => {
+                if !self.read(shared, bench, now) {
+                    return Next::Ends;
+                }
+            }
+            Step::GoOn => self.receive(shared, &mut bench.scratch, &[], now),
+            Step::Rest => {}
+        }
+        self.deliver(shared, now)
+    }
+
+    /// Hears the held message again. Without `may_hold` it is answered. Sends what is kept.
+    pub(crate) fn look<R: Wait, V: Service<Session = S, Told = D>>(
+        &mut self,
+        shared: &Shared<'_, R, V>,
+        scratch: &mut V::Scratch,
+        may_hold: bool,
+        now: u64,
+    ) -> Next {
+        if let Stage::Open(served) = &mut self.stage
+            && served.connection.is_held()
+        {
+            served.answer_held(shared.service, scratch, may_hold);
+            if !served.connection.is_held() {
+                self.times.heard = now;
+            }
+        }
+        self.deliver(shared, now)
+    }
+
+    /// Sends what is kept, and says what becomes of the line.
+    pub(crate) fn deliver<R: Wait, V: Service<Session = S, Told = D>>(
+        &mut self,
+        shared: &Shared<'_, R, V>,
+        now: u64,
+    ) -> Next {
+        if let Stage::Open(served) = &mut self.stage
+            && let Some(ending) = served.release(shared.service, &mut self.output)
+        {
+            self.finish(shared, ending);
+        }
+        if !self.send(now) {
+            return Next::Ends;
+        }
+        self.shut_down(now);
+        match next_step(self.load(), self.readiness.is_readable) {
+            Step::Rest => Next::Rests,
+            Step::Read | Step::GoOn => Next::Again,
+        }
+    }
+
+    /// Sends what waits, as far as the stream takes it. Returns false if the stream has failed.
+    fn send(&mut self, now: u64) -> bool {
+        for _ in 0..usize::MAX {
+            if self.output.len() == 0 {
+                self.times.sent = now;
+                return true;
+            }
+            match self.output.send(&mut self.stream) {
+                Ok(0) => return false,
+                Ok(_) => self.times.sent = now,
+                Err(fault) => match fault.kind() {
+                    ErrorKind::WouldBlock => return true,
+                    ErrorKind::Interrupted => {}
+                    _ => return false,
+                },
+            }
+        }
+        false
+    }
+
+    /// Reads once, and hears what came. Returns false if the stream has failed, or has ended and
+    /// nothing is left to do.
+    fn read<R: Wait, V: Service<Session = S, Told = D>>(
+        &mut self,
+        shared: &Shared<'_, R, V>,
+        bench: &mut Bench<V::Scratch>,
+        now: u64,
+    ) -> bool
+    where
+        V::Scratch: Drop,
+    {
+        let room = bench.chunk.len();
+        match self.stream.read(bench.chunk.as_mut_slice()) {
+            Ok(0) => self.hang_up(),
+            Ok(count) => {
+                self.readiness.read(count, room);
+                self.times.heard = now;
+                self.hear(shared, &mut bench.scratch, &bench.chunk[..count], now);
+                true
+            }
+            Err(fault) => match fault.kind() {
+                ErrorKind::WouldBlock => {
+                    self.readiness.found_nothing();
+                    true
+                }
+                ErrorKind::Interrupted => true,
+                _ => false,
+            },
+        }
+    }
+
+    /// The client sends no more. Returns whether something is left to do.
+    fn hang_up(&mut self) -> bool {
+        match &mut self.stage {
+            Stage::Open(served) => {
+                served.hang_up();
+                true
+            }
+            Stage::Opening(_) | Stage::Leaving { .. } => false,
+        }
+    }
+
+    /// Serves bytes that came.
+    fn hear<R: Wait, V: Service<Session = S, Told = D>>(
+        &mut self,
+        shared: &Shared<'_, R, V>,
+        scratch: &mut V::Scratch,
+        bytes: &[u8],
+        now: u64,
+    ) {
+        match &mut self.stage {
+            Stage::Opening(head) => {
+                if head.extend_from_slice(bytes).is_ok() {
+                    self.open(shared, scratch, now);
+                } else {
+                    self.finish(shared, Ending::Connection(connection::End::NoMemory));
+                }
+            }
+            Stage::Open(_) => self.receive(shared, scratch, bytes, now),
+            Stage::Leaving { .. } => {}
+        }
+    }
+
+    /// Serves messages that came.
+    pub(crate) fn receive<R, V: Service<Session = S, Told = D>>(
+        &mut self,
+        shared: &Shared<'_, R, V>,
+        scratch: &mut V::Scratch,
+        bytes: &[u8],
+        now: u64,
+    ) {
+        if let Stage::Open(served) = &mut self.stage {
+            let was_held = served.connection.is_held();
+            served.receive(shared.service, scratch, bytes);
+            if !was_held {
+                self.times.held = now;
+            }
+        }
+    }
+
+    /// Goes over to another stage. The session of an open one ends, and is given back.
+    pub(crate) fn enter<R: Wait, V: Service<Session = S, Told = D>>(
+        &mut self,
+        shared: &Shared<'_, R, V>,
+        stage: Stage<S, D>,
+        ending: Ending,
+    ) {
+        match std::mem::replace(&mut self.stage, stage) {
+            Stage::Open(served) => served.end(shared, &self.client, ending),
+            Stage::Opening(_head) => {}
+            Stage::Leaving { is_sent: _ } => {}
+        }
+    }
+
+    /// The session ends. What waits in the output is sent still.
+    pub(crate) fn finish<R: Wait, V: Service<Session = S, Told = D>>(
+        &mut self,
+        shared: &Shared<'_, R, V>,
+        ending: Ending,
+    ) {
+        match &self.stage {
+            Stage::Opening(_) => shared.refuse(&self.client, unopened(ending)),
+            Stage::Open(_) => {}
+            Stage::Leaving { .. } => return,
+        }
+        self.enter(shared, Stage::Leaving { is_sent: false }, ending);
+    }
+
+    /// Once all is sent on a line whose session has ended, the client hears the end of the stream.
+    fn shut_down(&mut self, now: u64) {
+        if self.output.len() == 0
+            && let Stage::Leaving { is_sent } = &mut self.stage
+            && !*is_sent
+        {
+            *is_sent = true;
+            self.times.began = now;
+            let _ = self.stream.shutdown(Shutdown::Write);
+        }
+    }
+
+    /// Ends the line. If its session has not ended, it ends so.
+    pub(crate) fn end<R: Wait, V: Service<Session = S, Told = D>>(
+        self,
+        shared: &Shared<'_, R, V>,
+        ending: Ending,
+    ) {
+        let Line {
+            stream: _,
+            client,
+            stage,
+            output: _,
+            readiness: _,
+            times: _,
+            parked_at: _,
+            is_queued: _,
+        } = self;
+        match stage {
+            Stage::Opening(_head) => shared.refuse(&client, unopened(ending)),
+            Stage::Open(served) => served.end(shared, &client, ending),
+            Stage::Leaving { is_sent: _ } => {}
+        }
+    }
+}

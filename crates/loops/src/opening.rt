@@ -1,0 +1,113 @@
+//! The opening of a line: the head of its request.
+
+ghost use Rattle.std.specs.Prelude.{◌≡◌, ◌++◌, [], OnErr, OnOk};
+ghost use Rattle.websocket.specs.Handshake.{response_bytes};
+
+use crate::ending::Ending;
+use crate::line::Line;
+use crate::service::Service;
+use crate::shared::Shared;
+use crate::stage::{Served, Stage};
+use connection::{Connection, End, Head, UNAVAILABLE, health_answer, read_head, write_switching};
+use std::alloc::{AllocError, Global};
+use std::sync::Wait;
+
+impl<S, D: Drop> Line<S, D> {
+    /// Answers the head of the request, if it is whole.
+    pub(crate) fn open<R: Wait, V: Service<Session = S, Told = D>>(
+        &mut self,
+        shared: &Shared<'_, R, V>,
+        scratch: &mut V::Scratch,
+        now: u64,
+    ) {
+        let Some(head) = self.take_head(shared.alloc) else {
+            return;
+        };
+        match read_head(head.as_slice()) {
+            Head::Partial => self.keep_head(head),
+            Head::Refused => self.finish(shared, Ending::NoHandshake),
+            Head::Probe => self.answer_probe(shared),
+            Head::Upgrade { accept_key, len } => {
+                if self.admit(shared, &accept_key) {
+                    let frames = head.get(len..).unwrap_or(&[]);
+                    self.receive(shared, scratch, frames, now);
+                }
+            }
+        }
+    }
+
+    /// Takes out what has come of the head.
+    fn take_head(&mut self, alloc: Global) -> Option<Vec<u8>> {
+        match &mut self.stage {
+            Stage::Opening(head) => Some(std::mem::replace(head, Vec::new(alloc))),
+            Stage::Open(_) | Stage::Leaving { .. } => None,
+        }
+    }
+
+    /// Keeps what has come of the head until more comes.
+    fn keep_head(&mut self, so_far: Vec<u8>) {
+        if let Stage::Opening(head) = &mut self.stage {
+            *head = so_far;
+        }
+    }
+
+    /// Answers a probe.
+    fn answer_probe<R: Wait, V: Service<Session = S, Told = D>>(
+        &mut self,
+        shared: &Shared<'_, R, V>,
+    ) {
+        let failing = shared.service.failing_room();
+        let room = match &failing {
+            Some(room) => Some(room.as_str()),
+            None => None,
+        };
+        if let Ok(answer) = health_answer(shared.alloc, room) {
+            let _ = self.output.append(answer.as_bytes());
+        }
+        shared.service.after_probe();
+        self.enter(
+            shared,
+            Stage::Leaving { is_sent: false },
+            Ending::NoHandshake,
+        );
+    }
+
+    /// Begins a session, if a seat is free. Else the client is turned away. Returns whether the
+    /// session has begun.
+    fn admit<R: Wait, V: Service<Session = S, Told = D>>(
+        &mut self,
+        shared: &Shared<'_, R, V>,
+        accept_key: &[u8; 28],
+    ) -> bool {
+        let Some(seat) = shared.seats.take(shared.rt) else {
+            let _ = self.output.append(UNAVAILABLE.as_bytes());
+            shared.service.turned_away();
+            self.enter(
+                shared,
+                Stage::Leaving { is_sent: false },
+                Ending::NoHandshake,
+            );
+            return false;
+        };
+        shared.service.before_session();
+        let connection = Connection::open(shared.alloc, shared.service.new_session());
+        let opened = Stage::Open(Served::new(connection, seat));
+        self.enter(shared, opened, Ending::Stream);
+        if self.switch(shared.alloc, accept_key).is_err() {
+            self.finish(shared, Ending::Connection(End::NoMemory));
+            return false;
+        }
+        true
+    }
+
+    /// Accepts the WebSocket.
+    fn switch(&mut self, alloc: Global, accept_key: &[u8; 28]) -> Result<(), AllocError>
+        ensures ok { OnOk result (self.new.output
+            ≡ self.old.output ++ response_bytes accept_key.now []) }
+        ensures err { OnErr result (self.new.output ≡ self.old.output) }
+    {
+        let mut response = Vec::new(alloc);
+        write_switching(accept_key, &mut response)?;
+        self.output.append(response.as_slice())
+    }
+}

@@ -1,0 +1,140 @@
+//! What a loop does once in a round: its mail, all its lines once a second, and their end.
+
+use crate::client::Client;
+use crate::ending::Ending;
+use crate::event_loop::EventLoop;
+use crate::line::Line;
+use crate::mail::Handed;
+use crate::service::Service;
+use crate::shared::Shared;
+use crate::slots::Slots;
+use connection::End;
+use mio::net::TcpStream;
+use mio::{Interest, Token};
+use std::sync::Wait;
+
+impl<S, D: Drop, C: Drop> EventLoop<S, D, C> {
+    /// Takes what came: arrivals, and news in rooms.
+    pub(crate) fn take_mail<R: Wait, V: Service<Session = S, Told = D, Scratch = C>>(
+        &mut self,
+        shared: &Shared<'_, R, V>,
+    ) {
+        self.is_last = shared.bell.take(shared.rt, self.number, &mut self.news);
+        let arrivals = std::mem::replace(&mut self.news.arrivals, Vec::new(shared.alloc));
+        for handed in arrivals {
+            self.begin(shared, handed);
+        }
+        if !self.news.has_rooms {
+            return;
+        }
+        for place in 0..shared.bell.places() {
+            if self.news.take_room(place) {
+                self.hear_news(shared, place);
+            }
+        }
+        self.news.has_rooms = false;
+    }
+
+    /// Begins a line.
+    fn begin<R: Wait, V: Service<Session = S, Told = D, Scratch = C>>(
+        &mut self,
+        shared: &Shared<'_, R, V>,
+        handed: Handed,
+    ) {
+        let Handed { session, arrival } = handed;
+        let client = Client {
+            session,
+            address: arrival.address,
+        };
+        let mut stream = TcpStream::from_std(arrival.stream);
+        let Some(key) = self.lines.free_key() else {
+            shared.refuse(&client, Ending::Connection(End::NoMemory));
+            return;
+        };
+        let both = Interest::READABLE | Interest::WRITABLE;
+        if self
+            .poll
+            .registry()
+            .register(&mut stream, Token(key), both)
+            .is_err()
+        {
+            self.lines.give_key(key);
+            shared.refuse(&client, Ending::Stream);
+            return;
+        }
+        let line = Line::new(shared.alloc, client, stream, self.now);
+        if let Some(other) = self.lines.put(key, line) {
+            other.end(shared, Ending::Stream);
+        }
+    }
+
+    /// Ends the lines that are overdue, answers what is held for long, and sends what is kept.
+    pub(crate) fn sweep<R: Wait, V: Service<Session = S, Told = D, Scratch = C>>(
+        &mut self,
+        shared: &Shared<'_, R, V>,
+    ) {
+        for key in 0..self.lines.end_of_keys() {
+            let Some(line) = self.lines.get_mut(key) else {
+                continue;
+            };
+            if line.is_overdue(self.now, shared.idle) {
+                self.end_line(shared, key);
+            } else if line.is_held_long(self.now) || line.has_waiting() {
+                let before = line.parked_at;
+                let may_hold = !line.is_held_long(self.now);
+                let next = line.look(shared, &mut self.bench.scratch, may_hold, self.now);
+                self.follow(shared, key, next);
+                self.park(shared, key, before, None);
+            }
+        }
+    }
+
+    /// Ends all lines, and refuses what still arrives.
+    pub(crate) fn end<R: Wait, V: Service<Session = S, Told = D, Scratch = C>>(
+        self,
+        shared: &Shared<'_, R, V>,
+    ) {
+        let EventLoop {
+            number,
+            poll: _,
+            lines,
+            parked: _,
+            queue: _,
+            mut news,
+            bench: _,
+            now: _,
+            swept: _,
+            is_last: _,
+        } = self;
+        shared.bell.close(shared.rt, number);
+        shared.bell.take(shared.rt, number, &mut news);
+        for handed in news.arrivals {
+            let Handed { session, arrival } = handed;
+            let client = Client {
+                session,
+                address: arrival.address,
+            };
+            shared.refuse(&client, Ending::Stream);
+        }
+        end_lines(shared, lines);
+    }
+}
+
+/// Ends these lines.
+fn end_lines<R: Wait, V: Service>(
+    shared: &Shared<'_, R, V>,
+    lines: Slots<Line<V::Session, V::Told>>,
+) {
+    let mut values = lines.into_values();
+    for _ in shared.rt.forever() {
+        match values.pop() {
+            Some(Some(line)) => line.end(shared, Ending::Stream),
+            Some(None) => {}
+            None => {
+                values.destroy_empty();
+                return;
+            }
+        }
+    }
+    unreachable!()
+}

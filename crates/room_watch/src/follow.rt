@@ -1,0 +1,186 @@
+//! `grace watch --follow ADDRESS ROOM`: shows the objects of a live room, and then each change.
+
+ghost use Rattle.std.specs.Prelude.{◌≡◌, ◌++◌, IfOk, OnOk, map, string_bytes};
+ghost use Rattle.std.specs.Arc.{arc_value};
+ghost use Rattle.late_join.specs.Replica.{with_entries, with_taken};
+ghost use Rattle.room_watch.specs.steps.Lines.{added_line, added_lines};
+
+use crate::watch::{
+    WatchFault, connect, line_of, reply_to, session_over, show_room, status_of, write_lines,
+};
+use base_types::RoomName;
+use command_fault::Fault;
+use late_join::Replica;
+use rules::Entry;
+use std::alloc::Global;
+use std::io::{Read, Write};
+use std::net::Net;
+use std::random::RandomSource;
+use std::sync::Arc;
+use std::thread;
+use std::time::{Clock, Duration};
+use tungstenite::{MaskKeys, WebSocket};
+use wire::{Reply, Request};
+
+/// The pause after a wait that brought no entry, in milliseconds. Few come from a server that holds
+/// waits.
+const PAUSE_MILLISECONDS: u64 = 100;
+
+/// Takes an entry, and adds the line of the object that it creates or changes.
+fn take_entry(
+    alloc: Global,
+    replica: &mut Replica,
+    entry: &Entry,
+    lines: &mut String,
+) -> Result<(), WatchFault>
+    ensures taken { OnOk result (replica.new ≡ with_taken replica.old entry.now) }
+    ensures lines { OnOk result (string_bytes lines.new
+        ≡ string_bytes lines.old ++ added_line replica.old.taken entry.now) }
+{
+    let copy = entry.copy(alloc)?;
+    replica.take(alloc, copy)?;
+    if let Entry::Operation(op) = entry {
+        let line = line_of(alloc, replica, op.object())?;
+        lines.push_str(line.as_str())?;
+    }
+    Ok(())
+}
+
+/// Takes entries of the record in order. Returns the lines that they add: for each operation what
+/// the replica then shows of the object that it creates or changes.
+///
+/// # Errors
+/// `Session` if the replica refused an entry. Those before it were taken.
+/// `NoMemory` if an allocation failed. Some of the entries may have been taken.
+pub fn lines_of_entries(
+    alloc: Global,
+    replica: &mut Replica,
+    entries: &[Arc<Entry>],
+) -> Result<String, WatchFault>
+    ensures taken { OnOk result
+        (replica.new ≡ with_entries replica.old (map arc_value entries.now)) }
+    ensures lines { IfOk result (λ lines. string_bytes lines
+        ≡ added_lines replica.old.taken (map arc_value entries.now)) }
+{
+    let mut lines = String::new(alloc);
+    for entry in entries {
+        take_entry(alloc, replica, entry, &mut lines)?;
+    }
+    Ok(lines)
+}
+
+/// Waits for entries, and takes them. Returns the lines that they add, or `None` if none came.
+fn news<S: Read + Write + Drop, K: MaskKeys + Drop>(
+    alloc: Global,
+    socket: &mut WebSocket<S, K>,
+    replica: &mut Replica,
+) -> Result<Option<String>, WatchFault> {
+    let from = replica.count_taken();
+    let reply = reply_to(alloc, socket, &Request::Pull { from, waits: true })?;
+    let Reply::Entries {
+        at: _,
+        from: place,
+        entries,
+    } = reply
+    else {
+        return Err(WatchFault::Session);
+    };
+    if place != from {
+        return Err(WatchFault::Session);
+    }
+    if entries.as_slice().is_empty() {
+        return Ok(None);
+    }
+    Ok(Some(lines_of_entries(alloc, replica, entries.as_slice())?))
+}
+
+/// Writes the lines of news until the session or the output fails. Returns the fault.
+fn follow<C, S, K, W>(
+    clock: &C,
+    alloc: Global,
+    socket: &mut WebSocket<S, K>,
+    replica: &mut Replica,
+    output: &mut W,
+) -> Result<(), WatchFault>
+where
+    C: Clock,
+    S: Read + Write + Drop,
+    K: MaskKeys + Drop,
+    W: Write,
+{
+    for _wait in 0..u64::MAX {
+        match news(alloc, socket, replica)? {
+            Some(lines) => write_lines(output, lines.as_str())?,
+            None => thread::sleep(clock, Duration::from_millis(PAUSE_MILLISECONDS)),
+        }
+    }
+    Err(WatchFault::Session)
+}
+
+/// Enters the room of this name over a stream, and writes the lines that `watch_over` writes. Then
+/// it waits for each new entry, and takes it. For an entry that creates or changes an object it
+/// writes the object's line again, as the record up to this entry shows it. Writes the lines of
+/// each page by one call. It goes on until something fails, so the result is never `Ok`.
+///
+/// # Errors
+/// `Session` if the stream ended or failed, or the server sent an unexpected message.
+/// `Write` if the output failed, as when its reader has gone away.
+/// `NoMemory` if an allocation failed.
+pub fn follow_over<R, S, W>(
+    rt: &R,
+    alloc: Global,
+    stream: S,
+    room: &RoomName,
+    output: &mut W,
+) -> Result<(), WatchFault>
+where
+    R: RandomSource + Clock,
+    S: Read + Write + Drop,
+    W: Write,
+{
+    let mut socket = session_over(rt, alloc, stream)?;
+    let mut replica = show_room(alloc, &mut socket, room, output)?;
+    follow(rt, alloc, &mut socket, &mut replica, output)
+}
+
+/// Connects, shows the room, and follows it.
+fn connect_and_follow<R, W>(
+    rt: &R,
+    alloc: Global,
+    address: &str,
+    room: &str,
+    output: &mut W,
+) -> Result<(), Fault>
+where
+    R: Net + RandomSource + Clock,
+    W: Write,
+{
+    let room = RoomName::parse(alloc, room.as_bytes())?;
+    let stream = connect(rt, address)?;
+    follow_over(rt, alloc, stream, &room, output)?;
+    Ok(())
+}
+
+/// Shows the objects of the room of this name on the server at this address, and then each change
+/// as it comes. Returns the exit status when something has failed:
+///
+/// - 2 for a bad room name;
+/// - 3 if connecting, the session or the output failed, also at the end of the connection;
+/// - 4 if an allocation failed.
+///
+/// It writes a line to `errors`.
+pub fn follow_at<R, W, E>(
+    rt: &R,
+    alloc: Global,
+    address: &str,
+    room: &str,
+    output: &mut W,
+    errors: &mut E,
+) -> u8
+where
+    R: Net + RandomSource + Clock,
+    W: Write,
+    E: Write,
+{
+    status_of(connect_and_follow(rt, alloc, address, room, output), errors)
+}

@@ -1,0 +1,155 @@
+//! A line over a stream of memory: it reads, has what came served, and writes what may leave.
+
+use connection::{Connection, End, Head, read_head, write_switching};
+use loops::{Client, Ending, Service};
+use room_lock::{Keeper, Prefix, RoomHistories};
+use sessions::{Host, Observer, Session};
+use std::alloc::Global;
+use std::io::{Read, Write};
+use std::sync::Wait;
+use wire_reader::Scratch;
+
+/// The most bytes of a read.
+const CHUNK: usize = 4096;
+
+/// A server's close of 1011.
+const CLOSE_FOR_FAULT: &[u8] = b"\x88\x02\x03\xf3";
+
+/// A stream, and what is to be written to it.
+#[derive(Drop)]
+struct Line<S> {
+    alloc: Global,
+    stream: S,
+    output: Vec<u8>,
+}
+
+/// Serves a session over a stream from its handshake to its end, as a loop does over a socket.
+pub(super) fn serve_one<P, R, S, O, K>(host: &Host<'_, P, R, O, K>, client: &Client, stream: S)
+where
+    P: RoomHistories,
+    R: Wait,
+    S: Read + Write + Drop,
+    O: Observer,
+    K: Keeper<P>,
+{
+    let mut line = Line {
+        alloc: host.alloc,
+        stream,
+        output: Vec::new(host.alloc),
+    };
+    host.before_session();
+    match line.open() {
+        Some(rest) => line.serve(host, client, rest),
+        None => host.after_session(client, None, Ending::NoHandshake),
+    }
+}
+
+impl<S: Read + Write> Line<S> {
+    /// Appends what the stream gives. `None` at its end, at its fault and without memory.
+    fn read(&mut self, bytes: &mut Vec<u8>) -> Option<()> {
+        let mut chunk = [0; CHUNK];
+        match self.stream.read(&mut chunk) {
+            Ok(0) | Err(_) => None,
+            Ok(count) => bytes.extend_from_slice(&chunk[..count]).ok(),
+        }
+    }
+
+    /// Writes the output. `None` at a fault of the stream, after which nothing of it is left.
+    fn send(&mut self) -> Option<()> {
+        if self.output.is_empty() {
+            return Some(());
+        }
+        let written = self.stream.write_all(&self.output);
+        self.output.clear();
+        written.ok()?;
+        self.stream.flush().ok()
+    }
+
+    /// Performs the handshake. Returns the bytes behind the head, or `None` if there is none.
+    fn open(&mut self) -> Option<Vec<u8>> {
+        let mut head = Vec::new(self.alloc);
+        for _ in 0..usize::MAX {
+            self.read(&mut head)?;
+            match read_head(&head) {
+                Head::Partial => {}
+                Head::Upgrade { accept_key, len } => {
+                    write_switching(&accept_key, &mut self.output).ok()?;
+                    self.send()?;
+                    let len = len.min(head.len());
+                    return head[len..].to_vec(self.alloc).ok();
+                }
+                Head::Probe | Head::Refused => return None,
+            }
+        }
+        None
+    }
+
+    /// Serves the session after its handshake.
+    fn serve<P, R, O, K>(&mut self, host: &Host<'_, P, R, O, K>, client: &Client, rest: Vec<u8>)
+    where
+        P: RoomHistories,
+        R: Wait,
+        O: Observer,
+        K: Keeper<P>,
+    {
+        let mut connection = Connection::open(host.alloc, host.new_session());
+        let ending = self.serve_all(host, &mut connection, rest);
+        let _ = self.send();
+        host.after_session(client, Some(connection.end()), ending);
+    }
+
+    /// Serves what comes to the end. Returns why it ends.
+    fn serve_all<P, R, O, K>(
+        &mut self,
+        host: &Host<'_, P, R, O, K>,
+        connection: &mut Connection<Session<P>, Prefix<P>>,
+        rest: Vec<u8>,
+    ) -> Ending
+    where
+        P: RoomHistories,
+        R: Wait,
+        O: Observer,
+        K: Keeper<P>,
+    {
+        let mut scratch = Scratch::new(host.alloc);
+        let mut bytes = rest;
+        for _ in 0..usize::MAX {
+            let served = connection.receive(host, &mut scratch, &bytes);
+            if let Err(End::NoMemory | End::Stray) = served {
+                let _ = connection.close_for_fault();
+            }
+            if let Err(end) = self.release(host, connection) {
+                let _ = self.output.extend_from_slice(CLOSE_FOR_FAULT);
+                return Ending::Connection(end);
+            }
+            if let Err(end) = served {
+                return Ending::Connection(end);
+            }
+            bytes.clear();
+            if self.send().is_none() || self.read(&mut bytes).is_none() {
+                return Ending::Stream;
+            }
+        }
+        Ending::Stream
+    }
+
+    /// Moves all frames that may leave to the output.
+    fn release<P, R, O, K>(
+        &mut self,
+        host: &Host<'_, P, R, O, K>,
+        connection: &mut Connection<Session<P>, Prefix<P>>,
+    ) -> Result<(), End>
+    where
+        P: RoomHistories,
+        R: Wait,
+        O: Observer,
+        K: Keeper<P>,
+    {
+        for _ in 0..usize::MAX {
+            if !connection.release_first(host, &mut self.output)? {
+                break;
+            }
+        }
+        Ok(())
+    }
+}

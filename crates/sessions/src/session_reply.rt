@@ -1,0 +1,74 @@
+//! The reply to a message, before it is text.
+
+ghost use Rattle.std.specs.Prelude.{◌≡◌, IfOk, None, Some, string_bytes};
+ghost use Rattle.wire.specs.declared.reply.Reply.TheVariants.{No};
+ghost use Rattle.wire.specs.Texts.{reply_text};
+
+use crate::host::Host;
+use crate::observer::Observer;
+use base_types::NoMemory;
+use connection::Answer;
+use room_lock::{Prefix, RoomHistories};
+use std::sync::Wait;
+use wire::{Refusal, Reply, write_reply};
+
+/// A reply, and the prefix of a room's record that it reports on, if it reports on a room.
+#[derive(Drop)]
+pub(crate) struct SessionReply<P: RoomHistories> {
+    pub(crate) reply: Reply,
+    pub(crate) told: Option<Prefix<P>>,
+}
+
+impl<P: RoomHistories> SessionReply<P> {
+    /// The reply of a room whose record was `told` at that time.
+    pub(crate) fn of_room(told: Prefix<P>, reply: Reply) -> SessionReply<P>
+        ensures reply { result.reply ≡ reply }
+        ensures told { result.told ≡ Some told }
+    {
+        SessionReply {
+            reply,
+            told: Some(told),
+        }
+    }
+
+    /// A refusal by the session itself.
+    pub(crate) fn own_refusal(refusal: Refusal) -> SessionReply<P>
+        ensures reply { result.reply ≡ No 0 refusal }
+        ensures told { result.told ≡ None }
+    {
+        SessionReply {
+            reply: Reply::No { at: 0, refusal },
+            told: None,
+        }
+    }
+
+    /// Reports the entry that the room has added with this reply, if there is one: the observer
+    /// hears of it, and the loops in which sessions wait for it are woken.
+    fn tell_growth<R: Wait, O: Observer, K>(&self, host: &Host<'_, P, R, O, K>) {
+        if let Some(told) = &self.told
+            && let Some(kind) = self.reply.entry_kind()
+        {
+            host.observer.after_entry(told.place(), kind);
+            host.bell.ring(host.rt, told.place());
+        }
+    }
+
+    /// The text of the reply, with what it reports. Its entry is reported first, since it stands
+    /// whatever follows.
+    ///
+    /// # Errors
+    /// `NoMemory` if an allocation failed.
+    pub(crate) fn into_answer<R: Wait, O: Observer, K>(
+        self,
+        host: &Host<'_, P, R, O, K>,
+    ) -> Result<Answer<Prefix<P>>, NoMemory>
+        ensures text { IfOk result (λ answer.
+            string_bytes answer.text ≡ reply_text self.reply) }
+        ensures told { IfOk result (λ answer. answer.told ≡ self.told) }
+    {
+        self.tell_growth(host);
+        let text = write_reply(host.alloc, &self.reply)?;
+        let SessionReply { reply: _, told } = self;
+        Ok(Answer { text, told })
+    }
+}

@@ -1,0 +1,57 @@
+//! How a host answers the messages of its sessions, and when it lets the answers leave.
+
+ghost use Rattle.std.specs.Prelude.{◌≡◌};
+
+use crate::cause::{end_of_keep, end_of_message};
+use crate::host::Host;
+use crate::observer::Observer;
+use crate::session::Session;
+use connection::{Answer, End, Talk};
+use room_lock::{Keeper, Prefix, RoomHistories};
+use std::sync::Wait;
+use wire_reader::Scratch;
+
+impl<P: RoomHistories, R: Wait, O: Observer, K: Keeper<P>> Talk for Host<'_, P, R, O, K> {
+    ghost use Rattle.sessions.specs.steps.Faults.{IsMessageFault, IsNotKept};
+    ghost use Rattle.sessions.specs.Turns.{IsTextOfTurn, IsWait};
+
+    type Session = Session<P>;
+
+    type Told = Prefix<P>;
+
+    type Receipt = K::Receipt;
+
+    type Scratch = Scratch;
+
+    ghost turn = { λ host old new bytes text told.
+        IsTextOfTurn P.limits host.rooms.now old new bytes told text };
+
+    ghost waits = { λ _ session bytes. IsWait session bytes };
+
+    ghost fails = { λ host old new bytes end.
+        IsMessageFault P.limits host.rooms.now old new bytes end };
+
+    ghost shows = { λ receipt told. K.shows receipt told };
+
+    ghost lacks = { λ told end. IsNotKept K.fails told end };
+
+    fn hear(
+        &self,
+        session: &mut Session<P>,
+        scratch: &mut Scratch,
+        bytes: &[u8],
+        may_hold: bool,
+    ) -> Result<Option<Answer<Prefix<P>>>, End> {
+        match session.message(self, scratch, bytes, may_hold) {
+            Ok(answer) => Ok(answer),
+            Err(fault) => Err(end_of_message(fault)),
+        }
+    }
+
+    fn receipt(&self, told: &Prefix<P>) -> Result<Option<K::Receipt>, End> {
+        match self.keeper.keep(self.rt, self.alloc, self.rooms, told) {
+            Ok(receipt) => Ok(Some(receipt)),
+            Err(fault) => Err(end_of_keep(fault)),
+        }
+    }
+}

@@ -7,8 +7,9 @@ It measures the program that `./test` proved."""
 import resource
 import time
 
-from lib.websocket_client import TEXT, Connection, frame
 from server import Server, program_of, row, titles, words_of
+
+from lib.websocket_client import TEXT, Connection, frame
 
 FIRST = 1000
 STILL_SECONDS = 10

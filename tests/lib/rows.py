@@ -113,7 +113,7 @@ WAITS = TWO_VERSIONS + """
 3 ["wait",0] -> ["no",0,2,"not-joined"]
 """
 WAIT_FOR_MORE = ONE_PUT + """
-1 ["wait",3] -> ["entries",3,3,[]]
+1 ["wait",4] -> ["entries",4,4,[]]
 """
 REPLACED = ONE_PUT + """
 1 ["put",3,[[1,2]],[1,1],[],[["x",6]]] -> ["taken",4,[[]]]

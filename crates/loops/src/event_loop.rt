@@ -23,6 +23,8 @@ pub(crate) struct EventLoop<S, D, C: Drop> {
     pub(crate) parked: Parked,
     /// The lines with more to do.
     pub(crate) queue: Vec<usize>,
+    /// The lines that had a turn in this round, and whose answers have not left.
+    pub(crate) turned: Vec<Turned>,
     /// Room for what comes.
     pub(crate) news: News,
     pub(crate) bench: Bench<C>,
@@ -32,6 +34,13 @@ pub(crate) struct EventLoop<S, D, C: Drop> {
     pub(crate) swept: u64,
     /// There are no more arrivals.
     pub(crate) is_last: bool,
+}
+
+/// A line that had its turn, and the place that its session was at before.
+#[derive(Clone, Copy, Drop)]
+pub(crate) struct Turned {
+    key: usize,
+    before: Option<usize>,
 }
 
 /// Runs a loop until there are no more arrivals and its last line has ended, or waiting fails.
@@ -57,6 +66,7 @@ where
         lines: Slots::new(shared.alloc),
         parked,
         queue: Vec::new(shared.alloc),
+        turned: Vec::new(shared.alloc),
         news,
         bench: Bench {
             scratch: shared.service.new_scratch(),
@@ -89,8 +99,9 @@ impl<S, D: Drop, C: Drop> EventLoop<S, D, C> {
             .is_ok()
     }
 
-    /// One round: the lines that are reported, those that had more to do, what came by mail, and
-    /// once a second all lines.
+    /// One round: the lines that are reported, those that had more to do, then the answers of all of
+    /// these, what came by mail, and once a second all lines. So what one answer has kept of a room
+    /// serves the answers of the others.
     fn round<R: Wait, V: Service<Session = S, Told = D, Scratch = C>>(
         &mut self,
         shared: &Shared<'_, R, V>,
@@ -106,6 +117,7 @@ impl<S, D: Drop, C: Drop> EventLoop<S, D, C> {
             }
             self.give_turn(shared, key);
         }
+        self.deliver_all(shared);
         self.take_mail(shared);
         if has_passed(self.now, self.swept, SWEEP_MILLIS) {
             self.swept = self.now;
@@ -142,7 +154,38 @@ impl<S, D: Drop, C: Drop> EventLoop<S, D, C> {
             return;
         };
         let before = line.place(shared.service);
-        let next = line.turn(shared, &mut self.bench, self.now);
+        if !line.turn(shared, &mut self.bench, self.now) {
+            self.end_line(shared, key);
+            return;
+        }
+        if self.turned.push(Turned { key, before }).is_err() {
+            self.deliver(shared, key, before);
+        }
+    }
+
+    /// The answers of the lines that had a turn leave.
+    fn deliver_all<R: Wait, V: Service<Session = S, Told = D, Scratch = C>>(
+        &mut self,
+        shared: &Shared<'_, R, V>,
+    ) {
+        let turned = std::mem::replace(&mut self.turned, Vec::new(shared.alloc));
+        for Turned { key, before } in turned {
+            self.deliver(shared, key, before);
+        }
+    }
+
+    /// The answers of a line leave, and it waits for news if it has to. Its session was at the place
+    /// `before` its turn.
+    fn deliver<R: Wait, V: Service<Session = S, Told = D, Scratch = C>>(
+        &mut self,
+        shared: &Shared<'_, R, V>,
+        key: usize,
+        before: Option<usize>,
+    ) {
+        let Some(line) = self.lines.get_mut(key) else {
+            return;
+        };
+        let next = line.deliver(shared, self.now);
         self.follow(shared, key, next);
         self.park(shared, key, before, None);
     }

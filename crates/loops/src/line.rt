@@ -137,30 +137,28 @@ impl<S, D: Drop> Line<S, D> {
         )
     }
 
-    /// A turn: sends what waits, reads once or serves more of what was read, and sends what is
-    /// kept.
+    /// A turn: sends what waits, and reads once or serves more of what was read. Returns false if the
+    /// stream has failed, or has ended and nothing is left to do.
     pub(crate) fn turn<R: Wait, V: Service<Session = S, Told = D>>(
         &mut self,
         shared: &Shared<'_, R, V>,
         bench: &mut Bench<V::Scratch>,
         now: u64,
-    ) -> Next
+    ) -> bool
     where
         V::Scratch: Drop,
     {
         if !self.send(now) {
-            return Next::Ends;
+            return false;
         }
         match next_step(self.load(), self.readiness.is_readable) {
-            Step::Read => {
-                if !self.read(shared, bench, now) {
-                    return Next::Ends;
-                }
+            Step::Read => self.read(shared, bench, now),
+            Step::GoOn => {
+                self.receive(shared, &mut bench.scratch, &[], now);
+                true
             }
-            Step::GoOn => self.receive(shared, &mut bench.scratch, &[], now),
-            Step::Rest => {}
+            Step::Rest => true,
         }
-        self.deliver(shared, now)
     }
 
     /// Hears the held message again. Without `may_hold` it is answered. Sends what is kept.

@@ -100,6 +100,7 @@ impl<S, D: Drop, C: Drop> EventLoop<S, D, C> {
             lines,
             parked: _,
             queue: _,
+            turned: _,
             mut news,
             bench: _,
             now: _,

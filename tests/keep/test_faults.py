@@ -1,6 +1,7 @@
 """Full disks, and files whose writes and syncs fail."""
 
 import errno
+import http.client
 import os
 import pathlib
 import shutil
@@ -30,16 +31,27 @@ def put(seq):
     return compact(["put", seq, [[1, seq - 1]], [1, 1], [], LARGE])
 
 
+def health_of(server):
+    """Returns the status and the body of the answer to a probe."""
+    connection = http.client.HTTPConnection(*server.address, timeout=SECONDS)
+    connection.request("GET", "/health")
+    answer = connection.getresponse()
+    return answer.status, answer.read()
+
+
 def test_full_disk():
     """When the disk is full, the server closes the sessions that would add entries. Requests that add none still get
-    replies. Once there is space, the same server continues, with all entries."""
+    replies, and a probe hears which room is not kept. Once there is space, the same server continues, with all
+    entries."""
     with mounted("size=64k") as folder:
         ballast = pathlib.Path(folder) / "ballast"
         ballast.write_bytes(b"x" * 16384)
-        with KeepingServer(folder, ["r", "s"], sessions=4, workers=4) as server:
+        with KeepingServer(folder, ["r", "s"], sessions=5, workers=4) as server:
             other = server.client()
             other.expect_reply('["join","s"]', '["joined",0,1]')
+            expect_equal("the health", health_of(server), (200, b"ok\n"))
             made = fill_disk(server)
+            expect_equal("the health", health_of(server), (503, b"room r is not kept\n"))
             other.expect_reply('["pull",0]', '["entries",1,0,[["join",1]]]')
             expect_not_kept(server.client(), '["back","r",1]')
             other.expect_reply('["list",0]', '["objects",1,0,0,[]]')
@@ -47,7 +59,10 @@ def test_full_disk():
             client = server.client()
             client.expect_reply('["back","r",1]', compact(["back", made + 1, 1, made]))
             client.expect_reply(put(made + 1), compact(["taken", made + 1, [[]]]))
-            records = server.finish({2: NOT_KEPT, 3: NOT_KEPT})
+            expect_equal("the health", health_of(server), (200, b"ok\n"))
+            server.client()
+            # A session's number is that of its connection, and the probes have 2, 4 and 7.
+            records = server.finish({3: NOT_KEPT, 5: NOT_KEPT})
             expect_equal("the file", whole_lines(folder, "r"), records["r"])
 
 

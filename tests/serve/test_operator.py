@@ -1,6 +1,7 @@
 """What an operator sees: the client of a session, reports, warnings before a limit, and probes."""
 
 import pathlib
+import resource
 import socket
 import tempfile
 import time
@@ -18,6 +19,7 @@ ANSWER = (
 FULL = (
     b"HTTP/1.1 503 Service Unavailable\r\nRetry-After: 5\r\nContent-Length: 0\r\nConnection: close\r\n\r\n"
 )
+NO_DESCRIPTOR = "no descriptor is left for another connection"
 PROBE = b"GET /health HTTP/1.1\r\nHost: localhost\r\nUser-Agent: monitor\r\n\r\n"
 
 
@@ -199,6 +201,27 @@ def test_without_end():
             client.close()
         await_report(server, report_of(server, 0, 40, {"r": (40, 40, 0)}))
         expect_equal("the status", server.process.poll(), None)
+
+
+def test_no_descriptor():
+    """Where no descriptor is left, the server warns, and accepts the next client when one is free. It warns again only
+    after it accepted a client at once."""
+    with Server(5, 1) as server:
+        first = server.client()
+        first.expect_reply(JOIN, '["joined",0,1]')
+        used = max(int(entry.name) for entry in pathlib.Path(f"/proc/{server.process.pid}/fd").iterdir()) + 1
+        resource.prlimit(server.process.pid, resource.RLIMIT_NOFILE, (used + 1, used + 1))
+        second = server.client()
+        others = [server.connect() for _ in range(3)]
+        wait_until("a warning", lambda: server.notices() == [("WARN", NO_DESCRIPTOR)])
+        first.expect_reply('["leave"]', '["left",1]')
+        for client in (first, second):
+            client.close()
+        for other in others:
+            other.open()
+            other.close()
+        server.finish()
+        expect_equal("the notices", set(server.other_notices), {("WARN", NO_DESCRIPTOR)})
 
 
 # ---- probes

@@ -1,8 +1,7 @@
 #!/usr/bin/env python3
 """Measures `grace serve` on loopback, and prints a Markdown table, with clients each in a room of its own and all in
 one room. It has puts a second, the median and 99th percentile of the time to a reply, and the server's processor time a
-put. The clients are bench/load.rs, which
-`rustc` compiles. They share the cores with the server, so the figures are for
+put. The clients are bench/load.rs, which `rustc` compiles. They share the cores with the server, so the figures are for
 one machine that runs both. Each run has a fresh server. Times are the median of the runs; processor time is that of all
 runs. Run it from anywhere. It measures the program that `./test` proved."""
 
@@ -35,27 +34,33 @@ def client_program():
         yield load
 
 
+def load_rooms(load, server, clients, puts, in_flight, rooms):
+    """Runs the clients once in these rooms of a server."""
+    command = [load, server.name, *map(str, (clients, puts, in_flight)), *rooms]
+    loading = subprocess.Popen(command, stdin=subprocess.PIPE, stdout=subprocess.PIPE, text=True)
+
+    def next_words():
+        loading.stdin.write("\n")
+        loading.stdin.flush()
+        return loading.stdout.readline().split()
+
+    if loading.stdout.readline() != "ready\n":
+        sys.exit("bench: the clients did not get ready")
+    before = server.processor()
+    done = next_words()
+    after = server.processor()
+    times = next_words()
+    if loading.wait(SECONDS) != 0 or len(done) != 2 or len(times) != 2:
+        sys.exit("bench: the clients did not end well")
+    return Run(int(done[1]) / 1e9, int(times[0]) / 1e3, int(times[1]) / 1e3, after - before)
+
+
 def measure(load, clients, puts, in_flight, rooms, keep=None):
     """Runs the clients once with a fresh server."""
     with Server(clients, rooms, keep=keep) as server:
-        command = [load, server.name, *map(str, (clients, puts, in_flight)), *rooms]
-        loading = subprocess.Popen(command, stdin=subprocess.PIPE, stdout=subprocess.PIPE, text=True)
-
-        def next_words():
-            loading.stdin.write("\n")
-            loading.stdin.flush()
-            return loading.stdout.readline().split()
-
-        if loading.stdout.readline() != "ready\n":
-            sys.exit("bench: the clients did not get ready")
-        before = server.processor()
-        done = next_words()
-        after = server.processor()
-        times = next_words()
-        if loading.wait(SECONDS) != 0 or len(done) != 2 or len(times) != 2:
-            sys.exit("bench: the clients did not end well")
+        run = load_rooms(load, server, clients, puts, in_flight, rooms)
         server.expect_entries(clients // len(rooms) * (1 + -(-puts // PUTS_AN_OBJECT) + puts))
-        return Run(int(done[1]) / 1e9, int(times[0]) / 1e3, int(times[1]) / 1e3, after - before)
+        return run
 
 
 def figures(runs, puts):

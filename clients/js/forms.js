@@ -42,12 +42,13 @@ const WORDS = {
   "gone": "Somebody deleted this version, so please choose another one.",
   "no-such-site": "The room does not know your site.",
   "site-in-use": "Another connection is using your site.",
+  "not-served": "The server cannot serve this room now.",
   "closed": "The room was closed before the server accepted the change.",
   "withdrawn": "The server refused an earlier change to this object.",
   "another-room": "The room was started again without this change.",
   "too-long": "The change is too long for one message.",
 }
-const CODES = Object.keys(WORDS).slice(0, 20)
+const CODES = Object.keys(WORDS).slice(0, 21)
 
 /**
  * The server or this library refused a change or a join, which then has no effect. `message` is a sentence for people.
@@ -59,7 +60,7 @@ export class Refused extends Error {
     this.name = "Refused"
     /** The word of the refusal, as the parameter. */
     this.word = word
-    /** The server's code, from 1 to 20; 0 for the library's own words. */
+    /** The server's code, from 1 to 21; 0 for the library's own words. */
     this.code = CODES.indexOf(word) + 1
   }
 }

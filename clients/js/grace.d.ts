@@ -80,6 +80,7 @@ export type ServerWord =
   | "bad-message" | "not-joined" | "already-joined" | "no-such-room" | "room-full" | "record-full" | "wrong-seq"
   | "own-count" | "ahead" | "not-closed" | "no-such-object" | "no-such-version" | "object-full" | "too-many-keys"
   | "too-many-versions" | "too-many-objects" | "too-far" | "gone" | "no-such-site" | "site-in-use"
+  | "not-served"
 /** The library's own words for refusals. */
 export type OwnWord = "closed" | "withdrawn" | "another-room" | "too-long"
 
@@ -90,7 +91,7 @@ export class Refused extends Error {
   constructor(word: ServerWord | OwnWord)
   readonly name: "Refused"
   readonly word: ServerWord | OwnWord
-  /** The server's code, from 1 to 20; 0 for the library's own words. */
+  /** The server's code, from 1 to 21; 0 for the library's own words. */
   readonly code: number
 }
 

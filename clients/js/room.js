@@ -22,6 +22,7 @@ import { Waits } from "./waits.js"
 
 const OTHER_ROOM = "The room was started again, and your old drawing is not in it. You can save a copy of it."
 const STILL_CONNECTED = "The server still has your previous connection. Trying again."
+const NOT_SERVED = "The server cannot serve this room now. Trying again."
 const SHORTER_RECORD = "The room was started again."
 const CANNOT_JOIN = "The server still has your previous connection, and the room is too full for a new one."
 
@@ -32,6 +33,8 @@ const STEADY_MILLISECONDS = 5000
 // The first and the longest pause between attempts to rejoin as a site that the server says is in use.
 const REJOIN_MILLISECONDS = 100
 const LONGEST_REJOIN_MILLISECONDS = 1000
+// How often to ask for a room that the server cannot serve.
+const NOT_SERVED_MILLISECONDS = 1000
 
 /**
  * A client in a room. It shows a prefix of the record, and its own changes as soon as they are made.
@@ -490,13 +493,21 @@ export class Room {
     this.#becomeSite(site)
   }
 
-  /** The reply to `join`. In a full room a client that has a site keeps trying to rejoin. */
+  /**
+   * The reply to `join`. While the server cannot serve the room, the client asks again. In a full room a client that has
+   * a site keeps trying to rejoin.
+   */
   async #requestJoin() {
-    try {
-      return await this.#request(["join", this.#name], "joined")
-    } catch (fault) {
-      const isFull = fault.word === "room-full" || fault.word === "record-full"
-      throw isFull && this.#site !== null ? new Lost(CANNOT_JOIN) : fault
+    for (;;) {
+      try {
+        return await this.#request(["join", this.#name], "joined")
+      } catch (fault) {
+        const isFull = fault.word === "room-full" || fault.word === "record-full"
+        if (isFull && this.#site !== null) throw new Lost(CANNOT_JOIN)
+        if (fault.word !== "not-served") throw fault
+      }
+      if (this.words !== NOT_SERVED) this.#connectionState.connect(NOT_SERVED)
+      await this.#sleep(NOT_SERVED_MILLISECONDS, this.#connection.ended)
     }
   }
 

@@ -2,7 +2,7 @@
    whose names end in `.record`, and syncs of folders. The variable FAILED is the number of the call that fails, from 1.
    FAILURE is its error number. With LASTS all later calls fail too. With SHORT a failing write first writes half of its
    bytes. With the error 0 a write writes only the first half and reports that. The library prints the line `failed` on
-   standard error when it reaches the call. */
+   standard error when it reaches the call. Each sync of the file that SLOW names takes SLOW_MILLIS longer. */
 
 #include <errno.h>
 #include <stdatomic.h>
@@ -11,11 +11,14 @@
 #include <string.h>
 #include <sys/stat.h>
 #include <sys/syscall.h>
+#include <time.h>
 #include <unistd.h>
 
 static atomic_long calls;
 static long failed;
 static int failure, lasts, is_short;
+static const char *slow;
+static long slow_millis;
 
 __attribute__((constructor)) static void begin(void) {
     const char *number = getenv("FAILED"), *error = getenv("FAILURE");
@@ -23,17 +26,26 @@ __attribute__((constructor)) static void begin(void) {
     failure = error ? atoi(error) : EIO;
     lasts = getenv("LASTS") != NULL;
     is_short = getenv("SHORT") != NULL;
+    slow = getenv("SLOW");
+    slow_millis = slow ? atol(getenv("SLOW_MILLIS")) : 0;
+}
+
+static int ends_in(int file, const char *end) {
+    char link[64], path[4096];
+    snprintf(link, sizeof link, "/proc/self/fd/%d", file);
+    ssize_t length = readlink(link, path, sizeof path), most = strlen(end);
+    return length >= most && !memcmp(path + length - most, end, most);
 }
 
 static int is_kept(int file) {
-    static const char end[] = ".record";
-    char link[64], path[4096];
     struct stat status;
-    snprintf(link, sizeof link, "/proc/self/fd/%d", file);
-    ssize_t length = readlink(link, path, sizeof path);
-    if (length < (ssize_t)sizeof end - 1 || fstat(file, &status))
-        return 0;
-    return S_ISDIR(status.st_mode) || !memcmp(path + length - (sizeof end - 1), end, sizeof end - 1);
+    return !fstat(file, &status) && (S_ISDIR(status.st_mode) || ends_in(file, ".record"));
+}
+
+static void pause_if_slow(int file) {
+    struct timespec time = {slow_millis / 1000, slow_millis % 1000 * 1000000};
+    if (slow && ends_in(file, slow))
+        nanosleep(&time, NULL);
 }
 
 static int fails(int file) {
@@ -64,9 +76,15 @@ ssize_t write(int file, const void *bytes, size_t count) {
 
 ssize_t __write(int file, const void *bytes, size_t count) { return write(file, bytes, count); }
 
-int fsync(int file) { return is_failed(file) ? -1 : (int)syscall(SYS_fsync, file); }
+int fsync(int file) {
+    pause_if_slow(file);
+    return is_failed(file) ? -1 : (int)syscall(SYS_fsync, file);
+}
 
-int fdatasync(int file) { return is_failed(file) ? -1 : (int)syscall(SYS_fdatasync, file); }
+int fdatasync(int file) {
+    pause_if_slow(file);
+    return is_failed(file) ? -1 : (int)syscall(SYS_fdatasync, file);
+}
 
 int ftruncate(int file, off_t length) { return is_failed(file) ? -1 : (int)syscall(SYS_ftruncate, file, length); }
 

@@ -19,7 +19,7 @@ from lib.running import OPTIONS
 from lib.serving import CheckFailed, Server, expect_equal, verdict
 
 # The numbers of each: the threads of the server, the longest messages at once, clients after all others, honest clients
-# and hostile ones.
+# and hostile ones. `--crowd` has as many times the last two.
 WORKERS = 4
 LONGEST_AT_ONCE = 64
 AT_THE_END = 64
@@ -181,7 +181,7 @@ class TestHostile:
         self.seed, self.connections = OPTIONS.seed, OPTIONS.connections
         print(f"{self.connections} connections by seed {self.seed}", flush=True)
         rooms = [*APART, *sum(ROOMS, []), LAST]
-        self.honest = DRAWERS * (1 + BACKS)
+        self.honest = OPTIONS.crowd * DRAWERS * (1 + BACKS)
         sessions = LONGEST_AT_ONCE + self.honest + self.connections + AT_THE_END
         self.server = Server(sessions, WORKERS, rooms, idle=IDLE, patience=PATIENCE)
         self.progress = Progress(self.connections)
@@ -226,13 +226,13 @@ class TestHostile:
     def test_hostile_connections_while_others_draw(self):
         """All hostile connections end as they must, and the server answers the honest clients all the while."""
         crowd = Crowd()
-        for number in range(DRAWERS):
+        for number in range(OPTIONS.crowd * DRAWERS):
             room = (ROOMS.shared + APART)[number % 4]
             honest = HonestClient(self, f"{self.seed} {number}", room)
             crowd.start(honest.draw, self.progress, max(1, min(CHANGES, self.connections // 10)))
         crowd.start(self.progress.sample, self.server)
         attackers = Crowd()
-        for _ in range(ATTACKERS):
+        for _ in range(OPTIONS.crowd * ATTACKERS):
             attackers.start(self.attacker, crowd)
         try:
             attackers.end(BOUND)

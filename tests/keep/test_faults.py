@@ -4,21 +4,20 @@ import errno
 import http.client
 import os
 import pathlib
-import shutil
 import subprocess
-import tempfile
+import time
 
 from lib import serving
-from lib.keeping import KeepingServer, room_folder, expect_not_kept, mounted, expect_kept, path_of, whole_lines
+from lib.keeping import FileLibrary, KeepingServer, room_folder, expect_not_kept, mounted, expect_kept, path_of, whole_lines
 from lib.records import compact
 from lib.running import cases
-from lib.serving import ROOT, CheckFailed, Skipped, expect_equal
+from lib.serving import CheckFailed, expect_equal
 from lib.websocket_client import SECONDS, Fault
 
 # The time limit of a test, in seconds.
 BOUND = 600
-NOT_KEPT = "record not kept"
 JOIN = '["join","r"]'
+NOT_SERVED = '["no",0,21,"not-served"]'
 # The attributes of a large put, and the number of such puts that fill the small disk at the latest.
 LARGE, MOST = [[f"key-{number}", "x" * 256] for number in range(16)], 40
 
@@ -39,30 +38,47 @@ def health_of(server):
     return answer.status, answer.read()
 
 
+def wait_until_kept(server):
+    """Waits until a probe hears that all rooms are kept, at most five seconds."""
+    bound = time.monotonic() + 5
+    while health_of(server) != (200, b"ok\n"):
+        if time.monotonic() > bound:
+            raise CheckFailed("the rooms are not kept after five seconds")
+        time.sleep(0.05)
+
+
 def test_full_disk():
-    """When the disk is full, the server closes the sessions that would add entries. Requests that add none still get
-    replies, and a probe hears which room is not kept. Once there is space, the same server continues, with all
-    entries."""
+    """While the disk is full, the server closes the sessions whose replies it cannot keep, and lets no new site into
+    the room. A probe hears which room it is, and other rooms go on. Once there is space, the server tries again by
+    itself, with all entries. Visitors that waited have used up no join. The log has one line at the begin and one at the
+    end."""
     with mounted("size=64k") as folder:
         ballast = pathlib.Path(folder) / "ballast"
         ballast.write_bytes(b"x" * 16384)
-        with KeepingServer(folder, ["r", "s"], sessions=5, workers=4) as server:
+        with KeepingServer(folder, ["r", "s"], sessions=24, workers=4) as server:
             other = server.client()
             other.expect_reply('["join","s"]', '["joined",0,1]')
             expect_equal("the health", health_of(server), (200, b"ok\n"))
             made = fill_disk(server)
             expect_equal("the health", health_of(server), (503, b"room r is not kept\n"))
+            visitors = [server.client() for _ in range(20)]
+            for visitor in visitors * 3:
+                visitor.expect_reply(JOIN, NOT_SERVED)
             other.expect_reply('["pull",0]', '["entries",1,0,[["join",1]]]')
             expect_not_kept(server.client(), '["back","r",1]')
             other.expect_reply('["list",0]', '["objects",1,0,0,[]]')
             ballast.unlink()
+            wait_until_kept(server)
             client = server.client()
             client.expect_reply('["back","r",1]', compact(["back", made + 1, 1, made]))
             client.expect_reply(put(made + 1), compact(["taken", made + 1, [[]]]))
-            expect_equal("the health", health_of(server), (200, b"ok\n"))
-            server.client()
-            # A session's number is that of its connection, and the probes have 2, 4 and 7.
-            records = server.finish({3: NOT_KEPT, 5: NOT_KEPT})
+            for number, visitor in enumerate(visitors, 2):
+                visitor.expect_reply(JOIN, compact(["joined", made + number, number]))
+            records = server.finish()
+            expect_equal("the notices", server.other_notices, [
+                ("ERROR", f"{folder}/r.record is not kept: No space left on device (os error 28)"),
+                ("INFO", f"{folder}/r.record is kept again"),
+            ])
             expect_equal("the file", whole_lines(folder, "r"), records["r"])
 
 
@@ -87,7 +103,7 @@ def test_full_to_the_end():
         with KeepingServer(folder, sessions=1) as server:
             fill_disk(server)
             server.expect_exit(3, "grace: room not kept")
-            expect_equal("the warnings", server.error_lines()[:-1], server.error_lines()[:1])
+            expect_equal("the number of other lines", len(server.error_lines()), 2)
             transcripts = server.transcripts()
         expect_kept(folder, ["r"], transcripts)
 
@@ -112,22 +128,17 @@ def test_full_at_the_start():
 # ---- each call
 
 
-class FailingLibrary:
+class FailingLibrary(FileLibrary):
     """A library that makes file calls fail, and the environment that selects the failing call by its number."""
 
     def __init__(self, failure, *words):
-        if not shutil.which("cc"):
-            raise Skipped("there is no C compiler")
-        self.folder = tempfile.TemporaryDirectory()
-        self.library = f"{self.folder.name}/fail_file.so"
-        source = ROOT / "tests/faults/fail_file.c"
-        subprocess.run(["cc", "-O2", "-shared", "-fPIC", "-o", self.library, source], check=True)
+        super().__init__()
         self.settings = {"FAILURE": str(failure), **{word: "1" for word in words}}
         self.room_recovers = failure == errno.ENOSPC and not words
 
     def at(self, number):
         """Returns the environment in which the call of this number fails."""
-        return {"LD_PRELOAD": self.library, "FAILED": str(number), **self.settings}
+        return self.variables(FAILED=number, **self.settings)
 
 
 def operations(site):
@@ -185,12 +196,18 @@ def reaches_call(failer, number):
                 return False
             site = server.clients[0].transcript.site
             if failer.room_recovers:
+                wait_until_kept(server)
                 expect_equal("whether the room continues", draw_all(server.client(), site), True)
                 server.clients[1].close()
                 server.output()
                 expect_equal("the status", server.process.returncode, 0)
             else:
-                expect_not_kept(server.client(), compact(["join", "r"] if site is None else ["back", "r", site]))
+                client = server.client()
+                if site is None:
+                    client.expect_reply(JOIN, NOT_SERVED)
+                    client.close()
+                else:
+                    expect_not_kept(client, compact(["back", "r", site]))
                 server.expect_exit(3, "grace: room not kept")
             transcripts = server.transcripts()
         expect_kept(folder, ["r"], transcripts)

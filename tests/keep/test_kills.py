@@ -19,6 +19,7 @@ from lib.websocket_client import SECONDS, Ended
 BOUND = 600
 ROOMS = ["a", "b", "c", "d"]
 CLIENTS = 32
+WORKERS = 4
 # The longest run of a server before its end, and the longest pause of a client after an operation, in seconds.
 RUN, PAUSE = 2.0, 0.03
 
@@ -88,7 +89,7 @@ def share_progress(people):
 def end_under_load(people, folder, transcripts, by):
     """Runs a server while all draw, and ends it at a random moment. Its files must match the transcripts, which are
     returned."""
-    with KeepingServer(folder, ROOMS, 2 * CLIENTS, CLIENTS, before=transcripts) as server:
+    with KeepingServer(folder, ROOMS, 2 * len(people), WORKERS, before=transcripts) as server:
         crowd = Crowd()
         for person in people:
             crowd.start(person.draw, server.connect())
@@ -103,14 +104,14 @@ def end_under_load(people, folder, transcripts, by):
 
 
 def end_repeatedly(times, by):
-    """32 clients draw in four rooms. The server is ended this many times and started again. No confirmed entry is lost,
+    """32 clients, or `--crowd` times as many, draw in four rooms. The server is ended this many times and started again. No confirmed entry is lost,
     and at the end the files equal the server's output."""
-    people = [Person(number, ROOMS[number % len(ROOMS)]) for number in range(CLIENTS)]
+    people = [Person(number, ROOMS[number % len(ROOMS)]) for number in range(OPTIONS.crowd * CLIENTS)]
     transcripts = []
     with room_folder() as folder:
         for _ in range(times):
             transcripts = end_under_load(people, folder, transcripts, by)
-        with KeepingServer(folder, ROOMS, CLIENTS, CLIENTS, before=transcripts, patience=6 * SECONDS) as server:
+        with KeepingServer(folder, ROOMS, len(people), WORKERS, before=transcripts, patience=6 * SECONDS) as server:
             crowd = Crowd()
             for person in people:
                 crowd.start(person.finish, server.connect())

@@ -3,12 +3,13 @@
 import contextlib
 import os
 import pathlib
+import shutil
 import signal
 import subprocess
 import tempfile
 
 from lib.records import compare_record, transcript_lines
-from lib.serving import Server, Skipped, expect_equal, run, verdict
+from lib.serving import ROOT, Server, Skipped, expect_equal, run, verdict
 from lib.websocket_client import CLOSE, SECONDS, closing
 
 # The notice of the library that makes file calls fail.
@@ -37,6 +38,22 @@ class KeepingServer(Server):
         """Expects that the program exits with this status and this last line on standard error."""
         self.output()
         expect_equal("the end", (self.process.returncode, self.error_lines()[-1:]), (status, [line]))
+
+
+class FileLibrary:
+    """A library for LD_PRELOAD that makes calls on rooms' files fail or slow (tests/faults/fail_file.c)."""
+
+    def __init__(self):
+        if not shutil.which("cc"):
+            raise Skipped("there is no C compiler")
+        self.folder = tempfile.TemporaryDirectory()
+        self.path = f"{self.folder.name}/fail_file.so"
+        source = ROOT / "tests/faults/fail_file.c"
+        subprocess.run(["cc", "-O2", "-shared", "-fPIC", "-o", self.path, source], check=True)
+
+    def variables(self, **settings):
+        """Returns the environment with the library and these settings."""
+        return {"LD_PRELOAD": self.path, **{name: str(value) for name, value in settings.items()}}
 
 
 def path_of(folder, room):

@@ -20,7 +20,7 @@ TESTS = pathlib.Path(__file__).resolve().parent.parent
 SECONDS = 300
 
 # The command-line options, with their defaults.
-OPTIONS = argparse.Namespace(seed=None, connections=10_000, back=100, times=10)
+OPTIONS = argparse.Namespace(seed=None, connections=10_000, back=100, times=10, crowd=1)
 
 
 class TooLong(Exception):

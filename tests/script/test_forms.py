@@ -377,7 +377,7 @@ NO_REPLIES = """
 ["made",1,[1,1],1]
 ["no",5,5]
 ["no",5,0,"room-full"]
-["no",5,21,"room-full"]
+["no",5,22,"room-full"]
 ["no",5,6,"room-full"]
 ["no",5,5,"room full"]
 ["no",5,"room-full",5]

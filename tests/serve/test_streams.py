@@ -1,12 +1,13 @@
 """Failed handshakes, broken connections, and clients that send or read nothing."""
 
+import resource
 import signal
 import threading
 import time
 
 from lib.handshakes import HANDSHAKES, KEY
 from lib.running import cases
-from lib.serving import CheckFailed, Server, expect_equal
+from lib.serving import CheckFailed, Server, Skipped, expect_equal
 from lib.websocket_client import SECONDS, TEXT, Ended, frame, head, header, new_key
 
 # The --idle time in seconds. It is longer than a loaded machine stalls, so that the server ends no other session.
@@ -54,6 +55,39 @@ def test_head_in_pieces():
         client.read_answer(key)
         client.expect_reply(JOIN, '["joined",0,1]')
         server.finish()
+
+
+def allow_descriptors(count):
+    """Lets this process, and the server that it starts, have so many open files."""
+    soft, hard = resource.getrlimit(resource.RLIMIT_NOFILE)
+    if hard < count:
+        raise Skipped("too few open files are allowed")
+    resource.setrlimit(resource.RLIMIT_NOFILE, (max(soft, count), hard))
+
+
+def test_half_heads():
+    """Of more than 1,024 connections without a whole head the oldest end. The others may still send theirs, and an honest
+    client is served at once."""
+    most, more = 1024, 50
+    allow_descriptors(2 * most)
+    with Server(most + more + 1, 1) as server:
+        halves = [server.connect() for _ in range(most + more)]
+        for half in halves:
+            half.send(head(KEY)[:60])
+        start = time.monotonic()
+        expect_next_served(server)
+        passed = time.monotonic() - start
+        if passed > 1:
+            raise CheckFailed(f"an honest client waited {passed:.1f} seconds")
+        for half in halves[: more + 1]:
+            half.expect_end()
+        last = halves[-1]
+        last.send(head(KEY)[60:])
+        last.read_answer(KEY)
+        last.expect_reply(JOIN, '["joined",1,2]')
+        for half in halves[more + 1 : -1]:
+            half.hang_up()
+        server.finish(warnings={half.session: "handshake failed" for half in halves[:-1]})
 
 
 def test_frames_behind_the_head():

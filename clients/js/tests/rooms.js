@@ -195,6 +195,34 @@ async function noSuchRoom(client, server) {
   expectEqual("the words", room.words, "The server has no room with this name.")
 }
 
+/** A socket that answers each request by the next of these replies, and notes the requests. */
+function scriptedSocket(replies, requests) {
+  const socket = {
+    send(text) {
+      requests.push(text)
+      const data = replies.shift()
+      if (data !== undefined) queueMicrotask(() => socket.onmessage({ data }))
+    },
+    close() {},
+  }
+  queueMicrotask(() => socket.onopen())
+  return socket
+}
+
+/** While the server cannot serve the room, the client says so, and asks again over the same connection. */
+async function notServed() {
+  const replies = ['["no",0,21,"not-served"]', '["joined",0,1]', '["entries",1,0,[["join",1]]]']
+  const requests = []
+  const words = []
+  const connect = () => scriptedSocket(replies, requests)
+  const room = new Room("ws://localhost/", "r", { connect })
+  room.on("state", () => words.push(room.words))
+  await waitUntil("the entry", () => room.state === "open")
+  room.close()
+  expectEqual("the requests", requests.slice(0, 3), ['["join","r"]', '["join","r"]', '["pull",0]'])
+  expectEqual("whether it says so", words.includes("The server cannot serve this room now. Trying again."), true)
+}
+
 /** The first program of the README prints the expected output. */
 async function firstProgram(client, server) {
   const text = readFileSync(new URL("../README.md", import.meta.url), "utf8")
@@ -234,6 +262,7 @@ export const TESTS = [
   ["a version is dropped", withServer(dropped)],
   ["a refusal of the server", withServer(takenBack)],
   ["no such room", withServer(noSuchRoom)],
+  ["not served", notServed],
   ["the first program", withServer(firstProgram)],
   ["no WebSocket", noWebSocket],
 ]

@@ -32,19 +32,20 @@ WORDS = {
     "gone": "Somebody deleted this version, so please choose another one.",
     "no-such-site": "The room does not know your site.",
     "site-in-use": "Another connection is using your site.",
+    "not-served": "The server cannot serve this room now.",
     "closed": "The room was closed before the server accepted the change.",
     "withdrawn": "The server refused an earlier change to this object.",
     "another-room": "The room was started again without this change.",
     "too-long": "The change is too long for one message.",
 }
-CODES = {word: code for code, word in enumerate(list(WORDS)[:20], 1)}
+CODES = {word: code for code, word in enumerate(list(WORDS)[:21], 1)}
 
 
 class Refused(Exception):
     """The server or this module refused a change or a join, which then has no effect.
 
     `word` is the server's word, or `closed`, `withdrawn`, `another-room` or `too-long`. `code` is the server's code,
-    from 1 to 20, or 0 for the module's own words. `str` gives a sentence for people."""
+    from 1 to 21, or 0 for the module's own words. `str` gives a sentence for people."""
 
     def __init__(self, word):
         super().__init__(WORDS.get(word, f"The server refused the request: {word}."))

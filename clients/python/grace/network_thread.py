@@ -18,6 +18,7 @@ from .websocket import WebSocket
 
 STILL_CONNECTED = "The server still has your previous connection. Trying again."
 CANNOT_JOIN = "The server still has your previous connection, and the room is too full for a new one."
+NOT_SERVED = "The server cannot serve this room now. Trying again."
 SHORTER_RECORD = "The room was started again."
 CLOSED = "The room was closed."
 
@@ -27,6 +28,8 @@ STEADY_SECONDS = 5
 # The first and the longest pause between attempts to rejoin as a site that the server says is in use.
 REJOIN_SECONDS = 0.1
 LONGEST_REJOIN_SECONDS = 1
+# How often to ask for a room that the server cannot serve.
+NOT_SERVED_SECONDS = 1
 # How long a server may hold the reply to a wait.
 HOLD_SECONDS = 25
 # How long to wait for the server's close frame.
@@ -359,13 +362,20 @@ class NetworkThread:
             self.room_state.become_site(site)
 
     def _request_join(self):
-        """The reply to `join`. In a full room a client that has a site keeps trying to rejoin."""
-        try:
-            return self._request(["join", self.name], "joined")
-        except Refused as refusal:
-            if refusal.word in ("room-full", "record-full") and self.room_state.site is not None:
-                raise Lost(CANNOT_JOIN) from None
-            raise
+        """The reply to `join`. While the server cannot serve the room, the client asks again. In a full room a client
+        that has a site keeps trying to rejoin."""
+        while True:
+            try:
+                return self._request(["join", self.name], "joined")
+            except Refused as refusal:
+                if refusal.word in ("room-full", "record-full") and self.room_state.site is not None:
+                    raise Lost(CANNOT_JOIN) from None
+                if refusal.word != "not-served":
+                    raise
+            with self._locked():
+                if self.connection_state.words != NOT_SERVED:
+                    self.connection_state.connect(NOT_SERVED)
+            self._sleep(NOT_SERVED_SECONDS)
 
     def _load(self):
         """Pulls until the client has all entries."""

@@ -12,6 +12,7 @@ from functools import partial
 
 import grace
 from grace import LIMITS, Refused, Room
+from lib.scripted_server import ScriptedServer
 from lib.serving import CheckFailed, Server, expect_equal, free_address
 
 # The limit of each wait, in seconds, long enough for a busy machine.
@@ -295,6 +296,17 @@ def no_such_room():
         expect_equal("the words", (room.state, room.words), ("closed", "The server has no room with this name."))
 
 
+def not_served():
+    """While the server cannot serve the room, the client says so, and asks again over the same connection."""
+    replies = ['["no",0,21,"not-served"]', '["joined",0,1]', '["entries",1,0,[["join",1]]]']
+    events = EventLog("state")
+    with ScriptedServer(replies) as server, Room(server.name, "r", listeners=events.listeners) as room:
+        room.entered(PATIENCE)
+        expect_equal("the requests", server.requests[:3], ['["join","r"]', '["join","r"]', '["pull",0]'])
+    words = [it.words for it in events.of("state")]
+    expect_equal("whether it says so", "The server cannot serve this room now. Trying again." in words, True)
+
+
 def nobody_listens():
     """If nothing listens the client retries, and a close ends that at once."""
     events = EventLog("state")
@@ -327,6 +339,7 @@ TESTS = [
     ("many threads", many_threads),
     ("coming back as a site", as_a_site),
     ("no such room", no_such_room),
+    ("not served", not_served),
     ("nobody listens", nobody_listens),
     ("the module's first program", partial(first_program, grace.__doc__)),
 ]

@@ -21,7 +21,7 @@ fn idle<'a>(alloc: Global) -> Arg<'a> {
         .value_name("SECONDS")
         .action(ArgAction::Set)
         .value_parser(value_parser!(u32))
-        .default_value("300")
+        .default_value("60")
         .help("How long to wait for a silent or blocked client; 0 waits forever")
 }
 

@@ -1,7 +1,9 @@
 //! A connection after its handshake: bytes in, frames out.
 
 ghost use Rattle.std.specs.Prelude.{◌≡◌, ◌≢◌, ◌⊎◌, [], IfErr, None, OnErr, OnOk, Ok, Err, Some};
-ghost use Rattle.std.specs.Prelude.{false, is_some, true, unwrap_or};
+ghost use Rattle.std.specs.Prelude.{◌+◌, false, is_some, length, min, true, unwrap_or};
+ghost use Rattle.connection.specs.Standing.{waiting_len};
+ghost use Rattle.connection.specs.declared.item.TheConstants.{MAX_LOAD};
 ghost use Rattle.connection.specs.Connections.{AnswersHeld, Closes, FailsAnsweringHeld, Receives};
 ghost use Rattle.connection.specs.Connections.{StopsReceiving, opened, stopped};
 ghost use Rattle.connection.specs.Releasing.{IsFirstLost, IsFirstUntold, Released};
@@ -11,6 +13,7 @@ ghost use Rattle.connection.specs.declared.end.End.TheVariants as end;
 use crate::dialogue::Dialogue;
 use crate::end::End;
 use crate::input::Input;
+use crate::item::MAX_LOAD;
 use crate::talk::Talk;
 use std::alloc::Global;
 use std::marker::Model;
@@ -93,6 +96,20 @@ impl<S, D: Drop> Connection<S, D> {
         ensures { result ≡ self.now.is_behind }
     {
         self.is_behind
+    }
+
+    /// How many bytes it holds: those that no frame has taken, and those of the frames that wait.
+    /// `MAX_LOAD` where it holds more.
+    pub fn load(&self) -> usize
+        ensures { result ≡ min (length self.now.input + waiting_len self.now.standing.waiting)
+            MAX_LOAD }
+    {
+        let waiting = self.dialogue.waiting_len(MAX_LOAD);
+        self.input
+            .bytes()
+            .len()
+            .saturating_add(waiting)
+            .min(MAX_LOAD)
     }
 
     /// Serves the whole frames among the bytes that came, in order, until `MAX_WAITING` frames or

@@ -1,6 +1,6 @@
 //! What is said with one client: the session, a message that is held, and the frames that wait.
 
-ghost use Rattle.std.specs.Prelude.{ℕ, List, ◌≡◌, ◌≢◌, ◌⊎◌, ◌++◌, [], ◌∷◌, IfErr, IfOk, IfSome};
+ghost use Rattle.std.specs.Prelude.{ℕ, List, ◌≡◌, ◌≢◌, ◌≤◌, ◌⊎◌, ◌++◌, [], ◌∷◌, IfErr, IfOk, IfSome};
 ghost use Rattle.std.specs.Prelude.{IsSomeAnd, None, Ok, OnErr, OnOk, Some, drop, false, is_some};
 ghost use Rattle.std.specs.Prelude.{min, option_map, string_bytes, true};
 ghost use Rattle.websocket.specs.Connection.{Effect, Sends, read_step};
@@ -10,7 +10,7 @@ ghost use Rattle.websocket.specs.Content.{received_content};
 ghost use Rattle.connection.specs.Receiving.{EndsAt, Received, Stopped, Waits};
 ghost use Rattle.connection.specs.Releasing.{IsFirstLost, IsFirstUntold, Released};
 ghost use Rattle.connection.specs.Standing.{waiting_len};
-ghost use Rattle.connection.specs.declared.item.TheConstants.{MAX_WAITING_LEN};
+ghost use Rattle.connection.specs.declared.item.TheConstants.{MAX_LOAD, MAX_WAITING_LEN};
 ghost use Rattle.connection.specs.Serving.{CannotSend, Does, FailsAtHeld, FailsHearing};
 ghost use Rattle.connection.specs.Serving.{FailsTaking, Freed, HasRoom, Heard, IsFull, StaysHeld};
 ghost use Rattle.connection.specs.Serving.{Takes, queue, queued_reply, sent_text, unheld};
@@ -372,12 +372,21 @@ impl<S, D: Drop> Dialogue<S, D> {
         }
     }
 
+    /// How many bytes wait, and `most` where more do.
+    pub(crate) fn waiting_len(&self, most: usize) -> usize
+        requires { most ≤ MAX_LOAD }
+        ensures { result ≡ min (waiting_len self.now.waiting) most }
+    {
+        waiting_len(&self.waiting, most)
+    }
+
     /// Returns whether so much waits that no more frames are served.
     fn is_full(&self) -> bool
         ensures full { result ≡ true → IsFull self.now.waiting }
         ensures room { result ≡ false → HasRoom self.now.waiting }
     {
-        self.waiting.len() >= MAX_WAITING || waiting_len(&self.waiting) >= MAX_WAITING_LEN
+        self.waiting.len() >= MAX_WAITING
+            || waiting_len(&self.waiting, MAX_WAITING_LEN) >= MAX_WAITING_LEN
     }
 
     /// Ends it, and gives the session back.
@@ -394,13 +403,14 @@ impl<S, D: Drop> Dialogue<S, D> {
     }
 }
 
-/// How many bytes wait, and `MAX_WAITING_LEN` where more do.
-fn waiting_len<D>(waiting: &VecDeque<Item<D>>) -> usize
-    ensures { result ≡ min (waiting_len waiting.now.items) MAX_WAITING_LEN }
+/// How many bytes wait, and `most` where more do.
+fn waiting_len<D>(waiting: &VecDeque<Item<D>>, most: usize) -> usize
+    requires { most ≤ MAX_LOAD }
+    ensures { result ≡ min (waiting_len waiting.now.items) most }
 {
     let mut len: usize = 0;
     for i in 0..waiting.len() {
-        len = len.saturating_add(waiting[i].len()).min(MAX_WAITING_LEN);
+        len = len.saturating_add(waiting[i].len()).min(most);
     }
     len
 }

@@ -10,6 +10,9 @@ pub const MAX_WAITING: usize = 64;
 /// Where the frames that wait have so many bytes, no more of what came is served.
 pub const MAX_WAITING_LEN: usize = 65_536;
 
+/// The most bytes that `Connection::load` counts.
+pub const MAX_LOAD: usize = 16_777_216;
+
 /// A frame that waits to be sent, and what has to be kept before it is.
 #[derive(Drop)]
 pub(crate) struct Item<D> {

@@ -25,13 +25,15 @@ pub enum JournalFault {
     Failed,
 }
 
-/// The fault for an I/O error of this kind.
-fn fault_of_kind(kind: ErrorKind) -> JournalFault
-    ensures { result ≡ fault_of_kind kind }
-{
-    match kind {
-        ErrorKind::StorageFull => JournalFault::Full,
-        _ => JournalFault::Failed,
+impl JournalFault {
+    /// The fault for an error of the system.
+    pub(crate) fn of_error(error: &io::Error) -> JournalFault
+        ensures { result ≡ fault_of_kind (error_kind error.now) }
+    {
+        match error.kind() {
+            ErrorKind::StorageFull => JournalFault::Full,
+            _ => JournalFault::Failed,
+        }
     }
 }
 
@@ -40,13 +42,5 @@ impl From<NoMemory> for JournalFault {
 
     fn from(_fault: NoMemory) -> JournalFault {
         JournalFault::NoMemory
-    }
-}
-
-impl From<io::Error> for JournalFault {
-    ghost from_gives = { λ error fault. fault ≡ fault_of_kind (error_kind error) };
-
-    fn from(error: io::Error) -> JournalFault {
-        fault_of_kind(error.kind())
     }
 }

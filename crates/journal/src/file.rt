@@ -1,10 +1,13 @@
 //! A journal over a file of the operating system.
 
+ghost use Rattle.std.specs.IoError.{error_kind};
 ghost use Rattle.std.specs.Prelude.{◌≡◌, ◌≢◌, ◌+◌, Err, OnErr, OnOk, false, length, true};
+ghost use Rattle.journal.specs.steps.Faults.{fault_of_kind};
 
 use crate::fault::JournalFault;
 use crate::journal::Journal;
 use std::fs::OpenFile;
+use std::io;
 use std::io::Write;
 use std::marker::Model;
 
@@ -18,6 +21,8 @@ pub struct Synced<F> {
     held: u64,
     kept: u64,
     failed: bool,
+    /// The error of the system at the last call that failed by one.
+    error: Option<io::Error>,
 }
 
 impl<F> Model for Synced<F> {
@@ -39,6 +44,7 @@ impl<F> Synced<F> {
             held: len,
             kept: len,
             failed: false,
+            error: None,
         }
     }
 
@@ -47,6 +53,16 @@ impl<F> Synced<F> {
         ensures { result ≡ self.now.kept }
     {
         self.kept
+    }
+
+    /// The fault for an error of the system, which is remembered.
+    fn fail(&mut self, error: io::Error) -> JournalFault
+        ensures fault { result ≡ fault_of_kind (error_kind error) }
+        ensures same { self.new ≡ self.old }
+    {
+        let fault = JournalFault::of_error(&error);
+        self.error = Some(error);
+        fault
     }
 }
 
@@ -73,7 +89,9 @@ impl<F: Write + OpenFile> Journal for Synced<F> {
         let Some(held) = self.held.checked_add(bytes.len() as u64) else {
             return Err(JournalFault::Failed);
         };
-        self.file.write_all(bytes)?;
+        if let Err(error) = self.file.write_all(bytes) {
+            return Err(self.fail(error));
+        }
         self.held = held;
         self.failed = false;
         Ok(())
@@ -91,7 +109,9 @@ impl<F: Write + OpenFile> Journal for Synced<F> {
             return Err(JournalFault::Failed);
         }
         self.failed = true;
-        self.file.sync_data()?;
+        if let Err(error) = self.file.sync_data() {
+            return Err(self.fail(error));
+        }
         self.kept = self.held;
         self.failed = false;
         Ok(())
@@ -104,10 +124,18 @@ impl<F: Write + OpenFile> Journal for Synced<F> {
         ensures memory { result ≢ Err JournalFault.NoMemory }
     {
         self.failed = true;
-        self.file.set_len(self.kept)?;
-        self.file.sync_all()?;
+        if let Err(error) = self.file.set_len(self.kept) {
+            return Err(self.fail(error));
+        }
+        if let Err(error) = self.file.sync_all() {
+            return Err(self.fail(error));
+        }
         self.held = self.kept;
         self.failed = false;
         Ok(())
+    }
+
+    fn error(&self) -> Option<&io::Error> {
+        self.error.as_ref()
     }
 }

@@ -3,6 +3,7 @@
 ghost use Rattle.std.specs.Prelude.{◌≡◌, ◌≢◌, ◌++◌, Err, OnErr, OnOk, option_map};
 
 use crate::fault::JournalFault;
+use std::io;
 
 /// A file that grows at its end and is never overwritten. A type that models its contents gives
 /// them as `held` and `kept`. Both are `None` for a file of the operating system.
@@ -49,4 +50,7 @@ pub trait Journal {
         ensures held { OnOk result (held self.new ≡ kept self.old) }
         ensures kept { kept self.new ≡ kept self.old }
         ensures memory { result ≢ Err JournalFault.NoMemory };
+
+    /// The error of the system at the last call that failed by one, for people.
+    fn error(&self) -> Option<&io::Error>;
 }

@@ -11,6 +11,7 @@ use crate::failures::Failures;
 use crate::fault::JournalFault;
 use crate::journal::Journal;
 use std::alloc::{AllocError, Global};
+use std::io;
 use std::marker::Model;
 
 /// A journal in memory. Contracts see what it holds, what of that is kept, and its schedule of
@@ -142,5 +143,9 @@ impl Journal for Memory {
         }
         self.bytes.truncate(self.synced);
         Ok(())
+    }
+
+    fn error(&self) -> Option<&io::Error> {
+        None
     }
 }

@@ -3,8 +3,8 @@ use Rattle.std.specs.Prelude.{Bool, true, false}
 use Rattle.journal.specs.declared.fault.JournalFault.{JournalFault}
 use Rattle.journal.specs.declared.fault.JournalFault.TheVariants.{NoMemory, Full, Failed}
 use Rattle.room_lock.specs.Passes.{PrefixView}
-use Rattle.room_lock.specs.declared.keeper.KeepFault.{KeepFault}
-use Rattle.room_lock.specs.declared.keeper.KeepFault.TheVariants as keep_fault
+use Rattle.keeper.specs.declared.keeper.KeepFault.{KeepFault}
+use Rattle.keeper.specs.declared.keeper.KeepFault.TheVariants as keep_fault
 use Rattle.keeping.specs.declared.file.Tail.{Tail}
 use Rattle.keeping.specs.declared.file.Tail.TheVariants.{Nothing, Scraps, Broken}
 

@@ -1,24 +1,29 @@
 //! A room's file.
 
-ghost use Rattle.std.specs.Prelude.{◌≡◌, ◌++◌, Err, OnErr, OnOk, IfOk, IfSome, Some, false, true};
+ghost use Rattle.std.specs.Prelude.{◌≡◌, ◌↔◌, ◌++◌, Err, OnErr, OnOk, IfOk, IfSome, IsSome, Some};
+ghost use Rattle.std.specs.Prelude.{false, true};
 ghost use Rattle.std.specs.Prelude.{map, option_map, slice_get};
 ghost use Rattle.std.specs.Arc.{arc_value};
 ghost use Rattle.record_file.specs.RecordText.{AreLines, record_text};
-ghost use Rattle.room_lock.specs.declared.keeper.KeepFault.TheVariants as keep_fault;
+ghost use Rattle.keeper.specs.declared.keeper.KeepFault.TheVariants as keep_fault;
 ghost use Rattle.room_lock.specs.Places.{prefixes_from};
 ghost use Rattle.keeping.specs.declared.file.Tail.TheVariants.{Nothing, Broken};
 ghost use Rattle.keeping.specs.Tails.{fault_of, is_clean, tail_after};
 
+mod clean;
 mod kept;
 
 use base_types::NoMemory;
+pub use clean::Clean;
 use journal::{Journal, JournalFault};
+use keeper::KeepFault;
 pub use kept::Kept;
 use record_file::append;
 use restore::RestoredFile;
-use room_lock::{KeepFault, News, Prefix, RoomHistories, Rooms};
+use room_lock::{News, Prefix, RoomHistories, Rooms};
 use rules::Entry;
 use std::alloc::Global;
+use std::io;
 use std::marker::Model;
 use std::sync::Arc;
 
@@ -77,11 +82,20 @@ impl<P: RoomHistories, J: Journal> RoomFile<P, J> {
         &self.kept
     }
 
-    /// Returns whether the file holds only what it keeps.
-    pub fn is_clean(&self) -> bool
-        ensures { result ≡ is_clean self.now.tail }
+    /// The proof that the file holds only what it keeps, if it does.
+    pub fn clean(&self) -> Option<Clean>
+        ensures some { IsSome result ↔ (is_clean self.now.tail ≡ true) }
+        ensures place { IfSome result (λ clean. clean ≡ self.now.kept.place) }
     {
-        self.tail == Tail::Nothing
+        match self.tail {
+            Tail::Nothing => Some(Clean::of(self.kept.prefix().place())),
+            Tail::Scraps | Tail::Broken => None,
+        }
+    }
+
+    /// The error of the system at the last call on the file that failed by one, for people.
+    pub fn error(&self) -> Option<&io::Error> {
+        self.journal.error()
     }
 
     /// Appends what the room's record has beyond the kept prefix, by one write and one sync. Linear

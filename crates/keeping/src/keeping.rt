@@ -2,19 +2,28 @@
 
 ghost use Rattle.std.specs.Prelude.{◌≡◌};
 
-use crate::file::{Kept, RoomFile};
-use crate::room::KeptRoom;
+use crate::file::{Clean, Kept, RoomFile};
+use crate::orders::Orders;
+use crate::room::{KeptRoom, Standing};
 use base_types::NoMemory;
 use journal::Journal;
-use room_lock::{KeepFault, Keeper, Prefix, RoomHistories, Rooms};
+use keeper::{Attempt, Change, KeepFault, Keeper};
+use room_lock::{Prefix, RoomHistories, Rooms};
 use std::alloc::Global;
 use std::sync::Wait;
+use std::sync::atomic::{AtomicUsize, Ordering};
 
-/// The files of all rooms, by the places of the rooms. Threads that wait for one room's file share
-/// a write and a sync. Threads of different rooms do not wait for each other.
+/// The most threads that write and sync.
+const MAX_THREADS: usize = 16;
+
+/// The files of all rooms, by the places of the rooms. A thread writes and syncs all that a room has
+/// by then for all that wait for it. No two threads write for one room.
 #[derive(Drop)]
 pub struct Keeping<P: RoomHistories, J: Journal> {
     rooms: Vec<KeptRoom<P, J>>,
+    orders: Orders,
+    /// The number of rooms of which the last attempt failed.
+    failing: AtomicUsize,
 }
 
 impl<P: RoomHistories, J: Journal + Drop> Keeping<P, J> {
@@ -27,56 +36,130 @@ impl<P: RoomHistories, J: Journal + Drop> Keeping<P, J> {
         for file in files {
             rooms.push(KeptRoom::new(file))?;
         }
-        Ok(Keeping { rooms })
+        let orders = Orders::new(alloc, rooms.len())?;
+        Ok(Keeping {
+            rooms,
+            orders,
+            failing: AtomicUsize::new(0),
+        })
     }
 
-    /// Returns whether each file holds only what it keeps. False if the last write to some file
-    /// failed.
+    /// Returns whether no room's last attempt failed.
     pub fn all_kept(&self, rt: &impl Wait) -> bool {
-        for room in &self.rooms {
-            if !room.is_clean(rt) {
-                return false;
+        self.first_failing(rt).is_none()
+    }
+
+    /// The place of the first room of which the last attempt failed.
+    fn first_failing(&self, rt: &impl Wait) -> Option<usize> {
+        for (place, room) in self.rooms.iter().enumerate() {
+            if room.state(rt).is_err() {
+                return Some(place);
             }
         }
-        true
+        None
+    }
+
+    /// Counts what an attempt changed.
+    fn count(&self, change: &Option<Change>) {
+        match change {
+            Some(Change::Fails(_)) => {
+                self.failing.fetch_add(1, Ordering::SeqCst);
+            }
+            Some(Change::KeptAgain) => {
+                self.failing.fetch_sub(1, Ordering::SeqCst);
+            }
+            None => {}
+        }
+    }
+
+    /// Keeps what the record of the room at this place has.
+    fn keep_at(
+        &self,
+        rt: &impl Wait,
+        alloc: Global,
+        rooms: &Rooms<P>,
+        place: usize,
+    ) -> Option<Change> {
+        let outcome = self.rooms.get(place)?.keep(rt, alloc, rooms)?;
+        self.count(&outcome.change);
+        if outcome.is_ordered {
+            self.orders.add(rt, place);
+        }
+        outcome.change
     }
 }
 
 impl<P: RoomHistories, J: Journal + Drop> Keeper<P> for Keeping<P, J> {
     ghost use Rattle.keeping.specs.Kept.{IsKeptIn};
+    ghost use Rattle.std.specs.Prelude.{◌≡◌};
 
     type Receipt = Kept<P>;
 
+    type Permit = Clean;
+
     ghost shows = { λ kept told. IsKeptIn kept told };
+
+    ghost permits = { λ clean place. clean ≡ place };
 
     ghost fails = { λ _ told. Unit {0} };
 
-    /// Waits until the room's file keeps this prefix of the room's record. One thread writes all
-    /// that the room has, by one write and one sync, for all that wait.
-    ///
-    /// # Errors
-    /// `NotKept` if the file accepted no more, or there is no such room.
-    /// `NoMemory` if an allocation failed.
-    fn keep(
-        &self,
-        rt: &impl Wait,
-        alloc: Global,
-        rooms: &Rooms<P>,
-        told: &Prefix<P>,
-    ) -> Result<Kept<P>, KeepFault> {
-        match self.rooms.get(told.place()) {
-            Some(room) => room.keep(rt, alloc, rooms, told),
-            None => Err(KeepFault::NotKept),
+    ghost denies = { λ place. Unit {0} };
+
+    fn receipt(&self, rt: &impl Wait, told: &Prefix<P>) -> Result<Option<Kept<P>>, KeepFault> {
+        let place = told.place();
+        let Some(room) = self.rooms.get(place) else {
+            return Err(KeepFault::NotKept);
+        };
+        match room.standing(rt, told)? {
+            Standing::Kept(kept) => Ok(Some(kept)),
+            Standing::Ordered => Ok(None),
+            Standing::New => {
+                self.orders.add(rt, place);
+                Ok(None)
+            }
         }
     }
 
-    /// The place of the first room whose file has failed. Linear in the number of rooms.
+    fn permit(&self, rt: &impl Wait, place: usize) -> Option<Clean> {
+        let clean = self.rooms.get(place)?.state(rt).ok()?;
+        if clean.place() == place {
+            Some(clean)
+        } else {
+            None
+        }
+    }
+
     fn failing(&self, rt: &impl Wait) -> Option<usize> {
+        if self.failing.load(Ordering::SeqCst) == 0 {
+            return None;
+        }
+        self.first_failing(rt)
+    }
+
+    fn count_threads(&self) -> usize {
+        self.rooms.len().min(MAX_THREADS)
+    }
+
+    fn keep_next(&self, rt: &impl Wait, alloc: Global, rooms: &Rooms<P>) -> Option<Attempt> {
+        let place = self.orders.next(rt)?;
+        let change = self.keep_at(rt, alloc, rooms, place);
+        Some(Attempt { place, change })
+    }
+
+    fn retry(&self, rt: &impl Wait) {
+        if self.failing.load(Ordering::SeqCst) == 0 {
+            return;
+        }
         for (place, room) in self.rooms.iter().enumerate() {
-            if !room.is_clean(rt) {
-                return Some(place);
+            if room.is_to_retry(rt) {
+                self.orders.add(rt, place);
             }
         }
-        None
+    }
+
+    /// Records of which the last attempt failed have one more.
+    fn end(&self, rt: &impl Wait) {
+        self.retry(rt);
+        self.orders.end(rt);
     }
 }

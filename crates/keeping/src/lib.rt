@@ -4,7 +4,8 @@
 mod file;
 mod keeping;
 pub mod laws;
+mod orders;
 mod room;
 
-pub use file::{Kept, RoomFile};
+pub use file::{Clean, Kept, RoomFile};
 pub use keeping::Keeping;

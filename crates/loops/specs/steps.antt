@@ -1,5 +1,6 @@
 pub mod Delivering
 pub mod Endings
+pub mod Openings
 pub mod Overdue
 pub mod Places
 pub mod Sending

@@ -122,8 +122,10 @@ impl Bell {
         let rung = watchers.swap(0, Ordering::SeqCst);
         for (number, mailbox) in self.mailboxes.iter().enumerate() {
             if rung & bit_of(number) != 0 {
-                mailbox.mail.lock(rt).add_room(place);
-                mailbox.wake();
+                let is_first = mailbox.mail.lock(rt).add_room(place);
+                if is_first {
+                    mailbox.wake();
+                }
             }
         }
     }

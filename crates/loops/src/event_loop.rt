@@ -4,6 +4,7 @@ use crate::bell::WAKE;
 use crate::ending::Ending;
 use crate::line::{Line, Next};
 use crate::mail::News;
+use crate::openings::Openings;
 use crate::parked::Parked;
 use crate::parts::Parts;
 use crate::service::Service;
@@ -25,6 +26,8 @@ pub(crate) struct EventLoop<S, D, C: Drop> {
     pub(crate) queue: Vec<usize>,
     /// The lines that had a turn in this round, and whose answers have not left.
     pub(crate) turned: Vec<Turned>,
+    /// The lines that began last.
+    pub(crate) openings: Openings,
     /// Room for what comes.
     pub(crate) news: News,
     pub(crate) bench: Bench<C>,
@@ -59,6 +62,7 @@ where
         chunk,
         news,
         parked,
+        openings,
     } = parts;
     let mut served: EventLoop<V::Session, V::Told, V::Scratch> = EventLoop {
         number,
@@ -67,6 +71,7 @@ where
         parked,
         queue: Vec::new(shared.alloc),
         turned: Vec::new(shared.alloc),
+        openings,
         news,
         bench: Bench {
             scratch: shared.service.new_scratch(),
@@ -99,9 +104,9 @@ impl<S, D: Drop, C: Drop> EventLoop<S, D, C> {
             .is_ok()
     }
 
-    /// One round: the lines that are reported, those that had more to do, then the answers of all of
-    /// these, what came by mail, and once a second all lines. So what one answer has kept of a room
-    /// serves the answers of the others.
+    /// One round: the lines that are reported, those that had more to do and those that arrived, then
+    /// the answers of all of these, the news of rooms, and once a second all lines. So what has to be
+    /// kept for the answers is asked for once they are made.
     fn round<R: Wait, V: Service<Session = S, Told = D, Scratch = C>>(
         &mut self,
         shared: &Shared<'_, R, V>,
@@ -117,8 +122,9 @@ impl<S, D: Drop, C: Drop> EventLoop<S, D, C> {
             }
             self.give_turn(shared, key);
         }
-        self.deliver_all(shared);
         self.take_mail(shared);
+        self.deliver_all(shared);
+        self.hear_mail(shared);
         if has_passed(self.now, self.swept, SWEEP_MILLIS) {
             self.swept = self.now;
             self.sweep(shared);
@@ -145,7 +151,7 @@ impl<S, D: Drop, C: Drop> EventLoop<S, D, C> {
     }
 
     /// A line has its turn.
-    fn give_turn<R: Wait, V: Service<Session = S, Told = D, Scratch = C>>(
+    pub(crate) fn give_turn<R: Wait, V: Service<Session = S, Told = D, Scratch = C>>(
         &mut self,
         shared: &Shared<'_, R, V>,
         key: usize,

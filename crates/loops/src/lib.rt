@@ -3,6 +3,7 @@
 #![tactic(auto)]
 
 mod bell;
+mod burden;
 mod client;
 mod ending;
 mod event_loop;
@@ -10,6 +11,7 @@ mod fault;
 mod line;
 mod mail;
 mod opening;
+mod openings;
 mod output;
 mod parked;
 mod parts;

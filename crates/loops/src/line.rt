@@ -8,7 +8,7 @@ use crate::readiness::{Load, Readiness, Step, next_step};
 use crate::service::Service;
 use crate::shared::{Bench, Shared};
 use crate::stage::Stage;
-use crate::times::{HELD_MILLIS, Phase, Times, has_passed, is_overdue};
+use crate::times::{HELD_MILLIS, Patience, Phase, Times, has_passed, is_overdue};
 use mio::net::TcpStream;
 use std::alloc::Global;
 use std::io::{ErrorKind, Read};
@@ -27,6 +27,8 @@ pub(crate) struct Line<S, D> {
     pub(crate) parked_at: Option<usize>,
     /// It has its next turn without a report of the system.
     pub(crate) is_queued: bool,
+    /// How many bytes of it all lines' burden counts.
+    counted: usize,
 }
 
 /// What becomes of a line after its turn.
@@ -52,11 +54,12 @@ impl<S, D: Drop> Line<S, D> {
             times: Times::new(now),
             parked_at: None,
             is_queued: false,
+            counted: 0,
         }
     }
 
-    /// What can be done.
-    fn load(&self) -> Load {
+    /// What can be done. `is_full` says that nothing more is taken from clients.
+    fn load(&self, is_full: bool) -> Load {
         let output_len = self.output.len();
         let (is_behind, has_waiting, is_over) = match &self.stage {
             Stage::Opening(_) => (false, false, false),
@@ -72,7 +75,37 @@ impl<S, D: Drop> Line<S, D> {
             is_behind,
             has_waiting,
             is_over,
+            is_full,
         }
+    }
+
+    /// How many bytes it holds.
+    fn weight(&self) -> usize {
+        let before_output = match &self.stage {
+            Stage::Opening(head) => head.len(),
+            Stage::Open(served) => served.connection.load(),
+            Stage::Leaving { .. } => 0,
+        };
+        before_output.saturating_add(self.output.len())
+    }
+
+    /// What the line does next.
+    fn next_step<R, V: Service<Session = S, Told = D>>(&self, shared: &Shared<'_, R, V>) -> Step {
+        let load = self.load(shared.burden.is_full());
+        next_step(load, self.readiness.is_readable)
+    }
+
+    /// Returns whether it can go on.
+    pub(crate) fn has_more<R, V: Service<Session = S, Told = D>>(
+        &self,
+        shared: &Shared<'_, R, V>,
+    ) -> bool {
+        self.next_step(shared) != Step::Rest
+    }
+
+    /// Returns whether the head of the request has not come.
+    pub(crate) fn is_opening(&self) -> bool {
+        matches!(self.stage, Stage::Opening(_))
     }
 
     /// Returns whether a message is held.
@@ -100,6 +133,7 @@ impl<S, D: Drop> Line<S, D> {
     fn phase(&self) -> Phase {
         match &self.stage {
             Stage::Opening(_) => Phase::Opening,
+            Stage::Open(served) if served.is_over() => Phase::Over,
             Stage::Open(served) => Phase::Open {
                 is_held: served.connection.is_held(),
             },
@@ -108,10 +142,10 @@ impl<S, D: Drop> Line<S, D> {
         }
     }
 
-    /// Returns whether the client has taken too long.
-    pub(crate) fn is_overdue(&self, now: u64, idle: Option<u64>) -> bool {
+    /// Returns whether it has taken too long.
+    pub(crate) fn is_overdue(&self, now: u64, patience: Patience) -> bool {
         let has_output = self.output.len() > 0;
-        is_overdue(self.phase(), self.times, has_output, idle, now)
+        is_overdue(self.phase(), self.times, has_output, patience, now)
     }
 
     /// The place of the room that the session is in.
@@ -151,7 +185,7 @@ impl<S, D: Drop> Line<S, D> {
         if !self.send(now) {
             return false;
         }
-        match next_step(self.load(), self.readiness.is_readable) {
+        match self.next_step(shared) {
             Step::Read => self.read(shared, bench, now),
             Step::GoOn => {
                 self.receive(shared, &mut bench.scratch, &[], now);
@@ -195,10 +229,19 @@ impl<S, D: Drop> Line<S, D> {
             return Next::Ends;
         }
         self.shut_down(now);
-        match next_step(self.load(), self.readiness.is_readable) {
-            Step::Rest => Next::Rests,
-            Step::Read | Step::GoOn => Next::Again,
+        self.weigh(shared);
+        if self.has_more(shared) {
+            Next::Again
+        } else {
+            Next::Rests
         }
+    }
+
+    /// Has the burden of all lines count what it holds.
+    fn weigh<R, V: Service<Session = S, Told = D>>(&mut self, shared: &Shared<'_, R, V>) {
+        let weight = self.weight();
+        shared.burden.change(self.counted, weight);
+        self.counted = weight;
     }
 
     /// Sends what waits, as far as the stream takes it. Returns false if the stream has failed.
@@ -234,7 +277,7 @@ impl<S, D: Drop> Line<S, D> {
     {
         let room = bench.chunk.len();
         match self.stream.read(bench.chunk.as_mut_slice()) {
-            Ok(0) => self.hang_up(),
+            Ok(0) => self.hang_up(now),
             Ok(count) => {
                 self.readiness.read(count, room);
                 self.times.heard = now;
@@ -253,7 +296,8 @@ impl<S, D: Drop> Line<S, D> {
     }
 
     /// The client sends no more. Returns whether something is left to do.
-    fn hang_up(&mut self) -> bool {
+    fn hang_up(&mut self, now: u64) -> bool {
+        self.times.heard = now;
         match &mut self.stage {
             Stage::Open(served) => {
                 served.hang_up();
@@ -356,7 +400,9 @@ impl<S, D: Drop> Line<S, D> {
             times: _,
             parked_at: _,
             is_queued: _,
+            counted,
         } = self;
+        shared.burden.change(counted, 0);
         match stage {
             Stage::Opening(_head) => shared.refuse(&client, unopened(ending)),
             Stage::Open(served) => served.end(shared, &client, ending),

@@ -1,7 +1,7 @@
 //! What waits for a loop: arrivals, and news in rooms.
 
 ghost use Rattle.std.specs.Prelude.{◌≡◌, ◌<◌, ◌≤◌, [], ◌∷◌, ◌++◌, IfErr, IsErr, IsOk, IsTrue};
-ghost use Rattle.std.specs.Prelude.{OnErr, OnOk, length, slice_get, slice_set, Some, false, true};
+ghost use Rattle.std.specs.Prelude.{OnErr, OnOk, length, not, slice_get, slice_set, Some, false, true};
 
 use crate::client::Arrival;
 use std::alloc::{AllocError, Global};
@@ -102,12 +102,16 @@ impl Mail {
         }
     }
 
-    /// There is news in the room at this place. Allocates nothing.
-    pub(crate) fn add_room(&mut self, place: usize)
+    /// There is news in the room at this place. Returns whether there was none in any room, so that
+    /// the loop is to be woken. Allocates nothing.
+    pub(crate) fn add_room(&mut self, place: usize) -> bool
         ensures room { self.new.news.rooms.items ≡ slice_set self.old.news.rooms.items place true }
         ensures some { place < length self.old.news.rooms.items → self.new.news.has_rooms ≡ true }
+        ensures first { result ≡ not self.old.news.has_rooms }
     {
+        let is_first = !self.news.has_rooms;
         self.news.add_room(place);
+        is_first
     }
 
     /// There are no more arrivals.

@@ -1,6 +1,7 @@
 //! What a loop is made of.
 
 use crate::mail::News;
+use crate::openings::Openings;
 use crate::parked::Parked;
 use mio::{Events, Poll};
 use std::alloc::{AllocError, Global};
@@ -21,6 +22,7 @@ pub(crate) struct Parts {
     pub(crate) chunk: Vec<u8>,
     pub(crate) news: News,
     pub(crate) parked: Parked,
+    pub(crate) openings: Openings,
 }
 
 impl Parts {
@@ -38,6 +40,7 @@ impl Parts {
             chunk: vec![in alloc; 0u8; CHUNK_LEN]?,
             news: News::new(alloc, places)?,
             parked: Parked::new(alloc, places)?,
+            openings: Openings::new(alloc)?,
         })
     }
 }

@@ -17,9 +17,9 @@ pub(crate) struct Readiness {
 }
 
 impl Readiness {
-    /// Nothing was reported yet.
+    /// Nothing was reported yet. Bytes may be there.
     pub(crate) const UNKNOWN: Readiness = Readiness {
-        is_readable: false,
+        is_readable: true,
         is_read_closed: false,
     };
 
@@ -67,13 +67,15 @@ pub(crate) struct Load {
     pub(crate) has_waiting: bool,
     /// Nothing more is taken from the client.
     pub(crate) is_over: bool,
+    /// All lines together hold so much that nothing more is taken from clients.
+    pub(crate) is_full: bool,
 }
 
 /// What a line does next.
 pub(crate) fn next_step(load: Load, is_readable: bool) -> Step
     ensures { result ≡ step_of load is_readable }
 {
-    if load.is_over || load.output_len > MAX_OUTPUT_LEN {
+    if load.is_over || load.is_full || load.output_len > MAX_OUTPUT_LEN {
         return Step::Rest;
     }
     if load.is_behind {

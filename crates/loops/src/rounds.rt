@@ -3,18 +3,20 @@
 use crate::client::Client;
 use crate::ending::Ending;
 use crate::event_loop::EventLoop;
-use crate::line::Line;
+use crate::line::{Line, Next};
 use crate::mail::Handed;
+use crate::openings::Begun;
 use crate::service::Service;
 use crate::shared::Shared;
 use crate::slots::Slots;
+use crate::times::Patience;
 use connection::End;
 use mio::net::TcpStream;
 use mio::{Interest, Token};
 use std::sync::Wait;
 
 impl<S, D: Drop, C: Drop> EventLoop<S, D, C> {
-    /// Takes what came: arrivals, and news in rooms.
+    /// Takes what came, and begins the lines that arrived.
     pub(crate) fn take_mail<R: Wait, V: Service<Session = S, Told = D, Scratch = C>>(
         &mut self,
         shared: &Shared<'_, R, V>,
@@ -24,6 +26,13 @@ impl<S, D: Drop, C: Drop> EventLoop<S, D, C> {
         for handed in arrivals {
             self.begin(shared, handed);
         }
+    }
+
+    /// Has the lines look that wait for the news that came.
+    pub(crate) fn hear_mail<R: Wait, V: Service<Session = S, Told = D, Scratch = C>>(
+        &mut self,
+        shared: &Shared<'_, R, V>,
+    ) {
         if !self.news.has_rooms {
             return;
         }
@@ -35,7 +44,7 @@ impl<S, D: Drop, C: Drop> EventLoop<S, D, C> {
         self.news.has_rooms = false;
     }
 
-    /// Begins a line.
+    /// Begins a line, whose first bytes may be there.
     fn begin<R: Wait, V: Service<Session = S, Told = D, Scratch = C>>(
         &mut self,
         shared: &Shared<'_, R, V>,
@@ -66,18 +75,38 @@ impl<S, D: Drop, C: Drop> EventLoop<S, D, C> {
         if let Some(other) = self.lines.put(key, line) {
             other.end(shared, Ending::Stream);
         }
+        if let Some(oldest) = self.openings.add(Begun { key, session }) {
+            self.end_unopened(shared, oldest);
+        }
+        self.give_turn(shared, key);
     }
 
-    /// Ends the lines that are overdue, answers what is held for long, and sends what is kept.
+    /// Ends a line if it has not opened.
+    fn end_unopened<R: Wait, V: Service<Session = S, Told = D, Scratch = C>>(
+        &mut self,
+        shared: &Shared<'_, R, V>,
+        begun: Begun,
+    ) {
+        if let Some(line) = self.lines.get_mut(begun.key)
+            && line.client.session == begun.session
+            && line.is_opening()
+        {
+            self.end_line(shared, begun.key);
+        }
+    }
+
+    /// Ends the lines that are overdue, answers what is held for long, and sends what is kept. A line
+    /// that rested since all lines held too much goes on.
     pub(crate) fn sweep<R: Wait, V: Service<Session = S, Told = D, Scratch = C>>(
         &mut self,
         shared: &Shared<'_, R, V>,
     ) {
+        let patience = Patience::new(shared.idle, shared.burden.is_crowded());
         for key in 0..self.lines.end_of_keys() {
             let Some(line) = self.lines.get_mut(key) else {
                 continue;
             };
-            if line.is_overdue(self.now, shared.idle) {
+            if line.is_overdue(self.now, patience) {
                 self.end_line(shared, key);
             } else if line.is_held_long(self.now) || line.has_waiting() {
                 let before = line.parked_at;
@@ -85,6 +114,8 @@ impl<S, D: Drop, C: Drop> EventLoop<S, D, C> {
                 let next = line.look(shared, &mut self.bench.scratch, may_hold, self.now);
                 self.follow(shared, key, next);
                 self.park(shared, key, before, None);
+            } else if line.has_more(shared) {
+                self.follow(shared, key, Next::Again);
             }
         }
     }
@@ -101,6 +132,7 @@ impl<S, D: Drop, C: Drop> EventLoop<S, D, C> {
             parked: _,
             queue: _,
             turned: _,
+            openings: _,
             mut news,
             bench: _,
             now: _,

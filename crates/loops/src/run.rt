@@ -4,6 +4,7 @@ ghost use Rattle.std.specs.Prelude.{◌≡◌, ◌+◌, if◌then◌else◌, nat
 ghost use Rattle.std.specs.Iterator.{IsFinite};
 
 use crate::bell::Bell;
+use crate::burden::Burden;
 use crate::client::{Arrival, Client};
 use crate::ending::Ending;
 use crate::event_loop::run_loop;
@@ -83,6 +84,7 @@ where
         service: loops.service,
         bell: loops.bell,
         seats: Seats::new(loops.settings.clients),
+        burden: Burden::new(),
         idle: loops.settings.idle.map(millis_of),
     };
     let shared = &hall;

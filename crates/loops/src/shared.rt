@@ -1,6 +1,7 @@
 //! What the lines of all loops share.
 
 use crate::bell::Bell;
+use crate::burden::Burden;
 use crate::client::Client;
 use crate::ending::Ending;
 use crate::seats::Seats;
@@ -15,6 +16,7 @@ pub(crate) struct Shared<'a, R, V> {
     pub(crate) service: &'a V,
     pub(crate) bell: &'a Bell,
     pub(crate) seats: Seats,
+    pub(crate) burden: Burden,
     /// How long a client may be silent, in milliseconds.
     pub(crate) idle: Option<u64>,
 }

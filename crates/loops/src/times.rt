@@ -1,7 +1,7 @@
 //! The times of a line, in milliseconds since the loops began.
 
 ghost use Rattle.std.specs.Prelude.{◌≡◌};
-ghost use Rattle.loops.specs.steps.Overdue.{overdue, passed, passed_limit};
+ghost use Rattle.loops.specs.steps.Overdue.{overdue, passed, passed_limit, patience};
 
 use std::time::{Clock, Duration, Instant};
 
@@ -11,8 +11,12 @@ pub(crate) const OPENING_MILLIS: u64 = 10_000;
 /// How long a message is held.
 pub(crate) const HELD_MILLIS: u64 = 25_000;
 
-/// How long what waits may take to be sent once a connection is over.
-pub(crate) const LEAVING_MILLIS: u64 = 30_000;
+/// How long the stream may take nothing of what waits, and how long a connection that is over may
+/// wait for what it reports to be kept.
+pub(crate) const STALLED_MILLIS: u64 = 30_000;
+
+/// The same while all lines together hold too much.
+pub(crate) const CROWDED_MILLIS: u64 = 1_000;
 
 /// How long the end of a stream is awaited.
 pub(crate) const LINGER_MILLIS: u64 = 2_000;
@@ -52,6 +56,30 @@ pub(crate) fn is_late(now: u64, since: u64, limit: Option<u64>) -> bool
     }
 }
 
+/// How long lines are waited for.
+#[derive(Clone, Copy, Debug)]
+pub(crate) struct Patience {
+    /// How long a client may be silent; `None` for no limit.
+    idle: Option<u64>,
+    /// How long the stream may take nothing of what waits.
+    stall: u64,
+}
+
+impl Patience {
+    /// How long lines are waited for, where a client may be silent for so long. `is_crowded` says
+    /// that all lines together hold too much.
+    pub(crate) fn new(idle: Option<u64>, is_crowded: bool) -> Patience
+        ensures { result ≡ patience idle is_crowded }
+    {
+        let stall = if is_crowded {
+            CROWDED_MILLIS
+        } else {
+            idle.unwrap_or(STALLED_MILLIS).min(STALLED_MILLIS)
+        };
+        Patience { idle, stall }
+    }
+}
+
 /// When things happened on a line.
 #[derive(Clone, Copy, Debug)]
 pub(crate) struct Times {
@@ -87,29 +115,32 @@ pub(crate) enum Phase {
         /// A message is held. This excuses silence.
         is_held: bool,
     },
+    /// That what the frames report is kept. Nothing more is taken from the client.
+    Over,
     /// That the stream takes what waits.
     Leaving,
     /// The end of the stream.
     Lingering,
 }
 
-/// Returns whether a client has taken too long.
+/// Returns whether a line has taken too long.
 pub(crate) fn is_overdue(
     phase: Phase,
     times: Times,
     has_output: bool,
-    idle: Option<u64>,
+    patience: Patience,
     now: u64,
 ) -> bool
-    ensures { result ≡ overdue phase times has_output idle now }
+    ensures { result ≡ overdue phase times has_output patience now }
 {
     match phase {
         Phase::Opening => has_passed(now, times.began, OPENING_MILLIS),
         Phase::Open { is_held } => {
-            !is_held && is_late(now, times.heard, idle)
-                || has_output && is_late(now, times.sent, idle)
+            !is_held && is_late(now, times.heard, patience.idle)
+                || has_output && has_passed(now, times.sent, patience.stall)
         }
-        Phase::Leaving => has_passed(now, times.sent, LEAVING_MILLIS),
+        Phase::Over => has_passed(now, times.heard, patience.stall),
+        Phase::Leaving => has_passed(now, times.sent, patience.stall),
         Phase::Lingering => has_passed(now, times.began, LINGER_MILLIS),
     }
 }

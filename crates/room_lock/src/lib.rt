@@ -1,6 +1,5 @@
 //! Rooms behind locks. Threads call them through passes. Each room has one record, and each of its
 //! passes has seen a prefix of it. A room keeps the parts of the sites that no session is in as.
-//! Also the trait of what keeps the records of rooms.
 #![tactic(auto)]
 
 mod account;
@@ -9,7 +8,6 @@ mod entrance;
 mod fault;
 mod histories;
 mod in_use;
-mod keeper;
 pub mod laws;
 mod making;
 mod new_room;
@@ -28,7 +26,6 @@ pub use entrance::Entrance;
 pub use fault::{CallFault, CloseFault};
 pub use histories::RoomHistories;
 pub use in_use::InUse;
-pub use keeper::{Forgets, KeepFault, Keeper};
 pub use making::NewRooms;
 pub use news::News;
 pub use part::Part;

@@ -97,6 +97,16 @@ impl<P: RoomHistories> Rooms<P> {
         Some(name)
     }
 
+    /// The place of the room of this name, from 0, or `None` if there is no such room.
+    pub fn place_of(&self, name: &RoomName) -> Option<usize>
+        ensures { result ≡ position (bytes_eq name.now) self.now }
+    {
+        match self.find(name) {
+            Some(room) => Some(room.place()),
+            None => None,
+        }
+    }
+
     /// The number of entries in the record of the pass's room, or `None` if the pass belongs to
     /// other rooms. Waits for the room's lock. Constant time.
     pub fn count_entries(&self, rt: &impl Wait, pass: &Pass<P>) -> Option<usize>

@@ -9,6 +9,7 @@ use Rattle.rules.specs.declared.refusal.Refusal.TheVariants.{NoSuchObject, NoSuc
 use Rattle.rules.specs.declared.refusal.Refusal.TheVariants.{ObjectFull, TooManyKeys}
 use Rattle.rules.specs.declared.refusal.Refusal.TheVariants.{TooManyVersions, TooManyObjects}
 use Rattle.rules.specs.declared.refusal.Refusal.TheVariants.{TooFar, Gone, NoSuchSite, SiteInUse}
+use Rattle.rules.specs.declared.refusal.Refusal.TheVariants.{NotServed}
 
 abbrev pub code_of : Refusal → ℕ
 code_of BadMessage = 1
@@ -31,6 +32,7 @@ code_of TooFar = 17
 code_of Gone = 18
 code_of NoSuchSite = 19
 code_of SiteInUse = 20
+code_of NotServed = 21
 
 abbrev pub word_of : Refusal → List ℕ
 word_of BadMessage = codes "bad-message"
@@ -53,12 +55,14 @@ word_of TooFar = codes "too-far"
 word_of Gone = codes "gone"
 word_of NoSuchSite = codes "no-such-site"
 word_of SiteInUse = codes "site-in-use"
+word_of NotServed = codes "not-served"
 
 abbrev all_refusals : List Refusal
 all_refusals =
     BadMessage ∷ NotJoined ∷ AlreadyJoined ∷ NoSuchRoom ∷ RoomFull ∷ RecordFull ∷ WrongSeq
     ∷ OwnCount ∷ Ahead ∷ NotClosed ∷ NoSuchObject ∷ NoSuchVersion ∷ ObjectFull ∷ TooManyKeys
-    ∷ TooManyVersions ∷ TooManyObjects ∷ TooFar ∷ Gone ∷ NoSuchSite ∷ SiteInUse ∷ []
+    ∷ TooManyVersions ∷ TooManyObjects ∷ TooFar ∷ Gone ∷ NoSuchSite ∷ SiteInUse
+    ∷ NotServed ∷ []
 
 -- the refusal with this number
 abbrev pub refusal_at : ℕ → Option Refusal
@@ -70,6 +74,7 @@ is_by_session BadMessage = true
 is_by_session NotJoined = true
 is_by_session AlreadyJoined = true
 is_by_session NoSuchRoom = true
+is_by_session NotServed = true
 is_by_session _ = false
 
 -- is only a back refused so

@@ -3,7 +3,7 @@
 ghost use Rattle.std.specs.Prelude.{◌≡◌};
 
 /// The greatest number of a refusal. Refusals are numbered from 1.
-pub const MAX_REFUSAL_CODE: u32 = 20;
+pub const MAX_REFUSAL_CODE: u32 = 21;
 
 /// Why a room or a session refuses a request. Each variant has its number, its word and its cause.
 #[derive(Clone, Copy, Debug, PartialEq, Eq)]
@@ -53,6 +53,8 @@ pub enum Refusal {
     NoSuchSite,
     /// 20, `site-in-use`: another session is in the room as this site.
     SiteInUse,
+    /// 21, `not-served`: the server cannot serve the room now.
+    NotServed,
 }
 
 impl Refusal {
@@ -83,6 +85,7 @@ impl Refusal {
             Refusal::Gone => 18,
             Refusal::NoSuchSite => 19,
             Refusal::SiteInUse => 20,
+            Refusal::NotServed => 21,
         }
     }
 
@@ -111,6 +114,7 @@ impl Refusal {
             Refusal::Gone => "gone",
             Refusal::NoSuchSite => "no-such-site",
             Refusal::SiteInUse => "site-in-use",
+            Refusal::NotServed => "not-served",
         }
     }
 
@@ -120,7 +124,11 @@ impl Refusal {
     {
         matches!(
             self,
-            Refusal::BadMessage | Refusal::NotJoined | Refusal::AlreadyJoined | Refusal::NoSuchRoom
+            Refusal::BadMessage
+                | Refusal::NotJoined
+                | Refusal::AlreadyJoined
+                | Refusal::NoSuchRoom
+                | Refusal::NotServed
         )
     }
 
@@ -156,6 +164,7 @@ impl Refusal {
             18 => Some(Refusal::Gone),
             19 => Some(Refusal::NoSuchSite),
             20 => Some(Refusal::SiteInUse),
+            21 => Some(Refusal::NotServed),
             _ => None,
         }
     }

@@ -46,7 +46,7 @@ fn service_of<'a, 'w, R, W>(
         clients,
         idle: seconds(idle),
         report: seconds(report),
-        is_kept: words.get_str("keep").is_some(),
+        dir: words.get_str("keep"),
         output,
     })
 }

@@ -8,19 +8,20 @@ ghost use Rattle.server.specs.steps.Faults.{of_serving};
 use crate::accept::Accepted;
 use crate::early_end::EarlyEnd;
 use crate::platform::Platform;
-use crate::server_observer::ServerObserver;
+use crate::server_observer::{ServerObserver, SessionLimits};
 use crate::tally::{Tally, empty_tallies, tallies_of};
 use base_types::repeated_name;
 use command_fault::Fault;
 use commands::{fault_of_rooms, room_names};
 use journal::Synced;
+use keeper::{Forgets, Keeper};
 use keeping::{Keeping, RoomFile};
 use log::warn;
 use loops::{Bell, MAX_LOOPS, Settings};
 use mio::Poll;
 use restore::RestoredFile;
 use room_folder::Folder;
-use room_lock::{Forgets, Keeper, NewRooms, RoomHistories, Rooms};
+use room_lock::{NewRooms, RoomHistories, Rooms};
 use rules::Limits;
 use sessions::{ServeFault, Served, serve_streams};
 use std::alloc::{AllocError, Global};
@@ -62,8 +63,8 @@ pub(crate) struct Service<'a, 'w, R, W> {
     pub(crate) idle: Option<Duration>,
     /// The period of reports; `None` for no reports.
     pub(crate) report: Option<Duration>,
-    /// Whether the rooms are kept in files.
-    pub(crate) is_kept: bool,
+    /// The folder that keeps the rooms; `None` if nothing does.
+    pub(crate) dir: Option<&'w str>,
     /// Where it reports that it listens, and writes the records.
     pub(crate) output: &'a mut W,
 }
@@ -100,12 +101,17 @@ impl<R: Platform, W: Write> Service<'_, '_, R, W> {
         P: RoomHistories + Send + Sync,
         K: Keeper<P> + Sync,
         K::Receipt: Send,
+        K::Permit: Send,
     {
         let listener = self.listen()?;
-        if !self.is_kept {
+        if self.dir.is_none() {
             warn!(self.rt; "rooms are in memory only; --keep DIR keeps them");
         }
-        let observer = ServerObserver::new(self.rt, tallies, self.sessions, self.clients);
+        let limits = SessionLimits {
+            sessions: self.sessions,
+            clients: self.clients,
+        };
+        let observer = ServerObserver::new(self.rt, tallies, self.dir, limits);
         observer.begin();
         let line = listening_line(self.alloc, self.address, &listener)?;
         write_line(self.output, &line)?;
@@ -181,6 +187,7 @@ where
     R: Platform,
     K: Keeper<P> + Sync,
     K::Receipt: Send,
+    K::Permit: Send,
     W: Write,
 {
     let (rt, alloc) = (observer.runtime(), options.alloc);
@@ -226,6 +233,7 @@ where
     R: Platform,
     K: Keeper<P> + Sync,
     K::Receipt: Send,
+    K::Permit: Send,
     W: Write,
 {
     let (rt, observer) = (served.rt, served.observer);
@@ -234,7 +242,7 @@ where
         thread::scope_env(),
         rt,
         |scope| -> Result<(), ServeFault>
-            requires { IsSend P.row × IsSend K.Receipt.row }
+            requires { IsSend P.row × IsSend K.Receipt.row × IsSend K.Permit.row }
         {
             let reporter = match period {
                 Some(period) => scope

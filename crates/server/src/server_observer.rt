@@ -6,7 +6,8 @@ use crate::tally::Tally;
 use crate::turnstile::Turnstile;
 use base_types::RoomName;
 use crossbeam_channel::Receiver;
-use log::{Log, info, warn};
+use keeper::Change;
+use log::{Log, error, info, warn};
 use loops::Client;
 use sessions::{Cause, Observer};
 use std::sync::Wait;
@@ -14,18 +15,26 @@ use std::sync::atomic::{AtomicBool, AtomicU64, Ordering};
 use std::time::{Clock, Duration};
 use wire::EntryKind;
 
+/// The limits on sessions.
+#[derive(Clone, Copy, Debug)]
+pub(crate) struct SessionLimits {
+    /// The most sessions in all; 0 for no limit.
+    pub(crate) sessions: u32,
+    /// The most sessions at a time.
+    pub(crate) clients: u32,
+}
+
 /// Counts sessions and what the rooms have, and warns before something is used up. Admits
 /// connections as long as there may be sessions.
 #[derive(Drop)]
 pub(crate) struct ServerObserver<'a, R> {
     rt: &'a R,
     rooms: &'a [Tally<'a>],
-    /// The most sessions in all; 0 for no limit.
-    sessions: u32,
+    /// The folder that keeps the rooms; `None` if nothing does.
+    dir: Option<&'a str>,
+    limits: SessionLimits,
     /// `None` if nothing limits the sessions.
     turnstile: Option<Turnstile>,
-    /// The most sessions at a time.
-    clients: u32,
     /// Whether a warning was logged since a session last ended.
     is_told: AtomicBool,
     begun: AtomicU64,
@@ -33,19 +42,19 @@ pub(crate) struct ServerObserver<'a, R> {
 }
 
 impl<'a, R> ServerObserver<'a, R> {
-    /// An observer of these rooms, in order.
+    /// An observer of these rooms, in order, which this folder keeps if one does.
     pub(crate) fn new(
         rt: &'a R,
         rooms: &'a [Tally<'a>],
-        sessions: u32,
-        clients: u32,
+        dir: Option<&'a str>,
+        limits: SessionLimits,
     ) -> ServerObserver<'a, R> {
         ServerObserver {
             rt,
             rooms,
-            sessions,
-            turnstile: turnstile_of(sessions),
-            clients,
+            dir,
+            limits,
+            turnstile: turnstile_of(limits.sessions),
             is_told: AtomicBool::new(false),
             begun: AtomicU64::new(0),
             ended: AtomicU64::new(0),
@@ -92,7 +101,7 @@ impl<R: Wait + Log> ServerObserver<'_, R> {
     fn report(&self) {
         let begun = self.begun.load(Ordering::SeqCst);
         let now = begun.saturating_sub(self.ended.load(Ordering::SeqCst));
-        let (sessions, clients) = (self.sessions, self.clients);
+        let SessionLimits { sessions, clients } = self.limits;
         if sessions == 0 {
             info!(self.rt; "report: server clients {now}/{clients} begun {begun}");
         } else {
@@ -124,6 +133,18 @@ impl<R: Wait + Log> Observer for ServerObserver<'_, R> {
         }
     }
 
+    /// Logs once why a room is not kept, and once that it is kept again.
+    fn keeping_changed(&self, place: usize, change: &Change) {
+        let (Some(dir), Some(room)) = (self.dir, self.rooms.get(place)) else {
+            return;
+        };
+        let name = room.name();
+        match change {
+            Change::Fails(reason) => error!(self.rt; "{dir}/{name}.record is not kept: {reason}"),
+            Change::KeptAgain => info!(self.rt; "{dir}/{name}.record is kept again"),
+        }
+    }
+
     fn before_session(&self) {
         self.begun.fetch_add(1, Ordering::SeqCst);
         if let Some(turnstile) = &self.turnstile {
@@ -143,7 +164,7 @@ impl<R: Wait + Log> Observer for ServerObserver<'_, R> {
             turnstile.is_no_session(self.rt);
         }
         if !self.is_told.swap(true, Ordering::SeqCst) {
-            let clients = self.clients;
+            let clients = self.limits.clients;
             warn!(self.rt; "all {clients} clients are in");
         }
     }

@@ -53,6 +53,13 @@ impl<'a> Tally<'a> {
         }
     }
 
+    /// The room's name.
+    pub(crate) fn name(&self) -> &'a str
+        ensures { result.now ≡ self.now.name.now }
+    {
+        self.name
+    }
+
     /// Counts an entry of this kind. Warns when the joins or the entries reach nine tenths of their limit.
     pub(crate) fn add<R: Log>(&self, rt: &R, kind: EntryKind) {
         let entries = count(&self.entries);

@@ -1,9 +1,11 @@
 -- What a session is after an entrance.
-use Rattle.std.proofs.Common.{◌≡◌, ◌⊎◌, ℕ, inl, inr, false, is_some, List, Option, None, Some, Result, Ok, refl, sym, subst}
+use Rattle.std.proofs.Common.{◌≡◌, ◌⊎◌, ℕ, inl, inr, false, is_some, List, Option, None, Some, Result, Ok, refl, sym, subst, ◌∙◌}
 use Rattle.std.specs.Prelude.{◌↔◌, Contains}
 use Rattle.base_types.specs.Texts.{Bytes}
 use Rattle.rules.specs.declared.history.Entry.{Entry}
 use Rattle.wire.specs.declared.reply.Reply.{Reply}
+use Rattle.wire.specs.declared.reply.Reply.TheVariants.{No}
+use Rattle.rules.specs.declared.refusal.Refusal.TheVariants.{NotServed}
 use Rattle.rules.specs.declared.limits.LimitValues.{LimitValues}
 use Rattle.wire.specs.declared.request.Request.TheVariants.{Join, Back}
 use Rattle.room_lock.specs.declared.entrance.Entrance.{Entrance}
@@ -13,7 +15,7 @@ use Rattle.room_lock.specs.Passes.{InUseView, PassView, PrefixView}
 use Rattle.room_lock.specs.Told.{IsBack, IsJoin, IsRefusalOver}
 use Rattle.sessions.specs.steps.Entrances.{IsAfter}
 use Rattle.sessions.specs.Sessions.{SessionView}
-use Rattle.sessions.specs.Turns.{IsAnswer, IsBackRefusal, IsLetIn, IsRoomAt, IsTurnedAway}
+use Rattle.sessions.specs.Turns.{IsAnswer, IsBackRefusal, IsLetIn, IsPermittedJoin, IsRoomAt, IsTurnedAway}
 
 -- did the room itself refuse
 abbrev HasRoom : {P E : Type 0} → Result (Entrance P) E → Type 0
@@ -75,13 +77,34 @@ none_of : {A : Type 0} (o : Option A) → is_some o ≡ false → o ≡ None
 none_of None is = refl
 none_of (Some x) is = absurd (cc is)
 
--- an entrance answers a session in no room
-pub join_answered : {P : Type 0} (E : Type 0) (limits : LimitValues) (names : List Bytes) (name : Bytes) (old new : SessionView) (told : Option PrefixView) (reply : Reply) (went : Entrance P)
-    → is_some old ≡ false → IsEntrance names name (IsJoin limits) (IsRefusalOver limits) E went → IsAfter went new told reply → IsAnswer limits names old new (Join name) told reply
-join_answered E limits names name old new told reply went none is after =
-    subst (λ (old : SessionView). IsAnswer limits names old new (Join name) told reply) (sym (none_of old none)) (told_after names name (IsJoin limits) (IsRefusalOver limits) E went new told reply is after)
+-- who is let in is let into a room that is permitted
+pub entered_permitted : {P : Type 0} (names : List Bytes) (name : Bytes) (limits : LimitValues) (permitted : ℕ → Type 0) (went : Entrance P)
+    → ((place : ℕ) → IsRoomAt names name place → permitted place)
+    → IfEntered (λ pass reply. IsJoin limits pass reply × (pass.room ≡ name)) went → IfEntered (λ pass reply. IsRoomAt names name pass.part.place) went
+    → IfEntered (λ pass reply. IsPermittedJoin limits permitted pass reply × (pass.room ≡ name)) went
+entered_permitted names name limits permitted (Entered pass reply) all is at = ((is.0, all pass.part.place at), is.1)
+entered_permitted names name limits permitted (Refused prefix reply) all is at = tt
+entered_permitted names name limits permitted (InUse it reply) all is at = tt
+entered_permitted names name limits permitted NoRoom all is at = tt
 
-pub back_answered : {P : Type 0} (E : Type 0) (limits : LimitValues) (names : List Bytes) (name : Bytes) (site : ℕ) (old new : SessionView) (told : Option PrefixView) (reply : Reply) (went : Entrance P)
-    → is_some old ≡ false → IsEntrance names name (IsBack limits site) (IsBackRefusal limits site) E went → IsAfter went new told reply → IsAnswer limits names old new (Back name site) told reply
-back_answered E limits names name site old new told reply went none is after =
-    subst (λ (old : SessionView). IsAnswer limits names old new (Back name site) told reply) (sym (none_of old none)) (told_after names name (IsBack limits site) (IsBackRefusal limits site) E went new told reply is after)
+joined : {A B C : Type 0} → A ⊎ B → A ⊎ B ⊎ C
+joined (inl a) = inl a
+joined (inr b) = inr (inl b)
+
+-- an entrance answers a session in no room
+pub join_answered : {P : Type 0} (E : Type 0) (limits : LimitValues) (names : List Bytes) (permitted denied : ℕ → Type 0) (name : Bytes) (old new : SessionView) (told : Option PrefixView) (reply : Reply) (went : Entrance P)
+    → is_some old ≡ false → IsEntrance names name (IsPermittedJoin limits permitted) (IsRefusalOver limits) E went → IsAfter went new told reply → IsAnswer limits names permitted denied old new (Join name) told reply
+join_answered E limits names permitted denied name old new told reply went none is after =
+    subst (λ (old : SessionView). IsAnswer limits names permitted denied old new (Join name) told reply) (sym (none_of old none)) (joined (told_after names name (IsPermittedJoin limits permitted) (IsRefusalOver limits) E went new told reply is after))
+
+-- a join that is denied
+pub denied_answered : (limits : LimitValues) (names : List Bytes) (permitted denied : ℕ → Type 0) (name : Bytes) (old new : SessionView) (told : Option PrefixView) (reply : Reply)
+    → is_some old ≡ false → (place : ℕ) × IsRoomAt names name place × denied place → (reply ≡ No 0 NotServed) × (told ≡ None) × (new ≡ old) → IsAnswer limits names permitted denied old new (Join name) told reply
+denied_answered limits names permitted denied name old new told reply none at is =
+    let empty = none_of old none in
+    subst (λ (old : SessionView). IsAnswer limits names permitted denied old new (Join name) told reply) (sym empty) (inr (inr (at.0, at.1, at.2, (is.0, is.1, is.2 ∙ empty))))
+
+pub back_answered : {P : Type 0} (E : Type 0) (limits : LimitValues) (names : List Bytes) (permitted denied : ℕ → Type 0) (name : Bytes) (site : ℕ) (old new : SessionView) (told : Option PrefixView) (reply : Reply) (went : Entrance P)
+    → is_some old ≡ false → IsEntrance names name (IsBack limits site) (IsBackRefusal limits site) E went → IsAfter went new told reply → IsAnswer limits names permitted denied old new (Back name site) told reply
+back_answered E limits names permitted denied name site old new told reply went none is after =
+    subst (λ (old : SessionView). IsAnswer limits names permitted denied old new (Back name site) told reply) (sym (none_of old none)) (told_after names name (IsBack limits site) (IsBackRefusal limits site) E went new told reply is after)

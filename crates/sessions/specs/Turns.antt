@@ -1,5 +1,6 @@
 -- One message of a session and its reply. `told` is the prefix of a room's record that the reply
--- reports on, if it does.
+-- reports on, if it does. Of the room at a place, `permitted` says that a new site may be let in, and
+-- `denied` that it need not be.
 use Rattle.std.specs.Prelude.{◌≡◌, ◌⊎◌, ℕ, Bool, List, Option, Some, None, Contains, MatchOption, true}
 use Rattle.std.specs.Prelude.{bytes_eq, position}
 use Rattle.base_types.specs.Texts.{Bytes}
@@ -7,7 +8,7 @@ use Rattle.rules.specs.declared.history.Entry.{Entry}
 use Rattle.rules.specs.declared.limits.LimitValues.{LimitValues}
 use Rattle.rules.specs.declared.refusal.Refusal.{Refusal}
 use Rattle.rules.specs.declared.refusal.Refusal.TheVariants.{BadMessage, NotJoined, AlreadyJoined}
-use Rattle.rules.specs.declared.refusal.Refusal.TheVariants.{NoSuchRoom}
+use Rattle.rules.specs.declared.refusal.Refusal.TheVariants.{NoSuchRoom, NotServed}
 use Rattle.wire.specs.declared.request.Request.{Request}
 use Rattle.wire.specs.declared.request.Request.TheVariants.{Join, Back, Leave, Pull}
 use Rattle.wire.specs.declared.reply.Reply.{Reply}
@@ -70,12 +71,27 @@ pub record IsTurnedAway
 abbrev pub IsBackRefusal : LimitValues → ℕ → List Entry → Reply → Type 0
 IsBackRefusal limits site r reply = (in_use : Bool) × IsBackRefusalOver limits r site in_use reply
 
--- a join, and a coming back as a site
-abbrev pub IsJoinBy : LimitValues → List Bytes → Bytes → SessionView → Option PrefixView → Reply
+-- a permit was given for the room at this place
+abbrev pub IsPermitted : {Permit : Type 0} → (Permit → ℕ → Type 0) → ℕ → Type 0
+IsPermitted {Permit} permits place = (permit : Permit) × permits permit place
+
+-- a new site joins the room, which is permitted
+abbrev pub IsPermittedJoin : LimitValues → (ℕ → Type 0) → PassView → Reply → Type 0
+IsPermittedJoin limits permitted pass reply = IsJoin limits pass reply × permitted pass.part.place
+
+-- the room of this name is denied
+abbrev pub IsNotServed : (ℕ → Type 0) → List Bytes → Bytes → SessionView → Option PrefixView → Reply
     → Type 0
-IsJoinBy limits names name new told reply =
-    IsLetIn (IsJoin limits) names name new told reply
+IsNotServed denied names name new told reply =
+    (place : ℕ) × IsRoomAt names name place × denied place × IsRefused NotServed None new told reply
+
+-- a join, and a coming back as a site
+abbrev pub IsJoinBy : LimitValues → List Bytes → (ℕ → Type 0) → (ℕ → Type 0) → Bytes → SessionView
+    → Option PrefixView → Reply → Type 0
+IsJoinBy limits names permitted denied name new told reply =
+    IsLetIn (IsPermittedJoin limits permitted) names name new told reply
     ⊎ IsTurnedAway (IsRefusalOver limits) names name new told reply
+    ⊎ IsNotServed denied names name new told reply
 
 abbrev pub IsBackBy : LimitValues → List Bytes → Bytes → ℕ → SessionView → Option PrefixView → Reply
     → Type 0
@@ -94,33 +110,36 @@ IsAnswerInside limits was new Leave told reply = IsLeaveBy limits was new told r
 IsAnswerInside limits was new request told reply = IsCallBy limits was new request told reply
 
 -- the answer to a request of a session in no room, which can only enter one
-abbrev pub IsAnswerOutside : LimitValues → List Bytes → SessionView → Request → Option PrefixView
-    → Reply → Type 0
-IsAnswerOutside limits names new (Join name) told reply = IsJoinBy limits names name new told reply
-IsAnswerOutside limits names new (Back name site) told reply =
+abbrev pub IsAnswerOutside : LimitValues → List Bytes → (ℕ → Type 0) → (ℕ → Type 0) → SessionView
+    → Request → Option PrefixView → Reply → Type 0
+IsAnswerOutside limits names permitted denied new (Join name) told reply =
+    IsJoinBy limits names permitted denied name new told reply
+IsAnswerOutside limits names permitted denied new (Back name site) told reply =
     IsBackBy limits names name site new told reply
-IsAnswerOutside limits names new request told reply = IsRefused NotJoined None new told reply
+IsAnswerOutside limits names permitted denied new request told reply =
+    IsRefused NotJoined None new told reply
 
 -- the answer to a request of a session
-abbrev pub IsAnswer : LimitValues → List Bytes → SessionView → SessionView → Request
-    → Option PrefixView → Reply → Type 0
-IsAnswer limits names (Some was) new request told reply =
+abbrev pub IsAnswer : LimitValues → List Bytes → (ℕ → Type 0) → (ℕ → Type 0) → SessionView
+    → SessionView → Request → Option PrefixView → Reply → Type 0
+IsAnswer limits names permitted denied (Some was) new request told reply =
     IsAnswerInside limits was new request told reply
-IsAnswer limits names None new request told reply =
-    IsAnswerOutside limits names new request told reply
+IsAnswer limits names permitted denied None new request told reply =
+    IsAnswerOutside limits names permitted denied new request told reply
 
 -- the answer to a message
-abbrev pub IsTurn : LimitValues → List Bytes → SessionView → SessionView → Bytes → Option PrefixView
-    → Reply → Type 0
-IsTurn limits names old new bytes told reply =
+abbrev pub IsTurn : LimitValues → List Bytes → (ℕ → Type 0) → (ℕ → Type 0) → SessionView
+    → SessionView → Bytes → Option PrefixView → Reply → Type 0
+IsTurn limits names permitted denied old new bytes told reply =
     MatchOption (request_read bytes) (IsRefused BadMessage old new told reply)
-    (λ request. IsAnswer limits names old new request told reply)
+    (λ request. IsAnswer limits names permitted denied old new request told reply)
 
 -- the text is that of the answer, which reports on this prefix of a record
-abbrev pub IsTextOfTurn : LimitValues → List Bytes → SessionView → SessionView → Bytes
-    → Option PrefixView → List ℕ → Type 0
-IsTextOfTurn limits names old new bytes told text =
-    (reply : Reply) × (text ≡ reply_text reply) × IsTurn limits names old new bytes told reply
+abbrev pub IsTextOfTurn : LimitValues → List Bytes → (ℕ → Type 0) → (ℕ → Type 0) → SessionView
+    → SessionView → Bytes → Option PrefixView → List ℕ → Type 0
+IsTextOfTurn limits names permitted denied old new bytes told text =
+    (reply : Reply) × (text ≡ reply_text reply)
+    × IsTurn limits names permitted denied old new bytes told reply
 
 -- a session that is in a room asks to wait for an entry
 abbrev pub IsWaitInRoom : SessionView → Request → Type 0
@@ -132,8 +151,9 @@ abbrev pub IsWait : SessionView → Bytes → Type 0
 IsWait session bytes = MatchOption (request_read bytes) ⊥ (IsWaitInRoom session)
 
 -- the message changed nothing, or it was answered, but the reply was lost
-abbrev pub MayStand : LimitValues → List Bytes → SessionView → SessionView → Bytes → Type 0
-MayStand limits names old new bytes =
+abbrev pub MayStand : LimitValues → List Bytes → (ℕ → Type 0) → (ℕ → Type 0) → SessionView
+    → SessionView → Bytes → Type 0
+MayStand limits names permitted denied old new bytes =
     (new ≡ old)
     ⊎ ((told : Option PrefixView) × (reply : Reply)
-    × IsTurn limits names old new bytes told reply)
+    × IsTurn limits names permitted denied old new bytes told reply)

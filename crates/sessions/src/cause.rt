@@ -6,8 +6,9 @@ ghost use Rattle.sessions.specs.declared.cause.MessageFault.TheVariants as messa
 
 use base_types::NoMemory;
 use connection::End;
+use keeper::KeepFault;
 use loops::Ending;
-use room_lock::{CallFault, KeepFault};
+use room_lock::CallFault;
 use thiserror::Error;
 
 /// Why a message of a session is not answered.

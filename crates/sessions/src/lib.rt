@@ -3,6 +3,7 @@
 
 mod cause;
 mod host;
+mod keeper_threads;
 pub mod laws;
 mod observer;
 mod record;

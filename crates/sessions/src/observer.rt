@@ -2,14 +2,19 @@
 
 use crate::cause::Cause;
 use base_types::RoomName;
+use keeper::Change;
 use loops::Client;
 use wire::EntryKind;
 
-/// Hears of entries, probes and sessions, in the thread that serves them. A method may block its
+/// Hears of entries, probes, sessions and the keeping of rooms, in the thread that serves them. A method may block its
 /// thread, and must change nothing else.
 pub trait Observer {
     /// The room at this place, from 0, has added an entry of this kind.
     fn after_entry(&self, _place: usize, _kind: EntryKind) {}
+
+    /// The last attempt to keep the record of the room at this place failed, and the one before had
+    /// not. Or it succeeded, and the one before had not.
+    fn keeping_changed(&self, _place: usize, _change: &Change) {}
 
     /// A connection is no probe: a session begins.
     fn before_session(&self) {}

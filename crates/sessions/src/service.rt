@@ -4,8 +4,9 @@ use crate::cause::Cause;
 use crate::host::Host;
 use crate::observer::Observer;
 use crate::session::Session;
+use keeper::Keeper;
 use loops::{Client, Ending, Service};
-use room_lock::{Keeper, Pass, RoomHistories};
+use room_lock::{Pass, RoomHistories};
 use std::sync::Wait;
 use wire_reader::Scratch;
 

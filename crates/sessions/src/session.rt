@@ -1,15 +1,15 @@
 //! A session: the messages of one client, one after the other.
 
-ghost use Rattle.std.specs.Prelude.{◌≡◌, ◌⊎◌, Err, IfErr, IfOk, IfSome, IsTrue, OnErr, None, Ok};
-ghost use Rattle.std.specs.Prelude.{Some, true};
+ghost use Rattle.std.specs.Prelude.{ℕ, ◌≡◌, ◌⊎◌, Err, IfErr, IfOk, IfSome, IsTrue, OnErr, None, Ok};
+ghost use Rattle.std.specs.Prelude.{Some, false, true};
 ghost use Rattle.std.specs.Prelude.{MatchOption, option_map, string_bytes};
 ghost use Rattle.wire.specs.declared.request.Request.TheVariants.{Join, Back, Leave};
 ghost use Rattle.room_lock.specs.Passes.{IsOfRooms};
 ghost use Rattle.sessions.specs.declared.cause.MessageFault.TheVariants as message_fault;
 ghost use Rattle.sessions.specs.steps.Calls.{IsCallIf};
 ghost use Rattle.sessions.specs.steps.Entrances.{IsAfter};
-ghost use Rattle.sessions.specs.Turns.{IsAnswer, IsCallBy, IsTextOfTurn, IsTurn, IsWait, IsWaitInRoom};
-ghost use Rattle.sessions.specs.Turns.{MayStand};
+ghost use Rattle.sessions.specs.Turns.{IsAnswer, IsCallBy, IsPermitted, IsTextOfTurn, IsTurn, IsWait};
+ghost use Rattle.sessions.specs.Turns.{IsRoomAt, IsWaitInRoom, MayStand};
 
 use crate::cause::MessageFault;
 use crate::host::Host;
@@ -17,6 +17,7 @@ use crate::observer::Observer;
 use crate::session_reply::SessionReply;
 use base_types::RoomName;
 use connection::Answer;
+use keeper::Keeper;
 use room_lock::{Entrance, Pass, Prefix, RoomHistories};
 use std::marker::Model;
 use std::sync::Wait;
@@ -63,10 +64,10 @@ impl<P: RoomHistories> Session<P> {
 
     /// Answers one message, and returns the text of the reply with what it reports of a room. Or
     /// holds the message: then it is `None`, and nothing has changed.
-    /// The session itself refuses four things. These are bytes that are no request, `join` and
-    /// `back` in a room, other requests in no room, and rooms that do not exist. Every other
-    /// request is one call of the rooms: `join` and `back` may give a pass, `leave` hands it back,
-    /// and the rest call the room by it.
+    /// The session itself refuses five things. These are bytes that are no request, `join` and
+    /// `back` in a room, other requests in no room, rooms that do not exist, and a `join` of a room
+    /// for which the keeper has no permit. Every other request is one call of the rooms: `join` and
+    /// `back` may give a pass, `leave` hands it back, and the rest call the room by it.
     /// With `may_hold` it holds a `wait` in a room whose record has exactly the number of entries
     /// that the request names. Without, a `wait` is a pull.
     /// The text may be sent once what it reports is kept. The session's own refusals report
@@ -78,7 +79,7 @@ impl<P: RoomHistories> Session<P> {
     /// `NoMemory` if an allocation failed. The call of the rooms may stand, although no reply is
     /// sent.
     /// `Torn` if the pass belongs to other rooms; the session is unchanged.
-    pub fn message<R: Wait, O: Observer, K>(
+    pub fn message<R: Wait, O: Observer, K: Keeper<P>>(
         &mut self,
         host: &Host<'_, P, R, O, K>,
         scratch: &mut Scratch,
@@ -86,12 +87,13 @@ impl<P: RoomHistories> Session<P> {
         may_hold: bool,
     ) -> Result<Option<Answer<Prefix<P>>>, MessageFault>
         ensures ok { IfOk result (λ found. IfSome found (λ answer. IsTextOfTurn P.limits
-            host.now.rooms.now self.old self.new bytes.now answer.told
-            (string_bytes answer.text))) }
+            host.now.rooms.now (IsPermitted K.permits) K.denies self.old self.new bytes.now
+            answer.told (string_bytes answer.text))) }
         ensures held { result ≡ Ok None → (may_hold ≡ true) × (self.new ≡ self.old)
             × IsWait self.old bytes.now }
         ensures err { OnErr result
-            (MayStand P.limits host.now.rooms.now self.old self.new bytes.now) }
+            (MayStand P.limits host.now.rooms.now (IsPermitted K.permits) K.denies self.old self.new
+            bytes.now) }
         ensures torn { result ≡ Err message_fault.Torn → self.new ≡ self.old }
     {
         match self.reply_to(host, scratch, bytes, may_hold)? {
@@ -101,7 +103,7 @@ impl<P: RoomHistories> Session<P> {
     }
 
     /// The reply to a message, or `None` if it is held. On `Err` nothing has changed.
-    fn reply_to<R: Wait, O: Observer, K>(
+    fn reply_to<R: Wait, O: Observer, K: Keeper<P>>(
         &mut self,
         host: &Host<'_, P, R, O, K>,
         scratch: &mut Scratch,
@@ -109,7 +111,8 @@ impl<P: RoomHistories> Session<P> {
         may_hold: bool,
     ) -> Result<Option<SessionReply<P>>, MessageFault>
         ensures ok { IfOk result (λ found. IfSome found (λ answer. IsTurn P.limits
-            host.now.rooms.now self.old self.new bytes.now answer.told answer.reply)) }
+            host.now.rooms.now (IsPermitted K.permits) K.denies self.old self.new bytes.now
+            answer.told answer.reply)) }
         ensures held { result ≡ Ok None → (may_hold ≡ true) × (self.new ≡ self.old)
             × IsWait self.old bytes.now }
         ensures err { OnErr result (self.new ≡ self.old) }
@@ -137,13 +140,13 @@ impl<P: RoomHistories> Session<P> {
     }
 
     /// The answer to a request. On `Err` nothing has changed.
-    fn ask<R: Wait, O: Observer, K>(
+    fn ask<R: Wait, O: Observer, K: Keeper<P>>(
         &mut self,
         host: &Host<'_, P, R, O, K>,
         request: Request,
     ) -> Result<SessionReply<P>, MessageFault>
         ensures ok { IfOk result (λ answer. IsAnswer P.limits
-            host.now.rooms.now self.old self.new request answer.told answer.reply) }
+            host.now.rooms.now (IsPermitted K.permits) K.denies self.old self.new request answer.told answer.reply) }
         ensures err { OnErr result (self.new ≡ self.old) }
     {
         match request {
@@ -154,33 +157,37 @@ impl<P: RoomHistories> Session<P> {
         }
     }
 
-    /// Joins the room of this name, unless the session is in a room.
-    fn join<R: Wait, O: Observer, K>(
+    /// Joins the room of this name, unless the session is in a room. What the keeper cannot keep is
+    /// not begun.
+    fn join<R: Wait, O: Observer, K: Keeper<P>>(
         &mut self,
         host: &Host<'_, P, R, O, K>,
         name: &RoomName,
     ) -> Result<SessionReply<P>, MessageFault>
         ensures ok { IfOk result (λ answer. IsAnswer P.limits
-            host.now.rooms.now self.old self.new (Join name.now) answer.told answer.reply) }
+            host.now.rooms.now (IsPermitted K.permits) K.denies self.old self.new (Join name.now) answer.told answer.reply) }
         ensures err { OnErr result (self.new ≡ self.old) }
         ensures cause { IfErr result (λ why. why ≡ message_fault.NoMemory) }
     {
         if self.pass.is_some() {
             return Ok(SessionReply::own_refusal(Refusal::AlreadyJoined));
         }
+        if is_denied(host, name) {
+            return Ok(SessionReply::own_refusal(Refusal::NotServed));
+        }
         let entrance = host.rooms.join(host.rt, host.alloc, name)?;
         Ok(self.enter(entrance))
     }
 
     /// Comes back as this site of the room of this name, unless the session is in a room.
-    fn back<R: Wait, O: Observer, K>(
+    fn back<R: Wait, O: Observer, K: Keeper<P>>(
         &mut self,
         host: &Host<'_, P, R, O, K>,
         name: &RoomName,
         site: u32,
     ) -> Result<SessionReply<P>, MessageFault>
         ensures ok { IfOk result (λ answer. IsAnswer P.limits
-            host.now.rooms.now self.old self.new (Back name.now site) answer.told answer.reply) }
+            host.now.rooms.now (IsPermitted K.permits) K.denies self.old self.new (Back name.now site) answer.told answer.reply) }
         ensures err { OnErr result (self.new ≡ self.old) }
         ensures cause { IfErr result (λ why. why ≡ message_fault.NoMemory) }
     {
@@ -192,12 +199,12 @@ impl<P: RoomHistories> Session<P> {
     }
 
     /// Hands the pass back, if the session has one. On `Err` the session keeps it.
-    fn leave<R: Wait, O: Observer, K>(
+    fn leave<R: Wait, O: Observer, K: Keeper<P>>(
         &mut self,
         host: &Host<'_, P, R, O, K>,
     ) -> Result<SessionReply<P>, MessageFault>
         ensures ok { IfOk result (λ answer. IsAnswer P.limits
-            host.now.rooms.now self.old self.new Leave answer.told answer.reply) }
+            host.now.rooms.now (IsPermitted K.permits) K.denies self.old self.new Leave answer.told answer.reply) }
         ensures err { OnErr result (self.new ≡ self.old) }
         ensures cause { IfErr result (λ why. why ≡ message_fault.Torn) }
         ensures other_rooms { MatchOption self.old (Unit {0})
@@ -259,6 +266,23 @@ impl<P: RoomHistories> Session<P> {
             None => {}
             Some(_) => unreachable!(),
         }
+    }
+}
+
+/// Returns whether the keeper has no permit to let a new site into the room of this name. False if
+/// there is no such room.
+fn is_denied<P: RoomHistories, R: Wait, O, K: Keeper<P>>(
+    host: &Host<'_, P, R, O, K>,
+    name: &RoomName,
+) -> bool
+    ensures yes { result ≡ true →
+        (place : ℕ) × IsRoomAt host.now.rooms.now name.now place × K.denies place }
+    ensures no { result ≡ false → (place : ℕ) → IsRoomAt host.now.rooms.now name.now place →
+        IsPermitted K.permits place }
+{
+    match host.rooms.place_of(name) {
+        Some(place) => host.keeper.permit(host.rt, place).is_none(),
+        None => false,
     }
 }
 

@@ -7,13 +7,14 @@ use crate::host::Host;
 use crate::observer::Observer;
 use crate::session::Session;
 use connection::{Answer, End, Talk};
-use room_lock::{Keeper, Prefix, RoomHistories};
+use keeper::Keeper;
+use room_lock::{Prefix, RoomHistories};
 use std::sync::Wait;
 use wire_reader::Scratch;
 
 impl<P: RoomHistories, R: Wait, O: Observer, K: Keeper<P>> Talk for Host<'_, P, R, O, K> {
     ghost use Rattle.sessions.specs.steps.Faults.{IsMessageFault, IsNotKept};
-    ghost use Rattle.sessions.specs.Turns.{IsTextOfTurn, IsWait};
+    ghost use Rattle.sessions.specs.Turns.{IsPermitted, IsTextOfTurn, IsWait};
 
     type Session = Session<P>;
 
@@ -24,12 +25,13 @@ impl<P: RoomHistories, R: Wait, O: Observer, K: Keeper<P>> Talk for Host<'_, P, 
     type Scratch = Scratch;
 
     ghost turn = { λ host old new bytes text told.
-        IsTextOfTurn P.limits host.rooms.now old new bytes told text };
+        IsTextOfTurn P.limits host.rooms.now (IsPermitted K.permits) K.denies old new bytes told
+        text };
 
     ghost waits = { λ _ session bytes. IsWait session bytes };
 
     ghost fails = { λ host old new bytes end.
-        IsMessageFault P.limits host.rooms.now old new bytes end };
+        IsMessageFault P.limits host.rooms.now (IsPermitted K.permits) K.denies old new bytes end };
 
     ghost shows = { λ receipt told. K.shows receipt told };
 
@@ -49,8 +51,8 @@ impl<P: RoomHistories, R: Wait, O: Observer, K: Keeper<P>> Talk for Host<'_, P, 
     }
 
     fn receipt(&self, told: &Prefix<P>) -> Result<Option<K::Receipt>, End> {
-        match self.keeper.keep(self.rt, self.alloc, self.rooms, told) {
-            Ok(receipt) => Ok(Some(receipt)),
+        match self.keeper.receipt(self.rt, told) {
+            Ok(receipt) => Ok(receipt),
             Err(fault) => Err(end_of_keep(fault)),
         }
     }

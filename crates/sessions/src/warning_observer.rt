@@ -3,12 +3,13 @@
 use crate::cause::Cause;
 use crate::observer::Observer;
 use base_types::RoomName;
+use keeper::Change;
 use log::{Log, warn};
 use loops::Client;
 use wire::EntryKind;
 
-/// An observer that logs a warning for each session that did not end `Closed`. It hands all events
-/// on to another observer.
+/// An observer that logs a warning for each session that did not end `Closed` or `NotKept`; of the
+/// latter the observer hears once for all sessions. It hands all events on to another observer.
 #[derive(Drop)]
 pub(crate) struct WarningObserver<'a, R, O> {
     pub(crate) rt: &'a R,
@@ -18,6 +19,10 @@ pub(crate) struct WarningObserver<'a, R, O> {
 impl<R: Log, O: Observer> Observer for WarningObserver<'_, R, O> {
     fn after_entry(&self, place: usize, kind: EntryKind) {
         self.observer.after_entry(place, kind);
+    }
+
+    fn keeping_changed(&self, place: usize, change: &Change) {
+        self.observer.keeping_changed(place, change);
     }
 
     fn before_session(&self) {
@@ -33,7 +38,7 @@ impl<R: Log, O: Observer> Observer for WarningObserver<'_, R, O> {
     }
 
     fn after_session(&self, client: &Client, room: Option<&RoomName>, cause: Cause) {
-        if cause != Cause::Closed {
+        if !matches!(cause, Cause::Closed | Cause::NotKept) {
             match room {
                 Some(room) => {
                     let room = room.text();

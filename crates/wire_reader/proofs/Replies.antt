@@ -11,7 +11,7 @@ use Rattle.rules.specs.AttrLists.{Attr}
 use Rattle.rules.specs.Refusals.{code_of, word_of, refusal_at}
 use Rattle.rules.specs.declared.refusal.TheConstants.{MAX_REFUSAL_CODE}
 use Rattle.rules.specs.declared.refusal.Refusal.{Refusal}
-use Rattle.rules.specs.declared.refusal.Refusal.TheVariants.{BadMessage, NotJoined, AlreadyJoined, NoSuchRoom, RoomFull, RecordFull, WrongSeq, OwnCount, Ahead, NotClosed, NoSuchObject, NoSuchVersion, ObjectFull, TooManyKeys, TooManyVersions, TooManyObjects, TooFar, Gone, NoSuchSite, SiteInUse}
+use Rattle.rules.specs.declared.refusal.Refusal.TheVariants.{BadMessage, NotJoined, AlreadyJoined, NoSuchRoom, RoomFull, RecordFull, WrongSeq, OwnCount, Ahead, NotClosed, NoSuchObject, NoSuchVersion, ObjectFull, TooManyKeys, TooManyVersions, TooManyObjects, TooFar, Gone, NoSuchSite, SiteInUse, NotServed}
 use Rattle.rules.specs.declared.history.Entry.{Entry}
 use Rattle.rules.specs.declared.version.Version.{Version}
 use Rattle.rules.specs.declared.version.Shown.{Shown}
@@ -123,6 +123,7 @@ refusal_again TooFar = refl
 refusal_again Gone = refl
 refusal_again NoSuchSite = refl
 refusal_again SiteInUse = refl
+refusal_again NotServed = refl
 
 fields_take : (ds : List Data) (r : Refusal) → refusal_fields ds ≡ Some r → Unit {0} × (ds ≡ whole_form (code_of r) ∷ string (word_of r) ∷ [])
 unfolding refusal_fields

@@ -24,7 +24,8 @@ step_by false true false readable = GoOn
 step_by false false waiting true = Read
 step_by false false waiting false = Rest
 
--- nothing is taken from a client whose connection is over, or for which too much waits
+-- nothing is taken from a client whose connection is over, or for which too much waits, or where all
+-- lines hold too much
 abbrev pub step_of : Load → Bool → Step
 step_of load readable =
-    step_by (load.is_over || nat_lt MAX_OUTPUT_LEN load.output_len) load.is_behind load.has_waiting readable
+    step_by (load.is_over || load.is_full || nat_lt MAX_OUTPUT_LEN load.output_len) load.is_behind load.has_waiting readable

@@ -5,8 +5,8 @@ use super::faults::Calls;
 use super::served::{
     ANSWERED, ASKED, ENTRIES, Streams, Told, answer_bytes, asked_parts, records_of, serve, stream,
 };
+use keeper::KeepFault;
 use log::Log;
-use room_lock::KeepFault;
 use sessions::Cause;
 use std::net::Net;
 use std::process::Abort;
@@ -119,6 +119,36 @@ fn serve_talks<R: Threads + Wait + Clock + Net + Log + Sync + Abort + AllocGloba
     assert_eq!(rt; records.as_slice(), expected.as_bytes());
     assert_eq!(rt; told.asked(), (number as u64).saturating_add(6));
     told.cause()
+}
+
+/// What one asks where no new site is let into the second room, and what it is answered.
+const ASKED_DENIED: &str = r#"["join","none"]
+["join","s"]
+["back","s",1]
+["join","r"]
+["join","s"]"#;
+
+const ANSWERED_DENIED: &str = r#"["no",0,4,"no-such-room"]
+["no",0,21,"not-served"]
+["no",0,19,"no-such-site"]
+["joined",0,1]
+["no",0,3,"already-joined"]"#;
+
+#[test]
+fn no_new_site_is_let_in_without_a_permit(rt: HostRuntime) {
+    let talk = talk_of(&rt, ASKED_DENIED, ANSWERED_DENIED, CLOSED);
+    let mut all = Vec::new(rt.alloc());
+    all.push(stream(&talk.parts, &talk.expected, usize::MAX, &talk.calls))
+        .expect(&rt, "memory");
+    let streams = Streams {
+        all,
+        has_loop: true,
+    };
+    let mut records = Vec::new(rt.alloc());
+    assert!(rt; serve(&rt, streams, &Told::denying(1), &mut records).is_ok());
+    assert_eq!(rt; talk.calls.taken(), Some(talk.expected.len()));
+    let expected = "room r 1\n[\"join\",1]\nroom s 0\n";
+    assert_eq!(rt; records.as_slice(), expected.as_bytes());
 }
 
 #[test]

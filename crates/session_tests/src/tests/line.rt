@@ -1,8 +1,9 @@
 //! A line over a stream of memory: it reads, has what came served, and writes what may leave.
 
 use connection::{Connection, End, Head, read_head, write_switching};
+use keeper::Keeper;
 use loops::{Client, Ending, Service};
-use room_lock::{Keeper, Prefix, RoomHistories};
+use room_lock::{Prefix, RoomHistories};
 use sessions::{Host, Observer, Session};
 use std::alloc::Global;
 use std::io::{Read, Write};

@@ -6,9 +6,10 @@ use super::faults::{Calls, Expecting, Parts};
 use super::line::serve_one;
 use super::{CLOSE, CLOSED, add_part, add_reply, add_request, bytewise, plan_rooms};
 use base_types::RoomName;
+use keeper::{Attempt, KeepFault, Keeper};
 use log::Log;
 use loops::{Bell, Client, Settings};
-use room_lock::{KeepFault, Keeper, NewRooms, Prefix, RoomHistories, Rooms};
+use room_lock::{NewRooms, Prefix, RoomHistories, Rooms};
 use sessions::{Cause, Host, Observer, ServeFault, Served, serve_streams};
 use std::alloc::Global;
 use std::io::{Read, Write};
@@ -172,6 +173,8 @@ pub(super) struct Told {
     asked: AtomicU64,
     /// The reply that is not kept, counted from 1, and why.
     fails: Option<(u64, KeepFault)>,
+    /// The place of the room for which there is no permit.
+    denied: Option<usize>,
 }
 
 impl Told {
@@ -181,6 +184,15 @@ impl Told {
             cause: AtomicU64::new(u64::MAX),
             asked: AtomicU64::new(0),
             fails,
+            denied: None,
+        }
+    }
+
+    /// One that has no permit for the room at this place.
+    pub(super) fn denying(place: usize) -> Told {
+        Told {
+            denied: Some(place),
+            ..Told::new(None)
         }
     }
 
@@ -218,27 +230,47 @@ impl Observer for Told {
 impl<P: RoomHistories> Keeper<P> for Told {
     type Receipt = ();
 
+    type Permit = ();
+
     ghost shows = { λ _ told. Unit {0} };
+
+    ghost permits = { λ _ place. Unit {0} };
 
     ghost fails = { λ _ told. Unit {0} };
 
-    fn keep(
-        &self,
-        _rt: &impl Wait,
-        _alloc: Global,
-        _rooms: &Rooms<P>,
-        _told: &Prefix<P>,
-    ) -> Result<(), KeepFault> {
+    ghost denies = { λ place. Unit {0} };
+
+    fn receipt(&self, _rt: &impl Wait, _told: &Prefix<P>) -> Result<Option<()>, KeepFault> {
         let asked = self.asked.fetch_add(1, Ordering::SeqCst).wrapping_add(1);
         match self.fails {
             Some((number, fault)) if number == asked => Err(fault),
-            _ => Ok(()),
+            _ => Ok(Some(())),
+        }
+    }
+
+    fn permit(&self, _rt: &impl Wait, place: usize) -> Option<()> {
+        if self.denied == Some(place) {
+            None
+        } else {
+            Some(())
         }
     }
 
     fn failing(&self, _rt: &impl Wait) -> Option<usize> {
         None
     }
+
+    fn count_threads(&self) -> usize {
+        0
+    }
+
+    fn keep_next(&self, _rt: &impl Wait, _alloc: Global, _rooms: &Rooms<P>) -> Option<Attempt> {
+        None
+    }
+
+    fn retry(&self, _rt: &impl Wait) {}
+
+    fn end(&self, _rt: &impl Wait) {}
 }
 
 /// What a session sends: the head of its request, then a frame for each line, then a close.

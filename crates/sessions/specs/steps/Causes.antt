@@ -5,8 +5,8 @@ use Rattle.loops.specs.declared.ending.Ending.{Ending}
 use Rattle.loops.specs.declared.ending.Ending.TheVariants.{NoHandshake, Stream, Connection}
 use Rattle.room_lock.specs.declared.fault.CallFault.{CallFault}
 use Rattle.room_lock.specs.declared.fault.CallFault.TheVariants as call
-use Rattle.room_lock.specs.declared.keeper.KeepFault.{KeepFault}
-use Rattle.room_lock.specs.declared.keeper.KeepFault.TheVariants as keep
+use Rattle.keeper.specs.declared.keeper.KeepFault.{KeepFault}
+use Rattle.keeper.specs.declared.keeper.KeepFault.TheVariants as keep
 use Rattle.sessions.specs.declared.cause.Cause.{Cause}
 use Rattle.sessions.specs.declared.cause.Cause.TheVariants as cause
 use Rattle.sessions.specs.declared.cause.MessageFault.{MessageFault}

@@ -8,4 +8,4 @@ loop-i-preserved g c =
     let frames = c.args.waiting.now.items in
     let inside : c.loop-i.i < length frames = search rules in
     let more = waiting_len_more c.loop-i.i frames c.index.result.now inside c.index.ensures in
-    let now : c.min-len.result ≡ min (waiting_len (take (c.loop-i.i + 1) frames)) 65536 = omega (arith, more, c.len.ensures, c.min-len.ensures, c.saturating_add.ensures, c.loop-i.invariant) in now
+    let now : c.min-len.result ≡ min (waiting_len (take (c.loop-i.i + 1) frames)) c.args.most = omega (arith, c.requires, more, c.len.ensures, c.min-len.ensures, c.saturating_add.ensures, c.loop-i.invariant) in now

@@ -1,7 +1,6 @@
 use Rattle.std.proofs.Common.{◌≡◌, min, take}
 use Rattle.connection.specs.Standing.{waiting_len}
-use Rattle.connection.specs.declared.item.TheConstants.{MAX_WAITING_LEN}
 use Rattle.connection.proofs.dialogue.waiting_len.Given as goal
 
 abbrev pub invariant-loop-i : goal.invariant-loop-i
-invariant-loop-i g l = l.len ≡ min (waiting_len (take l.i l.waiting.items)) MAX_WAITING_LEN
+invariant-loop-i g l = l.len ≡ min (waiting_len (take l.i l.waiting.items)) l.most

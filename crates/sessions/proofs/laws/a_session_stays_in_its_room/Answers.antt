@@ -1,5 +1,6 @@
+use Rattle.sessions.specs.Turns.{IsPermitted}
 use Rattle.sessions.proofs.Staying.{turn_stays}
 use Rattle.sessions.proofs.laws.a_session_stays_in_its_room.Goals as goal
 
 pub returns : goal.returns
-returns c = turn_stays
+returns g c = λ limits names. turn_stays limits names (IsPermitted g.K.Keeper.permits) g.K.Keeper.denies

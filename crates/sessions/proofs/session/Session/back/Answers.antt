@@ -5,7 +5,7 @@ use Rattle.sessions.proofs.session.Session.back.Goals as goal
 pub returns-clause-ok : goal.returns-clause-ok
 returns-clause-ok g c =
     let none : is_some c.args.self.now ≡ false = cc in
-    back_answered _ g.P.RoomHistories.limits c.args.host.now.rooms.now c.args.name.now c.args.site c.args.self.now _ c.enter.result.told c.enter.result.reply c.in_ok-entrance.entrance none (record {
+    back_answered _ g.P.RoomHistories.limits c.args.host.now.rooms.now _ _ c.args.name.now c.args.site c.args.self.now _ c.enter.result.told c.enter.result.reply c.in_ok-entrance.entrance none (record {
       entered = c.in_ok-entrance.ensures.entered;
       refused = if_refused_so _ _ c.in_ok-entrance.entrance (λ prefix reply refused. (false, refused)) c.in_ok-entrance.ensures.entrance_refused;
       in_use = if_in_use_so _ _ c.in_ok-entrance.entrance (λ it reply refused. (true, refused.1)) c.in_ok-entrance.ensures.in_use;

@@ -1,0 +1,5 @@
+use Rattle.sessions.proofs.Staying.{served}
+use Rattle.sessions.proofs.laws.a_room_that_is_not_denied_is_served.Goals as goal
+
+pub returns : goal.returns
+returns g c = λ limits names. served limits names _ _

@@ -43,13 +43,16 @@ impl Orders {
         })
     }
 
-    /// Adds the room at a place, and wakes a thread that waits. False if an allocation failed.
+    /// Adds the room at a place, and wakes a thread that waits if none looks. False if an allocation
+    /// failed.
     pub(crate) fn add(&self, rt: &impl Wait, place: usize) -> bool {
         let mut queue = self.queue.lock(rt);
         let is_added = queue.places.push_back(place).is_ok();
         self.count.store(queue.places.len(), Ordering::SeqCst);
         drop(queue);
-        self.came.notify_one();
+        if !self.is_looking.load(Ordering::SeqCst) {
+            self.came.notify_one();
+        }
         is_added
     }
 
@@ -69,13 +72,19 @@ impl Orders {
         self.is_looking.store(false, Ordering::SeqCst);
     }
 
-    /// Waits for the next room, and takes it out. `None` once all is over and no room is left.
+    /// Waits for the next room, and takes it out. If more are left, wakes another thread. `None` once
+    /// all is over and no room is left.
     pub(crate) fn next(&self, rt: &impl Wait) -> Option<usize> {
         self.look();
         let mut queue = self.queue.lock(rt);
         for _ in rt.forever() {
             if let Some(place) = queue.places.pop_front() {
-                self.count.store(queue.places.len(), Ordering::SeqCst);
+                let left = queue.places.len();
+                self.count.store(left, Ordering::SeqCst);
+                drop(queue);
+                if left > 0 {
+                    self.came.notify_one();
+                }
                 return Some(place);
             }
             if queue.is_over {

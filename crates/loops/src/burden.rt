@@ -9,10 +9,11 @@ const CROWDED_LEN: usize = 268_435_456;
 const FULL_LEN: usize = 536_870_912;
 
 /// How many bytes all lines hold: what waits to be sent, what waits to be kept, and what came and is
-/// no whole message.
+/// no whole message. Also how many lines wait for something to be kept.
 #[derive(Drop)]
 pub(crate) struct Burden {
     bytes: AtomicUsize,
+    waiting: AtomicUsize,
 }
 
 impl Burden {
@@ -20,6 +21,7 @@ impl Burden {
     pub(crate) fn new() -> Burden {
         Burden {
             bytes: AtomicUsize::new(0),
+            waiting: AtomicUsize::new(0),
         }
     }
 
@@ -30,6 +32,20 @@ impl Burden {
         } else if after < before {
             self.bytes.fetch_sub(before - after, Ordering::SeqCst);
         }
+    }
+
+    /// A line waits for something to be kept, or does so no more.
+    pub(crate) fn change_waiting(&self, is_waiting: bool) {
+        if is_waiting {
+            self.waiting.fetch_add(1, Ordering::SeqCst);
+        } else {
+            self.waiting.fetch_sub(1, Ordering::SeqCst);
+        }
+    }
+
+    /// Returns whether one line alone waits for something to be kept.
+    pub(crate) fn is_one_waiting(&self) -> bool {
+        self.waiting.load(Ordering::SeqCst) == 1
     }
 
     /// Returns whether lines that wait end sooner.

@@ -16,6 +16,9 @@ use mio::{Events, Poll};
 use std::sync::Wait;
 use std::time::{Clock, Duration, Instant};
 
+/// How many polls may not wait once a line waits for a disk: one or two tenths of a millisecond.
+const EAGER_POLLS: u32 = 256;
+
 /// A loop over many lines. It cannot be dropped: `end` ends its lines.
 pub(crate) struct EventLoop<S, D, C: Drop> {
     pub(crate) number: usize,
@@ -31,6 +34,8 @@ pub(crate) struct EventLoop<S, D, C: Drop> {
     /// Room for what comes.
     pub(crate) news: News,
     pub(crate) bench: Bench<C>,
+    /// How many polls may not wait, since a disk will have done soon.
+    pub(crate) eager: u32,
     /// The time of this round.
     pub(crate) now: u64,
     /// When all lines were looked at.
@@ -77,12 +82,13 @@ where
             scratch: shared.service.new_scratch(),
             chunk,
         },
+        eager: 0,
         now: 0,
         swept: 0,
         is_last: false,
     };
     for _ in shared.rt.forever() {
-        if !served.wait(&mut events) {
+        if !served.wait(shared, &mut events) {
             break;
         }
         served.now = millis_since(shared.rt, began, served.now);
@@ -92,13 +98,20 @@ where
 }
 
 impl<S, D: Drop, C: Drop> EventLoop<S, D, C> {
-    /// Waits for the next reports: a second at most, and not at all while lines have more to do.
-    /// Returns false if all is done, or waiting fails.
-    fn wait(&mut self, events: &mut Events) -> bool {
+    /// Waits for the next reports: a second at most, and not at all while lines have more to do. Nor
+    /// for a moment after a line began to wait for a disk, if no other line of any loop does: a thread
+    /// that sleeps is woken late. Returns false if all is done, or waiting fails.
+    fn wait<R, V>(&mut self, shared: &Shared<'_, R, V>, events: &mut Events) -> bool {
         if self.is_last && self.lines.is_empty() {
             return false;
         }
-        let limit = if self.queue.is_empty() { 1 } else { 0 };
+        let is_eager = self.eager > 0 && shared.burden.is_one_waiting();
+        self.eager = self.eager.saturating_sub(1);
+        let limit = if self.queue.is_empty() && !is_eager {
+            1
+        } else {
+            0
+        };
         self.poll
             .poll(events, Some(Duration::from_secs(limit)))
             .is_ok()
@@ -278,6 +291,9 @@ impl<S, D: Drop, C: Drop> EventLoop<S, D, C> {
         }
         if self.parked.park(place, key) {
             line.parked_at = Some(place);
+            if line.has_waiting() {
+                self.eager = EAGER_POLLS;
+            }
         }
     }
 

@@ -29,6 +29,8 @@ pub(crate) struct Line<S, D> {
     pub(crate) is_queued: bool,
     /// How many bytes of it all lines' burden counts.
     counted: usize,
+    /// Whether the burden counts it as waiting for something to be kept.
+    is_waiting: bool,
 }
 
 /// What becomes of a line after its turn.
@@ -55,6 +57,7 @@ impl<S, D: Drop> Line<S, D> {
             parked_at: None,
             is_queued: false,
             counted: 0,
+            is_waiting: false,
         }
     }
 
@@ -242,6 +245,11 @@ impl<S, D: Drop> Line<S, D> {
         let weight = self.weight();
         shared.burden.change(self.counted, weight);
         self.counted = weight;
+        let is_waiting = self.has_waiting();
+        if is_waiting != self.is_waiting {
+            shared.burden.change_waiting(is_waiting);
+            self.is_waiting = is_waiting;
+        }
     }
 
     /// Sends what waits, as far as the stream takes it. Returns false if the stream has failed.
@@ -401,8 +409,12 @@ impl<S, D: Drop> Line<S, D> {
             parked_at: _,
             is_queued: _,
             counted,
+            is_waiting,
         } = self;
         shared.burden.change(counted, 0);
+        if is_waiting {
+            shared.burden.change_waiting(false);
+        }
         match stage {
             Stage::Opening(_head) => shared.refuse(&client, unopened(ending)),
             Stage::Open(served) => served.end(shared, &client, ending),

@@ -65,7 +65,8 @@ impl Output {
     /// # Errors
     /// What the stream answered. Then nothing has changed.
     pub(crate) fn send<W: Write>(&mut self, stream: &mut W) -> io::Result<usize>
-        ensures ok { Sends (W.contents stream.old) (W.contents stream.new) self.old self.new result }
+        ensures ok { Sends (W.contents stream.old) (W.contents stream.new) self.old self.new
+            result }
     {
         let count = stream.write(&self.bytes[self.sent..])?;
         self.sent += count;
@@ -90,7 +91,8 @@ impl Output {
             connection.new.standing self.old self.new }
         ensures stays { result ≢ Ok true → (connection.new.standing ≡ connection.old.standing)
             × (self.new ≡ self.old) }
-        ensures others { connection.new ≡ record connection.old { standing = connection.new.standing } }
+        ensures others { connection.new
+            ≡ record connection.old { standing = connection.new.standing } }
     {
         self.forget_sent();
         connection.release_first(talk, &mut self.bytes)

@@ -135,6 +135,7 @@ impl<S, D: Drop, C: Drop> EventLoop<S, D, C> {
             openings: _,
             mut news,
             bench: _,
+            eager: _,
             now: _,
             swept: _,
             is_last: _,

@@ -46,8 +46,10 @@ impl<S, D: Drop> Served<S, D> {
 
     /// Why the connection has ended, once nothing of it waits.
     pub(crate) fn finished(&self) -> Option<Ending>
-        ensures some { IsSome result → (result ≡ self.now.over) × (self.now.connection.standing.waiting ≡ []) }
-        ensures none { IsNone result → self.now.connection.standing.waiting ≡ [] → self.now.over ≡ None }
+        ensures some { IsSome result → (result ≡ self.now.over)
+            × (self.now.connection.standing.waiting ≡ []) }
+        ensures none { IsNone result → self.now.connection.standing.waiting ≡ [] →
+            self.now.over ≡ None }
     {
         if self.connection.has_waiting() {
             None
@@ -58,7 +60,8 @@ impl<S, D: Drop> Served<S, D> {
 
     /// The client sends no more.
     pub(crate) fn hang_up(&mut self)
-        ensures { self.new ≡ record self.old { over = Some (unwrap_or self.old.over Ending.Stream) } }
+        ensures { self.new
+            ≡ record self.old { over = Some (unwrap_or self.old.over Ending.Stream) } }
     {
         if self.over.is_none() {
             self.over = Some(Ending::Stream);
@@ -160,7 +163,8 @@ fn release_all<S, D: Drop, V: Service<Session = S, Told = D>>(
     service: &V,
     output: &mut Output,
 ) -> Result<(), End>
-    ensures { Delivers V.shows connection.old.standing connection.new.standing output.old output.new }
+    ensures { Delivers V.shows connection.old.standing connection.new.standing output.old
+        output.new }
 {
     for _ in 0..usize::MAX {
         match output.release(connection, service) {

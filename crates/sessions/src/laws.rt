@@ -44,8 +44,8 @@ pub fn a_reply_reports_on_the_room_of_the_session<P: RoomHistories, K: Keeper<P>
         (new : SessionView) (told : PrefixView) (reply : Reply) →
         IsBackBy limits names name site new (Some told) reply → Contains names name →
         IsRoomAt names name told.place }
-    ensures inside { (limits : LimitValues) (names : List Bytes) (was : PassView) (new : SessionView)
-        (bytes : Bytes) (told : PrefixView) (reply : Reply) →
+    ensures inside { (limits : LimitValues) (names : List Bytes) (was : PassView)
+        (new : SessionView) (bytes : Bytes) (told : PrefixView) (reply : Reply) →
         IsTurn limits names (IsPermitted K.permits) K.denies (Some was) new bytes (Some told) reply →
         told.place ≡ was.part.place }
 {}

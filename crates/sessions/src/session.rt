@@ -295,7 +295,8 @@ fn call_by<P: RoomHistories, R: Wait, O, K>(
     ensures ok { IfOk result (λ answer. IsCallBy P.limits
         pass.old (Some pass.new) request answer.told answer.reply) }
     ensures err { OnErr result (pass.new ≡ pass.old) }
-    ensures other_rooms { ¬ IsOfRooms host.now.rooms.now pass.old → result ≡ Err message_fault.Torn }
+    ensures other_rooms { ¬ IsOfRooms host.now.rooms.now pass.old →
+        result ≡ Err message_fault.Torn }
 {
     let reply = host.rooms.call(host.rt, host.alloc, pass, request)?;
     Ok(SessionReply::of_room(pass.part().prefix(), reply))

@@ -1,35 +1,44 @@
 //! The folder of `--keep`. The server locks it, reads the file of each room, and then cuts each
 //! file to its whole lines.
 
-ghost use Rattle.std.specs.Prelude.{◌≡◌, ◌++◌, All, IfOk, codes, map, string_bytes};
+ghost use Rattle.std.specs.Prelude.{◌≡◌, All, IfOk, map};
 ghost use Rattle.rules.specs.Limits.{full_limits};
 
 use crate::fault::FolderFault;
 use crate::found::{Found, RestoreFault, restore_room};
-use base_types::NoMemory;
-use command_fault::MAX_FILE_LEN;
+use crate::room_file::{cut_or_create, open_file, path_of};
 use journal::Synced;
-use log::{Log, error, info, warn};
+use log::{Log, error, info};
 use restore::RestoredFile;
 use room_core::RoomState;
 use std::alloc::Global;
 use std::fmt::Display;
-use std::fs::{File, OpenOptions, TryLockError};
+use std::fs::{File, TryLockError};
 use std::io::ErrorKind;
+use std::marker::Model;
 use std::rt::Files;
 use std::sync::Wait;
 use std::{fs, io};
 
 /// A folder that keeps rooms. The file ROOM.record has the entries of a room, one per line. No
-/// other process holds the folder while this value exists.
+/// other process holds the folder while this value exists, or only others that share it. Contracts
+/// see its path.
 #[derive(Drop)]
 pub struct Folder<'a> {
-    dir: &'a str,
+    pub(crate) dir: &'a str,
     opened: File,
 }
 
-/// Why a long file is not read.
-const TOO_LONG: &str = "it has more than 1073741824 bytes";
+impl<'a> Model for Folder<'a> {
+    ghost use Rattle.std.specs.Prelude.{List, ℕ};
+
+    ghost Value = { List ℕ };
+
+    ghost view = { λ folder. folder.dir.now };
+}
+
+/// Why a file that fails to be read cannot be used.
+pub(crate) const UNREADABLE: &str = "it can't be read";
 
 /// Opens the folder. Fails for anything but a folder.
 fn open_folder<R: Files<File = File>>(rt: &R, dir: &str) -> io::Result<File> {
@@ -39,42 +48,21 @@ fn open_folder<R: Files<File = File>>(rt: &R, dir: &str) -> io::Result<File> {
     File::open(rt, dir)
 }
 
-/// Opens a file for reading and appending, if there is one.
-fn open_file<R: Files<File = File>>(rt: &R, path: &str) -> io::Result<Option<File>> {
-    match OpenOptions::new().read(true).append(true).open(rt, path) {
-        Ok(file) => {
-            let about = file.metadata()?;
-            if !about.is_file() {
-                return Err(io::Error::new(ErrorKind::InvalidInput, "not a regular file"));
-            }
-            if about.len() > MAX_FILE_LEN as u64 {
-                return Err(io::Error::new(ErrorKind::FileTooLarge, TOO_LONG));
-            }
-            Ok(Some(file))
-        }
-        Err(why) if why.kind() == ErrorKind::NotFound => Ok(None),
-        Err(why) => Err(why),
-    }
+/// How a process has the folder.
+#[derive(Clone, Copy, Debug, PartialEq, Eq)]
+enum Hold {
+    /// No other process has it.
+    Alone,
+    /// Others may have it, but none alone.
+    Shared,
 }
 
-/// Cuts the file to its whole lines, or creates it, and syncs it.
-fn cut_or_create<R: Files<File = File> + Log>(
-    rt: &R,
-    path: &str,
-    file: Option<File>,
-    behind: usize,
-    whole: usize,
-) -> io::Result<Synced<File>> {
-    let file = match file {
-        Some(file) => file,
-        None => OpenOptions::new().append(true).create(true).open(rt, path)?,
-    };
-    if behind > 0 {
-        file.set_len(whole as u64)?;
-        warn!(rt; "{path}: {behind} bytes of a line that was not written to its end");
+/// Locks the folder.
+fn lock_folder(opened: &File, hold: Hold) -> Result<(), TryLockError> {
+    match hold {
+        Hold::Alone => opened.try_lock(),
+        Hold::Shared => opened.try_lock_shared(),
     }
-    file.sync_all()?;
-    Ok(Synced::new(file, whole as u64))
 }
 
 /// Logs which file fails and why. Returns the fault that the folder cannot keep rooms.
@@ -88,12 +76,12 @@ fn cannot_keep<'a, R: Log, W: Display>(
     FolderFault::CannotKeep(dir)
 }
 
-/// The path of a room's file.
-fn path_of(alloc: Global, dir: &str, name: &str) -> Result<String, NoMemory>
-    ensures { IfOk result (λ path. string_bytes path
-        ≡ dir.now ++ (codes "/" ++ (name.now ++ codes ".record"))) }
-{
-    Ok(format!(in alloc; "{dir}/{name}.record")?)
+/// Logs how many entries a room has, if it has any.
+pub(crate) fn log_entries<R: Log>(rt: &R, path: &str, room: &RoomState) {
+    let entries = room.entries().len();
+    if entries > 0 {
+        info!(rt; "{path}: {entries} entries");
+    }
 }
 
 impl<'a> Folder<'a> {
@@ -105,12 +93,40 @@ impl<'a> Folder<'a> {
     pub fn open<R: Files<File = File> + Log>(
         rt: &R,
         dir: &'a str,
-    ) -> Result<Folder<'a>, FolderFault<'a>> {
+    ) -> Result<Folder<'a>, FolderFault<'a>>
+        ensures { IfOk result (λ folder. folder ≡ dir.now) }
+    {
+        Folder::open_as(rt, dir, Hold::Alone)
+    }
+
+    /// Opens the folder and locks it together with others that call this: several processes may
+    /// share a folder, but not with one that has it alone. Each file is locked by `open_room`.
+    ///
+    /// # Errors
+    /// `CannotKeep` if it is no folder or cannot be opened.
+    /// `KeptByAnother` if another process has it alone.
+    pub fn open_shared<R: Files<File = File> + Log>(
+        rt: &R,
+        dir: &'a str,
+    ) -> Result<Folder<'a>, FolderFault<'a>>
+        ensures { IfOk result (λ folder. folder ≡ dir.now) }
+    {
+        Folder::open_as(rt, dir, Hold::Shared)
+    }
+
+    /// Opens the folder and locks it in this way.
+    fn open_as<R: Files<File = File> + Log>(
+        rt: &R,
+        dir: &'a str,
+        hold: Hold,
+    ) -> Result<Folder<'a>, FolderFault<'a>>
+        ensures { IfOk result (λ folder. folder ≡ dir.now) }
+    {
         let opened = match open_folder(rt, dir) {
             Ok(opened) => opened,
             Err(why) => return Err(cannot_keep(rt, dir, dir, &why)),
         };
-        match opened.try_lock() {
+        match lock_folder(&opened, hold) {
             Ok(()) => Ok(Folder { dir, opened }),
             Err(TryLockError::WouldBlock) => Err(FolderFault::KeptByAnother(dir)),
             Err(TryLockError::Error(why)) => Err(cannot_keep(rt, dir, dir, &why)),
@@ -167,10 +183,7 @@ impl<'a> Folder<'a> {
         };
         match restore_room(rt, alloc, name, file) {
             Ok((room, found)) => {
-                let entries = room.entries().len();
-                if entries > 0 {
-                    info!(rt; "{path}: {entries} entries");
-                }
+                log_entries(rt, path.as_str(), &room);
                 Ok((room, found))
             }
             Err(fault) => Err(self.fault_of(rt, path.as_str(), name, fault)),
@@ -191,10 +204,7 @@ impl<'a> Folder<'a> {
                 room: name,
                 line,
             },
-            RestoreFault::Unreadable => {
-                let why = "it can't be read";
-                cannot_keep(rt, self.dir, path, &why)
-            }
+            RestoreFault::Unreadable => cannot_keep(rt, self.dir, path, &UNREADABLE),
             RestoreFault::NoMemory => FolderFault::NoMemory,
         }
     }
@@ -218,14 +228,20 @@ impl<'a> Folder<'a> {
         for found in files {
             settled.push(self.settle_file(rt, alloc, found)?)?;
         }
+        self.sync(rt)?;
+        Ok(settled)
+    }
+
+    /// Syncs the folder, so that the files that were created in it last.
+    pub(crate) fn sync<R: Log>(&self, rt: &R) -> Result<(), FolderFault<'a>> {
         match self.opened.sync_all() {
-            Ok(()) => Ok(settled),
+            Ok(()) => Ok(()),
             Err(why) => Err(cannot_keep(rt, self.dir, self.dir, &why)),
         }
     }
 
     /// Settles one file.
-    fn settle_file<R: Files<File = File> + Log>(
+    pub(crate) fn settle_file<R: Files<File = File> + Log>(
         &self,
         rt: &R,
         alloc: Global,

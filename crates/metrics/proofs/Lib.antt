@@ -1,0 +1,3 @@
+mod Escapes
+mod Lines
+mod Numbers

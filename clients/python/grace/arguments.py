@@ -1,5 +1,5 @@
-"""Checks of arguments: room names, kinds, keys, values, object names and version identifiers. An error message starts
-with the key or the argument, and says what is wrong with it."""
+"""Checks of arguments: room names, kinds, keys, values, object names, version identifiers, and fields of the handshake.
+An error message starts with the key or the argument, and says what is wrong with it."""
 
 import re
 
@@ -7,6 +7,10 @@ from .forms import LIMITS
 
 WORD = re.compile(r"[a-z0-9-]+")
 LEAST, MOST = -(2**63), 2**63 - 1
+FIELD_NAME = re.compile(r"[!#$%&'*+.^_`|~0-9A-Za-z-]+")
+FIELD_VALUE = re.compile(r"[\t -~]*")
+# The fields that each handshake has by itself, in lower case.
+OWN_FIELDS = {"host", "upgrade", "connection", "sec-websocket-version", "sec-websocket-key"}
 
 
 def as_word(what, word, most):
@@ -91,3 +95,24 @@ def as_id(version):
     if not isinstance(names, (tuple, list)) or not all(map(is_name, names)):
         raise TypeError("the version must be a Version or its identifier")
     return tuple(sorted(map(tuple, names)))
+
+
+def as_headers(headers):
+    """Checks further fields of the handshake: a dictionary, or pairs of a name and a value. Returns the pairs."""
+    pairs = headers.items() if hasattr(headers, "items") else headers
+    return tuple(as_field(name, value) for name, value in pairs)
+
+
+def as_field(name, value):
+    """Checks a field. Raises `TypeError` if the name or the value is not a string. Raises `ValueError` if the name is
+    none of HTTP or one that each handshake has, or the value has more than printable ASCII. No message has the value,
+    which may be a secret."""
+    if not isinstance(name, str) or not FIELD_NAME.fullmatch(name):
+        raise (ValueError if isinstance(name, str) else TypeError)(f"{name!r:.80} is not the name of a header field")
+    if name.lower() in OWN_FIELDS:
+        raise ValueError(f"{name}: the handshake has this field by itself")
+    if not isinstance(value, str):
+        raise TypeError(f"{name}: the value of a header field must be a string")
+    if not FIELD_VALUE.fullmatch(value):
+        raise ValueError(f"{name}: the value of a header field must be printable ASCII")
+    return name, value

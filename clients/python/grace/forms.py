@@ -40,6 +40,13 @@ WORDS = {
 }
 CODES = {word: code for code, word in enumerate(list(WORDS)[:21], 1)}
 
+# Why the answer to a handshake ends a room, by its status.
+DENIED = {
+    401: "The server needs a user and a password that it knows",
+    403: "The server does not let you in",
+    404: "The server has no room at this address",
+}
+
 
 class Refused(Exception):
     """The server or this module refused a change or a join, which then has no effect.
@@ -57,8 +64,25 @@ class ProtocolFault(Exception):
     """The server sent something that the protocol does not allow."""
 
 
+class Denied(Exception):
+    """The server, or a proxy in front of it, answered the handshake by 401, 403 or 404. Another attempt would get the
+    same answer.
+
+    `status` is the number and `reason` the text of the answer's first line, such as 401 and `Unauthorized`. `str` gives
+    a sentence for people."""
+
+    def __init__(self, status, reason):
+        super().__init__(f"{DENIED[status]}: {status} {reason}".rstrip() + ".")
+        self.status, self.reason = status, reason
+
+
 class Lost(Exception):
-    """The connection failed: it could not be opened, it broke, or a reply took too long."""
+    """The connection failed: it could not be opened, it broke, or a reply took too long. `pause_seconds` is how long
+    the server asks the client to wait before the next attempt."""
+
+    def __init__(self, words, pause_seconds=0):
+        super().__init__(words)
+        self.pause_seconds = pause_seconds
 
 
 @dataclass(frozen=True, slots=True)

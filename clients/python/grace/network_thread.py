@@ -12,7 +12,7 @@ from collections import deque
 from dataclasses import dataclass
 
 from .connection_state import ConnectionState
-from .forms import Lost, ProtocolFault, Refused, operation_of, read_text, request_of, write_text
+from .forms import Denied, Lost, ProtocolFault, Refused, operation_of, read_text, request_of, write_text
 from .pause import Pause, WaitTimer
 from .websocket import WebSocket
 
@@ -227,7 +227,7 @@ class NetworkThread:
 
     def _wait_for_next_try(self, fault):
         waits = self.options.retry_seconds
-        wait = waits[min(self._tries, len(waits) - 1)]
+        wait = max(waits[min(self._tries, len(waits) - 1)], min(fault.pause_seconds, max(waits)))
         self._tries += 1
         try:
             with self._locked():
@@ -238,7 +238,7 @@ class NetworkThread:
             pass
 
     def _close_because_of(self, fault):
-        is_known = isinstance(fault, (Refused, ProtocolFault))
+        is_known = isinstance(fault, (Denied, Refused, ProtocolFault))
         with self.lock:
             if not self.is_closing:
                 self.fault = fault
@@ -282,7 +282,7 @@ class NetworkThread:
         context = self.options.context
         if context is None and self.address.scheme == "wss":
             context = ssl.create_default_context()
-        self._socket.open(self.address, context)
+        self._socket.open(self.address, context, self.options.headers)
         self._owed.popleft()
         self.room_state.is_entering = True
         if not self._rejoin():
@@ -323,19 +323,22 @@ class NetworkThread:
         return False
 
     def _request_back(self):
-        """The reply to `back`, or None if the client cannot rejoin as its old site."""
+        """The reply to `back`, or None if the client cannot rejoin as its old site. While the server cannot serve the
+        room, the client asks again, and the time for which it tries to rejoin has not begun."""
         end = time.monotonic() + self.options.back_seconds
         pause = Pause(REJOIN_SECONDS, LONGEST_REJOIN_SECONDS)
         while True:
             try:
                 return self._request(["back", self.name, self.room_state.site or self.options.site], "back")
             except Refused as refusal:
-                if not self._may_rejoin(refusal, end):
+                is_served = refusal.word != "not-served"
+                if is_served and not self._may_rejoin(refusal, end):
                     return None
-            with self._locked():
-                if self.connection_state.words != STILL_CONNECTED:
-                    self.connection_state.connect(STILL_CONNECTED)
-            self._sleep(pause.take())
+            if is_served:
+                self._wait_outside(STILL_CONNECTED, pause.take())
+            else:
+                self._wait_outside(NOT_SERVED, NOT_SERVED_SECONDS)
+                end = time.monotonic() + self.options.back_seconds
 
     def _may_rejoin(self, refusal, end):
         """Whether to try again to rejoin. Raises the refusal if the client must not join as a new site."""
@@ -372,10 +375,14 @@ class NetworkThread:
                     raise Lost(CANNOT_JOIN) from None
                 if refusal.word != "not-served":
                     raise
-            with self._locked():
-                if self.connection_state.words != NOT_SERVED:
-                    self.connection_state.connect(NOT_SERVED)
-            self._sleep(NOT_SERVED_SECONDS)
+            self._wait_outside(NOT_SERVED, NOT_SERVED_SECONDS)
+
+    def _wait_outside(self, words, seconds):
+        """Says why the client is not in the room yet, and waits this long."""
+        with self._locked():
+            if self.connection_state.words != words:
+                self.connection_state.connect(words)
+        self._sleep(seconds)
 
     def _load(self):
         """Pulls until the client has all entries."""

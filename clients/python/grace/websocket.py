@@ -2,45 +2,17 @@
 
 import base64
 import errno
-import hashlib
 import os
 import socket
 import ssl
 import struct
-from dataclasses import dataclass
-from urllib.parse import urlsplit
 
 from .forms import Lost
+from .handshake import Answer, request_head
 
 CONTINUATION, TEXT, CLOSE, PING, PONG = 0, 1, 8, 9, 10
-SUFFIX = b"258EAFA5-E914-47DA-95CA-C5AB0DC85B11"
-PORTS = {"ws": 80, "wss": 443}
 # A longer reply to the handshake is refused.
 HEAD_BYTES = 65536
-
-
-@dataclass(frozen=True)
-class Address:
-    """The address of a server: `ws://HOST:PORT/PATH`, `wss://` for TLS, or `HOST:PORT` alone."""
-
-    scheme: str
-    host: str
-    port: int
-    path: str
-
-    @classmethod
-    def read(cls, text):
-        """Parses an address. Raises `ValueError` if it is invalid."""
-        parts = urlsplit(text if "://" in text else f"ws://{text}")
-        if parts.scheme not in PORTS or not parts.hostname:
-            raise ValueError(f"{text} is not an address such as ws://127.0.0.1:7000/")
-        path = (parts.path or "/") + (f"?{parts.query}" if parts.query else "")
-        return cls(parts.scheme, parts.hostname, parts.port or PORTS[parts.scheme], path)
-
-    @property
-    def host_and_port(self):
-        """The value of the header field `Host`."""
-        return f"[{self.host}]:{self.port}" if ":" in self.host else f"{self.host}:{self.port}"
 
 
 def mask(payload, key):
@@ -71,20 +43,20 @@ class WebSocket:
         self._received = bytearray()
         self._fragments = None
 
-    def open(self, address, context):
-        """Opens the connection. A `wss` address uses this TLS context."""
+    def open(self, address, context, headers=()):
+        """Opens the connection to an `Address`. A `wss` address uses this TLS context. `headers` has further fields of
+        the handshake, as a dictionary or as pairs. Raises `Denied` if the answer is 401, 403 or 404. Raises `TypeError`
+        or `ValueError` if a field is invalid."""
+        key = base64.b64encode(os.urandom(16)).decode()
+        head = request_head(address, key, headers)
         self._connect(address)
         if address.scheme == "wss":
             self.socket = context.wrap_socket(
                 self.socket, server_hostname=address.host, do_handshake_on_connect=False,
             )
             self._retry_until_ready(self.socket.do_handshake)
-        key = base64.b64encode(os.urandom(16)).decode()
-        self._send(
-            f"GET {address.path} HTTP/1.1\r\nHost: {address.host_and_port}\r\nUpgrade: websocket\r\n"
-            f"Connection: Upgrade\r\nSec-WebSocket-Version: 13\r\nSec-WebSocket-Key: {key}\r\n\r\n".encode()
-        )
-        self._read_handshake(base64.b64encode(hashlib.sha1(key.encode() + SUFFIX).digest()))
+        self._send(head)
+        self._read_answer().check(key)
         self.is_open = True
 
     def send(self, text):
@@ -204,18 +176,13 @@ class WebSocket:
         del self._received[:count]
         return data
 
-    def _read_handshake(self, accepted):
-        """Reads the reply to the handshake, and checks its status and `Sec-WebSocket-Accept`."""
+    def _read_answer(self):
+        """Waits for the answer to the handshake."""
         while b"\r\n\r\n" not in self._received:
             if len(self._received) > HEAD_BYTES:
                 raise Lost("The server did not accept the WebSocket handshake.")
             self._fill()
-        head = self._take(self._received.index(b"\r\n\r\n") + 4)
-        status = head.split(b" ", 2)[1]
-        if status == b"503":
-            raise Lost("All places of the server are taken.")
-        if status != b"101" or accepted not in head:
-            raise Lost("The server did not accept the WebSocket handshake.")
+        return Answer.read(self._take(self._received.index(b"\r\n\r\n") + 4))
 
     def _next_frame(self):
         """The next complete frame, or None: whether it is the last of its message, its opcode, and its payload."""

@@ -1,11 +1,13 @@
-"""A relay between clients and `grace serve`. It can cut connections between a request and its reply, hold waits, and
-speak TLS to clients. `what_to_do` decides about each message of a client, by its text."""
+"""A relay between clients and `grace serve`. It can cut connections between a request and its reply, hold waits, answer
+handshakes in place of the server, and speak TLS to clients. `what_to_do` decides about each message of a client, by its
+text."""
 
 import asyncio
 import contextlib
 import json
 import re
 import threading
+from collections import deque
 
 PASS = "pass"
 # The relay cuts the connection; the message does not reach the server.
@@ -52,6 +54,9 @@ class Relay:
         self.context = context
         self.what_to_do = lambda text: PASS
         self.waits = LEFT
+        # The heads of clients, and the answers to the next of them in place of the server's.
+        self.heads = []
+        self.answers = deque()
         # The messages of clients, and the number of connections cut at one.
         self.texts = []
         self.cuts = 0
@@ -90,12 +95,17 @@ class Relay:
         self.writers.add(writer)
         cut = asyncio.Event()
         with contextlib.suppress(OSError, asyncio.IncompleteReadError):
+            head = await reader.readuntil(b"\r\n\r\n")
+            self.heads.append(head.decode())
+            if self.answers:
+                return await self.answer(writer, self.answers.popleft())
             try:
                 answers, server = await asyncio.open_connection("127.0.0.1", self.port)
             except OSError:
                 return self.abort(writer)
             self.writers.add(server)
             beside = asyncio.ensure_future(self.hand_back(answers, writer, cut))
+            server.write(head)
             try:
                 await self.hand_on(reader, server, cut)
                 # After a cut the other task meets the reply and disconnects.
@@ -103,9 +113,15 @@ class Relay:
             finally:
                 self.abort(writer, server)
 
+    async def answer(self, writer, lines):
+        """Answers a handshake by these lines and a short page, and ends the connection."""
+        writer.write("\r\n".join((*lines, "Content-Length: 4", "", "page")).encode())
+        await writer.drain()
+        writer.close()
+        self.writers.discard(writer)
+
     async def hand_on(self, reader, server, cut):
-        """Forwards the head and the frames of a client, up to a cut."""
-        server.write(await reader.readuntil(b"\r\n\r\n"))
+        """Forwards the frames of a client, up to a cut."""
         while not cut.is_set():
             data, text = await frame_from(reader)
             self.texts.append(text)

@@ -1,20 +1,53 @@
 /** One WebSocket connection to a server. The server answers its requests in order. */
 
-import { ProtocolFault } from "./forms.js"
+import { DENIED, Denied, ProtocolFault } from "./forms.js"
 import { readText } from "./json_text.js"
 
 /** The connection failed: it could not be opened, it broke, or a reply took too long. */
 export class Lost extends Error {
   name = "Lost"
+
+  /**
+   * @param {string} words
+   * @param {number} [pauseMilliseconds] how long the server asks the client to wait before the next attempt
+   */
+  constructor(words, pauseMilliseconds = 0) {
+    super(words)
+    this.pauseMilliseconds = pauseMilliseconds
+  }
 }
 
 /** How long a server may hold the reply to a wait, in milliseconds. */
 export const HOLD_MILLISECONDS = 25000
 
+// What to tell people when the server is there again later, by the status of the answer.
+const UNAVAILABLE = {
+  502: "The proxy does not reach the server.",
+  503: "All places of the server are taken.",
+  504: "The proxy does not reach the server.",
+}
+
 /**
  * @typedef {{ send(text: string): void, close(code?: number): void, onopen: any, onmessage: any, onclose: any, onerror:
- *   any }} Socket the part of `WebSocket` that the library uses
+ *   any }} Socket the part of `WebSocket` that the library uses. If the answer to the handshake opens no WebSocket, a
+ *   socket may call `onerror` with an `Answer`. Those of browsers do not
+ * @typedef {{ status: number, reason?: string, retryAfter?: number | string }} Answer to a handshake: its status, the
+ *   text behind that, and the value of the field `Retry-After`
  */
+
+/**
+ * The error that a failed connection means.
+ * @param {Partial<Answer>} [answer] empty if the socket tells nothing
+ */
+function faultOf({ status, reason = "", retryAfter } = {}) {
+  if (status === undefined) return new Lost("The connection failed.")
+  if (status in DENIED) return new Denied(status, reason)
+  if (!(status in UNAVAILABLE)) {
+    return new Lost(`The server did not accept the WebSocket handshake: ${`${status} ${reason}`.trimEnd()}.`)
+  }
+  const isNumber = /^\d{1,9}$/.test(String(retryAfter))
+  return new Lost(UNAVAILABLE[status], isNumber ? Number(retryAfter) * 1000 : 0)
+}
 
 /** A connection. The promise `ended` resolves when the connection has ended, for any reason. */
 export class Connection {
@@ -35,12 +68,13 @@ export class Connection {
     this.ended = new Promise((resolve) => (this.#resolveEnded = resolve))
     socket.onmessage = ({ data }) => this.#receive(data)
     socket.onclose = () => this.#end("The connection ended.")
-    socket.onerror = () => this.#end("The connection failed.")
+    socket.onerror = (event) => this.#fail(faultOf(event))
   }
 
   /**
    * Resolves when the connection is open.
    * @throws {Lost} the connection could not be opened in time
+   * @throws {Denied} the answer to the handshake was 401, 403 or 404, and the socket says so
    */
   opened() {
     const opened = this.#expect(0)
@@ -112,11 +146,15 @@ export class Connection {
   }
 
   #end(words) {
+    this.#fail(new Lost(words))
+  }
+
+  #fail(fault) {
     if (this.#hasEnded) return
     this.#hasEnded = true
     for (const { reject, timer } of this.#outstanding.splice(0)) {
       clearTimeout(timer)
-      reject(new Lost(words))
+      reject(fault)
     }
     this.#resolveEnded()
     try {

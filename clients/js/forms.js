@@ -65,6 +65,31 @@ export class Refused extends Error {
   }
 }
 
+/** Why the answer to a handshake ends a room, by its status. */
+export const DENIED = Object.freeze({
+  401: "The server needs a user and a password that it knows",
+  403: "The server does not let you in",
+  404: "The server has no room at this address",
+})
+
+/**
+ * The server, or a proxy in front of it, answered the handshake by 401, 403 or 404. Another attempt would get the same
+ * answer. `message` is a sentence for people.
+ */
+export class Denied extends Error {
+  name = "Denied"
+
+  /**
+   * @param {401 | 403 | 404} status of the answer
+   * @param {string} reason the text behind the status, such as `Unauthorized`
+   */
+  constructor(status, reason) {
+    super(`${DENIED[status]}: ${`${status} ${reason}`.trimEnd()}.`)
+    this.status = status
+    this.reason = reason
+  }
+}
+
 /** The server sent something that the protocol does not allow. */
 export class ProtocolFault extends Error {
   name = "ProtocolFault"

@@ -95,6 +95,18 @@ export class Refused extends Error {
   readonly code: number
 }
 
+/**
+ * The server, or a proxy in front of it, answered the handshake by 401, 403 or 404. Another attempt would get the same
+ * answer. `message` is a sentence for people.
+ */
+export class Denied extends Error {
+  constructor(status: 401 | 403 | 404, reason: string)
+  readonly name: "Denied"
+  readonly status: 401 | 403 | 404
+  /** The text behind the status, such as `Unauthorized`. */
+  readonly reason: string
+}
+
 /** The server sent something that the protocol does not allow. */
 export class ProtocolFault extends Error {
   readonly name: "ProtocolFault"
@@ -102,7 +114,10 @@ export class ProtocolFault extends Error {
 
 /** The connection failed: it could not be opened, it broke, or a reply took too long. */
 export class Lost extends Error {
+  constructor(words: string, pauseMilliseconds?: number)
   readonly name: "Lost"
+  /** How long the server asks the client to wait before the next attempt. */
+  readonly pauseMilliseconds: number
 }
 
 /** One version of an object, as it was when you read it. It is immutable. */
@@ -171,7 +186,16 @@ export class Change {
  */
 export type State = "connecting" | "open" | "saving" | "waiting" | "closed"
 
-/** The part of `WebSocket` that the library uses. */
+/** An answer to the handshake that opened no WebSocket. */
+export interface Answer {
+  status: number
+  /** The text behind the status. */
+  reason?: string | undefined
+  /** The value of the field `Retry-After`. */
+  retryAfter?: number | string | undefined
+}
+
+/** The part of `WebSocket` that the library uses. A socket may call `onerror` with an `Answer`. */
 export interface Socket {
   send(text: string): void
   close(code?: number): void
@@ -191,6 +215,8 @@ export interface Storage {
 export interface Options {
   /** Opens a socket. The default is the global `WebSocket`. */
   connect?: ((address: string) => Socket) | undefined
+  /** Whether the path of the connection ends with the room's name: false. */
+  roomInPath?: boolean | undefined
   /** The first pause before the next wait, if the server answers waits at once without news: 20. Pauses grow. */
   pauseMilliseconds?: number | undefined
   /** The longest of these pauses: 1,000. */
@@ -199,7 +225,10 @@ export interface Options {
   replyMilliseconds?: number | undefined
   /** How long the client tries to rejoin as its old site while the server still has its old session: 90,000. */
   backMilliseconds?: number | undefined
-  /** The backoff: the waits before the first, second and later attempts to reconnect. The last one repeats. */
+  /**
+   * The backoff: the waits before the first, second and later attempts to reconnect. The last one repeats. A wait is as
+   * long as the `retryAfter` of an answer, up to the longest of these.
+   */
   retryMilliseconds?: readonly number[] | undefined
   /**
    * Where the client saves its state, so that a reloaded page continues as the same site. `true` is `sessionStorage`.
@@ -227,12 +256,17 @@ export interface RoomEvents {
 
 /** A client in a room. */
 export class Room {
-  /** @throws {TypeError} the name is invalid, or there is neither `options.connect` nor a global `WebSocket` */
+  /**
+   * @throws {TypeError} the name is invalid, there is neither `options.connect` nor a global `WebSocket`, or with
+   * `options.roomInPath` the address is no URL
+   */
   constructor(address: string, name: string, options?: Options)
 
   get state(): State
   /** The connection state as a sentence for people. */
   get words(): string
+  /** The error that closed the room; null while it is not closed, and after `close`. */
+  get fault(): Error | null
   /** The number of this client's site, from 1 to 256; null before the client has joined. */
   get site(): number | null
   /** The entries that were pulled so far. */

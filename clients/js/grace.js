@@ -23,11 +23,11 @@
 import { Lost } from "./connection.js"
 import { Change } from "./change.js"
 import { Drawing, Version } from "./drawing.js"
-import { LIMITS, ProtocolFault, Refused, entryOf, isSameId, operationOf } from "./forms.js"
+import { Denied, LIMITS, ProtocolFault, Refused, entryOf, isSameId, operationOf } from "./forms.js"
 import { readText, writeText } from "./json_text.js"
 import { Room } from "./room.js"
 
 export {
-  Change, Drawing, LIMITS, Lost, ProtocolFault, Refused, Room, Version, entryOf, isSameId, operationOf, readText,
-  writeText,
+  Change, Denied, Drawing, LIMITS, Lost, ProtocolFault, Refused, Room, Version, entryOf, isSameId, operationOf,
+  readText, writeText,
 }

@@ -4,6 +4,8 @@
  * @typedef {object} Options
  * @property {(address: string) => import("./connection.js").Socket} [connect] opens a socket that behaves like a
  *   `WebSocket`. The default is the global `WebSocket` of browsers, and of node from version 22
+ * @property {boolean} [roomInPath] whether the path of the connection ends with the room's name:
+ *   `ws://localhost:7000/` then connects to `/r` for the room `r`. The default is the path of the address alone
  * @property {number} [pauseMilliseconds] the first pause before the next wait, if the server answered a wait at once
  *   and without news: 20. Each such pause is 1.25 times the one before. After news the next one is short again
  * @property {number} [longestPauseMilliseconds] the longest of these pauses: 1,000
@@ -12,7 +14,8 @@
  * @property {number} [backMilliseconds] how long the client tries to rejoin as its old site while the server still has
  *   its old session: 90,000. Then it joins as a new site
  * @property {number[]} [retryMilliseconds] the backoff: the waits before the first, second and later attempts to
- *   reconnect. The last one repeats
+ *   reconnect. The last one repeats. If the answer to the handshake has `Retry-After`, and the socket tells it, the wait
+ *   is at least as long, up to the longest of these
  * @property {boolean | import("./storage.js").Storage} [storage] where the client saves its site, the record and its
  *   pending changes, so that a reloaded page continues as the same site. `true` means the browser's `sessionStorage`,
  *   which each tab has for itself. Two clients must not use one storage for the same room at the same time. The default
@@ -21,6 +24,7 @@
 
 const DEFAULTS = {
   connect: (address) => new WebSocket(address),
+  roomInPath: false,
   pauseMilliseconds: 20,
   longestPauseMilliseconds: 1000,
   replyMilliseconds: 15000,
@@ -40,6 +44,20 @@ export const NO_WEB_SOCKET = "There is no global WebSocket. Pass the option conn
 export function withDefaults(options) {
   const said = Object.entries(options).filter(([, value]) => value !== undefined)
   return { ...DEFAULTS, ...Object.fromEntries(said) }
+}
+
+/**
+ * The address to connect to.
+ * @param {string} address of the server
+ * @param {string} name of the room
+ * @param {Required<Options>} options
+ * @throws {TypeError} with `roomInPath`: the address is no URL
+ */
+export function addressOf(address, name, { roomInPath }) {
+  if (!roomInPath) return address
+  const url = new URL(address)
+  url.pathname = `${url.pathname.replace(/\/$/, "")}/${name}`
+  return url.href
 }
 
 /**

@@ -5,10 +5,13 @@ import { Change, renameOperation } from "./change.js"
 import { Connection, Lost } from "./connection.js"
 import { ConnectionState } from "./connection_state.js"
 import { Drawing } from "./drawing.js"
-import { LIMITS, ProtocolFault, Refused, codeOf, entryOf, idOf, nameOf, operationOf, requestOf } from "./forms.js"
+import { Entrance } from "./entrance.js"
+import {
+  Denied, LIMITS, ProtocolFault, Refused, codeOf, entryOf, idOf, nameOf, operationOf, requestOf,
+} from "./forms.js"
 import { writeText } from "./json_text.js"
-import { NO_WEB_SOCKET, storageOf, withDefaults } from "./options.js"
-import { Pause } from "./pause.js"
+import { NO_WEB_SOCKET, addressOf, storageOf, withDefaults } from "./options.js"
+import { Backoff } from "./pause.js"
 import { SavedState } from "./storage.js"
 import { Waits } from "./waits.js"
 
@@ -21,20 +24,7 @@ import { Waits } from "./waits.js"
 /** @typedef {import("./connection_state.js").State} State */
 
 const OTHER_ROOM = "The room was started again, and your old drawing is not in it. You can save a copy of it."
-const STILL_CONNECTED = "The server still has your previous connection. Trying again."
-const NOT_SERVED = "The server cannot serve this room now. Trying again."
 const SHORTER_RECORD = "The room was started again."
-const CANNOT_JOIN = "The server still has your previous connection, and the room is too full for a new one."
-
-// A connection that lasted this long resets the backoff. A connection that breaks sooner does not: otherwise the client
-// would reconnect too often.
-const STEADY_MILLISECONDS = 5000
-
-// The first and the longest pause between attempts to rejoin as a site that the server says is in use.
-const REJOIN_MILLISECONDS = 100
-const LONGEST_REJOIN_MILLISECONDS = 1000
-// How often to ask for a room that the server cannot serve.
-const NOT_SERVED_MILLISECONDS = 1000
 
 /**
  * A client in a room. It shows a prefix of the record, and its own changes as soon as they are made.
@@ -51,8 +41,8 @@ const NOT_SERVED_MILLISECONDS = 1000
  */
 export class Room {
   #address
-  #name
   #options
+  #entrance
   #saved
   #listeners = {
     change: new Set(), state: new Set(), progress: new Set(), refusal: new Set(), renewed: new Set(),
@@ -76,6 +66,7 @@ export class Room {
   #laterNames = new Map()
   #holds = 0
   #isClosing = false
+  #fault = null
   #connection = null
   #wake = () => {}
   #settled = []
@@ -85,14 +76,18 @@ export class Room {
    * @param {string} address of the server, such as `ws://localhost:7000/`
    * @param {string} name of the room: 1 to 64 characters of a-z, 0-9 and `-`
    * @param {Options} [options]
-   * @throws {TypeError} the name is invalid, or there is neither `options.connect` nor a global `WebSocket`
+   * @throws {TypeError} the name is invalid, there is neither `options.connect` nor a global `WebSocket`, or with
+   *   `options.roomInPath` the address is no URL
    */
   constructor(address, name, options = {}) {
     asRoomName(name)
     if (options.connect === undefined && globalThis.WebSocket === undefined) throw new TypeError(NO_WEB_SOCKET)
-    this.#address = address
-    this.#name = name
     this.#options = withDefaults(options)
+    this.#address = addressOf(address, name, this.#options)
+    this.#entrance = new Entrance(name, this.#options.backMilliseconds, {
+      request: (request, kind) => this.#request(request, kind),
+      wait: (words, milliseconds) => this.#waitOutside(words, milliseconds),
+    })
     this.#saved = new SavedState(storageOf(this.#options.storage), address, name)
     this.#waits = new Waits(this.#options)
     this.#connectionState = new ConnectionState(
@@ -124,6 +119,14 @@ export class Room {
    */
   get words() {
     return this.#connectionState.words
+  }
+
+  /**
+   * The error that closed the room, such as `Refused` or `Denied`; null while it is not closed, and after `close`.
+   * @type {Error | null}
+   */
+  get fault() {
+    return this.#fault
   }
 
   /**
@@ -411,25 +414,27 @@ export class Room {
   // ---- the connection
 
   async #runSession() {
-    let tries = 0
+    const backoff = new Backoff(this.#options.retryMilliseconds)
     while (!this.#isClosing) {
       try {
         await this.#connect()
         const start = Date.now()
-        await this.#serve().finally(() => (tries = Date.now() - start < STEADY_MILLISECONDS ? tries : 0))
+        await this.#serve().finally(() => backoff.lasted(Date.now() - start))
       } catch (fault) {
         this.#connection?.close()
         if (this.#isClosing) return
-        if (!(fault instanceof Lost)) {
-          // The saved state would make the next client fail in the same way.
-          if (fault.word !== "no-such-room") this.#saved.clear()
-          return this.#end(fault.message)
-        }
+        if (!(fault instanceof Lost)) return this.#closeBecauseOf(fault)
         this.#connectionState.leave("waiting", `${fault.message} Trying again.`)
-        const { retryMilliseconds } = this.#options
-        await this.#sleep(retryMilliseconds[Math.min(tries++, retryMilliseconds.length - 1)])
+        await this.#sleep(backoff.take(fault.pauseMilliseconds))
       }
     }
+  }
+
+  #closeBecauseOf(fault) {
+    // Other saved state would make the next client fail in the same way.
+    if (!(fault instanceof Denied) && fault.word !== "no-such-room") this.#saved.clear()
+    this.#fault = fault
+    this.#end(fault.message)
   }
 
   /** Connects and joins. Then it pulls what the record has more, which shows which changes the server accepted. */
@@ -469,46 +474,28 @@ export class Room {
 
   /** The reply to `back`, or null if the client cannot rejoin as its old site. */
   async #requestBack() {
-    const end = Date.now() + this.#options.backMilliseconds
-    const pause = new Pause(REJOIN_MILLISECONDS, LONGEST_REJOIN_MILLISECONDS)
-    for (;;) {
-      try {
-        return await this.#request(["back", this.#name, this.#site], "back")
-      } catch (fault) {
-        if (fault.word === "no-such-site") this.#discardRoom()
-        else if (fault.word !== "site-in-use") throw fault
-        if (this.#site === null || Date.now() >= end) return null
-      }
-      if (this.words !== STILL_CONNECTED) this.#connectionState.connect(STILL_CONNECTED)
-      await this.#sleep(pause.take(), this.#connection.ended)
+    try {
+      return await this.#entrance.back(this.#site)
+    } catch (fault) {
+      if (fault.word !== "no-such-site") throw fault
+      this.#discardRoom()
+      return null
     }
   }
 
   /** Joins as a new site. */
   async #join() {
-    const [, at, site] = await this.#requestJoin()
+    const [, at, site] = await this.#entrance.join(this.#site !== null)
     if (await this.#isOtherRecord(at)) this.#discardRoom()
     this.#length = Math.max(this.#length, at + 1)
     await this.#load()
     this.#becomeSite(site)
   }
 
-  /**
-   * The reply to `join`. While the server cannot serve the room, the client asks again. In a full room a client that has
-   * a site keeps trying to rejoin.
-   */
-  async #requestJoin() {
-    for (;;) {
-      try {
-        return await this.#request(["join", this.#name], "joined")
-      } catch (fault) {
-        const isFull = fault.word === "room-full" || fault.word === "record-full"
-        if (isFull && this.#site !== null) throw new Lost(CANNOT_JOIN)
-        if (fault.word !== "not-served") throw fault
-      }
-      if (this.words !== NOT_SERVED) this.#connectionState.connect(NOT_SERVED)
-      await this.#sleep(NOT_SERVED_MILLISECONDS, this.#connection.ended)
-    }
+  /** Says why the client is not in the room yet, and waits this long, unless the connection ends. */
+  async #waitOutside(words, milliseconds) {
+    if (this.words !== words) this.#connectionState.connect(words)
+    await this.#sleep(milliseconds, this.#connection.ended)
   }
 
   /** Pulls until the client has all entries. */

@@ -10,6 +10,7 @@ import { TESTS as rooms } from "./rooms.js"
 import { TESTS as standing } from "./standing.js"
 import { TESTS as reconnecting } from "./reconnecting.js"
 import { TESTS as loading } from "./loading_anew.js"
+import { TESTS as handshakes } from "./handshakes.js"
 
 // The time limit of a test. The histories have none: a slow program needs long for them.
 const SECONDS = 180
@@ -29,7 +30,7 @@ build()
 const words = process.argv.slice(2)
 let passed = 0
 let failed = 0
-const groups = [rows, numbers, types, histories, rooms, standing, reconnecting, loading]
+const groups = [rows, numbers, types, histories, rooms, standing, reconnecting, loading, handshakes]
 for (const [name, test] of groups.flat()) {
   if (words.length > 0 && !words.some((word) => name.includes(word))) continue
   const start = performance.now()

@@ -1,6 +1,6 @@
 /**
- * A proxy between clients and `grace serve`. It can cut connections between a request and its reply, and hold waits.
- * `whatToDo` decides about each message of a client.
+ * A proxy between clients and `grace serve`. It can cut connections between a request and its reply, hold waits, and
+ * answer handshakes in place of the server. `whatToDo` decides about each message of a client.
  */
 
 import { connect, createServer } from "node:net"
@@ -69,10 +69,7 @@ class Pair {
   }
 
   #fromClient(piece) {
-    if (this.#isHandshake) {
-      this.#isHandshake = !piece.includes("\r\n\r\n")
-      return this.server.write(piece)
-    }
+    if (this.#isHandshake) return this.#shakeHands(piece)
     this.#bytes = Buffer.concat([this.#bytes, piece])
     for (let frame = firstFrame(this.#bytes); frame !== null && !this.#isCutting; frame = firstFrame(this.#bytes)) {
       const whole = this.#bytes.subarray(0, frame.size)
@@ -84,6 +81,17 @@ class Pair {
       if (what === CUT_AFTER) this.#cutSoon()
       this.#pass(whole, text, frame)
     }
+  }
+
+  /** Passes the head of a client on, or answers it. */
+  #shakeHands(piece) {
+    const head = Buffer.concat([this.#bytes, piece])
+    this.#isHandshake = !head.includes("\r\n\r\n")
+    this.#bytes = this.#isHandshake ? head : Buffer.alloc(0)
+    if (this.#isHandshake) return
+    const answer = this.proxy.answer(head.toString())
+    if (answer === undefined) return this.server.write(head)
+    this.client.end([...answer, "Content-Length: 4", "", "page"].join("\r\n"))
   }
 
   /** Cuts at the reply, or soon if the server holds it. */
@@ -125,6 +133,9 @@ export class Proxy {
   whatToDo = () => PASS
   waits = LEFT
   cuts = 0
+  /** The heads of clients, each with its time, and the answers to the next of them in place of the server's. */
+  heads = []
+  answers = []
   /** How many entries the record has, if all clients are behind this proxy. */
   length = 0
   #pairs = new Set()
@@ -166,6 +177,12 @@ export class Proxy {
     const what = this.whatToDo(text)
     if (what !== PASS) this.cuts += 1
     return what
+  }
+
+  /** Returns the lines of the answer to a head; undefined leaves it to the server. */
+  answer(head) {
+    this.heads.push({ head, at: performance.now() })
+    return this.answers.shift()
   }
 
   /** Hears what the server sends: a new entry ends all held waits. */

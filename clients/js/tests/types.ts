@@ -1,11 +1,11 @@
 // A program by the types, which tsc checks and nobody runs. Each @ts-expect-error is a mistake that tsc must find.
 
 import {
-  Change, Drawing, LIMITS, Lost, ProtocolFault, Refused, Room, Version, entryOf, isSameId, operationOf, readText,
-  writeText,
+  Change, Denied, Drawing, LIMITS, Lost, ProtocolFault, Refused, Room, Version, entryOf, isSameId, operationOf,
+  readText, writeText,
 } from "../grace.js"
 import type {
-  Attributes, Entry, Json, Name, Operation, Options, RoomEvents, Socket, State, Storage, Value, VersionId,
+  Answer, Attributes, Entry, Json, Name, Operation, Options, RoomEvents, Socket, State, Storage, Value, VersionId,
 } from "../grace.js"
 
 const socket: Socket = {
@@ -17,8 +17,10 @@ const storage: Storage = { getItem: () => null, setItem: () => {}, removeItem: (
 const options: Options = {
   connect: (address: string) => (address === "" ? socket : socket),
   pauseMilliseconds: 20, longestPauseMilliseconds: 1000, replyMilliseconds: 15000, backMilliseconds: 90000,
-  retryMilliseconds: [100, 500], storage,
+  retryMilliseconds: [100, 500], roomInPath: true, storage,
 }
+const answer: Answer = { status: 503, reason: "Service Unavailable", retryAfter: "5" }
+socket.onerror?.(answer)
 const room = new Room("ws://localhost:7000/", "r", options)
 new Room("ws://localhost:7000/", "r", { storage: true, connect: undefined })
 
@@ -47,6 +49,7 @@ const release: () => void = room.hold()
 release()
 
 const site: number | null = room.site
+const end: Error | null = room.fault
 const looked: [State, string, boolean, boolean, { have: number; of: number }, readonly Change[], [number, number][]] =
   [room.state, room.words, room.isLoaded, room.hasNews, room.progress, room.pending, room.seen]
 for (const object of room.objects()) {
@@ -76,9 +79,12 @@ const { changes, keys }: { changes: number; keys: Set<string> } = drawing.used([
 drawing.remove(1, 1)
 const fault: unknown = new Refused("gone")
 if (fault instanceof Refused) void fault.word
+if (fault instanceof Denied) void (fault.status === 401 && fault.reason)
+if (fault instanceof Lost) void fault.pauseMilliseconds.toFixed()
 if (fault instanceof Lost || fault instanceof ProtocolFault) void fault.message
 const most: 256 = LIMITS.sites
-void [done, site, looked, changes, keys, most, made.isSent, made.made, made.operation.word, drawing.versions([1, 1])]
+void [done, site, end, looked, changes, keys, most, made.isSent, made.made, made.operation.word]
+void drawing.versions([1, 1])
 room.close()
 
 // @ts-expect-error no truth values

@@ -1,4 +1,7 @@
-/** As much of a browser's `WebSocket` as the library asks for, over `node:net`: for node without one. */
+/**
+ * As much of a browser's `WebSocket` as the library asks for, over `node:net`: for node without one. It tells the answer
+ * to a handshake that opened no WebSocket, unless `isSilent` says that it is to be like a browser's.
+ */
 
 import { createHash, randomBytes } from "node:crypto"
 import { connect } from "node:net"
@@ -30,7 +33,14 @@ export function firstFrame(bytes) {
   return bytes.length < size ? null : { opcode: bytes[0] & 15, payload: bytes.subarray(start + mask, size), size }
 }
 
+/** Returns what the head of an answer says. */
+function answerOf(head) {
+  const [, status, reason] = /^HTTP\/1\.1 (\d{3}) ?(.*)/.exec(head)
+  return { status: Number(status), reason, retryAfter: /\r\nRetry-After: (.*)/.exec(head)?.[1] }
+}
+
 export class WebSocket {
+  isSilent = false
   onopen = () => {}
   onmessage = () => {}
   onclose = () => {}
@@ -40,9 +50,9 @@ export class WebSocket {
   #key = randomBytes(16).toString("base64")
 
   constructor(address) {
-    const { hostname, port, pathname } = new URL(address)
+    const { hostname, port, pathname, search } = new URL(address)
     this.socket = connect({ host: hostname, port: Number(port), noDelay: true })
-    this.socket.on("connect", () => this.socket.write(this.#head(hostname, pathname)))
+    this.socket.on("connect", () => this.socket.write(this.#head(hostname, pathname + search)))
     this.socket.on("data", (piece) => this.#read(piece))
     this.socket.on("error", () => this.onerror({}))
     this.socket.on("close", () => this.onclose({}))
@@ -79,6 +89,7 @@ export class WebSocket {
     const head = this.#bytes.subarray(0, end).toString()
     const accepted = createHash("sha1").update(this.#key + SUFFIX).digest("base64")
     if (!head.startsWith("HTTP/1.1 101 ") || !head.includes(accepted)) {
+      this.onerror(this.isSilent ? {} : answerOf(head))
       this.socket.destroy()
       return false
     }

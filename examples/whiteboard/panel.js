@@ -73,7 +73,8 @@ export class Panel {
       const list = html("ul", { className: "list" }, ...names.map((name) => html("li", {}, this.#item(name))))
       return [html("h2", { textContent: `Objects (${names.length})` }), list, ...gone]
     }
-    if (!this.page.room.isLoaded) return [html("h2", { textContent: "Loading" })]
+    const { isLoaded, state } = this.page.room
+    if (!isLoaded) return [html("h2", { textContent: state === "closed" ? "No drawing" : "Loading" })]
     const help = "Choose a tool above, then drag on the paper."
     return [html("h2", { textContent: "Nothing is drawn yet" }), html("p", { textContent: help }), ...gone]
   }

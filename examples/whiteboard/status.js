@@ -4,6 +4,8 @@ import { LIMITS } from "../../clients/js/grace.js"
 import { button, html, part } from "./elements.js"
 import { countOf, numberOf } from "./words.js"
 
+const NO_SUCH_ROOM = "There is no drawing under this link: the server has only the rooms that it was started with."
+
 const WORDS_MILLISECONDS = 10000
 const ACTION_MILLISECONDS = 20000
 
@@ -36,14 +38,22 @@ export function showRenewed(roomName, { words, text }) {
   part("renewed").append(notice)
 }
 
-/** How far the drawing is loaded. */
+/** How far the drawing is loaded, or why it never will be. */
 export function showProgress(room) {
   const { have, of } = room.progress
   // A reloaded page shows its saved drawing at once.
   part("loading").hidden = room.isLoaded || room.objects().length > 0
-  part("loading").querySelector("progress").value = of === 0 ? 0 : have / of
-  const words = `Loading the drawing: ${numberOf(have)} of ${numberOf(of)}.`
-  part("loading").querySelector("p").textContent = of === 0 ? "Waiting for the drawing." : words
+  const bar = part("loading").querySelector("progress")
+  bar.value = of === 0 ? 0 : have / of
+  bar.hidden = room.state === "closed"
+  part("loading").querySelector("p").textContent = loadingWords(room)
+}
+
+function loadingWords(room) {
+  const { have, of } = room.progress
+  if (room.fault?.word === "no-such-room") return NO_SUCH_ROOM
+  if (room.state === "closed") return room.words
+  return of === 0 ? "Waiting for the drawing." : `Loading the drawing: ${numberOf(have)} of ${numberOf(of)}.`
 }
 
 /** The connection state, and a summary of the drawing. */

@@ -1,7 +1,8 @@
 /**
  * A shared whiteboard on a GRACE room. The page's address names the server and the room:
  * `?server=ws://localhost:7000/&room=drawing`. Without `server` the page uses its own host: with TLS the path that is
- * the room's name, as behind a proxy, otherwise port 7000. A reloaded page continues as the same site.
+ * the room's name, as behind a proxy, otherwise port 7000. So `?room=drawing` alone is a link to a drawing. A reloaded
+ * page continues as the same site.
  */
 
 import { Room } from "../../clients/js/grace.js"
@@ -13,9 +14,11 @@ import { part } from "./elements.js"
 import { Frames } from "./frames.js"
 import { Gestures } from "./gestures.js"
 import { Keys } from "./keys.js"
+import { placeOfPage } from "./links.js"
 import { Nudges } from "./nudges.js"
 import { Panel } from "./panel.js"
 import { shapeOf } from "./shapes.js"
+import { Sharing } from "./sharing.js"
 import { StateLine, say, showProgress, showRenewed } from "./status.js"
 import { TextField } from "./text_field.js"
 import { Toolbar } from "./toolbar.js"
@@ -40,6 +43,7 @@ export class Page {
     this.textField = new TextField(this)
     this.gestures = new Gestures(this)
     this.keys = new Keys(this)
+    this.sharing = new Sharing(roomName)
     this.state = new StateLine(this.board)
     this.panel = new Panel(this, part("panel"))
     this.view.panel = this
@@ -71,13 +75,20 @@ export class Page {
   #listen(roomName) {
     const { room, view } = this
     room.on("change", (news) => this.#take(news))
-    room.on("state", () => view.pending.look())
+    room.on("state", ({ state }) => this.#showState(state))
     room.on("refusal", ({ refusal }) => say(refusal.message))
     room.on("renewed", (news) => showRenewed(roomName, news))
     room.on("progress", () => this.#load())
     addEventListener("beforeunload", (event) => room.pending.length > 0 && event.preventDefault())
     addEventListener("pagehide", () => room.close())
     showProgress(room)
+  }
+
+  #showState(state) {
+    this.view.pending.look()
+    if (state !== "closed") return
+    this.#progress.ask()
+    this.view.change([])
   }
 
   #take(news) {
@@ -107,14 +118,9 @@ export class Page {
   }
 }
 
-/** The server of a room if the page's address names none. */
-const usualServer = (roomName) =>
-  location.protocol === "https:" ? `wss://${location.host}/${roomName}` : `ws://${location.hostname}:7000/`
-
 try {
-  const query = new URLSearchParams(location.search)
-  const roomName = query.get("room") ?? "drawing"
-  new Page(query.get("server") ?? usualServer(roomName), roomName)
+  const { roomName, server } = placeOfPage()
+  new Page(server, roomName)
 } catch (fault) {
   say(fault.message)
   throw fault

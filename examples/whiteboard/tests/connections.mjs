@@ -1,12 +1,16 @@
 /** Lost connections, reloaded pages, and servers that end. */
 
+import { spawnSync } from "node:child_process"
+import { once } from "node:events"
 import { mkdtemp, readFile, rm } from "node:fs/promises"
+import { createServer } from "node:net"
 import { tmpdir } from "node:os"
 import { join } from "node:path"
 import { expect, expectEqual } from "../../../clients/js/tests/checks.js"
+import { freePort } from "../../../clients/js/tests/program.js"
 import { CUT_BEFORE, PASS, Proxy } from "../../../clients/js/tests/proxy.js"
 import {
-  BODIES, COUNT, PICTURES, STATE, waitForNews, draw, endAll, faults, isOpen, pageOf, serve, tabTo,
+  BODIES, COUNT, PICTURES, RUN, STATE, waitForNews, draw, endAll, faults, isOpen, pageOf, serve, tabTo,
 } from "./people.mjs"
 
 /** The page reports a lost connection in words, and sends the changes made meanwhile once it is connected again. */
@@ -156,6 +160,96 @@ export async function atAnotherAddress(browser) {
     expectEqual("what both show", await pages[0].look(BODIES), await pages[1].look(BODIES))
     faults(...pages)
     for (const page of pages) await page.close()
+  } finally {
+    endAll(server)
+  }
+}
+
+/** Listens at a port of this machine. Returns null if it is taken. */
+async function listenAt(port) {
+  const listener = createServer().listen(port, "127.0.0.1")
+  try {
+    await once(listener, "listening")
+    return listener
+  } catch {
+    return null
+  }
+}
+
+/** Whether nothing listens at this port and the next one. */
+async function isPairFree(port) {
+  const listeners = [await listenAt(port), await listenAt(port + 1)]
+  for (const listener of listeners) listener?.close()
+  return !listeners.includes(null)
+}
+
+/** Returns a port that is free, as the next one is. */
+async function freePair() {
+  for (;;) {
+    const port = await freePort()
+    if (port < 65535 && (await isPairFree(port))) return port
+  }
+}
+
+/** With --port the room and the page have the same two ports at each start. So a link stays good. */
+export async function samePorts(browser) {
+  const port = await freePair()
+  const folder = await mkdtemp(join(tmpdir(), "whiteboard-room-"))
+  const links = []
+  try {
+    for (let start = 0; start < 2; start++) {
+      const { server, address } = await serve("--keep", folder, "--port", `${port}`)
+      const closed = once(server, "close")
+      expectEqual("the address to open", address, `http://127.0.0.1:${port + 1}/`)
+      links.push((await pageOf(address)).href)
+      expectEqual("the room's address", new URL(links[start]).searchParams.get("server"), `ws://127.0.0.1:${port}/`)
+      const page = await browser.open(links[0], 1240, 720)
+      await isOpen(page)
+      expectEqual("the objects", await page.look(COUNT), start)
+      await draw(page, "rect", [120, 200], [380, 360])
+      await page.waitUntil("it is taken", `!/not saved yet/.test(${STATE})`)
+      await page.close()
+      endAll(server)
+      await closed
+    }
+    expectEqual("the second link", links[1], links[0])
+  } finally {
+    await rm(folder, { recursive: true })
+  }
+}
+
+/** Expects that the whiteboard does not start at this port, and names the one that is taken. */
+function expectTaken(port, taken) {
+  const { status, stdout, stderr } = spawnSync(RUN, ["--in-memory", "--port", `${port}`], { encoding: "utf8" })
+  const words = `examples/whiteboard/run: port ${taken} is taken by another program: ` +
+    "end that one, or give --port N for the ports N and N+1\n"
+  expectEqual("the end", [status, stdout, stderr], [3, "", words])
+}
+
+/** A whiteboard names the port that another program has, and starts nothing. */
+export async function portTaken() {
+  const port = await freePair()
+  for (const taken of [port, port + 1]) {
+    const listener = await listenAt(taken)
+    try {
+      expectTaken(port, taken)
+    } finally {
+      listener.close()
+    }
+  }
+}
+
+/** At the usual ports the name of the room alone is a link. */
+export async function atUsualPorts(browser) {
+  if (!(await isPairFree(7000))) return console.log("        not tried: port 7000 or 7001 is taken")
+  const { server, address } = await serve("--in-memory", "--port", "7000")
+  try {
+    const link = await pageOf(address)
+    expectEqual("the link", link.href, "http://127.0.0.1:7001/examples/whiteboard/?room=people")
+    const page = await browser.open(link.href, 1240, 720)
+    await isOpen(page)
+    faults(page)
+    await page.close()
   } finally {
     endAll(server)
   }

@@ -11,6 +11,7 @@ import { opening } from "./opening.mjs"
 import { COUNT, PICTURES, counts, faults, isOpen, serve, step, watch } from "./people.mjs"
 import { plan } from "./plan.mjs"
 import { saving } from "./saving.mjs"
+import { sharing } from "./sharing.mjs"
 import { sketching } from "./sketching.mjs"
 import * as together from "./together.mjs"
 import { undoing } from "./undoing.mjs"
@@ -82,9 +83,13 @@ async function all(browser) {
   await looking(browser)
   await opening(browser)
   await saving(browser)
+  await sharing(browser)
   await step("a whiteboard that is killed and started again", () => connections.killed(browser))
   await step("a whiteboard whose room is gone", () => connections.roomGone())
   await step("a whiteboard at another address", () => connections.atAnotherAddress(browser))
+  await step("the same ports at each start", () => connections.samePorts(browser))
+  await step("a port that is taken", () => connections.portTaken())
+  await step("a link at the usual ports", () => connections.atUsualPorts(browser))
 }
 
 await mkdir(PICTURES, { recursive: true })

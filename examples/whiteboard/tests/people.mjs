@@ -8,7 +8,7 @@ import { Room } from "../../../clients/js/grace.js"
 import { expectEqual, waitUntil } from "../../../clients/js/tests/checks.js"
 import { WebSocket } from "../../../clients/js/tests/websocket.js"
 
-const RUN = fileURLToPath(new URL("../run", import.meta.url))
+export const RUN = fileURLToPath(new URL("../run", import.meta.url))
 export const PICTURES = process.env.PICTURES ?? fileURLToPath(new URL("../out", import.meta.url))
 // The versions that a page shows: object, letter, whether it is picked, and its accessible name.
 export const VERSIONS = `[...document.querySelectorAll(".version")].map((one) =>
@@ -34,8 +34,9 @@ export const counts = { passed: 0, failed: 0 }
 /** Starts the whiteboard's server with its room, as a process group. Returns it with its address. */
 export async function serve(...words) {
   const given = words.length > 0 ? words : ["--in-memory"]
+  const ports = given.includes("--port") ? [] : ["--port", "0"]
   const options = { stdio: ["ignore", "pipe", "inherit"], detached: true }
-  const server = spawn(RUN, ["people", "--sessions", "50", ...given], options)
+  const server = spawn(RUN, ["people", "--sessions", "50", ...ports, ...given], options)
   const lines = createInterface({ input: server.stdout })
   const line = await new Promise((tell, fail) => {
     lines.on("line", (words) => words.startsWith("open ") && tell(words))

@@ -233,9 +233,29 @@ class Page {
 
   /** Reloads the page, as the browser's button does. */
   async reload() {
+    await this.#toNewPage(() => this.ask("Page.reload"))
+  }
+
+  /** Clicks an element that leads to another page. */
+  async follow(selector) {
+    const place = await this.middleOf(selector)
+    await this.#toNewPage(async () => {
+      await this.press(place)
+      await this.mouse("mouseReleased", place)
+      this.isDown = false
+    })
+  }
+
+  /** Waits for the page to which an action leads. The old one may end in the middle of an answer. */
+  async #toNewPage(act) {
     await this.ask("Runtime.evaluate", { expression: "window.isOld = true" })
-    await this.ask("Page.reload")
-    await this.waitUntil("the new page", "window.isOld === undefined && document.readyState === 'complete'")
+    await act()
+    const isNew = "window.isOld === undefined && document.readyState === 'complete'"
+    for (const end = Date.now() + 60000; Date.now() < end; ) {
+      if (await this.look(isNew).catch(() => false)) return
+      await new Promise((resolve) => setTimeout(resolve, 30))
+    }
+    throw new Error("not in a minute: the new page")
   }
 
   async write(text) {

@@ -6,11 +6,11 @@ import { mkdtemp, readFile, rm } from "node:fs/promises"
 import { createServer } from "node:net"
 import { tmpdir } from "node:os"
 import { join } from "node:path"
-import { expect, expectEqual } from "../../../clients/js/tests/checks.js"
+import { expect, expectEqual, waitUntil } from "../../../clients/js/tests/checks.js"
 import { freePort } from "../../../clients/js/tests/program.js"
 import { CUT_BEFORE, PASS, Proxy } from "../../../clients/js/tests/proxy.js"
 import {
-  BODIES, COUNT, PICTURES, RUN, STATE, waitForNews, draw, endAll, faults, isOpen, pageOf, serve, tabTo,
+  BODIES, COUNT, PICTURES, RUN, STATE, waitForNews, draw, endAll, faults, isOpen, pageOf, serve, tabTo, watch,
 } from "./people.mjs"
 
 /** The page reports a lost connection in words, and sends the changes made meanwhile once it is connected again. */
@@ -33,6 +33,26 @@ export async function lostConnection(browser, address, first) {
   await first.waitUntil("the new object", `${COUNT} === ${count + 1}`)
   expectEqual("what both show", await first.look(BODIES), await second.look(BODIES))
   expectEqual("faults in the page", second.faults, [])
+  proxy.end()
+}
+
+/** A browser does not tell a page why it is not let in. The page tries again, after growing pauses. */
+export async function notLetIn(browser, address) {
+  const page = await pageOf(address)
+  const proxy = await Proxy.start(new URL(page.searchParams.get("server")).port)
+  page.searchParams.set("server", `ws://${proxy.address}/`)
+  proxy.answers.push(...Array(4).fill(["HTTP/1.1 403 Forbidden"]))
+  const person = await browser.open(page.href, 1240, 720)
+  await person.waitUntil("the page", `document.getElementById("state") !== null`)
+  await person.waitUntil("the words", `${STATE} === "The connection failed. Trying again."`)
+  await isOpen(person)
+  expectEqual("the attempts", proxy.heads.length, 5)
+  for (const [place, wait] of [100, 500, 1000, 2000].entries()) {
+    const passed = proxy.heads[place + 1].at - proxy.heads[place].at
+    expect(`attempt ${place + 2} came after ${passed} ms`, passed >= wait)
+  }
+  expectEqual("faults in the page", person.faults, [])
+  await person.close()
   proxy.end()
 }
 
@@ -205,9 +225,11 @@ export async function samePorts(browser) {
       expectEqual("the room's address", new URL(links[start]).searchParams.get("server"), `ws://127.0.0.1:${port}/`)
       const page = await browser.open(links[0], 1240, 720)
       await isOpen(page)
-      expectEqual("the objects", await page.look(COUNT), start)
+      await page.waitUntil("the objects", `${COUNT} === ${start}`)
       await draw(page, "rect", [120, 200], [380, 360])
-      await page.waitUntil("it is taken", `!/not saved yet/.test(${STATE})`)
+      const room = await watch(address)
+      await waitUntil("it is taken", () => room.objects().length === start + 1)
+      room.close()
       await page.close()
       endAll(server)
       await closed

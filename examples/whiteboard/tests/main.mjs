@@ -73,6 +73,7 @@ async function all(browser) {
   const { server, address } = await serve()
   try {
     await inOneRoom(browser, address)
+    await step("a page that is not let in", () => connections.notLetIn(browser, address))
     await step("a room that started again", () => connections.begunAnew(browser, address))
   } finally {
     server.kill()

@@ -217,7 +217,7 @@ class Server:
 
     def __init__(
         self, sessions=1, workers=4, rooms=("r",), idle=None, patience=SECONDS, keep=None, before=(), report=None,
-        clients=None,
+        clients=None, by_path=False,
     ):
         self.port = 0
         self.sessions = sessions
@@ -232,6 +232,8 @@ class Server:
             self.words += ["--report", str(report)]
         if clients is not None:
             self.words += ["--clients", str(clients)]
+        if by_path:
+            self.words += ["--by-path"]
         self.places = 10_000 if clients is None else clients
         self.keep = keep
         self.before = list(before)

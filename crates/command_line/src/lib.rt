@@ -5,4 +5,4 @@ mod mistake;
 mod words;
 
 pub use mistake::show_error;
-pub use words::grace;
+pub use words::{VERSION, grace};

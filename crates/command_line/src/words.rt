@@ -4,7 +4,7 @@ use clap::{Arg, ArgAction, Command, value_parser};
 use std::alloc::{AllocError, Global};
 
 /// The version that `--version` prints. docs/DECISIONS.md says what the number means.
-const VERSION: &str = "0.4.0";
+pub const VERSION: &str = "0.4.0";
 
 /// A required argument.
 fn word<'a>(alloc: Global, name: &'a str, help: &'a str) -> Arg<'a> {
@@ -45,6 +45,14 @@ fn keep<'a>(alloc: Global) -> Arg<'a> {
         .help(
             "A folder that keeps each room in DIR/ROOM.record; without it rooms are in memory only",
         )
+}
+
+/// The option to confine each session to one room.
+fn by_path<'a>(alloc: Global) -> Arg<'a> {
+    Arg::new(alloc, "by-path")
+        .long("by-path")
+        .action(ArgAction::SetTrue)
+        .help("A session may enter only the room of its request's path: NAME over /NAME")
 }
 
 /// The option for the number of clients.
@@ -90,6 +98,7 @@ fn serve_command<'a>(alloc: Global) -> Result<Command<'a>, AllocError> {
         .arg(idle(alloc))?
         .arg(report(alloc))?
         .arg(clients(alloc))?
+        .arg(by_path(alloc))?
         .arg(word(
             alloc,
             "ADDRESS",

@@ -1,17 +1,17 @@
 //! The head of a request, and the responses that need no session.
 
-ghost use Rattle.std.specs.Prelude.{◌≡◌, ◌≤◌, ◌++◌, [], All, IfOk, IsTrue, None, OnErr, OnOk};
-ghost use Rattle.std.specs.Prelude.{codes, is_some, length, nat_eq, option_map, string_bytes, take};
-ghost use Rattle.std.specs.Prelude.{true, false};
-ghost use Rattle.std.specs.List.{starts_with};
+ghost use Rattle.std.specs.Prelude.{◌≡◌, ◌≤◌, ◌++◌, [], All, IfOk, IfSome, IsNone, OnErr, OnOk};
+ghost use Rattle.std.specs.Prelude.{is_some, length, option_map, string_bytes, take};
 ghost use Rattle.httparse.specs.Spans.{IsHeaderWithin, IsRequestOf, IsRequestWithin};
 ghost use Rattle.websocket.specs.Handshake.{response_bytes};
 ghost use Rattle.websocket.specs.Headers.{eq_ignore_case, fields_of, header_value};
-ghost use Rattle.connection.specs.Heads.{Asks, health_answer, health_response};
+ghost use Rattle.connection.specs.Heads.{Asks, IsPageAsked, health_answer, line_of};
+ghost use Rattle.connection.specs.Heads.{metrics_answer, page_response};
+ghost use Rattle.connection.specs.declared.head.Page.{Page};
 ghost use Rattle.connection.specs.declared.head.TheConstants.{MAX_HEAD_LEN};
 
 use httparse::Status;
-use httparse::spans::{EMPTY_HEADER_SPAN, HeaderSpan, RequestSpans, parse_request};
+use httparse::spans::{EMPTY_HEADER_SPAN, HeaderSpan, RequestSpans, Span, parse_request};
 use std::alloc::{AllocError, Global};
 use websocket::handshake::server::{check_request, write_response};
 
@@ -25,19 +25,41 @@ pub const MAX_FIELDS: usize = 64;
 pub const UNAVAILABLE: &str =
     "HTTP/1.1 503 Service Unavailable\r\nRetry-After: 5\r\nContent-Length: 0\r\nConnection: close\r\n\r\n";
 
-/// The start of a probe's request.
-const ASKED: &str = "GET /health HTTP/1.";
+/// A page for those who watch over the server.
+#[derive(Clone, Copy, Debug, PartialEq, Eq)]
+pub enum Page {
+    /// `/health`: whether a room's file fails.
+    Health,
+    /// `/metrics`: what the server has counted.
+    Metrics,
+}
+
+impl Page {
+    /// The start of a request for the page.
+    fn line(self) -> &'static str
+        ensures { result.now ≡ line_of self }
+    {
+        match self {
+            Page::Health => "GET /health HTTP/1.",
+            Page::Metrics => "GET /metrics HTTP/1.",
+        }
+    }
+}
 
 /// What the bytes of a request's head ask for.
 #[derive(Clone, Copy, Debug, PartialEq, Eq)]
 pub enum Head {
     /// The head is not whole.
     Partial,
-    /// A WebSocket. `accept_key` is the value of `Sec-WebSocket-Accept`, and the head has `len`
-    /// bytes. Those behind it are frames.
-    Upgrade { accept_key: [u8; 28], len: usize },
-    /// A probe of a monitor: a `GET` of `/health` with no `Upgrade` field.
-    Probe,
+    /// A WebSocket. `accept_key` is the value of `Sec-WebSocket-Accept`, `target` spans the target of
+    /// the request (RFC 9112, section 3.2), and the head has `len` bytes. Those behind it are frames.
+    Upgrade {
+        accept_key: [u8; 28],
+        target: Span,
+        len: usize,
+    },
+    /// A probe of a monitor: a `GET` of a page with no `Upgrade` field.
+    Probe(Page),
     /// Nothing that is served.
     Refused,
 }
@@ -73,29 +95,33 @@ fn read_found(bytes: &[u8], found: &RequestSpans, spans: &[HeaderSpan]) -> Head
     match check_request(bytes, found, spans) {
         Ok(accept_key) => Head::Upgrade {
             accept_key,
+            target: found.path,
             len: found.len,
         },
-        Err(_) => {
-            if is_probe(bytes, &spans[..found.headers]) {
-                Head::Probe
-            } else {
-                Head::Refused
-            }
-        }
+        Err(_) => match page_asked(bytes, &spans[..found.headers]) {
+            Some(page) => Head::Probe(page),
+            None => Head::Refused,
+        },
     }
 }
 
-/// Returns whether bytes with these fields are a probe.
-fn is_probe(bytes: &[u8], fields: &[HeaderSpan]) -> bool
+/// The page that bytes with these fields probe.
+fn page_asked(bytes: &[u8], fields: &[HeaderSpan]) -> Option<Page>
     requires { All (IsHeaderWithin (length bytes.now)) fields.now }
-    ensures yes { result ≡ true →
-        IsTrue (starts_with nat_eq bytes.now (codes "GET /health HTTP/1."))
-        × (header_value (fields_of bytes.now fields.now) (codes "Upgrade") ≡ None) }
-    ensures no { result ≡ false →
-        ¬ (IsTrue (starts_with nat_eq bytes.now (codes "GET /health HTTP/1."))
-        × (header_value (fields_of bytes.now fields.now) (codes "Upgrade") ≡ None)) }
+    ensures some { IfSome result (IsPageAsked bytes.now (fields_of bytes.now fields.now)) }
+    ensures none { IsNone result → (page : Page) →
+        ¬ (IsPageAsked bytes.now (fields_of bytes.now fields.now) page) }
 {
-    bytes.starts_with(ASKED.as_bytes()) && !has_field(bytes, fields, b"Upgrade")
+    if has_field(bytes, fields, b"Upgrade") {
+        return None;
+    }
+    if bytes.starts_with(Page::Health.line().as_bytes()) {
+        return Some(Page::Health);
+    }
+    if bytes.starts_with(Page::Metrics.line().as_bytes()) {
+        return Some(Page::Metrics);
+    }
+    None
 }
 
 /// Returns whether a field of this name, in any case, is among these.
@@ -133,7 +159,8 @@ pub fn write_switching(accept_key: &[u8; 28], output: &mut Vec<u8>) -> Result<()
     }
 }
 
-/// The response to a probe: 200 if no room fails, and else 503 with the room's name in its body.
+/// The response to a probe of `/health`: 200 if no room fails, and else 503 with the room's name in
+/// its body.
 ///
 /// # Errors
 /// `AllocError` if an allocation failed.
@@ -142,20 +169,31 @@ pub fn health_answer(alloc: Global, failing_room: Option<&str>) -> Result<String
         ≡ health_answer (option_map (λ room. room.now) failing_room.entry)) }
 {
     match failing_room {
-        None => health_response(alloc, "200 OK", "ok\n"),
+        None => page_response(alloc, "200 OK", "text/plain", "ok\n"),
         Some(room) => {
             let body = format!(in alloc; "room {room} is not kept\n")?;
-            health_response(alloc, "503 Service Unavailable", &body)
+            page_response(alloc, "503 Service Unavailable", "text/plain", &body)
         }
     }
 }
 
-/// The text of a response with this status and this body.
-fn health_response(alloc: Global, status: &str, body: &str) -> Result<String, AllocError>
-    ensures { IfOk result (λ text. string_bytes text ≡ health_response status.now body.now) }
+/// The response to a probe of `/metrics`: 200 with this body, which is in Prometheus' text format.
+///
+/// # Errors
+/// `AllocError` if an allocation failed.
+pub fn metrics_answer(alloc: Global, metrics: &str) -> Result<String, AllocError>
+    ensures { IfOk result (λ text. string_bytes text ≡ metrics_answer metrics.now) }
+{
+    page_response(alloc, "200 OK", "text/plain; version=0.0.4", metrics)
+}
+
+/// The text of a response with this status, of this type and with this body.
+fn page_response(alloc: Global, status: &str, kind: &str, body: &str) -> Result<String, AllocError>
+    ensures { IfOk result (λ text. string_bytes text
+        ≡ page_response status.now kind.now body.now) }
 {
     let len = body.len();
     format!(in alloc;
-        "HTTP/1.1 {status}\r\nContent-Type: text/plain\r\nContent-Length: {len}\r\nCache-Control: no-store\r\nConnection: close\r\n\r\n{body}"
+        "HTTP/1.1 {status}\r\nContent-Type: {kind}\r\nContent-Length: {len}\r\nCache-Control: no-store\r\nConnection: close\r\n\r\n{body}"
     )
 }

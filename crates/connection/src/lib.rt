@@ -13,6 +13,9 @@ mod talk;
 
 pub use connection::{Connection, MAX_MESSAGE_LEN};
 pub use end::End;
-pub use head::{Head, MAX_HEAD_LEN, UNAVAILABLE, health_answer, read_head, write_switching};
+pub use head::{
+    Head, MAX_HEAD_LEN, Page, UNAVAILABLE, health_answer, metrics_answer, read_head,
+    write_switching,
+};
 pub use item::{MAX_LOAD, MAX_WAITING, MAX_WAITING_LEN};
 pub use talk::{Answer, MAX_HELD_LEN, Talk};

@@ -4,7 +4,7 @@ ghost use Rattle.std.specs.Prelude.{◌≡◌, None};
 
 use crate::attempt::Attempt;
 use crate::keeper::{KeepFault, Keeper};
-use room_lock::{Prefix, RoomHistories, Rooms};
+use room_lock::{Opening, Prefix, RoomHistories, Rooms};
 use std::alloc::Global;
 use std::sync::Wait;
 
@@ -18,21 +18,21 @@ impl<P: RoomHistories> Keeper<P> for Forgets {
 
     ghost shows = { λ _ told. Unit {0} };
 
-    ghost permits = { λ _ place. Unit {0} };
+    ghost permits = { λ _ number. Unit {0} };
 
     ghost fails = { λ _ told. ⊥ };
 
-    ghost denies = { λ place. ⊥ };
+    ghost denies = { λ number. ⊥ };
 
     fn receipt(&self, _rt: &impl Wait, _told: &Prefix<P>) -> Result<Option<()>, KeepFault> {
         Ok(Some(()))
     }
 
-    fn permit(&self, _rt: &impl Wait, _place: usize) -> Option<()> {
+    fn permit(&self, _rt: &impl Wait, _opening: &Opening<P>) -> Option<()> {
         Some(())
     }
 
-    fn failing(&self, _rt: &impl Wait) -> Option<usize>
+    fn failing(&self, _rt: &impl Wait) -> Option<u64>
         ensures { result ≡ None }
     {
         None

@@ -4,7 +4,7 @@
 ghost use Rattle.std.specs.Prelude.{◌≡◌, IfErr, IfOk, IfSome, IsNone};
 
 use crate::attempt::Attempt;
-use room_lock::{Prefix, RoomHistories, Rooms};
+use room_lock::{Opening, Prefix, RoomHistories, Rooms};
 use std::alloc::Global;
 use std::sync::Wait;
 use thiserror::Error;
@@ -36,13 +36,13 @@ pub trait Keeper<P: RoomHistories> {
     /// The receipt shows that this prefix of a room's record is kept.
     ghost shows: { Self.Receipt → PrefixView → Type 0 };
 
-    /// The permit is for the room at this place.
+    /// The permit is for the room of the opening of this number.
     ghost permits: { Self.Permit → ℕ → Type 0 };
 
     /// The keeper may fail so to keep this prefix.
     ghost fails: { KeepFault → PrefixView → Type 0 };
 
-    /// The keeper may have no permit for the room at this place.
+    /// The keeper may have no permit for the room of the opening of this number.
     ghost denies: { ℕ → Type 0 };
 
     /// The receipt, if this prefix of a room's record is kept. Otherwise `None`, and a thread of
@@ -55,14 +55,15 @@ pub trait Keeper<P: RoomHistories> {
         ensures kept { IfOk result (λ found. IfSome found (λ receipt. shows receipt told.now)) }
         ensures fault { IfErr result (λ fault. fails fault told.now) };
 
-    /// A permit to let a new site into the room at this place, or `None` if the last attempt to keep
-    /// the room's record failed.
-    fn permit(&self, rt: &impl Wait, place: usize) -> Option<Self::Permit>
-        ensures some { IfSome result (λ permit. permits permit place) }
-        ensures none { IsNone result → denies place };
+    /// A permit to let a new site into the room of this opening, or `None` if the last attempt to
+    /// keep the room's record failed.
+    fn permit(&self, rt: &impl Wait, opening: &Opening<P>) -> Option<Self::Permit>
+        ensures some { IfSome result (λ permit. permits permit opening.now.number) }
+        ensures none { IsNone result → denies opening.now.number };
 
-    /// The place of the first room of which the last attempt failed, or `None` if there is none.
-    fn failing(&self, rt: &impl Wait) -> Option<usize>
+    /// The number of the first opening of whose room the last attempt failed, or `None` if there is
+    /// none.
+    fn failing(&self, rt: &impl Wait) -> Option<u64>
         ensures { IfSome result denies };
 
     /// The number of threads that are to call `keep_next`.

@@ -1,56 +1,44 @@
 -- The file that is opened next, among the files of all rooms.
-use Rattle.std.proofs.Common.{◌≡◌, ℕ, zero, suc, ◌+◌, ◌<◌, List, [], ◌∷◌, ◌++◌, length, map, get_or, Some, option_map, sym, ap, ◌∙◌, arith, length-append}
-use Rattle.std.specs.Prelude.{slice_get}
+use Rattle.std.proofs.Common.{◌≡◌, ◌+◌, ◌<◌, List, ◌∷◌, ◌++◌, length, map, get_or, sym, ap, ◌∙◌, arith, length-append}
 use Rattle.std.proofs.lemmas.List.{get_or-map, length-map}
-use Rattle.std.proofs.lemmas.Option.{slice_get-get_or, slice_get-map}
 use Rattle.std.proofs.Math.Seq.{get_or-append_seam}
 use Rattle.base_types.specs.Texts.{Bytes}
 use Rattle.rules.specs.declared.history.Entry.{Entry}
 use Rattle.restore.specs.steps.Files.{FileView}
 use Rattle.room_lock.specs.Passes.{PrefixView}
-use Rattle.room_lock.specs.Places.{prefixes_from}
+use Rattle.room_lock.specs.InOrder.{name_of, openings_of}
 
--- a record of the room at a place
-abbrev pub prefix_at : ℕ → List Entry → PrefixView
-prefix_at place r = record { place = place; entries = r }
+abbrev pub entries_in : PrefixView → List Entry
+entries_in begun = begun.entries
 
-pub length-prefixes : (place : ℕ) (rs : List (List Entry)) → length (prefixes_from place rs) ≡ length rs
-length-prefixes place [] = omega arith
-length-prefixes place (r ∷ rs) = omega (arith, length-prefixes (place + 1) rs)
-
-prefix_in : (place : ℕ) (rs : List (List Entry)) (i : ℕ) (d : PrefixView) (r : List Entry)
-    → i < length rs → get_or (prefixes_from place rs) i d ≡ prefix_at (place + i) (get_or rs i r)
-prefix_in place [] i d r lt = absurd (omega (arith, lt))
-prefix_in place (x ∷ rs) zero d r lt = let here : place ≡ place + 0 = omega arith in ap (λ n. prefix_at n x) here
-prefix_in place (x ∷ rs) (suc i) d r lt =
-    let more : i < length rs = omega (arith, lt) in
-    let further : place + 1 + i ≡ place + suc i = omega arith in
-    prefix_in (place + 1) rs i d r more ∙ ap (λ n. prefix_at n (get_or rs i r)) further
-
--- these files stand before this one
-pub record IsNext (yielded : List FileView) (file : FileView) (names : List Bytes) (begun : List PrefixView) : Type 0 where
-  pub name : slice_get names (length yielded) ≡ Some file.name
+-- these files stand before this one, whose room begins so
+pub record IsNext (yielded : List FileView) (file : FileView) (begun : List PrefixView) : Type 0 where
   pub within : length yielded < length begun
-  pub prefix : (d : PrefixView) → get_or begun (length yielded) d ≡ prefix_at (length yielded) file.entries
+  pub name : (d : PrefixView) → name_of (get_or begun (length yielded) d).opening ≡ file.name
+  pub entries : (d : PrefixView) → (get_or begun (length yielded) d).entries ≡ file.entries
 
-pub next_file : (files yielded rest : List FileView) (file : FileView) (names : List Bytes) (begun : List PrefixView)
-    → map (λ (f : FileView). f.name) files ≡ names → begun ≡ prefixes_from 0 (map (λ (f : FileView). f.entries) files)
-    → yielded ++ file ∷ rest ≡ files → IsNext yielded file names begun
-next_file files yielded rest file names begun named begins whole =
+pub length-files : (files : List FileView) (begun : List PrefixView) → map entries_in begun ≡ map (λ (f : FileView). f.entries) files → length begun ≡ length files
+length-files files begun begins = sym (length-map begun entries_in) ∙ ap length begins ∙ length-map files (λ (f : FileView). f.entries)
+
+pub next_file : (files yielded rest : List FileView) (file : FileView) (begun : List PrefixView)
+    → map name_of (openings_of begun) ≡ map (λ (f : FileView). f.name) files → map entries_in begun ≡ map (λ (f : FileView). f.entries) files
+    → yielded ++ file ∷ rest ≡ files → IsNext yielded file begun
+next_file files yielded rest file begun named begins whole =
     let n = length yielded in
     let counted : length files ≡ n + length (file ∷ rest) = sym (ap length whole) ∙ length-append yielded (file ∷ rest) in
-    let lt : n < length files = omega (arith, counted) in
-    let all : List (List Entry) = map (λ (f : FileView). f.entries) files in
-    let counted' : length all ≡ length files = length-map files (λ (f : FileView). f.entries) in
-    let lt' : n < length all = omega (arith, lt, counted') in
+    let among : n < length files = omega (arith, counted) in
+    let within : n < length begun = omega (arith, among, length-files files begun begins) in
+    let opened : n < length (openings_of begun) = omega (arith, within, length-map begun (λ (p : PrefixView). p.opening)) in
     let here : get_or files n file ≡ file = ap (λ (l : List FileView). get_or l n file) (sym whole) ∙ get_or-append_seam yielded file rest file in
     record {
-      name =
-          ap (λ (l : List Bytes). slice_get l n) (sym named) ∙ slice_get-map (λ (f : FileView). f.name) files n
-          ∙ ap (option_map (λ (f : FileView). f.name)) (slice_get-get_or files n file lt ∙ ap Some here);
-      within = omega (arith, lt', ap length begins, length-prefixes 0 all);
-      prefix = λ d.
-          let here' : 0 + n ≡ n = omega arith in
-          ap (λ (l : List PrefixView). get_or l n d) begins ∙ prefix_in 0 all n d file.entries lt' ∙ ap (λ k. prefix_at k (get_or all n file.entries)) here'
-          ∙ ap (prefix_at n) (get_or-map (λ (f : FileView). f.entries) files n file file.entries lt ∙ ap (λ (f : FileView). f.entries) here);
+      within = within;
+      name = λ d.
+          ap name_of (sym (get_or-map (λ (p : PrefixView). p.opening) begun n d d.opening within))
+          ∙ sym (get_or-map name_of (openings_of begun) n d.opening file.name opened)
+          ∙ ap (λ (l : List Bytes). get_or l n file.name) named
+          ∙ get_or-map (λ (f : FileView). f.name) files n file file.name among ∙ ap (λ (f : FileView). f.name) here;
+      entries = λ d.
+          sym (get_or-map entries_in begun n d file.entries within)
+          ∙ ap (λ (l : List (List Entry)). get_or l n file.entries) begins
+          ∙ get_or-map (λ (f : FileView). f.entries) files n file file.entries among ∙ ap (λ (f : FileView). f.entries) here;
     }

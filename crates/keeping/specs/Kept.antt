@@ -12,5 +12,5 @@ IsInFile held kept entries clean =
 
 -- what was reported of the room's record is a prefix of what is kept of it
 pub record IsKeptIn (kept told : PrefixView) : Type 0 where
-  pub place_is : told.place ≡ kept.place
+  pub opening_is : told.opening ≡ kept.opening
   pub begins : IsPrefix told.entries kept.entries

@@ -1,12 +1,11 @@
 //! A room's file.
 
-ghost use Rattle.std.specs.Prelude.{◌≡◌, ◌↔◌, ◌++◌, Err, OnErr, OnOk, IfOk, IfSome, IsSome, Some};
-ghost use Rattle.std.specs.Prelude.{false, true};
-ghost use Rattle.std.specs.Prelude.{map, option_map, slice_get};
+ghost use Rattle.std.specs.Prelude.{◌≡◌, ◌↔◌, ◌++◌, Err, OnErr, OnOk, IfOk, IfSome, IsSome};
+ghost use Rattle.std.specs.Prelude.{false, map, option_map, true};
 ghost use Rattle.std.specs.Arc.{arc_value};
 ghost use Rattle.record_file.specs.RecordText.{AreLines, record_text};
 ghost use Rattle.keeper.specs.declared.keeper.KeepFault.TheVariants as keep_fault;
-ghost use Rattle.room_lock.specs.Places.{prefixes_from};
+ghost use Rattle.room_lock.specs.InOrder.{name_of, openings_of};
 ghost use Rattle.keeping.specs.declared.file.Tail.TheVariants.{Nothing, Broken};
 ghost use Rattle.keeping.specs.Tails.{fault_of, is_clean, tail_after};
 
@@ -20,7 +19,7 @@ use keeper::KeepFault;
 pub use kept::Kept;
 use record_file::append;
 use restore::RestoredFile;
-use room_lock::{News, Prefix, RoomHistories, Rooms};
+use room_lock::{News, Prefix, RoomHistories};
 use rules::Entry;
 use std::alloc::Global;
 use std::io;
@@ -61,10 +60,10 @@ impl<P: RoomHistories, J: Journal> Model for RoomFile<P, J> {
 }
 
 impl<P: RoomHistories, J: Journal> RoomFile<P, J> {
-    /// The file of one of these rooms, which begins with the record that was restored from it.
-    pub fn open(_rooms: &Rooms<P>, begun: &Prefix<P>, file: RestoredFile<J>) -> RoomFile<P, J>
+    /// The file of a room, which begins with the record that was restored from it.
+    pub fn open(begun: &Prefix<P>, file: RestoredFile<J>) -> RoomFile<P, J>
         // The file has the name of the room, and the room begins with the file's record:
-        requires name { slice_get _rooms.now begun.now.place ≡ Some file.name }
+        requires name { begun.now.opening.room.name ≡ file.name }
         requires begun { begun.now.entries ≡ file.entries }
         ensures { result ≡ record { kept = begun.now; tail = Nothing } }
     {
@@ -85,10 +84,10 @@ impl<P: RoomHistories, J: Journal> RoomFile<P, J> {
     /// The proof that the file holds only what it keeps, if it does.
     pub fn clean(&self) -> Option<Clean>
         ensures some { IsSome result ↔ (is_clean self.now.tail ≡ true) }
-        ensures place { IfSome result (λ clean. clean ≡ self.now.kept.place) }
+        ensures number { IfSome result (λ clean. clean ≡ self.now.kept.opening.number) }
     {
         match self.tail {
-            Tail::Nothing => Some(Clean::of(self.kept.prefix().place())),
+            Tail::Nothing => Some(Clean::of(self.kept.prefix().opening().number())),
             Tail::Scraps | Tail::Broken => None,
         }
     }
@@ -108,7 +107,7 @@ impl<P: RoomHistories, J: Journal> RoomFile<P, J> {
     /// `NoMemory` if an allocation failed.
     pub fn keep(&mut self, alloc: Global, news: &News<P>) -> Result<(), KeepFault>
         requires news { self.old.kept.entries ++ news.now.entries ≡ news.now.whole.entries }
-        requires place { news.now.whole.place ≡ self.old.kept.place }
+        requires opening { news.now.whole.opening ≡ self.old.kept.opening }
         ensures kept { OnOk result
             (self.new ≡ record { kept = news.now.whole; tail = Nothing }) }
         ensures err { OnErr result (self.new.kept ≡ self.old.kept) }
@@ -144,19 +143,20 @@ impl<P: RoomHistories, J: Journal + Drop> RoomFile<P, J> {
     /// `NoMemory` if an allocation failed.
     pub fn open_all(
         alloc: Global,
-        rooms: &Rooms<P>,
         begun: &[Prefix<P>],
         files: Vec<RestoredFile<J>>,
     ) -> Result<Vec<RoomFile<P, J>>, NoMemory>
-        // There is a file for each room in order, and the room begins with the file's record:
-        requires names { map (λ file. file.name) files.items ≡ rooms.now }
-        requires begun { begun.now ≡ prefixes_from 0 (map (λ file. file.entries) files.items) }
+        // There is a file for each room in order, with the room's name, and the room begins with the
+        // file's record:
+        requires names { map name_of (openings_of begun.now) ≡ map (λ file. file.name) files.items }
+        requires begun { map (λ begun. begun.entries) begun.now
+            ≡ map (λ file. file.entries) files.items }
         ensures { IfOk result (λ opened. map (λ file. file.kept) opened.items ≡ begun.now) }
     {
         let mut opened = Vec::with_capacity(alloc, files.len())?;
         for file in files {
             let prefix = &begun[opened.len()];
-            opened.push(RoomFile::open(rooms, prefix, file))?;
+            opened.push(RoomFile::open(prefix, file))?;
         }
         Ok(opened)
     }

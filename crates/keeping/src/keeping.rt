@@ -8,7 +8,7 @@ use crate::room::{KeptRoom, Standing};
 use base_types::NoMemory;
 use journal::Journal;
 use keeper::{Attempt, Change, KeepFault, Keeper};
-use room_lock::{Prefix, RoomHistories, Rooms};
+use room_lock::{Opening, Prefix, RoomHistories, Rooms};
 use std::alloc::Global;
 use std::sync::Wait;
 use std::sync::atomic::{AtomicUsize, Ordering};
@@ -49,11 +49,11 @@ impl<P: RoomHistories, J: Journal + Drop> Keeping<P, J> {
         self.first_failing(rt).is_none()
     }
 
-    /// The place of the first room of which the last attempt failed.
-    fn first_failing(&self, rt: &impl Wait) -> Option<usize> {
-        for (place, room) in self.rooms.iter().enumerate() {
+    /// The number of the first opening of whose room the last attempt failed.
+    fn first_failing(&self, rt: &impl Wait) -> Option<u64> {
+        for room in &self.rooms {
             if room.state(rt).is_err() {
-                return Some(place);
+                return Some(room.opening().number());
             }
         }
         None
@@ -99,11 +99,11 @@ impl<P: RoomHistories, J: Journal + Drop> Keeper<P> for Keeping<P, J> {
 
     ghost shows = { λ kept told. IsKeptIn kept told };
 
-    ghost permits = { λ clean place. clean ≡ place };
+    ghost permits = { λ clean number. clean ≡ number };
 
     ghost fails = { λ _ told. Unit {0} };
 
-    ghost denies = { λ place. Unit {0} };
+    ghost denies = { λ number. Unit {0} };
 
     fn receipt(&self, rt: &impl Wait, told: &Prefix<P>) -> Result<Option<Kept<P>>, KeepFault> {
         let place = told.place();
@@ -120,16 +120,16 @@ impl<P: RoomHistories, J: Journal + Drop> Keeper<P> for Keeping<P, J> {
         }
     }
 
-    fn permit(&self, rt: &impl Wait, place: usize) -> Option<Clean> {
-        let clean = self.rooms.get(place)?.state(rt).ok()?;
-        if clean.place() == place {
+    fn permit(&self, rt: &impl Wait, opening: &Opening<P>) -> Option<Clean> {
+        let clean = self.rooms.get(opening.place())?.state(rt).ok()?;
+        if clean.number() == opening.number() {
             Some(clean)
         } else {
             None
         }
     }
 
-    fn failing(&self, rt: &impl Wait) -> Option<usize> {
+    fn failing(&self, rt: &impl Wait) -> Option<u64> {
         if self.failing.load(Ordering::SeqCst) == 0 {
             return None;
         }

@@ -1,12 +1,12 @@
 //! One room's file, which threads share.
 
-ghost use Rattle.std.specs.Prelude.{◌≡◌, IfErr, IfOk, IfSome, OnErr};
+ghost use Rattle.std.specs.Prelude.{◌≡◌, IfOk, OnErr};
 ghost use Rattle.keeping.specs.Kept.{IsKeptIn};
 
 use crate::file::{Clean, Kept, RoomFile};
 use journal::Journal;
 use keeper::{Change, KeepFault};
-use room_lock::{CallFault, Prefix, RoomHistories, Rooms};
+use room_lock::{CallFault, Opening, Prefix, RoomHistories, Rooms};
 use std::alloc::Global;
 use std::fmt::Write;
 use std::sync::{Mutex, Wait};
@@ -30,6 +30,7 @@ struct Desk<P: RoomHistories, J: Journal> {
 /// A room's file, which threads share.
 #[derive(Drop)]
 pub(crate) struct KeptRoom<P: RoomHistories, J: Journal> {
+    opening: Opening<P>,
     desk: Mutex<Desk<P, J>>,
 }
 
@@ -59,6 +60,7 @@ impl<P: RoomHistories, J: Journal + Drop> KeptRoom<P, J> {
     /// A room whose file no thread has.
     pub(crate) fn new(file: RoomFile<P, J>) -> KeptRoom<P, J> {
         KeptRoom {
+            opening: file.receipt().prefix().opening().copy(),
             desk: Mutex::new(Desk {
                 kept: file.receipt().copy(),
                 state: file.clean().ok_or(KeepFault::NotKept),
@@ -67,6 +69,13 @@ impl<P: RoomHistories, J: Journal + Drop> KeptRoom<P, J> {
                 is_ordered: false,
             }),
         }
+    }
+
+    /// The opening of the room.
+    pub(crate) fn opening(&self) -> &Opening<P>
+        ensures { result.now ≡ self.now.opening }
+    {
+        &self.opening
     }
 
     /// What is known of this prefix of the room's record. Where it gives `New`, the caller orders an
@@ -85,7 +94,7 @@ impl<P: RoomHistories, J: Journal + Drop> KeptRoom<P, J> {
         if desk.kept.covers(told) {
             return Ok(Standing::Kept(desk.kept.copy()));
         }
-        if desk.kept.prefix().place() != told.place() {
+        if !self.opening.is_same(told.opening()) {
             return Err(KeepFault::NotKept);
         }
         if let Err(fault) = &desk.state {

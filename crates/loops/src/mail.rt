@@ -1,7 +1,8 @@
 //! What waits for a loop: arrivals, and news in rooms.
 
-ghost use Rattle.std.specs.Prelude.{◌≡◌, ◌<◌, ◌≤◌, [], ◌∷◌, ◌++◌, IfErr, IsErr, IsOk, IsTrue};
-ghost use Rattle.std.specs.Prelude.{OnErr, OnOk, length, not, slice_get, slice_set, Some, false, true};
+ghost use Rattle.std.specs.Prelude.{◌≡◌, ◌≢◌, ◌<◌, ◌≤◌, [], ◌∷◌, ◌++◌, ◌↔◌, IfErr, IfOk, IfSome};
+ghost use Rattle.std.specs.Prelude.{IsErr, IsNone, OnErr, OnOk, length, slice_get, slice_set, Some};
+ghost use Rattle.std.specs.Prelude.{false, true, vec_capacity};
 
 use crate::client::Arrival;
 use std::alloc::{AllocError, Global};
@@ -19,46 +20,55 @@ pub(crate) struct News {
     pub(crate) arrivals: Vec<Handed>,
     /// For each place whether there is news in its room.
     pub(crate) rooms: Vec<bool>,
-    /// Whether there is news in a room.
-    pub(crate) has_rooms: bool,
+    /// The places of the rooms with news, each once. There is memory for all of them.
+    pub(crate) places: Vec<usize>,
 }
 
 impl News {
     /// Nothing, with room for news in each of the rooms.
-    pub(crate) fn new(alloc: Global, places: usize) -> Result<News, AllocError> {
+    pub(crate) fn new(alloc: Global, places: usize) -> Result<News, AllocError>
+        ensures places { IfOk result (λ news. (news.places.items ≡ [])
+            × (places ≤ vec_capacity news.places)) }
+        ensures rooms { IfOk result (λ news. length news.rooms.items ≡ places) }
+    {
         Ok(News {
             arrivals: Vec::new(alloc),
             rooms: vec![in alloc; false; places]?,
-            has_rooms: false,
+            places: Vec::with_capacity(alloc, places)?,
         })
     }
 
     /// There is news in the room at this place. Allocates nothing.
     pub(crate) fn add_room(&mut self, place: usize)
         ensures room { self.new.rooms.items ≡ slice_set self.old.rooms.items place true }
-        ensures some { place < length self.old.rooms.items → self.new.has_rooms ≡ true }
+        ensures listed { slice_get self.old.rooms.items place ≡ Some false →
+            length self.old.places.items < vec_capacity self.old.places →
+            self.new.places.items ≡ self.old.places.items ++ place ∷ [] }
+        ensures known { slice_get self.old.rooms.items place ≢ Some false →
+            self.new.places ≡ self.old.places }
         ensures arrivals { self.new.arrivals ≡ self.old.arrivals }
     {
-        if place < self.rooms.len() {
-            self.rooms[place] = true;
-            self.has_rooms = true;
+        if place >= self.rooms.len() || self.rooms[place] {
+            return;
+        }
+        self.rooms[place] = true;
+        if self.places.len() < self.places.capacity() {
+            self.places.push_reserved(place);
         }
     }
 
-    /// Takes the news of the room at this place. Returns whether there was any.
-    pub(crate) fn take_room(&mut self, place: usize) -> bool
-        ensures news { place < length self.old.rooms.items →
-            slice_get self.old.rooms.items place ≡ Some result }
-        ensures none { length self.old.rooms.items ≤ place → result ≡ false }
-        ensures taken { self.new.rooms.items ≡ slice_set self.old.rooms.items place false }
+    /// Takes the news of one room, and gives its place. Constant time.
+    pub(crate) fn next_room(&mut self) -> Option<usize>
+        ensures some { IfSome result (λ place.
+            (self.old.places.items ≡ self.new.places.items ++ place ∷ [])
+            × (self.new.rooms.items ≡ slice_set self.old.rooms.items place false)) }
+        ensures none { IsNone result → self.old.places.items ≡ [] }
     {
+        let place = self.places.pop()?;
         if place < self.rooms.len() {
-            let has_news = self.rooms[place];
             self.rooms[place] = false;
-            has_news
-        } else {
-            false
         }
+        Some(place)
     }
 }
 
@@ -106,10 +116,12 @@ impl Mail {
     /// the loop is to be woken. Allocates nothing.
     pub(crate) fn add_room(&mut self, place: usize) -> bool
         ensures room { self.new.news.rooms.items ≡ slice_set self.old.news.rooms.items place true }
-        ensures some { place < length self.old.news.rooms.items → self.new.news.has_rooms ≡ true }
-        ensures first { result ≡ not self.old.news.has_rooms }
+        ensures listed { slice_get self.old.news.rooms.items place ≡ Some false →
+            length self.old.news.places.items < vec_capacity self.old.news.places →
+            self.new.news.places.items ≡ self.old.news.places.items ++ place ∷ [] }
+        ensures first { (result ≡ true) ↔ (self.old.news.places.items ≡ []) }
     {
-        let is_first = !self.news.has_rooms;
+        let is_first = self.news.places.is_empty();
         self.news.add_room(place);
         is_first
     }

@@ -8,7 +8,10 @@ use crate::line::Line;
 use crate::service::Service;
 use crate::shared::Shared;
 use crate::stage::{Served, Stage};
-use connection::{Connection, End, Head, UNAVAILABLE, health_answer, read_head, write_switching};
+use connection::{
+    Connection, End, Head, Page, UNAVAILABLE, health_answer, metrics_answer, read_head,
+    write_switching,
+};
 use std::alloc::{AllocError, Global};
 use std::sync::Wait;
 
@@ -26,9 +29,13 @@ impl<S, D: Drop> Line<S, D> {
         match read_head(head.as_slice()) {
             Head::Partial => self.keep_head(head),
             Head::Refused => self.finish(shared, Ending::NoHandshake),
-            Head::Probe => self.answer_probe(shared),
-            Head::Upgrade { accept_key, len } => {
-                if self.admit(shared, &accept_key) {
+            Head::Probe(page) => self.answer_probe(shared, page),
+            Head::Upgrade {
+                accept_key,
+                target,
+                len,
+            } => {
+                if self.admit(shared, target.of(head.as_slice()), &accept_key) {
                     let frames = head.get(len..).unwrap_or(&[]);
                     self.receive(shared, scratch, frames, now);
                 }
@@ -55,15 +62,13 @@ impl<S, D: Drop> Line<S, D> {
     fn answer_probe<R: Wait, V: Service<Session = S, Told = D>>(
         &mut self,
         shared: &Shared<'_, R, V>,
+        page: Page,
     ) {
-        let failing = shared.service.failing_room();
-        let room = match &failing {
-            Some(room) => Some(room.as_str()),
-            None => None,
+        let Some(answer) = probe_answer(shared, page) else {
+            self.finish(shared, Ending::NoHandshake);
+            return;
         };
-        if let Ok(answer) = health_answer(shared.alloc, room) {
-            let _ = self.output.append(answer.as_bytes());
-        }
+        let _ = self.output.append(answer.as_bytes());
         shared.service.after_probe();
         self.enter(
             shared,
@@ -72,25 +77,25 @@ impl<S, D: Drop> Line<S, D> {
         );
     }
 
-    /// Begins a session, if a seat is free. Else the client is turned away. Returns whether the
-    /// session has begun.
+    /// Begins the session of a request for this target, if a seat is free. Else the client is turned
+    /// away. Returns whether the session has begun.
     fn admit<R: Wait, V: Service<Session = S, Told = D>>(
         &mut self,
         shared: &Shared<'_, R, V>,
+        target: &[u8],
         accept_key: &[u8; 28],
     ) -> bool {
         let Some(seat) = shared.seats.take(shared.rt) else {
-            let _ = self.output.append(UNAVAILABLE.as_bytes());
-            shared.service.turned_away();
-            self.enter(
-                shared,
-                Stage::Leaving { is_sent: false },
-                Ending::NoHandshake,
-            );
+            self.turn_away(shared);
+            return false;
+        };
+        let Some(session) = shared.service.new_session(target) else {
+            shared.seats.give_back(shared.rt, seat);
+            self.finish(shared, Ending::Connection(End::NoMemory));
             return false;
         };
         shared.service.before_session();
-        let connection = Connection::open(shared.alloc, shared.service.new_session());
+        let connection = Connection::open(shared.alloc, session);
         let opened = Stage::Open(Served::new(connection, seat));
         self.enter(shared, opened, Ending::Stream);
         if self.switch(shared.alloc, accept_key).is_err() {
@@ -98,6 +103,17 @@ impl<S, D: Drop> Line<S, D> {
             return false;
         }
         true
+    }
+
+    /// There is no seat for the client.
+    fn turn_away<R: Wait, V: Service<Session = S, Told = D>>(&mut self, shared: &Shared<'_, R, V>) {
+        let _ = self.output.append(UNAVAILABLE.as_bytes());
+        shared.service.turned_away();
+        self.enter(
+            shared,
+            Stage::Leaving { is_sent: false },
+            Ending::NoHandshake,
+        );
     }
 
     /// Accepts the WebSocket.
@@ -109,5 +125,23 @@ impl<S, D: Drop> Line<S, D> {
         let mut response = Vec::new(alloc);
         write_switching(accept_key, &mut response)?;
         self.output.append(response.as_slice())
+    }
+}
+
+/// The answer to a probe of a page, or `None` if the server has no such page or an allocation failed.
+fn probe_answer<R, V: Service>(shared: &Shared<'_, R, V>, page: Page) -> Option<String> {
+    match page {
+        Page::Health => {
+            let failing = shared.service.failing_room();
+            let room = match &failing {
+                Some(room) => Some(room.as_str()),
+                None => None,
+            };
+            health_answer(shared.alloc, room).ok()
+        }
+        Page::Metrics => {
+            let metrics = shared.service.metrics()?;
+            metrics_answer(shared.alloc, metrics.as_str()).ok()
+        }
     }
 }

@@ -33,15 +33,12 @@ impl<S, D: Drop, C: Drop> EventLoop<S, D, C> {
         &mut self,
         shared: &Shared<'_, R, V>,
     ) {
-        if !self.news.has_rooms {
-            return;
+        for _ in 0..shared.bell.places() {
+            let Some(place) = self.news.next_room() else {
+                return;
+            };
+            self.hear_news(shared, place);
         }
-        for place in 0..shared.bell.places() {
-            if self.news.take_room(place) {
-                self.hear_news(shared, place);
-            }
-        }
-        self.news.has_rooms = false;
     }
 
     /// Begins a line, whose first bytes may be there.

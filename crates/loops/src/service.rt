@@ -1,5 +1,7 @@
 //! What loops serve.
 
+ghost use Rattle.std.specs.Prelude.{IfSome};
+
 use crate::client::Client;
 use crate::ending::Ending;
 use connection::Talk;
@@ -7,8 +9,15 @@ use connection::Talk;
 /// What loops serve: a talk, and what it wants to hear of connections. All loops share one value,
 /// and call it in their threads. A method may block its thread for a short time only.
 pub trait Service: Talk {
-    /// The session of a new connection.
-    fn new_session(&self) -> Self::Session;
+    ghost use Rattle.std.specs.Prelude.{ℕ, List};
+
+    /// A session that begins with a request for this target.
+    ghost begins: { Self → List ℕ → Self.Session → Type 0 };
+
+    /// The session of a new connection, whose request had this target (RFC 9112, section 3.2). `None`
+    /// if an allocation failed.
+    fn new_session(&self, target: &[u8]) -> Option<Self::Session>
+        ensures { IfSome result (λ session. Self.begins self.now target.now session) };
 
     /// Memory that a loop lends to each message that is heard.
     fn new_scratch(&self) -> Self::Scratch;
@@ -30,4 +39,7 @@ pub trait Service: Talk {
 
     /// A room whose file fails.
     fn failing_room(&self) -> Option<String>;
+
+    /// What was counted, in Prometheus' text format. `None` if nothing is, or an allocation failed.
+    fn metrics(&self) -> Option<String>;
 }

@@ -85,9 +85,7 @@ fn news_of_a_room_comes_once(rt: HostRuntime) -> Result<(), Fail> {
     mail.add_room(1);
     mail.add_room(7);
     assert!(rt; !mail.take(&mut news));
-    assert!(rt; news.has_rooms);
-    assert!(rt; !news.take_room(0));
-    assert!(rt; news.take_room(1));
-    assert!(rt; !news.take_room(1));
+    assert_eq!(rt; news.next_room(), Some(1));
+    assert_eq!(rt; news.next_room(), None);
     Ok(())
 }

@@ -8,6 +8,7 @@ use mathlib.Core.List.{IsPrefix}
 use Rattle.rules.specs.declared.history.Entry.{Entry}
 use Rattle.rules.specs.declared.limits.LimitValues.{LimitValues}
 use Rattle.rules.specs.Records.{sites, IsLegal}
+use Rattle.openings.specs.Openings.{OpeningView}
 use Rattle.room_lock.specs.Passes.{PartView}
 use Rattle.room_lock.specs.Kept.{count_of_site}
 use Rattle.room_lock.specs.Shelves.{Shelf, IsPartFor, IsShelfOf, part_of}
@@ -40,11 +41,11 @@ sites_from (x ∷ xs) from at =
     let rest = sites_from xs (from + 1) (λ k part is. (let e = at (suc k) part is in omega (arith, e))) in
     (λ i. first i ∷ rest i)
 
-module _ (limits : LimitValues) (place : ℕ) (r : List Entry) (shelf : Shelf) (parts : List PartView)
-    (legal : IsLegal limits r) (kept : IsShelfOf place r shelf) (full : map Some parts ≡ shelf)
+module _ (limits : LimitValues) (opening : OpeningView) (r : List Entry) (shelf : Shelf) (parts : List PartView)
+    (legal : IsLegal limits r) (kept : IsShelfOf opening r shelf) (full : map Some parts ≡ shelf)
     (own : All HasItsEntries parts) (whole : sum_by added_of parts ≡ length r)
   where
-    part_at : (k : ℕ) (part : PartView) → slice_get parts k ≡ Some part → IsPartFor place r (suc k) part
+    part_at : (k : ℕ) (part : PartView) → slice_get parts k ≡ Some part → IsPartFor opening r (suc k) part
     part_at k part is = kept.parts (suc k) part (ap (λ (s : Shelf). part_of s (suc k)) (sym full) ∙ at_full parts k part is)
 
     counted : length parts ≡ sites r

@@ -1,5 +1,6 @@
 pub mod Fronts
 pub mod Names
+pub mod InOrder
 pub mod Answers
 pub mod Shelves
 pub mod Shares

@@ -8,6 +8,7 @@ use mathlib.Core.List.{IsPrefix}
 use Rattle.rules.specs.declared.history.Entry.{Entry}
 use Rattle.rules.specs.Records.{sites}
 use Rattle.shared_history.proofs.Beginnings.{prefix_trans}
+use Rattle.openings.specs.Openings.{OpeningView}
 use Rattle.room_lock.specs.Passes.{PartView}
 use Rattle.room_lock.specs.Shelves.{Shelf, IsPartFor, IsShelfOf, full_shelf, part_of, whole_part, with_at}
 
@@ -61,66 +62,66 @@ push_found [] (suc k) found is = is
 push_found (x ∷ xs) zero found is = is
 push_found (x ∷ xs) (suc k) found is = push_found xs k found is
 
-module _ (place : ℕ) (r : List Entry) (shelf : Shelf) (kept : IsShelfOf place r shelf) where
-  part_grown : (q : List Entry) → IsPrefix r q → (site : ℕ) (part : PartView) → part_of shelf site ≡ Some part → IsPartFor place q site part
+module _ (opening : OpeningView) (r : List Entry) (shelf : Shelf) (kept : IsShelfOf opening r shelf) where
+  part_grown : (q : List Entry) → IsPrefix r q → (site : ℕ) (part : PartView) → part_of shelf site ≡ Some part → IsPartFor opening q site part
   part_grown q p site part is =
       let old = kept.parts site part is in
-      record { place_is = old.place_is; site_is = old.site_is; seen = prefix_trans part.seen r q old.seen p }
+      record { opening_is = old.opening_is; site_is = old.site_is; seen = prefix_trans part.seen r q old.seen p }
 
   -- the record has grown, and no site has joined
-  pub shelf_grown : (q : List Entry) → IsPrefix r q → sites q ≡ sites r → IsShelfOf place q shelf
+  pub shelf_grown : (q : List Entry) → IsPrefix r q → sites q ≡ sites r → IsShelfOf opening q shelf
   shelf_grown q p same = record { counted = kept.counted ∙ sym same; parts = part_grown q p }
 
   -- a site has joined, which is in use
-  pub shelf_pushed : (q : List Entry) → IsPrefix r q → sites q ≡ sites r + 1 → IsShelfOf place q (shelf ++ None ∷ [])
+  pub shelf_pushed : (q : List Entry) → IsPrefix r q → sites q ≡ sites r + 1 → IsShelfOf opening q (shelf ++ None ∷ [])
   shelf_pushed q p more = record {
     counted = omega (arith, length-append shelf (None ∷ []), kept.counted, more);
     parts = pushed;
   }
     where
-      pushed : (site : ℕ) (part : PartView) → part_of (shelf ++ None ∷ []) site ≡ Some part → IsPartFor place q site part
+      pushed : (site : ℕ) (part : PartView) → part_of (shelf ++ None ∷ []) site ≡ Some part → IsPartFor opening q site part
       pushed zero part is = absurd cc
       pushed (suc k) part is = part_grown q p (suc k) part (push_found shelf k part is)
 
   -- a part is taken off
-  pub shelf_taken : (site : ℕ) → IsShelfOf place r (with_at shelf site None)
+  pub shelf_taken : (site : ℕ) → IsShelfOf opening r (with_at shelf site None)
   shelf_taken site = record {
     counted = same_length shelf site None ∙ kept.counted;
     parts = λ other part is. go other part is (Rattle.std.proofs.Common.eqb site other) refl;
   }
     where
-      go : (other : ℕ) (part : PartView) → part_of (with_at shelf site None) other ≡ Some part → (b : Bool) → Rattle.std.proofs.Common.eqb site other ≡ b → IsPartFor place r other part
+      go : (other : ℕ) (part : PartView) → part_of (with_at shelf site None) other ≡ Some part → (b : Bool) → Rattle.std.proofs.Common.eqb site other ≡ b → IsPartFor opening r other part
       go other part is true e = absurd (let none = part_with shelf site other None part is true e in cc)
       go other part is false e = kept.parts other part (part_with shelf site other None part is false e)
 
   -- a part is put there
-  pub shelf_put : (new : PartView) → new.place ≡ place → IsPrefix new.seen r → IsShelfOf place r (with_at shelf new.site (Some new))
-  shelf_put new place_is seen = record {
+  pub shelf_put : (new : PartView) → new.opening ≡ opening → IsPrefix new.seen r → IsShelfOf opening r (with_at shelf new.site (Some new))
+  shelf_put new opening_is seen = record {
     counted = same_length shelf new.site (Some new) ∙ kept.counted;
     parts = λ other part is. go other part is (Rattle.std.proofs.Common.eqb new.site other) refl;
   }
     where
-      go : (other : ℕ) (part : PartView) → part_of (with_at shelf new.site (Some new)) other ≡ Some part → (b : Bool) → Rattle.std.proofs.Common.eqb new.site other ≡ b → IsPartFor place r other part
+      go : (other : ℕ) (part : PartView) → part_of (with_at shelf new.site (Some new)) other ≡ Some part → (b : Bool) → Rattle.std.proofs.Common.eqb new.site other ≡ b → IsPartFor opening r other part
       go other part is true e =
           let same : new ≡ part = Rattle.room_core.proofs.Seen.some_same (part_with shelf new.site other (Some new) part is true e) in
-          subst (λ (p : PartView). IsPartFor place r other p) same (record { place_is = place_is; site_is = eqb-true new.site other e; seen = seen })
+          subst (λ (p : PartView). IsPartFor opening r other p) same (record { opening_is = opening_is; site_is = eqb-true new.site other e; seen = seen })
       go other part is false e = kept.parts other part (part_with shelf new.site other (Some new) part is false e)
 
 -- ---- the shelf of a room that begins with a record
 
-part_is : {place : ℕ} {r : List Entry} {site : ℕ} (part : PartView) → whole_part place r site ≡ part → IsPartFor place r site part
-part_is {place} {r} {site} part is = subst (IsPartFor place r site) is (record { place_is = refl; site_is = refl; seen = ([], append-nil r) })
+part_is : {opening : OpeningView} {r : List Entry} {site : ℕ} (part : PartView) → whole_part opening r site ≡ part → IsPartFor opening r site part
+part_is {opening} {r} {site} part is = subst (IsPartFor opening r site) is (record { opening_is = refl; site_is = refl; seen = ([], append-nil r) })
 
-pub full_is_shelf : (place : ℕ) (r : List Entry) → IsShelfOf place r (full_shelf place r)
-full_is_shelf place r = record { counted = length-map-range_with_len at 1 (sites r); parts = found }
+pub full_is_shelf : (opening : OpeningView) (r : List Entry) → IsShelfOf opening r (full_shelf opening r)
+full_is_shelf opening r = record { counted = length-map-range_with_len at 1 (sites r); parts = found }
   where
     at : ℕ → Option PartView
-    at site = Some (whole_part place r site)
+    at site = Some (whole_part opening r site)
 
-    found : (site : ℕ) (part : PartView) → part_of (full_shelf place r) site ≡ Some part → IsPartFor place r site part
+    found : (site : ℕ) (part : PartView) → part_of (full_shelf opening r) site ≡ Some part → IsPartFor opening r site part
     found zero part is = absurd cc
     found (suc k) part is =
-        let there = within (full_shelf place r) (suc k) part is in
+        let there = within (full_shelf opening r) (suc k) part is in
         let long = length-map-range_with_len at 1 (sites r) in
         let here = get_or-map-range_with_len at 1 (sites r) k (suc k) None (omega (arith, there.1, long)) (omega arith) in
         part_is part (Rattle.room_core.proofs.Seen.some_same (sym here ∙ is))

@@ -5,6 +5,7 @@ use Rattle.std.specs.List.{range_with_len}
 use mathlib.Core.List.{IsPrefix}
 use Rattle.rules.specs.declared.history.Entry.{Entry}
 use Rattle.rules.specs.Records.{sites}
+use Rattle.openings.specs.Openings.{OpeningView}
 use Rattle.room_lock.specs.Sites.{is_of_site}
 use Rattle.room_lock.specs.Passes.{PartView}
 
@@ -27,23 +28,24 @@ abbrev pub is_away : Shelf → ℕ → Bool
 is_away shelf site =
     nat_le 1 site && nat_le site (length shelf) && not (is_some (part_of shelf site))
 
--- the part belongs to this site of the room at this place, and has seen a prefix of its record
-pub record IsPartFor (place : ℕ) (r : List Entry) (site : ℕ) (part : PartView) : Type 0 where
-  pub place_is : part.place ≡ place
+-- the part belongs to this site of the room of this opening, and has seen a prefix of its record
+pub record IsPartFor (opening : OpeningView) (r : List Entry) (site : ℕ) (part : PartView)
+    : Type 0 where
+  pub opening_is : part.opening ≡ opening
   pub site_is : part.site ≡ site
   pub seen : IsPrefix part.seen r
 
 -- there is a place for each site that has joined, and each part is at its site's place
-pub record IsShelfOf (place : ℕ) (r : List Entry) (shelf : Shelf) : Type 0 where
+pub record IsShelfOf (opening : OpeningView) (r : List Entry) (shelf : Shelf) : Type 0 where
   pub counted : length shelf ≡ sites r
   pub parts : (site : ℕ) (part : PartView) → part_of shelf site ≡ Some part
-      → IsPartFor place r site part
+      → IsPartFor opening r site part
 
 -- the part of a site that has seen the whole record, and added all its entries there
-abbrev pub whole_part : ℕ → List Entry → ℕ → PartView
-whole_part place r site =
-    record { place = place; site = site; seen = r; added = count_by (is_of_site site) r }
+abbrev pub whole_part : OpeningView → List Entry → ℕ → PartView
+whole_part opening r site =
+    record { opening = opening; site = site; seen = r; added = count_by (is_of_site site) r }
 
 -- the shelf when no session is in the room, and each site has seen the whole record
-abbrev pub full_shelf : ℕ → List Entry → Shelf
-full_shelf place r = map (λ site. Some (whole_part place r site)) (range_with_len 1 (sites r))
+abbrev pub full_shelf : OpeningView → List Entry → Shelf
+full_shelf opening r = map (λ site. Some (whole_part opening r site)) (range_with_len 1 (sites r))

@@ -6,12 +6,12 @@ ghost use Rattle.indexmap.specs.IndexMap.{keys};
 ghost use Rattle.room_lock.specs.Closing.{HasItsEntries, IsClosed, added_of};
 
 use crate::fault::CloseFault;
-use crate::histories::RoomHistories;
 use crate::part::Part;
 use crate::slot::Slot;
 use base_types::{NoMemory, RoomName};
 use crossbeam_utils::CachePadded;
 use indexmap::IndexMap;
+use openings::RoomHistories;
 use rules::Entry;
 use std::alloc::Global;
 use std::sync::Arc;

@@ -1,9 +1,9 @@
 //! The result of a join or a coming back.
 
-use crate::histories::RoomHistories;
 use crate::in_use::InUse;
 use crate::pass::Pass;
 use crate::prefix::Prefix;
+use openings::RoomHistories;
 use wire::Reply;
 
 /// The result of a join or a coming back.
@@ -14,6 +14,6 @@ pub enum Entrance<P: RoomHistories> {
     Refused(Prefix<P>, Reply),
     /// The room refused, since a session is in as the site: the proof of that, and the reply.
     InUse(InUse<P>, Reply),
-    /// There is no room of this name.
+    /// None of the rooms has the opening.
     NoRoom,
 }

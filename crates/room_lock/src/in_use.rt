@@ -3,9 +3,9 @@
 ghost use Rattle.std.specs.Prelude.{◌≡◌, ◌↔◌, IfSome, IsSome, true};
 ghost use Rattle.room_lock.specs.Shelves.{is_away};
 
-use crate::histories::RoomHistories;
 use crate::prefix::Prefix;
 use crate::room::Room;
+use openings::RoomHistories;
 use std::marker::Model;
 
 /// The proof at run time that a session is in as a site: the site's part is not on the shelf of
@@ -29,7 +29,7 @@ impl<P: RoomHistories> InUse<P> {
     pub(crate) fn of(room: &Room<P>, site: u32) -> Option<InUse<P>>
         ensures away { IsSome result ↔ (is_away room.now.shelf site ≡ true) }
         ensures room { IfSome result (λ it. it ≡ record {
-          prefix = record { place = room.now.place; entries = room.now.entries };
+          prefix = record { opening = room.now.opening; entries = room.now.entries };
           site = site;
         }) }
     {

@@ -1,17 +1,14 @@
 //! Creating rooms.
 
-ghost use Rattle.std.specs.Prelude.{◌≡◌, ◌+◌, ◌*◌, ◌≤◌, ◌^◌, ◌++◌, ◌∷◌, [], ◌↔◌, ℕ, All, IfErr};
-ghost use Rattle.std.specs.Prelude.{◌<◌, IfOk, IsErrOf, OnOk, None, Some, bytes_eq, length, map};
-ghost use Rattle.std.specs.Prelude.{slice_get};
+ghost use Rattle.std.specs.Prelude.{◌≡◌, ◌+◌, ◌≤◌, ◌^◌, ◌++◌, ◌∷◌, [], ◌↔◌, ℕ, All, IfErr};
+ghost use Rattle.std.specs.Prelude.{IfOk, IsErrOf, OnOk, None, Some, bytes_eq, length, map};
 ghost use Rattle.indexmap.specs.IndexMap.{get, keys};
 ghost use Rattle.base_types.specs.Repeats.{first_repeat};
 ghost use Rattle.base_types.specs.declared.fault.RoomsFault.TheVariants as rooms_fault;
-ghost use Rattle.room_lock.specs.Places.{AreInPlace, prefixes_from};
-ghost use Rattle.room_lock.specs.steps.Planned.{AreHistoriesOf, book_of};
-ghost use Rattle.room_lock.specs.steps.Planned.{record_of};
+ghost use Rattle.room_lock.specs.InOrder.{AreInOrder, openings_in, openings_of};
+ghost use Rattle.room_lock.specs.steps.Planned.{IsPlanOf};
 
-use crate::histories::RoomHistories;
-use crate::new_room::{NewRoom, empty_states, new_rooms};
+use crate::new_room::{NewRoom, empty_states};
 use crate::prefix::Prefix;
 use crate::room::Room;
 use crate::rooms::Rooms;
@@ -19,6 +16,7 @@ use crate::slot::Slot;
 use base_types::{NoMemory, RoomName, RoomsFault, repeated_name};
 use crossbeam_utils::CachePadded;
 use indexmap::IndexMap;
+use openings::{Blank, Register, RoomHistories};
 use room_core::RoomState;
 use rules::Limits;
 use std::alloc::Global;
@@ -28,34 +26,35 @@ use std::sync::Wait;
 /// The most rooms.
 const MAX_ROOMS: usize = 1 << 49;
 
-/// A plan of rooms, which `Rooms::new` creates.
+/// A plan of rooms, which `Rooms::new` creates, with the register that has their openings.
 #[derive(Drop)]
 pub struct NewRooms {
-    rooms: Vec<NewRoom>,
+    states: Vec<RoomState>,
     names: Vec<RoomName>,
     limits: Limits,
+    register: Blank,
 }
 
 impl Model for NewRooms {
     ghost use Rattle.std.specs.Prelude.{◌≡◌, All, map};
-    ghost use Rattle.room_lock.specs.steps.Planned.{CanBeMade, Planned, book_of, record_of};
+    ghost use Rattle.room_lock.specs.steps.Planned.{CanBeMade, Planned};
 
     ghost Value = { Planned };
 
     ghost view = { λ new. record {
       limits = new.limits;
-      books = map book_of new.rooms.items;
-      records = map record_of new.rooms.items;
+      register = new.register;
+      records = map (λ state. state.room.entries) new.states.items;
       names = new.names.items;
     } };
 
     ghost invariant = { λ new. CanBeMade (record {
       limits = new.limits;
-      books = map book_of new.rooms.items;
-      records = map record_of new.rooms.items;
+      register = new.register;
+      records = map (λ state. state.room.entries) new.states.items;
       names = new.names.items;
     })
-        × All (λ room. room.limits ≡ new.limits) new.rooms.items };
+        × All (λ state. state.room.limits ≡ new.limits) new.states.items };
 }
 
 impl NewRooms {
@@ -75,7 +74,7 @@ impl NewRooms {
     {
         check_names(&names)?;
         let states = empty_states(alloc, limits, names.len())?;
-        NewRooms::apart(alloc, names, limits, states)
+        NewRooms::apart(names, limits, states)
     }
 
     /// Plans rooms of these names, in order. Each begins with the record at its place in `states`.
@@ -83,9 +82,8 @@ impl NewRooms {
     /// # Errors
     /// `SameName` if a name occurs twice. It gives the first place, from 0, whose name occurs at an
     /// earlier place.
-    /// `NoMemory` if an allocation failed, or for more than 2^49 names.
+    /// `NoMemory` for more than 2^49 names.
     pub fn with_records(
-        alloc: Global,
         names: Vec<RoomName>,
         limits: Limits,
         states: Vec<RoomState>,
@@ -103,12 +101,11 @@ impl NewRooms {
             ↔ (first_repeat bytes_eq names.items ≡ Some place) }
     {
         check_names(&names)?;
-        NewRooms::apart(alloc, names, limits, states)
+        NewRooms::apart(names, limits, states)
     }
 
     /// Plans rooms of these names, none of which occurs twice.
     fn apart(
-        alloc: Global,
         names: Vec<RoomName>,
         limits: Limits,
         states: Vec<RoomState>,
@@ -127,11 +124,11 @@ impl NewRooms {
         if names.len() > MAX_ROOMS {
             return Err(RoomsFault::NoMemory);
         }
-        let rooms = new_rooms(alloc, states)?;
         Ok(NewRooms {
-            rooms,
+            states,
             names,
             limits,
+            register: Blank::new(),
         })
     }
 }
@@ -149,8 +146,8 @@ fn check_names(names: &[RoomName]) -> Result<(), RoomsFault>
 }
 
 impl<P: RoomHistories> Rooms<P> {
-    /// Creates the planned rooms. Returns them with the record that each begins with, in order.
-    /// Linear in each record for each of its sites.
+    /// Creates the planned rooms: opens them in order, each at the place of its name. Returns them
+    /// with the record that each begins with, in order. Linear in each record for each of its sites.
     ///
     /// # Errors
     /// `NoMemory` if an allocation failed.
@@ -159,64 +156,78 @@ impl<P: RoomHistories> Rooms<P> {
         alloc: Global,
         planned: NewRooms,
     ) -> Result<(Rooms<P>, Vec<Prefix<P>>), NoMemory>
-        requires { AreHistoriesOf planned P.limits P.books }
+        requires { IsPlanOf planned P.limits P.register }
         ensures rooms { IfOk result (λ made. made.0 ≡ planned.names) }
-        ensures begun { IfOk result (λ made. made.1.items ≡ prefixes_from 0 planned.records) }
+        ensures openings { IfOk result (λ made.
+            AreInOrder planned.names (openings_of made.1.items)) }
+        ensures records { IfOk result (λ made.
+            map (λ begun. begun.entries) made.1.items ≡ planned.records) }
     {
         let NewRooms {
-            rooms,
+            states,
             names,
             limits: _,
+            register,
         } = planned;
-        make(rt, alloc, rooms, &names)
+        make(rt, alloc, register.named(), states, &names)
     }
 }
 
-/// Creates a room under each name. Returns them with the records that they begin with.
+/// Opens a room under each name. Returns them with the records that they begin with.
 fn make<P: RoomHistories>(
     rt: &impl Wait,
     alloc: Global,
-    news: Vec<NewRoom>,
+    mut register: Register<P>,
+    states: Vec<RoomState>,
     names: &[RoomName],
 ) -> Result<(Rooms<P>, Vec<Prefix<P>>), NoMemory>
-    // The limits and the histories are those that the type names, and no name occurs twice.
-    requires limits { All (λ room. room.limits ≡ P.limits) news.items }
-    requires histories { (map book_of news.items ≡ P.books)
-        × (length news.items ≡ length names.now) }
+    // The register has no openings. The limits are those that the type names, there is a record for
+    // each name, and no name occurs twice.
+    requires register { register ≡ [] }
+    requires limits { All (λ state. state.room.limits ≡ P.limits) states.items }
+    requires counted { length states.items ≡ length names.now }
     requires few { length names.now ≤ 2 ^ 49 }
     requires apart { first_repeat bytes_eq names.now ≡ None }
     ensures rooms { IfOk result (λ made. made.0 ≡ names.now) }
-    ensures begun { IfOk result (λ made.
-        made.1.items ≡ prefixes_from 0 (map record_of news.items)) }
+    ensures openings { IfOk result (λ made.
+        AreInOrder names.now (openings_of made.1.items)) }
+    ensures records { IfOk result (λ made. map (λ begun. begun.entries) made.1.items
+        ≡ map (λ state. state.room.entries) states.items) }
 {
     let mut rooms = IndexMap::new(alloc);
     let mut begun = Vec::with_capacity(alloc, names.len())?;
-    for new in news {
-        let name = names[rooms.len()].copy(alloc)?;
-        begun.push(begin_room(rt, alloc, new, name, &mut rooms)?)?;
+    for state in states {
+        let place = rooms.len();
+        let name = names[place].copy(alloc)?;
+        let new = NewRoom { place, name, state };
+        begun.push(begin_room(rt, alloc, &mut register, &mut rooms, new)?)?;
     }
     Ok((Rooms { rooms }, begun))
 }
 
-/// Creates a room under a new name, behind those that are there. Returns the record that it begins
-/// with.
+/// Opens a room, behind those that are there. Returns the record that it begins with.
 fn begin_room<P: RoomHistories>(
     rt: &impl Wait,
     alloc: Global,
-    new: NewRoom,
-    name: RoomName,
+    register: &mut Register<P>,
     rooms: &mut IndexMap<RoomName, CachePadded<Slot<P>>>,
+    new: NewRoom,
 ) -> Result<Prefix<P>, NoMemory>
-    // The limits and the history are those that the type names.
-    requires limits { new.limits ≡ P.limits }
-    requires history { slice_get P.books (length rooms.old.entries) ≡ Some new.book }
-    requires name { get bytes_eq rooms.old name ≡ None }
-    ensures rooms { OnOk result (keys rooms.new ≡ keys rooms.old ++ name ∷ []) }
-    ensures in_place { AreInPlace rooms.old.entries → OnOk result (AreInPlace rooms.new.entries) }
-    ensures begun { IfOk result (λ begun.
-        begun ≡ record { place = length rooms.old.entries; entries = new.entries }) }
+    // The limits are those that the type names, and the name is new.
+    requires limits { new.state.room.limits ≡ P.limits }
+    requires name { get bytes_eq rooms.old new.name ≡ None }
+    ensures rooms { OnOk result (keys rooms.new ≡ keys rooms.old ++ new.name ∷ []) }
+    ensures openings { IfOk result (λ begun. openings_in rooms.new.entries
+        ≡ openings_in rooms.old.entries ++ begun.opening ∷ []) }
+    ensures register { OnOk result (length register.new ≡ length register.old + 1) }
+    // The opening is the register's next, of this name and place:
+    ensures number { IfOk result (λ begun. begun.opening.number ≡ length register.old) }
+    ensures opened_name { IfOk result (λ begun. begun.opening.room.name ≡ new.name) }
+    ensures opened_place { IfOk result (λ begun. begun.opening.room.place ≡ new.place) }
+    ensures entries { IfOk result (λ begun. begun.entries ≡ new.state.room.entries) }
 {
-    let room = Room::new(rt, alloc, new, rooms.len())?;
+    let name = new.name.copy(alloc)?;
+    let room = Room::open(rt, alloc, register, new)?;
     let begun = room.prefix();
     insert_new(rooms, name, CachePadded::new(Slot::new(room)))?;
     Ok(begun)

@@ -1,65 +1,19 @@
-//! A room that is to be created.
+//! Rooms that are to be opened.
 
-ghost use Rattle.std.specs.Prelude.{◌≡◌, [], All, IfOk, length, map};
+ghost use Rattle.std.specs.Prelude.{◌≡◌, [], All, IfOk, length};
 
-use base_types::NoMemory;
+use base_types::{NoMemory, RoomName};
 use room_core::RoomState;
 use rules::Limits;
-use shared_history::{Front, History, open};
 use std::alloc::Global;
-use std::marker::Model;
 
-/// A room that is to be created: the record that it begins with, and an empty history. Contracts
-/// see which history it is.
+/// A room that is to be opened: its place among the rooms, its name, and the record that it begins
+/// with.
 #[derive(Drop)]
 pub(crate) struct NewRoom {
-    pub(crate) history: History,
-    pub(crate) front: Front,
+    pub(crate) place: usize,
+    pub(crate) name: RoomName,
     pub(crate) state: RoomState,
-}
-
-impl Model for NewRoom {
-    ghost use Rattle.std.specs.Prelude.{◌≡◌, []};
-    ghost use Rattle.room_lock.specs.steps.Planned.{NewRoomView};
-
-    ghost Value = { NewRoomView };
-
-    ghost view = { λ new. record {
-      book = new.history;
-      limits = new.state.room.limits;
-      entries = new.state.room.entries;
-    } };
-
-    ghost invariant = { λ new. new.front ≡ record { history = new.history; entries = [] } };
-}
-
-impl NewRoom {
-    /// A room that begins with this record.
-    fn of(state: RoomState) -> NewRoom
-        ensures limits { result.limits ≡ state.room.limits }
-        ensures entries { result.entries ≡ state.room.entries }
-    {
-        let (history, front) = open();
-        NewRoom {
-            history,
-            front,
-            state,
-        }
-    }
-}
-
-/// A new room for each of these records.
-pub(crate) fn new_rooms(alloc: Global, states: Vec<RoomState>) -> Result<Vec<NewRoom>, NoMemory>
-    ensures limits { IfOk result (λ rooms. map (λ room. room.limits) rooms.items
-        ≡ map (λ state. state.room.limits) states.items) }
-    ensures entries { IfOk result (λ rooms. map (λ room. room.entries) rooms.items
-        ≡ map (λ state. state.room.entries) states.items) }
-{
-    let mut rooms = Vec::with_capacity(alloc, states.len())?;
-    for state in states {
-        rooms.push(NewRoom::of(state))?;
-    }
-    Ok(rooms)
 }
 
 /// `count` rooms of these limits with empty records.

@@ -6,10 +6,10 @@ ghost use Rattle.room_lock.specs.declared.fault.CallFault.TheVariants as call_fa
 ghost use Rattle.room_lock.specs.steps.Differences.{first_difference};
 
 use crate::fault::CallFault;
-use crate::histories::RoomHistories;
 use crate::prefix::Prefix;
 use crate::restoring::share_from;
 use crate::room::Room;
+use openings::RoomHistories;
 use rules::Entry;
 use std::alloc::Global;
 use std::marker::Model;
@@ -38,9 +38,9 @@ impl<P: RoomHistories> Model for News<P> {
 impl<P: RoomHistories> News<P> {
     /// What the room's record has beyond a prefix of it. `Torn` if the prefix has more entries.
     pub(crate) fn of(room: &Room<P>, alloc: Global, since: &Prefix<P>) -> Result<News<P>, CallFault>
-        requires { since.now.place ≡ room.now.place }
+        requires { since.now.opening ≡ room.now.opening }
         ensures whole { IfOk result (λ news. news.whole
-            ≡ record { place = room.now.place; entries = room.now.entries }) }
+            ≡ record { opening = room.now.opening; entries = room.now.entries }) }
         ensures entries { IfOk result (λ news. since.now.entries ++ news.entries
             ≡ room.now.entries) }
         ensures torn { (place : _) → (result ≡ Err (call_fault.Torn place))

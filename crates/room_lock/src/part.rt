@@ -1,12 +1,12 @@
 //! A site's part in a room.
 
-ghost use Rattle.std.specs.Prelude.{◌≡◌, ◌↔◌, ◌≤◌, false, true, length};
+ghost use Rattle.std.specs.Prelude.{◌≡◌, ◌↔◌, ◌≤◌, true, length};
 ghost use mathlib.Core.List.{IsPrefix};
 ghost use Rattle.room_lock.specs.Kept.{count_of_site};
 ghost use Rattle.room_lock.specs.Passes.{prefix_of};
 
-use crate::histories::RoomHistories;
 use crate::prefix::Prefix;
+use openings::{Opening, RoomHistories};
 use std::marker::Model;
 
 /// A site's part in a room: how much of the record it has seen, and how many entries it added. The
@@ -26,7 +26,7 @@ impl<P: RoomHistories> Model for Part<P> {
     ghost Value = { PartView };
 
     ghost view = { λ p. record {
-      place = p.seen.place;
+      opening = p.seen.opening;
       site = p.site;
       seen = p.seen.entries;
       added = p.added;
@@ -43,11 +43,11 @@ impl<P: RoomHistories> Part<P> {
         self.site
     }
 
-    /// The place of the room among the rooms, from 0.
-    pub(crate) fn place(&self) -> usize
-        ensures { result ≡ self.now.place }
+    /// The opening of the room.
+    pub fn opening(&self) -> &Opening<P>
+        ensures { result.now ≡ self.now.opening }
     {
-        self.seen.place()
+        self.seen.opening()
     }
 
     /// The number of entries of the room's record that the site has seen.
@@ -82,8 +82,8 @@ impl<P: RoomHistories> Part<P> {
     /// Returns whether both parts belong to one room. What one of them has seen is then a prefix of
     /// what the other has seen.
     pub fn is_beside(&self, other: &Part<P>) -> bool
-        ensures one_room { (result ≡ true) ↔ (self.now.place ≡ other.now.place) }
-        ensures shorter { self.now.place ≡ other.now.place →
+        ensures one_room { (result ≡ true) ↔ (self.now.opening ≡ other.now.opening) }
+        ensures shorter { self.now.opening ≡ other.now.opening →
             length self.now.seen ≤ length other.now.seen →
             IsPrefix self.now.seen other.now.seen }
     {

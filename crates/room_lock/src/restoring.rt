@@ -7,10 +7,10 @@ ghost use Rattle.rules.specs.declared.limits.TheConstants.Limits.{MAX_ENTRIES};
 ghost use Rattle.room_lock.specs.Sites.{is_of_site};
 ghost use Rattle.room_lock.specs.Shelves.{full_shelf, whole_part};
 
-use crate::histories::RoomHistories;
 use crate::part::Part;
 use crate::prefix::Prefix;
 use base_types::NoMemory;
+use openings::RoomHistories;
 use room_core::RoomState;
 use room_record::shared_entries;
 use rules::Entry;
@@ -58,7 +58,7 @@ fn count_of_site(site: u32, entries: &[Arc<Entry>]) -> u32
 fn whole_part<P: RoomHistories>(site: u32, entries: &[Arc<Entry>], whole: &Prefix<P>) -> Part<P>
     requires seen { whole.now.entries ≡ map arc_value entries.now }
     requires short { length entries.now < 2 ^ 32 }
-    ensures { result ≡ whole_part whole.now.place whole.now.entries site }
+    ensures { result ≡ whole_part whole.now.opening whole.now.entries site }
 {
     Part {
         site,
@@ -76,7 +76,7 @@ pub(crate) fn fill_shelf<P: RoomHistories>(
 ) -> Result<Vec<Option<Part<P>>>, NoMemory>
     requires seen { whole.now.entries ≡ state.now.room.entries }
     requires short { length state.now.room.entries ≤ MAX_ENTRIES }
-    ensures { IfOk result (λ shelf. shelf.items ≡ full_shelf whole.now.place whole.now.entries) }
+    ensures { IfOk result (λ shelf. shelf.items ≡ full_shelf whole.now.opening whole.now.entries) }
 {
     let mut shelf = Vec::with_capacity(alloc, state.sites() as usize)?;
     for before in 0..state.sites() {

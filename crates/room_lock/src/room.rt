@@ -22,7 +22,6 @@ use crate::account::Account;
 use crate::closing::{RoomRecord, added_together};
 use crate::entrance::Entrance;
 use crate::fault::{CallFault, CloseFault};
-use crate::histories::RoomHistories;
 use crate::in_use::InUse;
 use crate::new_room::NewRoom;
 use crate::part::Part;
@@ -31,8 +30,10 @@ use crate::prefix::Prefix;
 use crate::restoring::fill_shelf;
 use crate::shelf::{all_parts, is_away, put_part, take_part};
 use base_types::{NoMemory, RoomName};
+use openings::{NewOpening, Opening, Register, RoomHistories};
 use room_core::RoomState;
 use rules::Entry;
+use shared_history::open;
 use std::alloc::Global;
 use std::marker::Model;
 use std::sync::{Arc, Wait};
@@ -44,75 +45,81 @@ use wire::{Reply, Request};
 pub(crate) struct Room<P: RoomHistories> {
     state: RoomState,
     account: Account,
-    place: usize,
+    opening: Opening<P>,
     shelf: Vec<Option<Part<P>>>,
 }
 
 impl<P: RoomHistories> Model for Room<P> {
-    ghost use Rattle.room_lock.specs.Kept.{IsRoomKept, Placed};
+    ghost use Rattle.room_lock.specs.Kept.{IsRoomKept, RoomView};
 
-    ghost Value = { Placed };
+    ghost Value = { RoomView };
 
     ghost view = { λ r. record {
-      place = r.place;
+      opening = r.opening;
       entries = r.state.room.entries;
       shelf = r.shelf.items;
     } };
 
-    ghost invariant = { λ r. IsRoomKept P.books P.limits r.place r.state.room
-        r.account r.shelf.items };
+    ghost invariant = { λ r. IsRoomKept P.limits r.opening r.state.room r.account
+        r.shelf.items };
 }
 
 impl<P: RoomHistories> Room<P> {
     ghost use Rattle.room_lock.specs.steps.Entrances.{IfEntered, IfInUse, IfRefused};
     ghost use Rattle.room_lock.specs.declared.entrance.Entrance.TheVariants.{NoRoom};
-    ghost use Rattle.wire.specs.declared.request.Request.TheVariants.{Leave};
 
-    /// A room at a place that begins with this record. No session is in as any of its sites: their
-    /// parts are on the shelf, and have seen the whole record. Linear in the record for each site.
-    pub(crate) fn new(
+    /// Opens a room: enters it into the register. It begins with its record. No session is in as any
+    /// of its sites: their parts are on the shelf, and have seen the whole record. Linear in the
+    /// record for each site. `NoMemory` if an allocation failed, or if the register is full.
+    pub(crate) fn open(
         rt: &impl Wait,
         alloc: Global,
+        register: &mut Register<P>,
         new: NewRoom,
-        place: usize,
     ) -> Result<Room<P>, NoMemory>
-        // The limits and the history are those that the type names.
-        requires limits { new.limits ≡ P.limits }
-        requires history { slice_get P.books place ≡ Some new.book }
-        ensures place { IfOk result (λ room. room.place ≡ place) }
-        ensures entries { IfOk result (λ room. room.entries ≡ new.entries) }
-        ensures shelf { IfOk result (λ room. room.shelf ≡ full_shelf place new.entries) }
+        // The limits are those that the type names.
+        requires limits { new.state.room.limits ≡ P.limits }
+        // The opening is the register's next, of this name and place:
+        ensures number { IfOk result (λ room. room.opening.number ≡ length register.old) }
+        ensures name { IfOk result (λ room. room.opening.room.name ≡ new.name) }
+        ensures place { IfOk result (λ room. room.opening.room.place ≡ new.place) }
+        ensures register { OnOk result (length register.new ≡ length register.old + 1) }
+        ensures entries { IfOk result (λ room. room.entries ≡ new.state.room.entries) }
+        ensures shelf { IfOk result (λ room.
+            room.shelf ≡ full_shelf room.opening new.state.room.entries) }
     {
-        let NewRoom {
-            history,
-            mut front,
-            state,
-        } = new;
+        let NewRoom { place, name, state } = new;
+        let (history, mut front) = open();
+        let entered = NewOpening::new(place, name, history);
+        let Some(opening) = register.try_enter(rt, &entered) else {
+            return Err(NoMemory);
+        };
+        let history = entered.into_history();
         let _entries = len_of(&state);
         front.add_all(rt, &history, state.entries());
         let account = Account { history, front };
-        let whole = Prefix::of_front(place, account.front());
+        let whole = Prefix::of_front(&opening, account.front());
         let shelf = fill_shelf(alloc, &state, &whole)?;
         Ok(Room {
             state,
             account,
-            place,
+            opening,
             shelf,
         })
     }
 
-    /// Its place among the rooms.
-    pub(crate) fn place(&self) -> usize
-        ensures { result ≡ self.now.place }
+    /// Its opening.
+    pub(crate) fn opening(&self) -> &Opening<P>
+        ensures { result.now ≡ self.now.opening }
     {
-        self.place
+        &self.opening
     }
 
     /// Its whole record.
     pub(crate) fn prefix(&self) -> Prefix<P>
-        ensures { result ≡ record { place = self.now.place; entries = self.now.entries } }
+        ensures { result ≡ record { opening = self.now.opening; entries = self.now.entries } }
     {
-        Prefix::of_front(self.place, self.account.front())
+        Prefix::of_front(&self.opening, self.account.front())
     }
 
     /// The entries of its record, in order.
@@ -147,19 +154,19 @@ impl<P: RoomHistories> Room<P> {
             IsJoinOver P.limits self.old.entries pass reply × (pass.room ≡ name.now))) }
         ensures entrance_refused { IfOk result (IfRefused (λ prefix reply.
             IsRefusalOver P.limits self.old.entries reply
-            × (prefix ≡ record { place = self.old.place; entries = self.old.entries }))) }
+            × (prefix ≡ record { opening = self.old.opening; entries = self.old.entries }))) }
         ensures never_in_use { IfOk result (IfInUse (λ it reply. ⊥)) }
         ensures written { let room = room_of P.limits self.old.entries
             in OnOk result (self.new.entries ≡ (room_after room (join_answer room)).entries) }
         ensures known { result ≢ Ok NoRoom }
-        ensures pass_place { IfOk result (IfEntered (λ pass reply.
-            pass.part.place ≡ self.old.place)) }
+        ensures pass_opening { IfOk result (IfEntered (λ pass reply.
+            pass.part.opening ≡ self.old.opening)) }
         // The shelf gets a place for the new site, and is otherwise unchanged:
         ensures shelf { IfOk result (IfEntered (λ pass reply.
             self.new.shelf ≡ self.old.shelf ++ None ∷ [])) }
         ensures same_shelf { IfOk result (IfRefused (λ prefix reply.
             self.new.shelf ≡ self.old.shelf)) }
-        ensures place { self.new.place ≡ self.old.place }
+        ensures opening { self.new.opening ≡ self.old.opening }
         ensures err { OnErr result (self.new ≡ self.old) }
     {
         let room = name.copy(alloc)?;
@@ -193,21 +200,21 @@ impl<P: RoomHistories> Room<P> {
             × (pass.room ≡ name.now))) }
         ensures entrance_refused { IfOk result (IfRefused (λ prefix reply.
             IsBackRefusalOver P.limits self.old.entries site false reply
-            × (prefix ≡ record { place = self.old.place; entries = self.old.entries }))) }
+            × (prefix ≡ record { opening = self.old.opening; entries = self.old.entries }))) }
         ensures in_use { IfOk result (IfInUse (λ it reply.
             IsBackRefusalOver P.limits self.old.entries site true reply
             × (it ≡ record {
-              prefix = record { place = self.old.place; entries = self.old.entries };
+              prefix = record { opening = self.old.opening; entries = self.old.entries };
               site = site;
             })
             × (is_away self.old.shelf site ≡ true))) }
         ensures known { result ≢ Ok NoRoom }
-        ensures pass_place { IfOk result (IfEntered (λ pass reply.
-            pass.part.place ≡ self.old.place)) }
+        ensures pass_opening { IfOk result (IfEntered (λ pass reply.
+            pass.part.opening ≡ self.old.opening)) }
         // Nothing but the shelf changes:
         ensures shelf { OnOk result (self.new.shelf ≡ with_at self.old.shelf site None) }
         ensures entries { self.new.entries ≡ self.old.entries }
-        ensures place { self.new.place ≡ self.old.place }
+        ensures opening { self.new.opening ≡ self.old.opening }
         ensures err { OnErr result (self.new ≡ self.old) }
     {
         let room = name.copy(alloc)?;
@@ -238,15 +245,15 @@ impl<P: RoomHistories> Room<P> {
         pass: &mut Pass<P>,
         request: Request,
     ) -> Result<Reply, CallFault>
-        requires { pass.old.part.place ≡ self.old.place }
+        requires { pass.old.part.opening ≡ self.old.opening }
         ensures answer { IfOk result
             (IsCallOver P.limits self.old.entries pass.old pass.new request) }
         ensures written { let room = room_of P.limits self.old.entries
             in let outcome = answer room pass.old.part.site request
             in OnOk result (self.new.entries ≡ (room_after room outcome).entries) }
-        // The room's place and its shelf are unchanged:
+        // The room's opening and its shelf are unchanged:
         ensures shelf { self.new.shelf ≡ self.old.shelf }
-        ensures place { self.new.place ≡ self.old.place }
+        ensures opening { self.new.opening ≡ self.old.opening }
         ensures torn { (place : _) → (result ≡ Err (call_fault.Torn place))
             ↔ (first_difference self.old.entries pass.old.part.seen ≡ Some place) }
         ensures err { OnErr result ((self.new ≡ self.old) × (pass.new ≡ pass.old)) }
@@ -268,16 +275,16 @@ impl<P: RoomHistories> Room<P> {
     /// Takes a pass back; its site leaves. Returns the pass if what it has seen is no prefix of the
     /// record, or if the site's part is on the shelf.
     pub(crate) fn hand_back(&mut self, pass: Pass<P>) -> Result<(Prefix<P>, Reply), Pass<P>>
-        requires { pass.part.place ≡ self.old.place }
+        requires { pass.part.opening ≡ self.old.opening }
         ensures answer { IfOk result (λ left.
             IsLeaveOver P.limits self.old.entries pass.part left.1) }
         ensures prefix { IfOk result (λ left.
-            left.0 ≡ record { place = self.old.place; entries = self.old.entries }) }
+            left.0 ≡ record { opening = self.old.opening; entries = self.old.entries }) }
         // The part is at its site's place on the shelf, and nothing else changes:
         ensures shelf { OnOk result
             (self.new.shelf ≡ with_at self.old.shelf pass.part.site (Some pass.part)) }
         ensures entries { self.new.entries ≡ self.old.entries }
-        ensures place { self.new.place ≡ self.old.place }
+        ensures opening { self.new.opening ≡ self.old.opening }
         ensures pass_given_back { IfErr result (λ back. (back ≡ pass)
             × (first_difference self.old.entries pass.part.seen ≡ None
             → is_away self.old.shelf pass.part.site ≡ false)) }
@@ -311,7 +318,7 @@ impl<P: RoomHistories> Room<P> {
         let Room {
             state,
             account: _,
-            place: _,
+            opening: _,
             shelf,
         } = self;
         let entries = state.into_entries();
@@ -331,7 +338,7 @@ impl<P: RoomHistories> Room<P> {
     /// The first place at which this prefix of the room's history differs from the record. Constant
     /// time, since both are prefixes of one history.
     pub(crate) fn torn_place(&self, seen: &Prefix<P>) -> Option<usize>
-        requires { seen.now.place ≡ self.now.place }
+        requires { seen.now.opening ≡ self.now.opening }
         ensures place { result ≡ first_difference self.now.entries seen.now.entries }
         ensures begins { IsNone result → IsPrefix seen.now.entries self.now.entries }
     {

@@ -1,11 +1,12 @@
 //! The rooms.
 
 ghost use Rattle.std.specs.Prelude.{◌≡◌, ◌↔◌, ◌++◌, ◌<◌, ◌≤◌, All, Contains, Err, IfErr, IfOk};
-ghost use Rattle.std.specs.Prelude.{IfSome, IsErr, IsNone, IsSome, OnErr, Ok, Some, bytes_eq};
-ghost use Rattle.std.specs.Prelude.{false, length, map, option_map, position, slice_get, true};
+ghost use Rattle.std.specs.Prelude.{IfSome, IsErr, IsSome, OnErr, Ok, false, length, map};
+ghost use Rattle.std.specs.Prelude.{option_map, slice_get, true};
 ghost use Rattle.std.specs.Arc.{arc_value};
 ghost use Rattle.room_lock.specs.declared.fault.CallFault.TheVariants as call_fault;
 ghost use Rattle.room_lock.specs.Closing.{IsClosed};
+ghost use Rattle.room_lock.specs.InOrder.{IsOpeningFor};
 ghost use Rattle.room_lock.specs.Passes.{IsOfRooms};
 ghost use Rattle.room_lock.specs.Told.{IsBack, IsBackRefusalOver, IsCall, IsJoin, IsLeaveOver};
 ghost use Rattle.room_lock.specs.Told.{IsRefusalOver};
@@ -13,7 +14,6 @@ ghost use Rattle.room_lock.specs.Told.{IsRefusalOver};
 use crate::closing::{RoomRecord, close_all};
 use crate::entrance::Entrance;
 use crate::fault::{CallFault, CloseFault};
-use crate::histories::RoomHistories;
 use crate::news::News;
 use crate::pass::Pass;
 use crate::prefix::Prefix;
@@ -21,6 +21,7 @@ use crate::slot::Slot;
 use base_types::{NoMemory, RoomName};
 use crossbeam_utils::CachePadded;
 use indexmap::IndexMap;
+use openings::{Opening, RoomHistories};
 use std::alloc::Global;
 use std::marker::Model;
 use std::sync::Wait;
@@ -37,49 +38,29 @@ impl<P: RoomHistories> Model for Rooms<P> {
     ghost use Rattle.std.specs.Prelude.{List};
     ghost use Rattle.base_types.specs.Texts.{Bytes};
     ghost use Rattle.indexmap.specs.IndexMap.{keys};
-    ghost use Rattle.room_lock.specs.Places.{AreInPlace};
+    ghost use Rattle.room_lock.specs.InOrder.{AreInOrder, openings_in};
 
     ghost Value = { List Bytes };
 
     ghost view = { λ r. keys r.rooms };
 
-    ghost invariant = { λ r. AreInPlace r.rooms.entries };
+    ghost invariant = { λ r. AreInOrder (keys r.rooms) (openings_in r.rooms.entries) };
 }
 
 impl<P: RoomHistories> Rooms<P> {
     ghost use Rattle.room_lock.specs.steps.Entrances.{IfEntered, IfInUse, IfRefused};
     ghost use Rattle.room_lock.specs.declared.entrance.Entrance.TheVariants.{NoRoom};
 
-    /// The room of this name behind its lock.
-    fn find(&self, name: &RoomName) -> Option<&Slot<P>>
-        ensures known { IsNone result ↔ ¬ (Contains self.now name.now) }
-        ensures place { option_map (λ room. room.now) result
-            ≡ position (bytes_eq name.now) self.now }
+    /// The room of this opening behind its lock, with its name.
+    fn find(&self, opening: &Opening<P>) -> Option<(&RoomName, &Slot<P>)>
+        ensures known { IsSome result ↔ (opening.now.number < length self.now) }
+        ensures name { IfSome result (λ found. found.0.now ≡ opening.now.room.name) }
+        ensures room { IfSome result (λ found. found.1.now ≡ opening.now) }
     {
-        match self.rooms.get_full(name) {
-            Some((_place, _name, room)) => Some(room),
-            None => None,
-        }
-    }
-
-    /// The room of a pass behind its lock, if the name of the pass stands at the place of the pass.
-    fn find_of_pass(&self, pass: &Pass<P>) -> Option<&Slot<P>>
-        ensures known { IsSome result ↔ IsOfRooms self.now pass.now }
-        ensures place { IfSome result (λ room. room.now ≡ pass.now.part.place) }
-    {
-        match self.find(&pass.room) {
-            Some(room) if room.place() == pass.part.place() => Some(room),
-            _ => None,
-        }
-    }
-
-    /// The room at a place behind its lock.
-    fn find_at(&self, place: usize) -> Option<&Slot<P>>
-        ensures known { IsSome result ↔ (place < length self.now) }
-        ensures place { IfSome result (λ room. room.now ≡ place) }
-    {
-        let (_name, room) = self.rooms.get_index(place)?;
-        Some(room)
+        let (name, room) = self.rooms.get_index(opening.number() as usize)?;
+        let room: &Slot<P> = room;
+        room.opening().agree(opening);
+        Some((name, room))
     }
 
     /// The number of rooms.
@@ -97,12 +78,14 @@ impl<P: RoomHistories> Rooms<P> {
         Some(name)
     }
 
-    /// The place of the room of this name, from 0, or `None` if there is no such room.
-    pub fn place_of(&self, name: &RoomName) -> Option<usize>
-        ensures { result ≡ position (bytes_eq name.now) self.now }
+    /// The opening of the room of this name, or `None` if there is no such room.
+    pub fn opening_of(&self, name: &RoomName) -> Option<&Opening<P>>
+        ensures known { IsSome result ↔ Contains self.now name.now }
+        ensures opening { IfSome result (λ opening.
+            IsOpeningFor self.now name.now opening.now) }
     {
-        match self.find(name) {
-            Some(room) => Some(room.place()),
+        match self.rooms.get_full(name) {
+            Some((_place, _name, room)) => Some(room.opening()),
             None => None,
         }
     }
@@ -112,11 +95,11 @@ impl<P: RoomHistories> Rooms<P> {
     pub fn count_entries(&self, rt: &impl Wait, pass: &Pass<P>) -> Option<usize>
         ensures { IsSome result ↔ IsOfRooms self.now pass.now }
     {
-        let room = self.find_of_pass(pass)?;
+        let (_name, room) = self.find(pass.opening())?;
         Some(room.lock(rt).count_entries())
     }
 
-    /// Lets the next site into the room of this name if the room's limits allow it. Gives its pass
+    /// Lets the next site into the room of this opening if the room's limits allow it. Gives its pass
     /// and the reply. Where the room refuses, gives the record at that time and the reply. Waits
     /// for the room's lock. The time does not depend on the size of the record.
     ///
@@ -127,27 +110,27 @@ impl<P: RoomHistories> Rooms<P> {
         &self,
         rt: &impl Wait,
         alloc: Global,
-        name: &RoomName,
+        opening: &Opening<P>,
     ) -> Result<Entrance<P>, NoMemory>
         ensures entered { IfOk result (IfEntered (λ pass reply.
-            IsJoin P.limits pass reply × (pass.room ≡ name.now))) }
+            IsJoin P.limits pass reply × (pass.room ≡ opening.now.room.name))) }
         ensures entrance_refused { IfOk result (IfRefused (λ prefix reply.
             IsRefusalOver P.limits prefix.entries reply)) }
         ensures never_in_use { IfOk result (IfInUse (λ it reply. ⊥)) }
-        ensures no_room { (result ≡ Ok NoRoom) ↔ ¬ (Contains self.now name.now) }
-        // The pass, or the record, is that of the place at which the name stands:
-        ensures pass_place { IfOk result (IfEntered (λ pass reply.
-            position (bytes_eq name.now) self.now ≡ Some pass.part.place)) }
-        ensures refusal_place { IfOk result (IfRefused (λ prefix reply.
-            position (bytes_eq name.now) self.now ≡ Some prefix.place)) }
+        ensures no_room { (result ≡ Ok NoRoom) ↔ ¬ (opening.now.number < length self.now) }
+        // The pass, or the record, is that of this opening:
+        ensures pass_opening { IfOk result (IfEntered (λ pass reply.
+            pass.part.opening ≡ opening.now)) }
+        ensures refusal_opening { IfOk result (IfRefused (λ prefix reply.
+            prefix.opening ≡ opening.now)) }
     {
-        let Some(room) = self.find(name) else {
+        let Some((name, room)) = self.find(opening) else {
             return Ok(Entrance::NoRoom);
         };
         room.lock(rt).enter(rt, alloc, name)
     }
 
-    /// Lets a site into the room of this name again, if the site has joined and no session is in as
+    /// Lets a site into the room of this opening again, if the site has joined and no session is in as
     /// it. Gives its pass and the reply. The pass has then seen the whole record, which begins with
     /// what the site had seen. Where a session is in as the site, gives the proof of that and the
     /// reply. Where the site has not joined, gives the record at that time and the reply. Waits for
@@ -160,26 +143,26 @@ impl<P: RoomHistories> Rooms<P> {
         &self,
         rt: &impl Wait,
         alloc: Global,
-        name: &RoomName,
+        opening: &Opening<P>,
         site: u32,
     ) -> Result<Entrance<P>, NoMemory>
         ensures entered { IfOk result (IfEntered (λ pass reply.
-            IsBack P.limits site pass reply × (pass.room ≡ name.now))) }
+            IsBack P.limits site pass reply × (pass.room ≡ opening.now.room.name))) }
         ensures entrance_refused { IfOk result (IfRefused (λ prefix reply.
             IsBackRefusalOver P.limits prefix.entries site false reply)) }
         // Only a room under its lock gives the proof that a session is in as the site:
         ensures in_use { IfOk result (IfInUse (λ it reply. (it.site ≡ site)
             × IsBackRefusalOver P.limits it.prefix.entries site true reply)) }
-        ensures no_room { (result ≡ Ok NoRoom) ↔ ¬ (Contains self.now name.now) }
-        // The pass, or the record, is that of the place at which the name stands:
-        ensures pass_place { IfOk result (IfEntered (λ pass reply.
-            position (bytes_eq name.now) self.now ≡ Some pass.part.place)) }
-        ensures refusal_place { IfOk result (IfRefused (λ prefix reply.
-            position (bytes_eq name.now) self.now ≡ Some prefix.place)) }
-        ensures in_use_place { IfOk result (IfInUse (λ it reply.
-            position (bytes_eq name.now) self.now ≡ Some it.prefix.place)) }
+        ensures no_room { (result ≡ Ok NoRoom) ↔ ¬ (opening.now.number < length self.now) }
+        // The pass, or the record, is that of this opening:
+        ensures pass_opening { IfOk result (IfEntered (λ pass reply.
+            pass.part.opening ≡ opening.now)) }
+        ensures refusal_opening { IfOk result (IfRefused (λ prefix reply.
+            prefix.opening ≡ opening.now)) }
+        ensures in_use_opening { IfOk result (IfInUse (λ it reply.
+            it.prefix.opening ≡ opening.now)) }
     {
-        let Some(room) = self.find(name) else {
+        let Some((name, room)) = self.find(opening) else {
             return Ok(Entrance::NoRoom);
         };
         room.lock(rt).back(alloc, name, site)
@@ -207,7 +190,7 @@ impl<P: RoomHistories> Rooms<P> {
         ensures other_rooms { ¬ IsOfRooms self.now pass.old
             → result ≡ Err (call_fault.Torn 0) }
     {
-        let Some(room) = self.find_of_pass(pass) else {
+        let Some((_name, room)) = self.find(pass.opening()) else {
             return Err(CallFault::Torn { place: 0 });
         };
         room.lock(rt).call(rt, alloc, pass, request)
@@ -223,11 +206,11 @@ impl<P: RoomHistories> Rooms<P> {
     pub fn hand_back(&self, rt: &impl Wait, pass: Pass<P>) -> Result<(Prefix<P>, Reply), Pass<P>>
         ensures answer { IfOk result (λ left.
             IsLeaveOver P.limits left.0.entries pass.part left.1) }
-        ensures place { IfOk result (λ left. left.0.place ≡ pass.part.place) }
+        ensures opening { IfOk result (λ left. left.0.opening ≡ pass.part.opening) }
         ensures back { IfErr result (λ back. back ≡ pass) }
         ensures other_rooms { ¬ IsOfRooms self.now pass → IsErr result }
     {
-        let Some(room) = self.find_of_pass(&pass) else {
+        let Some((_name, room)) = self.find(pass.opening()) else {
             return Err(pass);
         };
         room.lock(rt).hand_back(pass)
@@ -249,11 +232,11 @@ impl<P: RoomHistories> Rooms<P> {
         // Only a room under its lock gives news: its whole record, and what that has behind.
         ensures entries { IfOk result (λ news. since.now.entries ++ news.entries
             ≡ news.whole.entries) }
-        ensures place { IfOk result (λ news. news.whole.place ≡ since.now.place) }
-        ensures other_rooms { length self.now ≤ since.now.place
+        ensures opening { IfOk result (λ news. news.whole.opening ≡ since.now.opening) }
+        ensures other_rooms { length self.now ≤ since.now.opening.number
             → result ≡ Err (call_fault.Torn 0) }
     {
-        let Some(room) = self.find_at(since.place()) else {
+        let Some((_name, room)) = self.find(since.opening()) else {
             return Err(CallFault::Torn { place: 0 });
         };
         News::of(&room.lock(rt), alloc, since)

@@ -5,9 +5,9 @@ ghost use Rattle.std.specs.Prelude.{◌≡◌, None, Some, true, false, IfErr, I
 ghost use Rattle.std.specs.Prelude.{MatchOption, Contains, map, vec_capacity};
 ghost use Rattle.room_lock.specs.Shelves.{is_away, part_of, with_at};
 
-use crate::histories::RoomHistories;
 use crate::part::Part;
 use base_types::NoMemory;
+use openings::RoomHistories;
 use std::alloc::Global;
 
 /// Returns whether a session is in as this site: the site has a place, which is empty.

@@ -3,56 +3,56 @@
 ghost use Rattle.std.specs.Prelude.{◌≡◌};
 ghost use Rattle.std.specs.Sync.Mutex.{mutex_guard_value};
 
-use crate::histories::RoomHistories;
 use crate::room::Room;
 use crossbeam_utils::Backoff;
+use openings::{Opening, RoomHistories};
 use std::marker::Model;
 use std::sync::{Mutex, MutexGuard, Wait};
 
 /// The number of attempts to take a lock before the thread sleeps: one to two milliseconds.
 const TRIES: u32 = 400;
 
-/// A room behind its lock. Contracts see its place among the rooms.
+/// A room behind its lock. Contracts see its opening.
 #[derive(Drop)]
 pub(crate) struct Slot<P: RoomHistories> {
-    place: usize,
+    opening: Opening<P>,
     room: Mutex<Room<P>>,
 }
 
 impl<P: RoomHistories> Model for Slot<P> {
-    ghost use Rattle.std.specs.Prelude.{ℕ};
+    ghost use Rattle.openings.specs.Openings.{OpeningView};
 
-    ghost Value = { ℕ };
+    ghost Value = { OpeningView };
 
-    ghost view = { λ slot. slot.place };
+    ghost view = { λ slot. slot.opening };
 }
 
 impl<P: RoomHistories> Slot<P> {
     /// The room behind a lock.
     pub(crate) fn new(room: Room<P>) -> Slot<P>
-        ensures { result ≡ room.place }
+        ensures { result ≡ room.opening }
     {
         Slot {
-            place: room.place(),
+            opening: room.opening().copy(),
             room: Mutex::new(room),
         }
     }
 
-    /// The place of the room.
-    pub(crate) fn place(&self) -> usize
-        ensures { result ≡ self.now }
+    /// The opening of the room.
+    pub(crate) fn opening(&self) -> &Opening<P>
+        ensures { result.now ≡ self.now }
     {
-        self.place
+        &self.opening
     }
 
-    /// Takes the lock of the room. Does not return if the lock guards a room of another place,
+    /// Takes the lock of the room. Does not return if the lock guards a room of another opening,
     /// which never occurs, but no clause of a lock says so.
     pub(crate) fn lock(&self, rt: &impl Wait) -> MutexGuard<'_, Room<P>>
-        ensures { (mutex_guard_value result).place ≡ self.now }
+        ensures { (mutex_guard_value result).opening ≡ self.now }
     {
         for _ in rt.forever() {
             let room = lock_of(rt, &self.room);
-            if room.place() == self.place {
+            if room.opening().is_same(&self.opening) {
                 return room;
             }
         }
@@ -61,7 +61,7 @@ impl<P: RoomHistories> Slot<P> {
 
     /// The room without its lock.
     pub(crate) fn into_room(self) -> Room<P> {
-        let Slot { place: _, room } = self;
+        let Slot { opening: _, room } = self;
         room.into_inner()
     }
 }

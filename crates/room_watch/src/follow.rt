@@ -138,7 +138,7 @@ where
     S: Read + Write + Drop,
     W: Write,
 {
-    let mut socket = session_over(rt, alloc, stream)?;
+    let mut socket = session_over(rt, alloc, stream, room)?;
     let mut replica = show_room(alloc, &mut socket, room, output)?;
     follow(rt, alloc, &mut socket, &mut replica, output)
 }

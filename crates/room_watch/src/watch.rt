@@ -264,17 +264,21 @@ pub(crate) fn write_lines<W: Write>(output: &mut W, lines: &str) -> Result<(), W
     Ok(())
 }
 
-/// Opens a session over the stream.
-pub(crate) fn session_over<R, S>(
-    rt: &R,
+/// Opens a session over the stream. The path of its request is a slash and the room's name, so it may
+/// enter the room also where sessions are confined to the room of their path.
+pub(crate) fn session_over<'a, R, S>(
+    rt: &'a R,
     alloc: Global,
     stream: S,
-) -> Result<WebSocket<S, RandomKeys<&R>>, WatchFault>
+    room: &RoomName,
+) -> Result<WebSocket<S, RandomKeys<&'a R>>, WatchFault>
 where
     R: RandomSource,
     S: Read + Write + Drop,
 {
-    let request = request_of(alloc, "ws://localhost/")?;
+    let room = room.text();
+    let url = format!(in alloc; "ws://localhost/{room}")?;
+    let request = request_of(alloc, &url)?;
     match client(alloc, rt, request, stream) {
         Ok((socket, _response)) => Ok(socket),
         Err(HandshakeError::Failure(fault)) => Err(fault.into()),
@@ -323,7 +327,7 @@ where
     S: Read + Write + Drop,
     W: Write,
 {
-    let mut socket = session_over(rt, alloc, stream)?;
+    let mut socket = session_over(rt, alloc, stream, room)?;
     show_room(alloc, &mut socket, room, output)?;
     leave(alloc, &mut socket)
 }

@@ -47,6 +47,7 @@ fn service_of<'a, 'w, R, W>(
         idle: seconds(idle),
         report: seconds(report),
         dir: words.get_str("keep"),
+        is_confining: words.get_flag("by-path"),
         output,
     })
 }

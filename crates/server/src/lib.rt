@@ -4,6 +4,7 @@
 mod accept;
 mod command;
 mod early_end;
+mod meters;
 mod platform;
 mod serve;
 mod server_observer;

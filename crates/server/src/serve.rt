@@ -2,11 +2,12 @@
 
 ghost use Rattle.std.specs.Prelude.{◌≡◌, map};
 ghost use Rattle.std.specs.Thread.{IsSend};
-ghost use Rattle.room_lock.specs.steps.Planned.{AreHistoriesOf};
+ghost use Rattle.room_lock.specs.steps.Planned.{IsPlanOf};
 ghost use Rattle.server.specs.steps.Faults.{of_serving};
 
 use crate::accept::Accepted;
 use crate::early_end::EarlyEnd;
+use crate::meters::Meters;
 use crate::platform::Platform;
 use crate::server_observer::{ServerObserver, SessionLimits};
 use crate::tally::{Tally, empty_tallies, tallies_of};
@@ -65,6 +66,8 @@ pub(crate) struct Service<'a, 'w, R, W> {
     pub(crate) report: Option<Duration>,
     /// The folder that keeps the rooms; `None` if nothing does.
     pub(crate) dir: Option<&'w str>,
+    /// A session may enter only the room of its request's path.
+    pub(crate) is_confining: bool,
     /// Where it reports that it listens, and writes the records.
     pub(crate) output: &'a mut W,
 }
@@ -111,7 +114,8 @@ impl<R: Platform, W: Write> Service<'_, '_, R, W> {
             sessions: self.sessions,
             clients: self.clients,
         };
-        let observer = ServerObserver::new(self.rt, tallies, self.dir, limits);
+        let meters = Meters::new(self.alloc, tallies)?;
+        let observer = ServerObserver::new(self.rt, tallies, meters, self.dir, limits);
         observer.begin();
         let line = listening_line(self.alloc, self.address, &listener)?;
         write_line(self.output, &line)?;
@@ -119,6 +123,7 @@ impl<R: Platform, W: Write> Service<'_, '_, R, W> {
             alloc: self.alloc,
             loops: self.count_loops(),
             settings: self.settings(),
+            is_confining: self.is_confining,
             report: self.report,
         };
         serve_listening(options, rooms, &listener, &observer, keeper, self.output)
@@ -160,6 +165,8 @@ struct Options {
     /// The number of loops.
     loops: usize,
     settings: Settings,
+    /// A session may enter only the room of its request's path.
+    is_confining: bool,
     /// The period of reports; `None` for no reports.
     report: Option<Duration>,
 }
@@ -212,6 +219,7 @@ where
         settings: options.settings,
         observer,
         keeper,
+        is_confining: options.is_confining,
     };
     serve_reporting(served, rooms, streams, options.report, output)?;
     if failed.load(Ordering::SeqCst) {
@@ -274,7 +282,7 @@ where
     P: RoomHistories + Send + Sync,
     R: Platform,
     W: Write,
-    requires { AreHistoriesOf planned P.limits P.books }
+    requires { IsPlanOf planned P.limits P.register }
 {
     let (rooms, _begun) = Rooms::<P>::new(service.rt, service.alloc, planned)?;
     service.serve_rooms(rooms, tallies, &Forgets)
@@ -292,13 +300,13 @@ where
     P: RoomHistories + Send + Sync,
     R: Platform,
     W: Write,
-    requires histories { AreHistoriesOf planned P.limits P.books }
+    requires histories { IsPlanOf planned P.limits P.register }
     requires names { map (λ file. file.name) files.items ≡ planned.names }
     requires records { map (λ file. file.entries) files.items ≡ planned.records }
 {
     let (rt, alloc) = (service.rt, service.alloc);
     let (rooms, begun) = Rooms::<P>::new(rt, alloc, planned)?;
-    let files = RoomFile::open_all(alloc, &rooms, &begun, files)?;
+    let files = RoomFile::open_all(alloc, &begun, files)?;
     let keeping = Keeping::new(alloc, files)?;
     service.serve_rooms(rooms, tallies, &keeping)?;
     if keeping.all_kept(rt) {
@@ -330,7 +338,7 @@ impl<'w, R: Platform, W: Write> Service<'_, 'w, R, W> {
         let (states, found) = folder.read(rt, alloc, names)?;
         let tallies = tallies_of(alloc, names, &states)?;
         let files = folder.settle(rt, alloc, found)?;
-        match NewRooms::with_records(alloc, rooms, Limits::full(), states) {
+        match NewRooms::with_records(rooms, Limits::full(), states) {
             Ok(planned) => serve_in_files::<Brand, R, W>(self, planned, &tallies, files),
             Err(fault) => Err(EarlyEnd::Fault(fault_of_rooms(fault))),
         }

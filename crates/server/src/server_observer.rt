@@ -2,6 +2,7 @@
 
 ghost use Rattle.std.specs.Prelude.{◌≡◌, ◌↔◌, IsNone};
 
+use crate::meters::{Meters, Standing};
 use crate::tally::Tally;
 use crate::turnstile::Turnstile;
 use base_types::RoomName;
@@ -13,7 +14,7 @@ use sessions::{Cause, Observer};
 use std::sync::Wait;
 use std::sync::atomic::{AtomicBool, AtomicU64, Ordering};
 use std::time::{Clock, Duration};
-use wire::EntryKind;
+use wire::{EntryKind, Refusal};
 
 /// The limits on sessions.
 #[derive(Clone, Copy, Debug)]
@@ -30,6 +31,7 @@ pub(crate) struct SessionLimits {
 pub(crate) struct ServerObserver<'a, R> {
     rt: &'a R,
     rooms: &'a [Tally<'a>],
+    meters: Meters,
     /// The folder that keeps the rooms; `None` if nothing does.
     dir: Option<&'a str>,
     limits: SessionLimits,
@@ -46,12 +48,14 @@ impl<'a, R> ServerObserver<'a, R> {
     pub(crate) fn new(
         rt: &'a R,
         rooms: &'a [Tally<'a>],
+        meters: Meters,
         dir: Option<&'a str>,
         limits: SessionLimits,
     ) -> ServerObserver<'a, R> {
         ServerObserver {
             rt,
             rooms,
+            meters,
             dir,
             limits,
             turnstile: turnstile_of(limits.sessions),
@@ -127,6 +131,10 @@ impl<R: Wait + Log> ServerObserver<'_, R> {
 }
 
 impl<R: Wait + Log> Observer for ServerObserver<'_, R> {
+    fn after_reply(&self, place: Option<usize>, refusal: Option<Refusal>) {
+        self.meters.add_reply(place, refusal);
+    }
+
     fn after_entry(&self, place: usize, kind: EntryKind) {
         if let Some(room) = self.rooms.get(place) {
             room.add(self.rt, kind);
@@ -160,6 +168,7 @@ impl<R: Wait + Log> Observer for ServerObserver<'_, R> {
 
     /// Warns that all places are taken, once until a session ends.
     fn turned_away(&self) {
+        self.meters.add_turned_away();
         if let Some(turnstile) = &self.turnstile {
             turnstile.is_no_session(self.rt);
         }
@@ -169,8 +178,18 @@ impl<R: Wait + Log> Observer for ServerObserver<'_, R> {
         }
     }
 
-    fn after_session(&self, _client: &Client, _room: Option<&RoomName>, _cause: Cause) {
+    fn after_session(&self, _client: &Client, _room: Option<&RoomName>, cause: Cause) {
         self.ended.fetch_add(1, Ordering::SeqCst);
+        self.meters.add_end(cause);
         self.is_told.store(false, Ordering::SeqCst);
+    }
+
+    fn metrics(&self) -> Option<String> {
+        let standing = Standing {
+            begun: self.begun.load(Ordering::SeqCst),
+            ended: self.ended.load(Ordering::SeqCst),
+            clients: self.limits.clients,
+        };
+        self.meters.text(standing, self.rooms).ok()
     }
 }

@@ -1,7 +1,6 @@
 //! Counts of what the rooms have.
 
-ghost use Rattle.std.specs.Prelude.{◌≤◌, ◌<◌, ◌+◌, ◌*◌, IfOk, length};
-ghost use Rattle.std.specs.Prelude.{◌≡◌};
+ghost use Rattle.std.specs.Prelude.{◌≡◌, ◌≤◌, ◌<◌, ◌+◌, ◌-◌, ◌*◌};
 
 use log::{Log, info, warn};
 use room_core::RoomState;
@@ -60,7 +59,8 @@ impl<'a> Tally<'a> {
         self.name
     }
 
-    /// Counts an entry of this kind. Warns when the joins or the entries reach nine tenths of their limit.
+    /// Counts an entry of this kind. Warns when the joins, the objects or the entries reach nine
+    /// tenths of their limit.
     pub(crate) fn add<R: Log>(&self, rt: &R, kind: EntryKind) {
         let entries = count(&self.entries);
         if entries == nine_tenths(Limits::MAX_ENTRIES) {
@@ -74,13 +74,16 @@ impl<'a> Tally<'a> {
                 }
             }
             EntryKind::Creation => {
-                count(&self.objects);
+                let objects = count(&self.objects);
+                if objects == nine_tenths(Limits::MAX_OBJECTS) {
+                    self.warn_of_objects(rt, objects);
+                }
             }
             EntryKind::Change => {}
         }
     }
 
-    /// Warns if a room begins with nine tenths of its joins or of its entries, or more.
+    /// Warns if a room begins with nine tenths of its joins, its objects or its entries, or more.
     pub(crate) fn begin<R: Log>(&self, rt: &R) {
         let (joins, entries) = (load(&self.joins), load(&self.entries));
         if entries >= nine_tenths(Limits::MAX_ENTRIES) {
@@ -89,6 +92,23 @@ impl<'a> Tally<'a> {
         if joins >= nine_tenths(Limits::MAX_JOINS) {
             self.warn_of_joins(rt, joins);
         }
+        let objects = load(&self.objects);
+        if objects >= nine_tenths(Limits::MAX_OBJECTS) {
+            self.warn_of_objects(rt, objects);
+        }
+    }
+
+    /// Adds what the room has.
+    pub(crate) fn add_to(&self, sums: &mut EntrySums) {
+        let (joins, entries, objects) = (
+            load(&self.joins),
+            load(&self.entries),
+            load(&self.objects),
+        );
+        let changes = entries.saturating_sub(joins).saturating_sub(objects);
+        sums.joins = sums.joins.saturating_add(joins);
+        sums.creations = sums.creations.saturating_add(objects);
+        sums.changes = sums.changes.saturating_add(changes);
     }
 
     fn warn_of_entries<R: Log>(&self, rt: &R, entries: u64) {
@@ -99,6 +119,11 @@ impl<'a> Tally<'a> {
     fn warn_of_joins<R: Log>(&self, rt: &R, joins: u64) {
         let (name, limit) = (self.name, Limits::MAX_JOINS);
         warn!(rt; "room {name} has {joins} of {limit} joins");
+    }
+
+    fn warn_of_objects<R: Log>(&self, rt: &R, objects: u64) {
+        let (name, limit) = (self.name, Limits::MAX_OBJECTS);
+        warn!(rt; "room {name} has {objects} of {limit} objects");
     }
 
     /// Reports what the room has.
@@ -112,6 +137,42 @@ impl<'a> Tally<'a> {
         let (most_joins, most_entries) = (Limits::MAX_JOINS, Limits::MAX_ENTRIES);
         let most_objects = Limits::MAX_OBJECTS;
         info!(rt; "report: room {name} joins {joins}/{most_joins} entries {entries}/{most_entries} objects {objects}/{most_objects}");
+    }
+}
+
+/// How many entries of each kind rooms have together.
+#[derive(Clone, Copy, Debug, PartialEq, Eq)]
+pub(crate) struct EntrySums {
+    pub(crate) joins: u64,
+    pub(crate) creations: u64,
+    pub(crate) changes: u64,
+}
+
+impl EntrySums {
+    /// What these rooms have. Linear in their number.
+    pub(crate) fn of(rooms: &[Tally<'_>]) -> EntrySums {
+        let mut sums = EntrySums {
+            joins: 0,
+            creations: 0,
+            changes: 0,
+        };
+        for room in rooms {
+            room.add_to(&mut sums);
+        }
+        sums
+    }
+
+    /// What is more than `before`.
+    pub(crate) fn since(self, before: EntrySums) -> EntrySums
+        ensures joins { result.joins ≡ self.joins - before.joins }
+        ensures creations { result.creations ≡ self.creations - before.creations }
+        ensures changes { result.changes ≡ self.changes - before.changes }
+    {
+        EntrySums {
+            joins: self.joins.saturating_sub(before.joins),
+            creations: self.creations.saturating_sub(before.creations),
+            changes: self.changes.saturating_sub(before.changes),
+        }
     }
 }
 

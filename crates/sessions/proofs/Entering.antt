@@ -1,27 +1,36 @@
 -- What a session is after an entrance.
-use Rattle.std.proofs.Common.{◌≡◌, ◌⊎◌, ℕ, inl, inr, false, is_some, List, Option, None, Some, Result, Ok, refl, sym, subst, ◌∙◌}
-use Rattle.std.specs.Prelude.{◌↔◌, Contains}
+use Rattle.std.proofs.Common.{◌≡◌, ◌⊎◌, ◌<◌, ℕ, Bool, cond, nat_lt, arith, inl, inr, true, false, is_some, List, length, Option, None, Some, Result, Ok, refl, sym, subst, ◌∙◌}
+use Rattle.std.specs.Prelude.{◌↔◌, IfSome, position}
+use Rattle.std.specs.List.{position_or_len}
+use Rattle.std.proofs.lemmas.Bool.Decides.{nat_tests}
 use Rattle.base_types.specs.Texts.{Bytes}
 use Rattle.rules.specs.declared.history.Entry.{Entry}
 use Rattle.wire.specs.declared.reply.Reply.{Reply}
 use Rattle.wire.specs.declared.reply.Reply.TheVariants.{No}
-use Rattle.rules.specs.declared.refusal.Refusal.TheVariants.{NotServed}
+use Rattle.rules.specs.declared.refusal.Refusal.TheVariants.{NoSuchRoom, NotServed}
 use Rattle.rules.specs.declared.limits.LimitValues.{LimitValues}
 use Rattle.wire.specs.declared.request.Request.TheVariants.{Join, Back}
+use Rattle.scope.specs.declared.scope.Scope.{Scope}
+use Rattle.openings.specs.Openings.{OpeningView}
 use Rattle.room_lock.specs.declared.entrance.Entrance.{Entrance}
 use Rattle.room_lock.specs.declared.entrance.Entrance.TheVariants.{Entered, Refused, InUse, NoRoom}
 use Rattle.room_lock.specs.steps.Entrances.{IfEntered, IfInUse, IfRefused}
+use Rattle.room_lock.specs.InOrder.{IsOpeningFor}
 use Rattle.room_lock.specs.Passes.{InUseView, PassView, PrefixView}
 use Rattle.room_lock.specs.Told.{IsBack, IsJoin, IsRefusalOver}
 use Rattle.sessions.specs.steps.Entrances.{IsAfter}
-use Rattle.sessions.specs.Sessions.{SessionView}
-use Rattle.sessions.specs.Turns.{IsAnswer, IsBackRefusal, IsLetIn, IsPermittedJoin, IsRoomAt, IsTurnedAway}
+use Rattle.sessions.specs.Turns.{IsAnswer, IsBackRefusal, IsLetIn, IsPermitted, IsPermittedJoin, IsTurnedAway, MayEnter}
 
--- did the room itself refuse
-abbrev HasRoom : {P E : Type 0} → Result (Entrance P) E → Type 0
-HasRoom (Ok (Refused prefix reply)) = Unit {0}
-HasRoom (Ok (InUse it reply)) = Unit {0}
-HasRoom _ = ⊥
+-- the place of a name is one of the places
+found_within : (n len k : ℕ) (b : Bool) → nat_lt n len ≡ b → cond b (Some n) None ≡ Some k → k < len
+found_within n len k true within some =
+    let same : n ≡ k = cc some in
+    let less : n < len = grind (arith, nat_tests) in
+    subst (λ j. j < len) same less
+found_within n len k false within some = absurd (cc some)
+
+place_bound : (p : Bytes → Bool) (names : List Bytes) (k : ℕ) → position p names ≡ Some k → k < length names
+place_bound p names k = found_within (position_or_len p names) (length names) k (nat_lt (position_or_len p names) (length names)) refl
 
 -- what follows from a refusal holds where that does
 pub if_refused_so : {P : Type 0} (Is So : PrefixView → Reply → Type 0) (went : Entrance P)
@@ -38,73 +47,102 @@ if_in_use_so Is So (Refused prefix reply) so holds = tt
 if_in_use_so Is So (InUse it reply) so holds = so it reply holds
 if_in_use_so Is So NoRoom so holds = tt
 
-module _ (names : List Bytes) (name : Bytes) (Enters : PassView → Reply → Type 0) (Refuses : List Entry → Reply → Type 0) where
-  -- what `Rooms::join` and `back` say of an entrance
+module _ (names : List Bytes) (opening : OpeningView) (Enters : PassView → Reply → Type 0) (Refuses : List Entry → Reply → Type 0) where
+  -- what `Rooms::join` and `back` say of an entrance by this opening
   pub record IsEntrance {P : Type 0} (E : Type 0) (went : Entrance P) : Type 0 where
-    pub entered : IfEntered (λ pass reply. Enters pass reply × (pass.room ≡ name)) went
+    pub entered : IfEntered (λ pass reply. Enters pass reply × (pass.room ≡ opening.room.name)) went
     pub refused : IfRefused (λ prefix reply. Refuses prefix.entries reply) went
     pub in_use : IfInUse (λ it reply. Refuses it.prefix.entries reply) went
-    pub no_room : let entrance : Result (Entrance P) E = Ok went in (entrance ≡ Ok NoRoom) ↔ ¬ (Contains names name)
-    pub pass_place : IfEntered (λ pass reply. IsRoomAt names name pass.part.place) went
-    pub refusal_place : IfRefused (λ prefix reply. IsRoomAt names name prefix.place) went
-    pub in_use_place : IfInUse (λ it reply. IsRoomAt names name it.prefix.place) went
+    pub no_room : let entrance : Result (Entrance P) E = Ok went in (entrance ≡ Ok NoRoom) ↔ ¬ (opening.number < length names)
+    pub pass_opening : IfEntered (λ pass reply. pass.part.opening ≡ opening) went
+    pub refusal_opening : IfRefused (λ prefix reply. prefix.opening ≡ opening) went
+    pub in_use_opening : IfInUse (λ it reply. it.prefix.opening ≡ opening) went
 
   -- the pass of who was let in is the session's, and who wasn't is in no room
-  pub told_after : {P : Type 0} (E : Type 0) (went : Entrance P) (new : SessionView) (told : Option PrefixView) (reply : Reply)
-      → IsEntrance E went → IsAfter went new told reply → IsLetIn Enters names name new told reply ⊎ IsTurnedAway Refuses names name new told reply
-  told_after E (Entered pass it) new told reply is after =
-      inl (pass, subst (λ r. Enters pass r) (sym after.0) is.entered.0, is.entered.1, is.pass_place, after.1, after.2)
-  told_after E (Refused prefix it) new told reply is after =
+  pub told_after : {P : Type 0} (E : Type 0) (scope : Scope) (name : Bytes) (went : Entrance P) (new : Option PassView) (told : Option PrefixView) (reply : Reply)
+      → MayEnter scope names name → IsOpeningFor names name opening → IsEntrance E went → IsAfter went new told reply
+      → IsLetIn Enters scope names name new told reply ⊎ IsTurnedAway Refuses scope names name new told reply
+  told_after E scope name (Entered pass it) new told reply may at is after =
+      inl (pass, subst (λ r. Enters pass r) (sym after.0) is.entered.0, may.0, is.entered.1 ∙ at.name_is, subst (IsOpeningFor names name) (sym is.pass_opening) at, after.1, after.2)
+  told_after E scope name (Refused prefix it) new told reply may at is after =
       inr (record {
-        known = λ there. (prefix, subst (λ r. Refuses prefix.entries r) (sym after.0) is.refused, is.refusal_place, after.1);
-        unknown = λ absent. absurd (subst HasRoom (is.no_room.1 absent) tt);
+        known = λ there. (prefix, subst (λ r. Refuses prefix.entries r) (sym after.0) is.refused, subst (IsOpeningFor names name) (sym is.refusal_opening) at, after.1);
+        unknown = λ absent. absurd (absent may);
         same = after.2;
       })
-  told_after E (InUse it answer) new told reply is after =
+  told_after E scope name (InUse it answer) new told reply may at is after =
       inr (record {
-        known = λ there. (it.prefix, subst (λ r. Refuses it.prefix.entries r) (sym after.0) is.in_use, is.in_use_place, after.1);
-        unknown = λ absent. absurd (subst HasRoom (is.no_room.1 absent) tt);
+        known = λ there. (it.prefix, subst (λ r. Refuses it.prefix.entries r) (sym after.0) is.in_use, subst (IsOpeningFor names name) (sym is.in_use_opening) at, after.1);
+        unknown = λ absent. absurd (absent may);
         same = after.2;
       })
-  told_after E NoRoom new told reply is after =
-      inr (record {
-        known = λ there. absurd (is.no_room.0 refl there);
-        unknown = λ absent. (after.0, after.1);
-        same = after.2;
-      })
+  told_after E scope name NoRoom new told reply may at is after =
+      absurd (is.no_room.0 refl (place_bound _ names opening.number at.number_is))
 
 none_of : {A : Type 0} (o : Option A) → is_some o ≡ false → o ≡ None
 none_of None is = refl
 none_of (Some x) is = absurd (cc is)
 
 -- who is let in is let into a room that is permitted
-pub entered_permitted : {P : Type 0} (names : List Bytes) (name : Bytes) (limits : LimitValues) (permitted : ℕ → Type 0) (went : Entrance P)
-    → ((place : ℕ) → IsRoomAt names name place → permitted place)
-    → IfEntered (λ pass reply. IsJoin limits pass reply × (pass.room ≡ name)) went → IfEntered (λ pass reply. IsRoomAt names name pass.part.place) went
-    → IfEntered (λ pass reply. IsPermittedJoin limits permitted pass reply × (pass.room ≡ name)) went
-entered_permitted names name limits permitted (Entered pass reply) all is at = ((is.0, all pass.part.place at), is.1)
-entered_permitted names name limits permitted (Refused prefix reply) all is at = tt
-entered_permitted names name limits permitted (InUse it reply) all is at = tt
-entered_permitted names name limits permitted NoRoom all is at = tt
+pub entered_permitted : {P : Type 0} (limits : LimitValues) (permitted : ℕ → Type 0) (opening : OpeningView) (went : Entrance P)
+    → permitted opening.number
+    → IfEntered (λ pass reply. IsJoin limits pass reply × (pass.room ≡ opening.room.name)) went → IfEntered (λ pass reply. pass.part.opening ≡ opening) went
+    → IfEntered (λ pass reply. IsPermittedJoin limits permitted pass reply × (pass.room ≡ opening.room.name)) went
+entered_permitted limits permitted opening (Entered pass reply) may is at = ((is.0, subst (λ (o : OpeningView). permitted o.number) (sym at) may), is.1)
+entered_permitted limits permitted opening (Refused prefix reply) may is at = tt
+entered_permitted limits permitted opening (InUse it reply) may is at = tt
+entered_permitted limits permitted opening NoRoom may is at = tt
+
+-- a permit that was given
+pub given_permit : {Permit : Type 0} (permits : Permit → ℕ → Type 0) (number : ℕ) (found : Option Permit) → is_some found ≡ true
+    → IfSome found (λ permit. permits permit number) → IsPermitted permits number
+given_permit permits number None is holds = absurd (cc is)
+given_permit permits number (Some permit) is holds = (permit, holds)
 
 joined : {A B C : Type 0} → A ⊎ B → A ⊎ B ⊎ C
 joined (inl a) = inl a
 joined (inr b) = inr (inl b)
 
--- an entrance answers a session in no room
-pub join_answered : {P : Type 0} (E : Type 0) (limits : LimitValues) (names : List Bytes) (permitted denied : ℕ → Type 0) (name : Bytes) (old new : SessionView) (told : Option PrefixView) (reply : Reply) (went : Entrance P)
-    → is_some old ≡ false → IsEntrance names name (IsPermittedJoin limits permitted) (IsRefusalOver limits) E went → IsAfter went new told reply → IsAnswer limits names permitted denied old new (Join name) told reply
-join_answered E limits names permitted denied name old new told reply went none is after =
-    subst (λ (old : SessionView). IsAnswer limits names permitted denied old new (Join name) told reply) (sym (none_of old none)) (joined (told_after names name (IsPermittedJoin limits permitted) (IsRefusalOver limits) E went new told reply is after))
+-- nobody is let in where the session may not enter, or there is no room
+away : (Refuses : List Entry → Reply → Type 0) (scope : Scope) (names : List Bytes) (name : Bytes) (old new : Option PassView) (told : Option PrefixView) (reply : Reply)
+    → old ≡ None → ¬ (MayEnter scope names name) → (reply ≡ No 0 NoSuchRoom) × (told ≡ None) × (new ≡ old) → IsTurnedAway Refuses scope names name new told reply
+away Refuses scope names name old new told reply empty absent is = record {
+  known = λ may. absurd (absent may);
+  unknown = λ other. (is.0, is.1);
+  same = is.2 ∙ empty;
+}
 
--- a join that is denied
-pub denied_answered : (limits : LimitValues) (names : List Bytes) (permitted denied : ℕ → Type 0) (name : Bytes) (old new : SessionView) (told : Option PrefixView) (reply : Reply)
-    → is_some old ≡ false → (place : ℕ) × IsRoomAt names name place × denied place → (reply ≡ No 0 NotServed) × (told ≡ None) × (new ≡ old) → IsAnswer limits names permitted denied old new (Join name) told reply
-denied_answered limits names permitted denied name old new told reply none at is =
-    let empty = none_of old none in
-    subst (λ (old : SessionView). IsAnswer limits names permitted denied old new (Join name) told reply) (sym empty) (inr (inr (at.0, at.1, at.2, (is.0, is.1, is.2 ∙ empty))))
+module _ (limits : LimitValues) (names : List Bytes) (permitted denied : ℕ → Type 0) (scope : Scope) (name : Bytes) (old new : Option PassView) (told : Option PrefixView) (reply : Reply) (none : is_some old ≡ false) where
+  -- an entrance answers a session in no room
+  pub join_answered : {P : Type 0} (E : Type 0) (opening : OpeningView) (went : Entrance P) → MayEnter scope names name → IsOpeningFor names name opening
+      → IsEntrance names opening (IsPermittedJoin limits permitted) (IsRefusalOver limits) E went → IsAfter went new told reply → IsAnswer limits names permitted denied scope old new (Join name) told reply
+  join_answered E opening went may at is after =
+      subst (λ (old : Option PassView). IsAnswer limits names permitted denied scope old new (Join name) told reply) (sym (none_of old none))
+      (joined (told_after names opening (IsPermittedJoin limits permitted) (IsRefusalOver limits) E scope name went new told reply may at is after))
 
-pub back_answered : {P : Type 0} (E : Type 0) (limits : LimitValues) (names : List Bytes) (permitted denied : ℕ → Type 0) (name : Bytes) (site : ℕ) (old new : SessionView) (told : Option PrefixView) (reply : Reply) (went : Entrance P)
-    → is_some old ≡ false → IsEntrance names name (IsBack limits site) (IsBackRefusal limits site) E went → IsAfter went new told reply → IsAnswer limits names permitted denied old new (Back name site) told reply
-back_answered E limits names permitted denied name site old new told reply went none is after =
-    subst (λ (old : SessionView). IsAnswer limits names permitted denied old new (Back name site) told reply) (sym (none_of old none)) (told_after names name (IsBack limits site) (IsBackRefusal limits site) E went new told reply is after)
+  pub back_answered : {P : Type 0} (E : Type 0) (site : ℕ) (opening : OpeningView) (went : Entrance P) → MayEnter scope names name → IsOpeningFor names name opening
+      → IsEntrance names opening (IsBack limits site) (IsBackRefusal limits site) E went → IsAfter went new told reply → IsAnswer limits names permitted denied scope old new (Back name site) told reply
+  back_answered E site opening went may at is after =
+      subst (λ (old : Option PassView). IsAnswer limits names permitted denied scope old new (Back name site) told reply) (sym (none_of old none))
+      (told_after names opening (IsBack limits site) (IsBackRefusal limits site) E scope name went new told reply may at is after)
+
+  -- a join that is denied
+  pub denied_answered : (opening : OpeningView) → MayEnter scope names name → IsOpeningFor names name opening → denied opening.number
+      → (reply ≡ No 0 NotServed) × (told ≡ None) × (new ≡ old) → IsAnswer limits names permitted denied scope old new (Join name) told reply
+  denied_answered opening may at denies is =
+      let empty = none_of old none in
+      subst (λ (old : Option PassView). IsAnswer limits names permitted denied scope old new (Join name) told reply) (sym empty)
+      (inr (inr (opening, may.0, at, denies, (is.0, is.1, is.2 ∙ empty))))
+
+  -- there is no room that the session may enter
+  pub join_away : ¬ (MayEnter scope names name) → (reply ≡ No 0 NoSuchRoom) × (told ≡ None) × (new ≡ old) → IsAnswer limits names permitted denied scope old new (Join name) told reply
+  join_away absent is =
+      let empty = none_of old none in
+      subst (λ (old : Option PassView). IsAnswer limits names permitted denied scope old new (Join name) told reply) (sym empty)
+      (inr (inl (away (IsRefusalOver limits) scope names name old new told reply empty absent is)))
+
+  pub back_away : (site : ℕ) → ¬ (MayEnter scope names name) → (reply ≡ No 0 NoSuchRoom) × (told ≡ None) × (new ≡ old) → IsAnswer limits names permitted denied scope old new (Back name site) told reply
+  back_away site absent is =
+      let empty = none_of old none in
+      subst (λ (old : Option PassView). IsAnswer limits names permitted denied scope old new (Back name site) told reply) (sym empty)
+      (inr (away (IsBackRefusal limits site) scope names name old new told reply empty absent is))

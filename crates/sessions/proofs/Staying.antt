@@ -1,6 +1,6 @@
--- Sessions stay in their rooms, and replies report on these.
-use Rattle.std.proofs.Common.{◌≡◌, ◌⊎◌, ◌∙◌, ℕ, inl, inr, List, Option, Some, None, sym, ap, subst}
-use Rattle.std.specs.Prelude.{Contains, MatchOption}
+-- Sessions stay in their rooms and in their scopes, and replies report on these rooms.
+use Rattle.std.proofs.Common.{◌≡◌, ◌⊎◌, ◌∙◌, ℕ, inl, inr, true, List, Option, Some, None, sym, ap, subst}
+use Rattle.std.specs.Prelude.{MatchOption}
 use Rattle.base_types.specs.Texts.{Bytes}
 use Rattle.rules.specs.declared.history.Entry.{Entry}
 use Rattle.rules.specs.declared.limits.LimitValues.{LimitValues}
@@ -8,74 +8,91 @@ use Rattle.wire.specs.declared.reply.Reply.{Reply}
 use Rattle.wire.specs.declared.request.Request.{Request}
 use Rattle.wire.specs.declared.request.Request.TheVariants.{Join, Back, Leave, Change, Show, List as Listing, Pull}
 use Rattle.wire_reader.specs.steps.Reads.{request_read}
+use Rattle.scope.specs.Scopes.{allows}
+use Rattle.scope.specs.declared.scope.Scope.{Scope}
+use Rattle.room_lock.specs.InOrder.{IsOpeningFor}
 use Rattle.room_lock.specs.Passes.{PassView, PrefixView, prefix_of}
 use Rattle.sessions.specs.Sessions.{SessionView}
 use Rattle.rules.specs.declared.refusal.Refusal.TheVariants.{BadMessage}
-use Rattle.room_lock.specs.Told.{IsRefusalOver}
-use Rattle.sessions.specs.Turns.{IsAnswer, IsAnswerInside, IsCallBy, IsJoinBy, IsLetIn, IsPermittedJoin, IsRefused, IsRoomAt, IsTurn, IsTurnedAway}
+use Rattle.room_lock.specs.Told.{IsBack, IsRefusalOver}
+use Rattle.sessions.specs.Turns.{IsAnswer, IsAnswerInside, IsAnswerOutside, IsBackBy, IsBackRefusal, IsCallBy, IsJoinBy, IsLetIn, IsPermittedJoin, IsRefused, IsTurn, IsTurnedAway, MayEnter}
 
-module _ (names : List Bytes) (name : Bytes) (Enters : PassView → Reply → Type 0) (Refuses : List Entry → Reply → Type 0) where
+-- the pass is of the named room, which the scope allows
+abbrev pub IsInNamed : Scope → List Bytes → Bytes → PassView → Type 0
+IsInNamed scope names name pass = (allows scope name ≡ true) × (pass.room ≡ name) × IsOpeningFor names name pass.part.opening
+
+module _ (scope : Scope) (names : List Bytes) (name : Bytes) (Enters : PassView → Reply → Type 0) (Refuses : List Entry → Reply → Type 0) where
   -- who is let in is in the named room
   pub let_in : (pass : PassView) (told : Option PrefixView) (reply : Reply)
-      → IsLetIn Enters names name (Some pass) told reply ⊎ IsTurnedAway Refuses names name (Some pass) told reply
-      → (pass.room ≡ name) × IsRoomAt names name pass.part.place
+      → IsLetIn Enters scope names name (Some pass) told reply ⊎ IsTurnedAway Refuses scope names name (Some pass) told reply
+      → IsInNamed scope names name pass
   let_in pass told reply (inl is) =
-      let same : pass ≡ is.0 = cc is.5 in
-      let P : PassView → Type 0 = λ p. (p.room ≡ name) × IsRoomAt names name p.part.place in
-      subst P (sym same) (is.2, is.3)
+      let same : pass ≡ is.0 = cc is.6 in
+      subst (IsInNamed scope names name) (sym same) (is.2, is.3, is.4)
   let_in pass told reply (inr away) = absurd (cc away.same)
 
   -- what is reported is of the named room
-  pub told_of : (new : SessionView) (told : PrefixView) (reply : Reply)
-      → IsLetIn Enters names name new (Some told) reply ⊎ IsTurnedAway Refuses names name new (Some told) reply
-      → Contains names name → IsRoomAt names name told.place
+  pub told_of : (new : Option PassView) (told : PrefixView) (reply : Reply)
+      → IsLetIn Enters scope names name new (Some told) reply ⊎ IsTurnedAway Refuses scope names name new (Some told) reply
+      → MayEnter scope names name → IsOpeningFor names name told.opening
   told_of new told reply (inl is) there =
-      let same : told ≡ prefix_of is.0.part = cc is.4 in
-      let P : PrefixView → Type 0 = λ p. IsRoomAt names name p.place in
-      subst P (sym same) is.3
+      let same : told ≡ prefix_of is.0.part = cc is.5 in
+      let P : PrefixView → Type 0 = λ p. IsOpeningFor names name p.opening in
+      subst P (sym same) is.4
   told_of new told reply (inr away) there =
       let is = away.known there in
       let same : told ≡ is.0 = cc is.3 in
-      let P : PrefixView → Type 0 = λ p. IsRoomAt names name p.place in
+      let P : PrefixView → Type 0 = λ p. IsOpeningFor names name p.opening in
       subst P (sym same) is.2
 
 -- a join that may be denied
-pub joined_in : (limits : LimitValues) (names : List Bytes) (permitted denied : ℕ → Type 0) (name : Bytes) (pass : PassView) (told : Option PrefixView) (reply : Reply)
-    → IsJoinBy limits names permitted denied name (Some pass) told reply → (pass.room ≡ name) × IsRoomAt names name pass.part.place
-joined_in limits names permitted denied name pass told reply (inl is) =
-    let_in names name (IsPermittedJoin limits permitted) (IsRefusalOver limits) pass told reply (inl is)
-joined_in limits names permitted denied name pass told reply (inr (inl is)) =
-    let_in names name (IsPermittedJoin limits permitted) (IsRefusalOver limits) pass told reply (inr is)
-joined_in limits names permitted denied name pass told reply (inr (inr is)) = absurd (cc is.3.2)
+pub joined_in : (limits : LimitValues) (names : List Bytes) (permitted denied : ℕ → Type 0) (scope : Scope) (name : Bytes) (pass : PassView) (told : Option PrefixView) (reply : Reply)
+    → IsJoinBy limits names permitted denied scope name (Some pass) told reply → IsInNamed scope names name pass
+joined_in limits names permitted denied scope name pass told reply (inl is) =
+    let_in scope names name (IsPermittedJoin limits permitted) (IsRefusalOver limits) pass told reply (inl is)
+joined_in limits names permitted denied scope name pass told reply (inr (inl is)) =
+    let_in scope names name (IsPermittedJoin limits permitted) (IsRefusalOver limits) pass told reply (inr is)
+joined_in limits names permitted denied scope name pass told reply (inr (inr is)) = absurd (cc is.4.2)
 
-pub join_told_of : (limits : LimitValues) (names : List Bytes) (permitted denied : ℕ → Type 0) (name : Bytes) (new : SessionView) (told : PrefixView) (reply : Reply)
-    → IsJoinBy limits names permitted denied name new (Some told) reply → Contains names name → IsRoomAt names name told.place
-join_told_of limits names permitted denied name new told reply (inl is) there =
-    told_of names name (IsPermittedJoin limits permitted) (IsRefusalOver limits) new told reply (inl is) there
-join_told_of limits names permitted denied name new told reply (inr (inl is)) there =
-    told_of names name (IsPermittedJoin limits permitted) (IsRefusalOver limits) new told reply (inr is) there
-join_told_of limits names permitted denied name new told reply (inr (inr is)) there = absurd (cc is.3.1)
+pub back_in : (limits : LimitValues) (names : List Bytes) (scope : Scope) (name : Bytes) (site : ℕ) (pass : PassView) (told : Option PrefixView) (reply : Reply)
+    → IsBackBy limits names scope name site (Some pass) told reply → IsInNamed scope names name pass
+back_in limits names scope name site pass told reply is =
+    let_in scope names name (IsBack limits site) (IsBackRefusal limits site) pass told reply is
+
+pub join_told_of : (limits : LimitValues) (names : List Bytes) (permitted denied : ℕ → Type 0) (scope : Scope) (name : Bytes) (new : Option PassView) (told : PrefixView) (reply : Reply)
+    → IsJoinBy limits names permitted denied scope name new (Some told) reply → MayEnter scope names name → IsOpeningFor names name told.opening
+join_told_of limits names permitted denied scope name new told reply (inl is) there =
+    told_of scope names name (IsPermittedJoin limits permitted) (IsRefusalOver limits) new told reply (inl is) there
+join_told_of limits names permitted denied scope name new told reply (inr (inl is)) there =
+    told_of scope names name (IsPermittedJoin limits permitted) (IsRefusalOver limits) new told reply (inr is) there
+join_told_of limits names permitted denied scope name new told reply (inr (inr is)) there = absurd (cc is.4.1)
 
 -- where no room is denied, the refusal of the server is not made
-pub served : (limits : LimitValues) (names : List Bytes) (permitted denied : ℕ → Type 0) (name : Bytes) (new : SessionView) (told : Option PrefixView) (reply : Reply)
-    → ((place : ℕ) → ¬ (denied place)) → IsJoinBy limits names permitted denied name new told reply
-    → IsLetIn (IsPermittedJoin limits permitted) names name new told reply ⊎ IsTurnedAway (IsRefusalOver limits) names name new told reply
-served limits names permitted denied name new told reply never (inl is) = inl is
-served limits names permitted denied name new told reply never (inr (inl is)) = inr is
-served limits names permitted denied name new told reply never (inr (inr is)) = absurd (never is.0 is.2)
+pub served : (limits : LimitValues) (names : List Bytes) (permitted denied : ℕ → Type 0) (scope : Scope) (name : Bytes) (new : Option PassView) (told : Option PrefixView) (reply : Reply)
+    → ((number : ℕ) → ¬ (denied number)) → IsJoinBy limits names permitted denied scope name new told reply
+    → IsLetIn (IsPermittedJoin limits permitted) scope names name new told reply ⊎ IsTurnedAway (IsRefusalOver limits) scope names name new told reply
+served limits names permitted denied scope name new told reply never (inl is) = inl is
+served limits names permitted denied scope name new told reply never (inr (inl is)) = inr is
+served limits names permitted denied scope name new told reply never (inr (inr is)) = absurd (never is.0.number is.3)
+
+-- the room of one pass is that of another
+abbrev pub IsSameRoom : PassView → PassView → Type 0
+IsSameRoom was now = (now.room ≡ was.room) × (now.part.opening ≡ was.part.opening)
+
+unmoved : (was now : PassView) → now ≡ was → IsSameRoom was now
+unmoved was now same = (ap (λ p. p.room) same, ap (λ p. p.part.opening) same)
 
 -- a call keeps the room
 call_stays : (limits : LimitValues) (was now : PassView) (request : Request) (told : Option PrefixView) (reply : Reply)
-    → IsCallBy limits was (Some now) request told reply → (now.room ≡ was.room) × (now.part.place ≡ was.part.place)
+    → IsCallBy limits was (Some now) request told reply → IsSameRoom was now
 call_stays limits was now request told reply is =
     let same : now ≡ is.0 = cc is.3 in
-    let P : PassView → Type 0 = λ p. (p.room ≡ was.room) × (p.part.place ≡ was.part.place) in
-    subst P (sym same) (is.1.1.room, is.1.1.place)
+    subst (IsSameRoom was) (sym same) (is.1.1.room, is.1.1.opening)
 
-pub inside_stays : (limits : LimitValues) (was now : PassView) (request : Request) (told : Option PrefixView) (reply : Reply)
-    → IsAnswerInside limits was (Some now) request told reply → (now.room ≡ was.room) × (now.part.place ≡ was.part.place)
-inside_stays limits was now (Join name) told reply is = let same : now ≡ was = cc is.2 in (ap (λ p. p.room) same, ap (λ p. p.part.place) same)
-inside_stays limits was now (Back name site) told reply is = let same : now ≡ was = cc is.2 in (ap (λ p. p.room) same, ap (λ p. p.part.place) same)
+inside_stays : (limits : LimitValues) (was now : PassView) (request : Request) (told : Option PrefixView) (reply : Reply)
+    → IsAnswerInside limits was (Some now) request told reply → IsSameRoom was now
+inside_stays limits was now (Join name) told reply is = unmoved was now (cc is.2)
+inside_stays limits was now (Back name site) told reply is = unmoved was now (cc is.2)
 inside_stays limits was now Leave told reply is = absurd (cc is.4)
 inside_stays limits was now (Change seq seen body) told reply is = call_stays limits was now (Change seq seen body) told reply is
 inside_stays limits was now (Show object) told reply is = call_stays limits was now (Show object) told reply is
@@ -83,36 +100,72 @@ inside_stays limits was now (Listing from) told reply is = call_stays limits was
 inside_stays limits was now (Pull from waits) told reply is = call_stays limits was now (Pull from waits) told reply is
 
 -- a call reports on the room of the session
-call_told : (limits : LimitValues) (was : PassView) (new : SessionView) (request : Request) (told : PrefixView) (reply : Reply)
-    → IsCallBy limits was new request (Some told) reply → told.place ≡ was.part.place
+call_told : (limits : LimitValues) (was : PassView) (new : Option PassView) (request : Request) (told : PrefixView) (reply : Reply)
+    → IsCallBy limits was new request (Some told) reply → told.opening ≡ was.part.opening
 call_told limits was new request told reply is =
     let same : told ≡ prefix_of is.0.part = cc is.2 in
-    ap (λ p. p.place) same ∙ is.1.1.place
+    ap (λ p. p.opening) same ∙ is.1.1.opening
 
-pub inside_told : (limits : LimitValues) (was : PassView) (new : SessionView) (request : Request) (told : PrefixView) (reply : Reply)
-    → IsAnswerInside limits was new request (Some told) reply → told.place ≡ was.part.place
+inside_told : (limits : LimitValues) (was : PassView) (new : Option PassView) (request : Request) (told : PrefixView) (reply : Reply)
+    → IsAnswerInside limits was new request (Some told) reply → told.opening ≡ was.part.opening
 inside_told limits was new (Join name) told reply is = absurd (cc is.1)
 inside_told limits was new (Back name site) told reply is = absurd (cc is.1)
-inside_told limits was new Leave told reply is = let same : told ≡ is.0 = cc is.3 in ap (λ p. p.place) same ∙ is.2
+inside_told limits was new Leave told reply is = let same : told ≡ is.0 = cc is.3 in ap (λ p. p.opening) same ∙ is.2
 inside_told limits was new (Change seq seen body) told reply is = call_told limits was new (Change seq seen body) told reply is
 inside_told limits was new (Show object) told reply is = call_told limits was new (Show object) told reply is
 inside_told limits was new (Listing from) told reply is = call_told limits was new (Listing from) told reply is
 inside_told limits was new (Pull from waits) told reply is = call_told limits was new (Pull from waits) told reply is
 
-pub turn_stays : (limits : LimitValues) (names : List Bytes) (permitted denied : ℕ → Type 0) (was now : PassView) (bytes : Bytes) (told : Option PrefixView) (reply : Reply)
-    → IsTurn limits names permitted denied (Some was) (Some now) bytes told reply → (now.room ≡ was.room) × (now.part.place ≡ was.part.place)
-turn_stays limits names permitted denied was now bytes told reply = go (request_read bytes)
-  where
-    go : (read : Option Request) → MatchOption read (IsRefused BadMessage (Some was) (Some now) told reply) (λ request. IsAnswer limits names permitted denied (Some was) (Some now) request told reply)
-        → (now.room ≡ was.room) × (now.part.place ≡ was.part.place)
-    go None is = let same : now ≡ was = cc is.2 in (ap (λ p. p.room) same, ap (λ p. p.part.place) same)
-    go (Some request) is = inside_stays limits was now request told reply is
+-- who enters a room is allowed to
+outside_allowed : (limits : LimitValues) (names : List Bytes) (permitted denied : ℕ → Type 0) (scope : Scope) (now : PassView) (request : Request) (told : Option PrefixView) (reply : Reply)
+    → IsAnswerOutside limits names permitted denied scope (Some now) request told reply → allows scope now.room ≡ true
+outside_allowed limits names permitted denied scope now (Join name) told reply is =
+    let in_room = joined_in limits names permitted denied scope name now told reply is in
+    ap (allows scope) in_room.1 ∙ in_room.0
+outside_allowed limits names permitted denied scope now (Back name site) told reply is =
+    let in_room = back_in limits names scope name site now told reply is in
+    ap (allows scope) in_room.1 ∙ in_room.0
+outside_allowed limits names permitted denied scope now Leave told reply is = absurd (cc is.2)
+outside_allowed limits names permitted denied scope now (Change seq seen body) told reply is = absurd (cc is.2)
+outside_allowed limits names permitted denied scope now (Show object) told reply is = absurd (cc is.2)
+outside_allowed limits names permitted denied scope now (Listing from) told reply is = absurd (cc is.2)
+outside_allowed limits names permitted denied scope now (Pull from waits) told reply is = absurd (cc is.2)
 
-pub turn_told : (limits : LimitValues) (names : List Bytes) (permitted denied : ℕ → Type 0) (was : PassView) (new : SessionView) (bytes : Bytes) (told : PrefixView) (reply : Reply)
-    → IsTurn limits names permitted denied (Some was) new bytes (Some told) reply → told.place ≡ was.part.place
-turn_told limits names permitted denied was new bytes told reply = go (request_read bytes)
-  where
-    go : (read : Option Request) → MatchOption read (IsRefused BadMessage (Some was) new (Some told) reply) (λ request. IsAnswer limits names permitted denied (Some was) new request (Some told) reply)
-        → told.place ≡ was.part.place
-    go None is = absurd (cc is.1)
-    go (Some request) is = inside_told limits was new request told reply is
+module _ (limits : LimitValues) (names : List Bytes) (permitted denied : ℕ → Type 0) (scope : Scope) (told : Option PrefixView) (reply : Reply) where
+  -- what an answer to the bytes says of the passes before and after, whether or not they are a request
+  abbrev pub IsAnswered : Option PassView → Option PassView → Option Request → Type 0
+  IsAnswered was now read = MatchOption read (IsRefused BadMessage was now told reply) (λ request. IsAnswer limits names permitted denied scope was now request told reply)
+
+  pub answered_stays : (was now : PassView) (read : Option Request) → IsAnswered (Some was) (Some now) read → IsSameRoom was now
+  answered_stays was now None is = unmoved was now (cc is.2)
+  answered_stays was now (Some request) is = inside_stays limits was now request told reply is
+
+  pub answered_allowed : (now : PassView) (read : Option Request) → IsAnswered None (Some now) read → allows scope now.room ≡ true
+  answered_allowed now None is = absurd (cc is.2)
+  answered_allowed now (Some request) is = outside_allowed limits names permitted denied scope now request told reply is
+
+pub answered_told : (limits : LimitValues) (names : List Bytes) (permitted denied : ℕ → Type 0) (scope : Scope) (was : PassView) (new : Option PassView) (told : PrefixView) (reply : Reply) (read : Option Request)
+    → IsAnswered limits names permitted denied scope (Some told) reply (Some was) new read → told.opening ≡ was.part.opening
+answered_told limits names permitted denied scope was new told reply None is = absurd (cc is.1)
+answered_told limits names permitted denied scope was new told reply (Some request) is = inside_told limits was new request told reply is
+
+module _ (limits : LimitValues) (names : List Bytes) (permitted denied : ℕ → Type 0) (old new : SessionView) (bytes : Bytes) where
+  pub turn_stays : (was now : PassView) (told : Option PrefixView) (reply : Reply) → old.pass ≡ Some was → new.pass ≡ Some now
+      → IsTurn limits names permitted denied old new bytes told reply → IsSameRoom was now
+  turn_stays was now told reply before after is =
+      answered_stays limits names permitted denied old.scope told reply was now (request_read bytes)
+      (subst (λ p. IsAnswered limits names permitted denied old.scope told reply (Some was) p (request_read bytes)) after
+      (subst (λ p. IsAnswered limits names permitted denied old.scope told reply p new.pass (request_read bytes)) before is.1))
+
+  pub turn_allowed : (now : PassView) (told : Option PrefixView) (reply : Reply) → old.pass ≡ None → new.pass ≡ Some now
+      → IsTurn limits names permitted denied old new bytes told reply → allows old.scope now.room ≡ true
+  turn_allowed now told reply before after is =
+      answered_allowed limits names permitted denied old.scope told reply now (request_read bytes)
+      (subst (λ p. IsAnswered limits names permitted denied old.scope told reply None p (request_read bytes)) after
+      (subst (λ p. IsAnswered limits names permitted denied old.scope told reply p new.pass (request_read bytes)) before is.1))
+
+  pub turn_told : (was : PassView) (told : PrefixView) (reply : Reply) → old.pass ≡ Some was
+      → IsTurn limits names permitted denied old new bytes (Some told) reply → told.opening ≡ was.part.opening
+  turn_told was told reply before is =
+      answered_told limits names permitted denied old.scope was new.pass told reply (request_read bytes)
+      (subst (λ p. IsAnswered limits names permitted denied old.scope (Some told) reply p new.pass (request_read bytes)) before is.1)

@@ -1,8 +1,7 @@
 -- One message of a session and its reply. `told` is the prefix of a room's record that the reply
--- reports on, if it does. Of the room at a place, `permitted` says that a new site may be let in, and
--- `denied` that it need not be.
+-- reports on, if it does. Of the room of an opening, `permitted` says that a new site may be let in,
+-- and `denied` that it need not be; both are told the opening's number.
 use Rattle.std.specs.Prelude.{◌≡◌, ◌⊎◌, ℕ, Bool, List, Option, Some, None, Contains, MatchOption, true}
-use Rattle.std.specs.Prelude.{bytes_eq, position}
 use Rattle.base_types.specs.Texts.{Bytes}
 use Rattle.rules.specs.declared.history.Entry.{Entry}
 use Rattle.rules.specs.declared.limits.LimitValues.{LimitValues}
@@ -15,18 +14,22 @@ use Rattle.wire.specs.declared.reply.Reply.{Reply}
 use Rattle.wire.specs.declared.reply.Reply.TheVariants.{No}
 use Rattle.wire.specs.Texts.{reply_text}
 use Rattle.wire_reader.specs.steps.Reads.{request_read}
+use Rattle.scope.specs.Scopes.{allows}
+use Rattle.scope.specs.declared.scope.Scope.{Scope}
+use Rattle.openings.specs.Openings.{OpeningView}
+use Rattle.room_lock.specs.InOrder.{IsOpeningFor}
 use Rattle.room_lock.specs.Passes.{PassView, PrefixView, prefix_of}
 use Rattle.room_lock.specs.Told.{IsBack, IsBackRefusalOver, IsCall, IsJoin, IsLeaveOver}
 use Rattle.room_lock.specs.Told.{IsRefusalOver}
 use Rattle.sessions.specs.Sessions.{SessionView}
 
 -- the session itself refuses, and is unchanged; the reply reports on no room
-abbrev pub IsRefused : Refusal → SessionView → SessionView → Option PrefixView → Reply → Type 0
+abbrev pub IsRefused : Refusal → Option PassView → Option PassView → Option PrefixView → Reply → Type 0
 IsRefused refusal old new told reply = (reply ≡ No 0 refusal) × (told ≡ None) × (new ≡ old)
 
 -- a call by the session's pass, which the session keeps; the reply reports on all that the pass has
 -- then seen
-abbrev pub IsCallBy : LimitValues → PassView → SessionView → Request → Option PrefixView → Reply
+abbrev pub IsCallBy : LimitValues → PassView → Option PassView → Request → Option PrefixView → Reply
     → Type 0
 IsCallBy limits was new request told reply =
     (now : PassView) × IsCall limits was now request reply × (told ≡ Some (prefix_of now.part))
@@ -34,73 +37,76 @@ IsCallBy limits was new request told reply =
 
 -- A leave: the session's pass is handed back, and the session is in no room. The reply reports on
 -- the record at that time.
-abbrev pub IsLeaveBy : LimitValues → PassView → SessionView → Option PrefixView → Reply → Type 0
+abbrev pub IsLeaveBy : LimitValues → PassView → Option PassView → Option PrefixView → Reply → Type 0
 IsLeaveBy limits was new told reply =
     (then : PrefixView) × IsLeaveOver limits then.entries was.part reply
-    × (then.place ≡ was.part.place) × (told ≡ Some then) × (new ≡ None)
+    × (then.opening ≡ was.part.opening) × (told ≡ Some then) × (new ≡ None)
 
--- the room of this name is at this place among rooms of these names
-abbrev pub IsRoomAt : List Bytes → Bytes → ℕ → Type 0
-IsRoomAt names name place = position (bytes_eq name) names ≡ Some place
+-- the session may enter the room of this name, and there is one
+abbrev pub MayEnter : Scope → List Bytes → Bytes → Type 0
+MayEnter scope names name = (allows scope name ≡ true) × Contains names name
 
--- A site was let in: the session has its pass, of the room of this name. The reply reports on all
--- that the pass has seen.
-abbrev pub IsLetIn : (PassView → Reply → Type 0) → List Bytes → Bytes → SessionView
+-- A site was let in: the session has its pass, of the room of this name, which it may enter. The
+-- reply reports on all that the pass has seen.
+abbrev pub IsLetIn : (PassView → Reply → Type 0) → Scope → List Bytes → Bytes → Option PassView
     → Option PrefixView → Reply → Type 0
-IsLetIn Holds names name new told reply =
-    (pass : PassView) × Holds pass reply × (pass.room ≡ name)
-    × IsRoomAt names name pass.part.place × (told ≡ Some (prefix_of pass.part)) × (new ≡ Some pass)
+IsLetIn Holds scope names name new told reply =
+    (pass : PassView) × Holds pass reply × (allows scope name ≡ true) × (pass.room ≡ name)
+    × IsOpeningFor names name pass.part.opening × (told ≡ Some (prefix_of pass.part))
+    × (new ≡ Some pass)
 
 -- the room of this name refused; the reply reports on its record at that time
 abbrev pub IsRefusedOn : (List Entry → Reply → Type 0) → List Bytes → Bytes → Option PrefixView
     → Reply → Type 0
 IsRefusedOn Holds names name told reply =
-    (then : PrefixView) × Holds then.entries reply × IsRoomAt names name then.place
+    (then : PrefixView) × Holds then.entries reply × IsOpeningFor names name then.opening
     × (told ≡ Some then)
 
--- No site was let in: the room of this name refused, or there is none. The session stays in no
--- room.
+-- No site was let in: the room of this name refused, or the session may not enter it, or there is
+-- none. Of the last two it is not told which. The session stays in no room.
 pub record IsTurnedAway
-    (Holds : List Entry → Reply → Type 0) (names : List Bytes) (name : Bytes) (new : SessionView)
-    (told : Option PrefixView) (reply : Reply) : Type 0 where
-  pub known : Contains names name → IsRefusedOn Holds names name told reply
-  pub unknown : ¬ (Contains names name) → (reply ≡ No 0 NoSuchRoom) × (told ≡ None)
+    (Holds : List Entry → Reply → Type 0) (scope : Scope) (names : List Bytes) (name : Bytes)
+    (new : Option PassView) (told : Option PrefixView) (reply : Reply) : Type 0 where
+  pub known : MayEnter scope names name → IsRefusedOn Holds names name told reply
+  pub unknown : ¬ (MayEnter scope names name) → (reply ≡ No 0 NoSuchRoom) × (told ≡ None)
   pub same : new ≡ None
 
 -- the room refuses a coming back as a site, whether or not a session is in as it
 abbrev pub IsBackRefusal : LimitValues → ℕ → List Entry → Reply → Type 0
 IsBackRefusal limits site r reply = (in_use : Bool) × IsBackRefusalOver limits r site in_use reply
 
--- a permit was given for the room at this place
+-- a permit was given for the room of the opening of this number
 abbrev pub IsPermitted : {Permit : Type 0} → (Permit → ℕ → Type 0) → ℕ → Type 0
-IsPermitted {Permit} permits place = (permit : Permit) × permits permit place
+IsPermitted {Permit} permits number = (permit : Permit) × permits permit number
 
 -- a new site joins the room, which is permitted
 abbrev pub IsPermittedJoin : LimitValues → (ℕ → Type 0) → PassView → Reply → Type 0
-IsPermittedJoin limits permitted pass reply = IsJoin limits pass reply × permitted pass.part.place
+IsPermittedJoin limits permitted pass reply =
+    IsJoin limits pass reply × permitted pass.part.opening.number
 
--- the room of this name is denied
-abbrev pub IsNotServed : (ℕ → Type 0) → List Bytes → Bytes → SessionView → Option PrefixView → Reply
-    → Type 0
-IsNotServed denied names name new told reply =
-    (place : ℕ) × IsRoomAt names name place × denied place × IsRefused NotServed None new told reply
+-- the session may enter the room of this name, and the room is denied
+abbrev pub IsNotServed : (ℕ → Type 0) → Scope → List Bytes → Bytes → Option PassView
+    → Option PrefixView → Reply → Type 0
+IsNotServed denied scope names name new told reply =
+    (opening : OpeningView) × (allows scope name ≡ true) × IsOpeningFor names name opening
+    × denied opening.number × IsRefused NotServed None new told reply
 
 -- a join, and a coming back as a site
-abbrev pub IsJoinBy : LimitValues → List Bytes → (ℕ → Type 0) → (ℕ → Type 0) → Bytes → SessionView
-    → Option PrefixView → Reply → Type 0
-IsJoinBy limits names permitted denied name new told reply =
-    IsLetIn (IsPermittedJoin limits permitted) names name new told reply
-    ⊎ IsTurnedAway (IsRefusalOver limits) names name new told reply
-    ⊎ IsNotServed denied names name new told reply
+abbrev pub IsJoinBy : LimitValues → List Bytes → (ℕ → Type 0) → (ℕ → Type 0) → Scope → Bytes
+    → Option PassView → Option PrefixView → Reply → Type 0
+IsJoinBy limits names permitted denied scope name new told reply =
+    IsLetIn (IsPermittedJoin limits permitted) scope names name new told reply
+    ⊎ IsTurnedAway (IsRefusalOver limits) scope names name new told reply
+    ⊎ IsNotServed denied scope names name new told reply
 
-abbrev pub IsBackBy : LimitValues → List Bytes → Bytes → ℕ → SessionView → Option PrefixView → Reply
-    → Type 0
-IsBackBy limits names name site new told reply =
-    IsLetIn (IsBack limits site) names name new told reply
-    ⊎ IsTurnedAway (IsBackRefusal limits site) names name new told reply
+abbrev pub IsBackBy : LimitValues → List Bytes → Scope → Bytes → ℕ → Option PassView
+    → Option PrefixView → Reply → Type 0
+IsBackBy limits names scope name site new told reply =
+    IsLetIn (IsBack limits site) scope names name new told reply
+    ⊎ IsTurnedAway (IsBackRefusal limits site) scope names name new told reply
 
 -- the answer to a request of a session that is in a room, which cannot enter another
-abbrev pub IsAnswerInside : LimitValues → PassView → SessionView → Request → Option PrefixView
+abbrev pub IsAnswerInside : LimitValues → PassView → Option PassView → Request → Option PrefixView
     → Reply → Type 0
 IsAnswerInside limits was new (Join name) told reply =
     IsRefused AlreadyJoined (Some was) new told reply
@@ -110,29 +116,31 @@ IsAnswerInside limits was new Leave told reply = IsLeaveBy limits was new told r
 IsAnswerInside limits was new request told reply = IsCallBy limits was new request told reply
 
 -- the answer to a request of a session in no room, which can only enter one
-abbrev pub IsAnswerOutside : LimitValues → List Bytes → (ℕ → Type 0) → (ℕ → Type 0) → SessionView
-    → Request → Option PrefixView → Reply → Type 0
-IsAnswerOutside limits names permitted denied new (Join name) told reply =
-    IsJoinBy limits names permitted denied name new told reply
-IsAnswerOutside limits names permitted denied new (Back name site) told reply =
-    IsBackBy limits names name site new told reply
-IsAnswerOutside limits names permitted denied new request told reply =
+abbrev pub IsAnswerOutside : LimitValues → List Bytes → (ℕ → Type 0) → (ℕ → Type 0) → Scope
+    → Option PassView → Request → Option PrefixView → Reply → Type 0
+IsAnswerOutside limits names permitted denied scope new (Join name) told reply =
+    IsJoinBy limits names permitted denied scope name new told reply
+IsAnswerOutside limits names permitted denied scope new (Back name site) told reply =
+    IsBackBy limits names scope name site new told reply
+IsAnswerOutside limits names permitted denied scope new request told reply =
     IsRefused NotJoined None new told reply
 
--- the answer to a request of a session
-abbrev pub IsAnswer : LimitValues → List Bytes → (ℕ → Type 0) → (ℕ → Type 0) → SessionView
-    → SessionView → Request → Option PrefixView → Reply → Type 0
-IsAnswer limits names permitted denied (Some was) new request told reply =
+-- the answer to a request of a session of this scope, with its passes before and after
+abbrev pub IsAnswer : LimitValues → List Bytes → (ℕ → Type 0) → (ℕ → Type 0) → Scope
+    → Option PassView → Option PassView → Request → Option PrefixView → Reply → Type 0
+IsAnswer limits names permitted denied scope (Some was) new request told reply =
     IsAnswerInside limits was new request told reply
-IsAnswer limits names permitted denied None new request told reply =
-    IsAnswerOutside limits names permitted denied new request told reply
+IsAnswer limits names permitted denied scope None new request told reply =
+    IsAnswerOutside limits names permitted denied scope new request told reply
 
--- the answer to a message
+-- the answer to a message; the session keeps its scope
 abbrev pub IsTurn : LimitValues → List Bytes → (ℕ → Type 0) → (ℕ → Type 0) → SessionView
     → SessionView → Bytes → Option PrefixView → Reply → Type 0
 IsTurn limits names permitted denied old new bytes told reply =
-    MatchOption (request_read bytes) (IsRefused BadMessage old new told reply)
-    (λ request. IsAnswer limits names permitted denied old new request told reply)
+    (new.scope ≡ old.scope)
+    × MatchOption (request_read bytes) (IsRefused BadMessage old.pass new.pass told reply)
+    (λ request.
+    IsAnswer limits names permitted denied old.scope old.pass new.pass request told reply)
 
 -- the text is that of the answer, which reports on this prefix of a record
 abbrev pub IsTextOfTurn : LimitValues → List Bytes → (ℕ → Type 0) → (ℕ → Type 0) → SessionView
@@ -142,13 +150,13 @@ IsTextOfTurn limits names permitted denied old new bytes told text =
     × IsTurn limits names permitted denied old new bytes told reply
 
 -- a session that is in a room asks to wait for an entry
-abbrev pub IsWaitInRoom : SessionView → Request → Type 0
+abbrev pub IsWaitInRoom : Option PassView → Request → Type 0
 IsWaitInRoom (Some pass) (Pull from true) = Unit {0}
 IsWaitInRoom _ _ = ⊥
 
 -- the message of a session that is in a room asks to wait for an entry
 abbrev pub IsWait : SessionView → Bytes → Type 0
-IsWait session bytes = MatchOption (request_read bytes) ⊥ (IsWaitInRoom session)
+IsWait session bytes = MatchOption (request_read bytes) ⊥ (IsWaitInRoom session.pass)
 
 -- the message changed nothing, or it was answered, but the reply was lost
 abbrev pub MayStand : LimitValues → List Bytes → (ℕ → Type 0) → (ℕ → Type 0) → SessionView

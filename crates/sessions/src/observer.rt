@@ -4,11 +4,15 @@ use crate::cause::Cause;
 use base_types::RoomName;
 use keeper::Change;
 use loops::Client;
-use wire::EntryKind;
+use wire::{EntryKind, Refusal};
 
-/// Hears of entries, probes, sessions and the keeping of rooms, in the thread that serves them. A method may block its
-/// thread, and must change nothing else.
+/// Hears of replies, entries, probes, sessions and the keeping of rooms, in the thread that serves
+/// them. A method may block its thread, and must change nothing else.
 pub trait Observer {
+    /// There is a reply: on the room at this place, from 0, or `None` if it reports on no room. It may
+    /// be a refusal.
+    fn after_reply(&self, _place: Option<usize>, _refusal: Option<Refusal>) {}
+
     /// The room at this place, from 0, has added an entry of this kind.
     fn after_entry(&self, _place: usize, _kind: EntryKind) {}
 
@@ -27,4 +31,9 @@ pub trait Observer {
 
     /// The session ends. `room` is the room that it is still in.
     fn after_session(&self, client: &Client, room: Option<&RoomName>, cause: Cause);
+
+    /// What was counted, in Prometheus' text format. `None` if nothing is, or an allocation failed.
+    fn metrics(&self) -> Option<String> {
+        None
+    }
 }

@@ -11,8 +11,15 @@ use std::sync::Wait;
 use wire_reader::Scratch;
 
 impl<P: RoomHistories, R: Wait, O: Observer, K: Keeper<P>> Service for Host<'_, P, R, O, K> {
-    fn new_session(&self) -> Session<P> {
-        Session::new()
+    ghost use Rattle.std.specs.Prelude.{◌≡◌, None};
+    ghost use Rattle.sessions.specs.Sessions.{scope_for};
+
+    ghost begins = { λ host target session.
+        session ≡ record { scope = scope_for host.is_confining target; pass = None } };
+
+    fn new_session(&self, target: &[u8]) -> Option<Session<P>> {
+        let scope = self.scope_of(target).ok()?;
+        Some(Session::new(scope))
     }
 
     fn new_scratch(&self) -> Scratch {
@@ -48,9 +55,13 @@ impl<P: RoomHistories, R: Wait, O: Observer, K: Keeper<P>> Service for Host<'_, 
     }
 
     fn failing_room(&self) -> Option<String> {
-        let place = self.keeper.failing(self.rt)?;
-        let name = self.rooms.name_at(place)?;
+        let number = self.keeper.failing(self.rt)?;
+        let name = self.rooms.name_at(number as usize)?;
         let copied = String::from_str(self.alloc, name.text());
         Some(copied.unwrap_or(String::new(self.alloc)))
+    }
+
+    fn metrics(&self) -> Option<String> {
+        self.observer.metrics()
     }
 }

@@ -1,6 +1,6 @@
 //! A session: the messages of one client, one after the other.
 
-ghost use Rattle.std.specs.Prelude.{ℕ, ◌≡◌, ◌⊎◌, Err, IfErr, IfOk, IfSome, IsTrue, OnErr, None, Ok};
+ghost use Rattle.std.specs.Prelude.{◌≡◌, ◌⊎◌, Err, IfErr, IfOk, IfSome, IsNone, IsTrue, OnErr, None, Ok};
 ghost use Rattle.std.specs.Prelude.{Some, false, true};
 ghost use Rattle.std.specs.Prelude.{MatchOption, option_map, string_bytes};
 ghost use Rattle.wire.specs.declared.request.Request.TheVariants.{Join, Back, Leave};
@@ -8,8 +8,9 @@ ghost use Rattle.room_lock.specs.Passes.{IsOfRooms};
 ghost use Rattle.sessions.specs.declared.cause.MessageFault.TheVariants as message_fault;
 ghost use Rattle.sessions.specs.steps.Calls.{IsCallIf};
 ghost use Rattle.sessions.specs.steps.Entrances.{IsAfter};
+ghost use Rattle.room_lock.specs.InOrder.{IsOpeningFor};
 ghost use Rattle.sessions.specs.Turns.{IsAnswer, IsCallBy, IsPermitted, IsTextOfTurn, IsTurn, IsWait};
-ghost use Rattle.sessions.specs.Turns.{IsRoomAt, IsWaitInRoom, MayStand};
+ghost use Rattle.sessions.specs.Turns.{IsWaitInRoom, MayEnter, MayStand};
 
 use crate::cause::MessageFault;
 use crate::host::Host;
@@ -18,14 +19,17 @@ use crate::session_reply::SessionReply;
 use base_types::RoomName;
 use connection::Answer;
 use keeper::Keeper;
-use room_lock::{Entrance, Pass, Prefix, RoomHistories};
+use room_lock::{Entrance, Opening, Pass, Prefix, RoomHistories, Rooms};
+use scope::Scope;
 use std::marker::Model;
 use std::sync::Wait;
 use wire::{Refusal, Request};
 use wire_reader::{ReadFault, Scratch, read_request};
 
-/// A session, with its pass if it is in a room. It cannot be dropped: `end` hands the pass back.
+/// A session: which rooms it may enter, and its pass if it is in a room. It cannot be dropped: `end`
+/// hands the pass back.
 pub struct Session<P: RoomHistories> {
+    scope: Scope,
     pass: Option<Pass<P>>,
 }
 
@@ -34,27 +38,27 @@ impl<P: RoomHistories> Model for Session<P> {
 
     ghost Value = { SessionView };
 
-    ghost view = { λ s. s.pass };
+    ghost view = { λ s. record { scope = s.scope; pass = s.pass } };
 }
 
 impl<P: RoomHistories> Session<P> {
-    /// A session in no room.
-    pub fn new() -> Session<P>
-        ensures { result ≡ None }
+    /// A session of this scope, in no room.
+    pub fn new(scope: Scope) -> Session<P>
+        ensures { result ≡ record { scope = scope; pass = None } }
     {
-        Session { pass: None }
+        Session { scope, pass: None }
     }
 
     /// The pass, if the session is in a room.
     pub fn pass(&self) -> Option<&Pass<P>>
-        ensures { option_map (λ pass. pass.now) result ≡ self.now }
+        ensures { option_map (λ pass. pass.now) result ≡ self.now.pass }
     {
         self.pass.as_ref()
     }
 
     /// Ends the session, and frees its site for a coming back.
     pub fn end<R: Wait, O, K>(self, host: &Host<'_, P, R, O, K>) {
-        let Session { pass } = self;
+        let Session { scope: _, pass } = self;
         if let Some(pass) = pass
             && let Err(stray) = host.rooms.hand_back(host.rt, pass)
         {
@@ -65,9 +69,10 @@ impl<P: RoomHistories> Session<P> {
     /// Answers one message, and returns the text of the reply with what it reports of a room. Or
     /// holds the message: then it is `None`, and nothing has changed.
     /// The session itself refuses five things. These are bytes that are no request, `join` and
-    /// `back` in a room, other requests in no room, rooms that do not exist, and a `join` of a room
-    /// for which the keeper has no permit. Every other request is one call of the rooms: `join` and
-    /// `back` may give a pass, `leave` hands it back, and the rest call the room by it.
+    /// `back` in a room, other requests in no room, rooms that do not exist or are not in its scope,
+    /// and a `join` of a room for which the keeper has no permit. Every other request is one call of
+    /// the rooms: `join` and `back` may give a pass, `leave` hands it back, and the rest call the room
+    /// by it.
     /// With `may_hold` it holds a `wait` in a room whose record has exactly the number of entries
     /// that the request names. Without, a `wait` is a pull.
     /// The text may be sent once what it reports is kept. The session's own refusals report
@@ -131,7 +136,7 @@ impl<P: RoomHistories> Session<P> {
 
     /// Returns whether the request waits for the entry behind all that the room's record has.
     fn waits<R: Wait, O, K>(&self, host: &Host<'_, P, R, O, K>, request: &Request) -> bool
-        ensures { IsTrue result → IsWaitInRoom self.now request.now }
+        ensures { IsTrue result → IsWaitInRoom self.now.pass request.now }
     {
         let (Some(pass), Request::Pull { from, waits: true }) = (&self.pass, request) else {
             return false;
@@ -146,7 +151,9 @@ impl<P: RoomHistories> Session<P> {
         request: Request,
     ) -> Result<SessionReply<P>, MessageFault>
         ensures ok { IfOk result (λ answer. IsAnswer P.limits
-            host.now.rooms.now (IsPermitted K.permits) K.denies self.old self.new request answer.told answer.reply) }
+            host.now.rooms.now (IsPermitted K.permits) K.denies self.old.scope self.old.pass
+            self.new.pass request answer.told answer.reply) }
+        ensures scope { self.new.scope ≡ self.old.scope }
         ensures err { OnErr result (self.new ≡ self.old) }
     {
         match request {
@@ -154,6 +161,20 @@ impl<P: RoomHistories> Session<P> {
             Request::Back { room, site } => self.back(host, &room, site),
             Request::Leave => self.leave(host),
             request => self.call(host, request),
+        }
+    }
+
+    /// The opening of the room of this name, if the session may enter it and there is one. The scope is
+    /// asked before the rooms are.
+    fn find_room<'r>(&self, rooms: &'r Rooms<P>, name: &RoomName) -> Option<&'r Opening<P>>
+        ensures some { IfSome result (λ opening. MayEnter self.now.scope rooms.now name.now
+            × IsOpeningFor rooms.now name.now opening.now) }
+        ensures none { IsNone result → ¬ (MayEnter self.now.scope rooms.now name.now) }
+    {
+        if self.scope.allows(name) {
+            rooms.opening_of(name)
+        } else {
+            None
         }
     }
 
@@ -165,17 +186,22 @@ impl<P: RoomHistories> Session<P> {
         name: &RoomName,
     ) -> Result<SessionReply<P>, MessageFault>
         ensures ok { IfOk result (λ answer. IsAnswer P.limits
-            host.now.rooms.now (IsPermitted K.permits) K.denies self.old self.new (Join name.now) answer.told answer.reply) }
+            host.now.rooms.now (IsPermitted K.permits) K.denies self.old.scope self.old.pass
+            self.new.pass (Join name.now) answer.told answer.reply) }
+        ensures scope { self.new.scope ≡ self.old.scope }
         ensures err { OnErr result (self.new ≡ self.old) }
         ensures cause { IfErr result (λ why. why ≡ message_fault.NoMemory) }
     {
         if self.pass.is_some() {
             return Ok(SessionReply::own_refusal(Refusal::AlreadyJoined));
         }
-        if is_denied(host, name) {
+        let Some(opening) = self.find_room(host.rooms, name) else {
+            return Ok(SessionReply::own_refusal(Refusal::NoSuchRoom));
+        };
+        if host.keeper.permit(host.rt, opening).is_none() {
             return Ok(SessionReply::own_refusal(Refusal::NotServed));
         }
-        let entrance = host.rooms.join(host.rt, host.alloc, name)?;
+        let entrance = host.rooms.join(host.rt, host.alloc, opening)?;
         Ok(self.enter(entrance))
     }
 
@@ -187,14 +213,19 @@ impl<P: RoomHistories> Session<P> {
         site: u32,
     ) -> Result<SessionReply<P>, MessageFault>
         ensures ok { IfOk result (λ answer. IsAnswer P.limits
-            host.now.rooms.now (IsPermitted K.permits) K.denies self.old self.new (Back name.now site) answer.told answer.reply) }
+            host.now.rooms.now (IsPermitted K.permits) K.denies self.old.scope self.old.pass
+            self.new.pass (Back name.now site) answer.told answer.reply) }
+        ensures scope { self.new.scope ≡ self.old.scope }
         ensures err { OnErr result (self.new ≡ self.old) }
         ensures cause { IfErr result (λ why. why ≡ message_fault.NoMemory) }
     {
         if self.pass.is_some() {
             return Ok(SessionReply::own_refusal(Refusal::AlreadyJoined));
         }
-        let entrance = host.rooms.back(host.rt, host.alloc, name, site)?;
+        let Some(opening) = self.find_room(host.rooms, name) else {
+            return Ok(SessionReply::own_refusal(Refusal::NoSuchRoom));
+        };
+        let entrance = host.rooms.back(host.rt, host.alloc, opening, site)?;
         Ok(self.enter(entrance))
     }
 
@@ -204,10 +235,12 @@ impl<P: RoomHistories> Session<P> {
         host: &Host<'_, P, R, O, K>,
     ) -> Result<SessionReply<P>, MessageFault>
         ensures ok { IfOk result (λ answer. IsAnswer P.limits
-            host.now.rooms.now (IsPermitted K.permits) K.denies self.old self.new Leave answer.told answer.reply) }
+            host.now.rooms.now (IsPermitted K.permits) K.denies self.old.scope self.old.pass
+            self.new.pass Leave answer.told answer.reply) }
+        ensures scope { self.new.scope ≡ self.old.scope }
         ensures err { OnErr result (self.new ≡ self.old) }
         ensures cause { IfErr result (λ why. why ≡ message_fault.Torn) }
-        ensures other_rooms { MatchOption self.old (Unit {0})
+        ensures other_rooms { MatchOption self.old.pass (Unit {0})
             (λ was. ¬ IsOfRooms host.now.rooms.now was → result ≡ Err message_fault.Torn) }
     {
         let Some(pass) = self.pass.take() else {
@@ -229,9 +262,10 @@ impl<P: RoomHistories> Session<P> {
         request: Request,
     ) -> Result<SessionReply<P>, MessageFault>
         ensures ok { IfOk result (λ answer.
-            IsCallIf P.limits self.old self.new request answer.told answer.reply) }
+            IsCallIf P.limits self.old.pass self.new.pass request answer.told answer.reply) }
+        ensures scope { self.new.scope ≡ self.old.scope }
         ensures err { OnErr result (self.new ≡ self.old) }
-        ensures other_rooms { MatchOption self.old (Unit {0})
+        ensures other_rooms { MatchOption self.old.pass (Unit {0})
             (λ was. ¬ IsOfRooms host.now.rooms.now was → result ≡ Err message_fault.Torn) }
     {
         match &mut self.pass {
@@ -242,8 +276,9 @@ impl<P: RoomHistories> Session<P> {
 
     /// Takes the pass of who was let in. Gives the answer to who asked to be let in.
     fn enter(&mut self, entrance: Entrance<P>) -> SessionReply<P>
-        requires { self.old ≡ None }
-        ensures { IsAfter entrance self.new result.told result.reply }
+        requires { self.old.pass ≡ None }
+        ensures after { IsAfter entrance self.new.pass result.told result.reply }
+        ensures scope { self.new.scope ≡ self.old.scope }
     {
         match entrance {
             Entrance::Entered(pass, reply) => {
@@ -259,30 +294,13 @@ impl<P: RoomHistories> Session<P> {
 
     /// Puts the session into the room of the pass.
     fn set_pass(&mut self, pass: Pass<P>)
-        requires { self.old ≡ None }
-        ensures { self.new ≡ Some pass }
+        requires { self.old.pass ≡ None }
+        ensures { self.new ≡ record self.old { pass = Some pass } }
     {
         match self.pass.replace(pass) {
             None => {}
             Some(_) => unreachable!(),
         }
-    }
-}
-
-/// Returns whether the keeper has no permit to let a new site into the room of this name. False if
-/// there is no such room.
-fn is_denied<P: RoomHistories, R: Wait, O, K: Keeper<P>>(
-    host: &Host<'_, P, R, O, K>,
-    name: &RoomName,
-) -> bool
-    ensures yes { result ≡ true →
-        (place : ℕ) × IsRoomAt host.now.rooms.now name.now place × K.denies place }
-    ensures no { result ≡ false → (place : ℕ) → IsRoomAt host.now.rooms.now name.now place →
-        IsPermitted K.permits place }
-{
-    match host.rooms.place_of(name) {
-        Some(place) => host.keeper.permit(host.rt, place).is_none(),
-        None => false,
     }
 }
 

@@ -1,6 +1,7 @@
 //! The reply to a message, before it is text.
 
-ghost use Rattle.std.specs.Prelude.{◌≡◌, IfOk, None, Some, string_bytes};
+ghost use Rattle.std.specs.Prelude.{ℕ, ◌≡◌, ◌≢◌, IfOk, IfSome, IsNone, None, Some, string_bytes};
+ghost use Rattle.rules.specs.declared.refusal.Refusal.{Refusal};
 ghost use Rattle.wire.specs.declared.reply.Reply.TheVariants.{No};
 ghost use Rattle.wire.specs.Texts.{reply_text};
 
@@ -42,14 +43,19 @@ impl<P: RoomHistories> SessionReply<P> {
         }
     }
 
-    /// Reports the entry that the room has added with this reply, if there is one: the observer
-    /// hears of it, and the loops in which sessions wait for it are woken.
-    fn tell_growth<R: Wait, O: Observer, K>(&self, host: &Host<'_, P, R, O, K>) {
-        if let Some(told) = &self.told
+    /// The observer hears of the reply, and of the entry that the room has added with it, if there is
+    /// one. The loops in which sessions wait for that entry are woken.
+    fn tell<R: Wait, O: Observer, K>(&self, host: &Host<'_, P, R, O, K>) {
+        let place = match &self.told {
+            Some(told) => Some(told.place()),
+            None => None,
+        };
+        host.observer.after_reply(place, refusal_of(&self.reply));
+        if let Some(place) = place
             && let Some(kind) = self.reply.entry_kind()
         {
-            host.observer.after_entry(told.place(), kind);
-            host.bell.ring(host.rt, told.place());
+            host.observer.after_entry(place, kind);
+            host.bell.ring(host.rt, place);
         }
     }
 
@@ -66,9 +72,20 @@ impl<P: RoomHistories> SessionReply<P> {
             string_bytes answer.text ≡ reply_text self.reply) }
         ensures told { IfOk result (λ answer. answer.told ≡ self.told) }
     {
-        self.tell_growth(host);
+        self.tell(host);
         let text = write_reply(host.alloc, &self.reply)?;
         let SessionReply { reply: _, told } = self;
         Ok(Answer { text, told })
+    }
+}
+
+/// The refusal, if the reply is one.
+fn refusal_of(reply: &Reply) -> Option<Refusal>
+    ensures some { IfSome result (λ refusal. (at : ℕ) × (reply.now ≡ No at refusal)) }
+    ensures none { IsNone result → (at : ℕ) (refusal : Refusal) → reply.now ≢ No at refusal }
+{
+    match reply {
+        Reply::No { at: _, refusal } => Some(*refusal),
+        _ => None,
     }
 }

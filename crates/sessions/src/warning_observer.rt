@@ -6,7 +6,7 @@ use base_types::RoomName;
 use keeper::Change;
 use log::{Log, warn};
 use loops::Client;
-use wire::EntryKind;
+use wire::{EntryKind, Refusal};
 
 /// An observer that logs a warning for each session that did not end `Closed` or `NotKept`; of the
 /// latter the observer hears once for all sessions. It hands all events on to another observer.
@@ -17,6 +17,10 @@ pub(crate) struct WarningObserver<'a, R, O> {
 }
 
 impl<R: Log, O: Observer> Observer for WarningObserver<'_, R, O> {
+    fn after_reply(&self, place: Option<usize>, refusal: Option<Refusal>) {
+        self.observer.after_reply(place, refusal);
+    }
+
     fn after_entry(&self, place: usize, kind: EntryKind) {
         self.observer.after_entry(place, kind);
     }
@@ -48,5 +52,9 @@ impl<R: Log, O: Observer> Observer for WarningObserver<'_, R, O> {
             }
         }
         self.observer.after_session(client, room, cause);
+    }
+
+    fn metrics(&self) -> Option<String> {
+        self.observer.metrics()
     }
 }

@@ -1,6 +1,9 @@
 //! Heads of requests, and the responses without a session.
 
-use connection::{Head, MAX_HEAD_LEN, UNAVAILABLE, health_answer, read_head, write_switching};
+use connection::{
+    Head, MAX_HEAD_LEN, Page, UNAVAILABLE, health_answer, metrics_answer, read_head,
+    write_switching,
+};
 use std::test::Fail;
 
 /// The example of RFC 6455, section 1.3, with a frame behind it.
@@ -18,9 +21,11 @@ fn an_opening_handshake_is_answered(rt: HostRuntime) -> Result<(), Fail> {
             Head::Partial => assert!(rt; len < whole),
             Head::Upgrade {
                 accept_key,
+                target,
                 len: head,
             } => {
                 assert!(rt; len >= whole && head == whole);
+                assert_eq!(rt; target.of(OPENING), b"/chat".as_slice());
                 let mut output = Vec::new(rt.alloc());
                 write_switching(&accept_key, &mut output)?;
                 assert_eq!(rt; output.as_slice(), ANSWER);
@@ -33,19 +38,25 @@ fn an_opening_handshake_is_answered(rt: HostRuntime) -> Result<(), Fail> {
 
 #[test]
 fn heads_ask_for_little(rt: HostRuntime) {
-    let rows: [(&[u8], Head); 15] = [
+    let rows: [(&[u8], Head); 18] = [
         (b"", Head::Partial),
         (b"GET /health HTTP/1.1\r\n", Head::Partial),
-        (b"GET /health HTTP/1.1\r\n\r\n", Head::Probe),
-        (b"GET /health HTTP/1.0\r\n\r\n", Head::Probe),
+        (b"GET /health HTTP/1.1\r\n\r\n", Head::Probe(Page::Health)),
+        (b"GET /health HTTP/1.0\r\n\r\n", Head::Probe(Page::Health)),
         (
             b"GET /health HTTP/1.1\r\nHost: h\r\nX-Upgrade: websocket\r\n\r\n",
-            Head::Probe,
+            Head::Probe(Page::Health),
         ),
         (
             b"GET /health HTTP/1.1\r\nHost: h\r\nuPGRADE: websocket\r\n\r\n",
             Head::Refused,
         ),
+        (b"GET /metrics HTTP/1.1\r\n\r\n", Head::Probe(Page::Metrics)),
+        (
+            b"GET /metrics HTTP/1.1\r\nHost: h\r\nUpgrade: websocket\r\n\r\n",
+            Head::Refused,
+        ),
+        (b"GET /metrics?x HTTP/1.1\r\n\r\n", Head::Refused),
         (b"GET /healthy HTTP/1.1\r\n\r\n", Head::Refused),
         (b"GET /health/ HTTP/1.1\r\n\r\n", Head::Refused),
         (b"POST /health HTTP/1.1\r\n\r\n", Head::Refused),
@@ -64,7 +75,7 @@ fn heads_ask_for_little(rt: HostRuntime) {
 #[test]
 fn long_heads_are_refused(rt: HostRuntime) -> Result<(), Fail> {
     for (len, expected) in [
-        (MAX_HEAD_LEN, Head::Probe),
+        (MAX_HEAD_LEN, Head::Probe(Page::Health)),
         (MAX_HEAD_LEN + 1, Head::Refused),
     ] {
         let mut bytes = Vec::from_slice(rt.alloc(), b"GET /health HTTP/1.1\r\nX: ")?;
@@ -86,7 +97,7 @@ fn long_heads_are_refused(rt: HostRuntime) -> Result<(), Fail> {
         };
         assert_eq!(rt; read_head(&bytes), begun);
     }
-    for (count, expected) in [(64, Head::Probe), (65, Head::Refused)] {
+    for (count, expected) in [(64, Head::Probe(Page::Health)), (65, Head::Refused)] {
         let mut bytes = Vec::from_slice(rt.alloc(), b"GET /health HTTP/1.1\r\n")?;
         for _ in 0..count {
             bytes.extend_from_slice(b"X: x\r\n")?;
@@ -108,6 +119,11 @@ fn probes_are_answered(rt: HostRuntime) -> Result<(), Fail> {
     assert_eq!(rt;
         failing.as_str(),
         "HTTP/1.1 503 Service Unavailable\r\nContent-Type: text/plain\r\nContent-Length: 23\r\nCache-Control: no-store\r\nConnection: close\r\n\r\nroom plans is not kept\n"
+    );
+    let metrics = metrics_answer(rt.alloc(), "grace_sessions 1\n")?;
+    assert_eq!(rt;
+        metrics.as_str(),
+        "HTTP/1.1 200 OK\r\nContent-Type: text/plain; version=0.0.4\r\nContent-Length: 17\r\nCache-Control: no-store\r\nConnection: close\r\n\r\ngrace_sessions 1\n"
     );
     assert!(rt; UNAVAILABLE.starts_with("HTTP/1.1 503 Service Unavailable\r\nRetry-After: 5\r\n"));
     Ok(())

@@ -5,10 +5,10 @@ ghost use Rattle.std.specs.Prelude.{◌≡◌};
 use std::marker::Model;
 
 /// The proof at run time that a room's file held only what it keeps. Only the module of the file
-/// creates one. Contracts see the place of the room.
+/// creates one. Contracts see the number of the room's opening.
 #[derive(Drop)]
 pub struct Clean {
-    place: usize,
+    number: u64,
 }
 
 impl Model for Clean {
@@ -16,28 +16,30 @@ impl Model for Clean {
 
     ghost Value = { ℕ };
 
-    ghost view = { λ clean. clean.place };
+    ghost view = { λ clean. clean.number };
 }
 
 impl Clean {
-    /// The file of the room at this place holds only what it keeps.
-    pub(super) fn of(place: usize) -> Clean
-        ensures { result ≡ place }
+    /// The file of the room of the opening of this number holds only what it keeps.
+    pub(super) fn of(number: u64) -> Clean
+        ensures { result ≡ number }
     {
-        Clean { place }
+        Clean { number }
     }
 
     /// A copy for the same room.
     pub fn copy(&self) -> Clean
         ensures { result ≡ self.now }
     {
-        Clean { place: self.place }
+        Clean {
+            number: self.number,
+        }
     }
 
-    /// The place of the room.
-    pub fn place(&self) -> usize
+    /// The number of the room's opening.
+    pub fn number(&self) -> u64
         ensures { result ≡ self.now }
     {
-        self.place
+        self.number
     }
 }

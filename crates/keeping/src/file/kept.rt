@@ -48,7 +48,7 @@ impl<P: RoomHistories> Kept<P> {
     /// Returns whether the file keeps all of this prefix of the room's record.
     pub fn covers(&self, told: &Prefix<P>) -> bool
         ensures yes { result ≡ true → IsKeptIn self.now told.now }
-        ensures no { result ≡ false → ¬ (told.now.place ≡ self.now.place)
+        ensures no { result ≡ false → ¬ (told.now.opening ≡ self.now.opening)
             ⊎ (length self.now.entries < length told.now.entries) }
     {
         told.begins(&self.prefix)

@@ -24,6 +24,15 @@ struct Line<S> {
     output: Vec<u8>,
 }
 
+/// What a line got by its handshake.
+#[derive(Drop)]
+struct Opened {
+    /// The target of the request.
+    target: Vec<u8>,
+    /// The bytes behind the head.
+    rest: Vec<u8>,
+}
+
 /// Serves a session over a stream from its handshake to its end, as a loop does over a socket.
 pub(super) fn serve_one<P, R, S, O, K>(host: &Host<'_, P, R, O, K>, client: &Client, stream: S)
 where
@@ -40,7 +49,7 @@ where
     };
     host.before_session();
     match line.open() {
-        Some(rest) => line.serve(host, client, rest),
+        Some(opened) => line.serve(host, client, opened),
         None => host.after_session(client, None, Ending::NoHandshake),
     }
 }
@@ -66,35 +75,46 @@ impl<S: Read + Write> Line<S> {
         self.stream.flush().ok()
     }
 
-    /// Performs the handshake. Returns the bytes behind the head, or `None` if there is none.
-    fn open(&mut self) -> Option<Vec<u8>> {
+    /// Performs the handshake. Returns `None` if there is none.
+    fn open(&mut self) -> Option<Opened> {
         let mut head = Vec::new(self.alloc);
         for _ in 0..usize::MAX {
             self.read(&mut head)?;
             match read_head(&head) {
                 Head::Partial => {}
-                Head::Upgrade { accept_key, len } => {
+                Head::Upgrade {
+                    accept_key,
+                    target,
+                    len,
+                } => {
                     write_switching(&accept_key, &mut self.output).ok()?;
                     self.send()?;
                     let len = len.min(head.len());
-                    return head[len..].to_vec(self.alloc).ok();
+                    return Some(Opened {
+                        target: target.of(&head).to_vec(self.alloc).ok()?,
+                        rest: head[len..].to_vec(self.alloc).ok()?,
+                    });
                 }
-                Head::Probe | Head::Refused => return None,
+                Head::Probe(_) | Head::Refused => return None,
             }
         }
         None
     }
 
     /// Serves the session after its handshake.
-    fn serve<P, R, O, K>(&mut self, host: &Host<'_, P, R, O, K>, client: &Client, rest: Vec<u8>)
+    fn serve<P, R, O, K>(&mut self, host: &Host<'_, P, R, O, K>, client: &Client, opened: Opened)
     where
         P: RoomHistories,
         R: Wait,
         O: Observer,
         K: Keeper<P>,
     {
-        let mut connection = Connection::open(host.alloc, host.new_session());
-        let ending = self.serve_all(host, &mut connection, rest);
+        let Some(session) = host.new_session(&opened.target) else {
+            host.after_session(client, None, Ending::Connection(End::NoMemory));
+            return;
+        };
+        let mut connection = Connection::open(host.alloc, session);
+        let ending = self.serve_all(host, &mut connection, opened.rest);
         let _ = self.send();
         host.after_session(client, Some(connection.end()), ending);
     }

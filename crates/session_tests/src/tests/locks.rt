@@ -1,6 +1,6 @@
 //! Rooms behind locks: each call reaches its room, and a close misses a pass.
 
-ghost use Rattle.room_lock.specs.steps.Planned.{AreHistoriesOf};
+ghost use Rattle.room_lock.specs.steps.Planned.{IsPlanOf};
 
 use super::{plan_rooms, room_name};
 use base_types::{NoMemory, RoomName};
@@ -15,7 +15,10 @@ fn join_room<P: RoomHistories>(
     rooms: &Rooms<P>,
     name: &str,
 ) -> Pass<P> {
-    match rooms.join(rt, rt.alloc(), &room_name(rt, name)) {
+    let Some(opening) = rooms.opening_of(&room_name(rt, name)) else {
+        panic!(rt; "no such room")
+    };
+    match rooms.join(rt, rt.alloc(), opening) {
         Ok(Entrance::Entered(pass, _)) => pass,
         Ok(Entrance::Refused(_, _) | Entrance::InUse(_, _) | Entrance::NoRoom) => {
             panic!(rt; "a refused join")
@@ -46,7 +49,7 @@ fn missing_room<P: RoomHistories>(
     rt: &(impl Wait + Abort + AllocGlobal),
     planned: NewRooms,
 ) -> RoomName
-    requires { AreHistoriesOf planned P.limits P.books }
+    requires { IsPlanOf planned P.limits P.register }
 {
     let (rooms, _begun) = Rooms::<P>::new(rt, rt.alloc(), planned).expect(rt, "rooms");
     assert_eq!(rt; visit(rt, &rooms, "r"), (1, 0));

@@ -1,6 +1,6 @@
 //! Sessions and records whose streams fail once, or give and take single bytes.
 
-ghost use Rattle.room_lock.specs.steps.Planned.{AreHistoriesOf};
+ghost use Rattle.room_lock.specs.steps.Planned.{IsPlanOf};
 
 use super::faults::{Calls, Expecting, Parts};
 use super::line::serve_one;
@@ -9,7 +9,7 @@ use base_types::RoomName;
 use keeper::{Attempt, KeepFault, Keeper};
 use log::Log;
 use loops::{Bell, Client, Settings};
-use room_lock::{NewRooms, Prefix, RoomHistories, Rooms};
+use room_lock::{NewRooms, Opening, Prefix, RoomHistories, Rooms};
 use sessions::{Cause, Host, Observer, ServeFault, Served, serve_streams};
 use std::alloc::Global;
 use std::io::{Read, Write};
@@ -93,7 +93,7 @@ where
     R: Threads + Wait + Clock + Net + Log + Sync + Abort + AllocGlobal,
     S: Read + Write + Drop,
     W: Write,
-    requires { AreHistoriesOf planned P.limits P.books }
+    requires { IsPlanOf planned P.limits P.register }
 {
     let (rooms, _begun) = Rooms::<P>::new(rt, rt.alloc(), planned).expect(rt, "rooms");
     let (bell, mut polls) = Bell::new(rt, rt.alloc(), 1, rooms.count()).expect(rt, "a bell");
@@ -112,6 +112,7 @@ where
         },
         observer: told,
         keeper: told,
+        is_confining: false,
     };
     serve_streams(served, rooms, Vec::new(rt.alloc()).into_iter(), output)
 }
@@ -130,6 +131,7 @@ where
         observer: told,
         keeper: told,
         bell,
+        is_confining: false,
     };
     let mut client = Client {
         session: 0,
@@ -173,8 +175,8 @@ pub(super) struct Told {
     asked: AtomicU64,
     /// The reply that is not kept, counted from 1, and why.
     fails: Option<(u64, KeepFault)>,
-    /// The place of the room for which there is no permit.
-    denied: Option<usize>,
+    /// The number of the opening for which there is no permit.
+    denied: Option<u64>,
 }
 
 impl Told {
@@ -188,10 +190,10 @@ impl Told {
         }
     }
 
-    /// One that has no permit for the room at this place.
-    pub(super) fn denying(place: usize) -> Told {
+    /// One that has no permit for the room of the opening of this number.
+    pub(super) fn denying(number: u64) -> Told {
         Told {
-            denied: Some(place),
+            denied: Some(number),
             ..Told::new(None)
         }
     }
@@ -234,11 +236,11 @@ impl<P: RoomHistories> Keeper<P> for Told {
 
     ghost shows = { λ _ told. Unit {0} };
 
-    ghost permits = { λ _ place. Unit {0} };
+    ghost permits = { λ _ number. Unit {0} };
 
     ghost fails = { λ _ told. Unit {0} };
 
-    ghost denies = { λ place. Unit {0} };
+    ghost denies = { λ number. Unit {0} };
 
     fn receipt(&self, _rt: &impl Wait, _told: &Prefix<P>) -> Result<Option<()>, KeepFault> {
         let asked = self.asked.fetch_add(1, Ordering::SeqCst).wrapping_add(1);
@@ -248,15 +250,15 @@ impl<P: RoomHistories> Keeper<P> for Told {
         }
     }
 
-    fn permit(&self, _rt: &impl Wait, place: usize) -> Option<()> {
-        if self.denied == Some(place) {
+    fn permit(&self, _rt: &impl Wait, opening: &Opening<P>) -> Option<()> {
+        if self.denied == Some(opening.number()) {
             None
         } else {
             Some(())
         }
     }
 
-    fn failing(&self, _rt: &impl Wait) -> Option<usize> {
+    fn failing(&self, _rt: &impl Wait) -> Option<u64> {
         None
     }
 

@@ -4,11 +4,10 @@ use Rattle.rules.specs.declared.limits.LimitValues.{LimitValues}
 use Rattle.rules.specs.declared.refusal.Refusal.TheVariants.{NotJoined}
 use Rattle.wire.specs.declared.request.Request.{Request}
 use Rattle.wire.specs.declared.reply.Reply.{Reply}
-use Rattle.room_lock.specs.Passes.{PrefixView}
-use Rattle.sessions.specs.Sessions.{SessionView}
+use Rattle.room_lock.specs.Passes.{PassView, PrefixView}
 use Rattle.sessions.specs.Turns.{IsCallBy, IsRefused}
 
-abbrev pub IsCallIf : LimitValues → SessionView → SessionView → Request → Option PrefixView → Reply
+abbrev pub IsCallIf : LimitValues → Option PassView → Option PassView → Request → Option PrefixView → Reply
     → Type 0
 IsCallIf limits (Some was) new request told reply = IsCallBy limits was new request told reply
 IsCallIf limits None new request told reply = IsRefused NotJoined None new told reply

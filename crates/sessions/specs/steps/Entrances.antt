@@ -5,12 +5,11 @@ use Rattle.wire.specs.declared.reply.Reply.{Reply}
 use Rattle.wire.specs.declared.reply.Reply.TheVariants.{No}
 use Rattle.room_lock.specs.declared.entrance.Entrance.{Entrance}
 use Rattle.room_lock.specs.declared.entrance.Entrance.TheVariants.{Entered, Refused, InUse, NoRoom}
-use Rattle.room_lock.specs.Passes.{PrefixView, prefix_of}
-use Rattle.sessions.specs.Sessions.{SessionView}
+use Rattle.room_lock.specs.Passes.{PassView, PrefixView, prefix_of}
 
 module _ {P : Type 0} where
-  -- the session afterwards, the prefix of a record that is reported, and the reply
-  abbrev pub IsAfter : Entrance P → SessionView → Option PrefixView → Reply → Type 0
+  -- the session's pass afterwards, the prefix of a record that is reported, and the reply
+  abbrev pub IsAfter : Entrance P → Option PassView → Option PrefixView → Reply → Type 0
   IsAfter (Entered pass it) new told reply =
       (reply ≡ it) × (told ≡ Some (prefix_of pass.part)) × (new ≡ Some pass)
   IsAfter (Refused prefix it) new told reply = (reply ≡ it) × (told ≡ Some prefix) × (new ≡ None)

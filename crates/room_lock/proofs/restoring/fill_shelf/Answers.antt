@@ -13,7 +13,7 @@ whole_part-requires-clause-short g c =
 pub loop-before-preserved : goal.loop-before-preserved
 loop-before-preserved g c =
     let r = c.args.whole.now.entries in
-    let place = c.args.whole.now.place in
+    let opening = c.args.whole.now.opening in
     let before = c.loop-before.before in
     let part = c.whole_part.ensures in
-    c.in_ok-push.ensures.items ∙ (λ j. c.loop-before.invariant j ++ Some (part j) ∷ []) ∙ sym (map-range_with_len_more (λ site. Some (whole_part place r site)) 1 before (before + 1) (omega arith))
+    c.in_ok-push.ensures.items ∙ (λ j. c.loop-before.invariant j ++ Some (part j) ∷ []) ∙ sym (map-range_with_len_more (λ site. Some (whole_part opening r site)) 1 before (before + 1) (omega arith))

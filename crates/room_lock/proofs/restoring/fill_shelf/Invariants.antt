@@ -5,4 +5,4 @@ use Rattle.room_lock.proofs.restoring.fill_shelf.Given as goal
 
 abbrev pub invariant-loop-before : goal.invariant-loop-before
 invariant-loop-before g l =
-    l.shelf.items ≡ map (λ site. Some (whole_part l.whole.place l.whole.entries site)) (range_with_len 1 l.before)
+    l.shelf.items ≡ map (λ site. Some (whole_part l.whole.opening l.whole.entries site)) (range_with_len 1 l.before)

@@ -5,7 +5,7 @@ use Rattle.sessions.proofs.laws.a_reply_reports_on_the_room_of_the_session.Goals
 
 pub returns : goal.returns
 returns g c = record {
-  join = λ limits names. join_told_of limits names _ _;
-  back = λ limits names name site. told_of names name (IsBack limits site) (IsBackRefusal limits site);
-  inside = λ limits names. turn_told limits names (IsPermitted g.K.Keeper.permits) g.K.Keeper.denies;
+  join = λ limits names scope. join_told_of limits names _ _ scope;
+  back = λ limits names scope name site. told_of scope names name (IsBack limits site) (IsBackRefusal limits site);
+  inside = λ limits names old new was bytes. turn_told limits names (IsPermitted g.K.Keeper.permits) g.K.Keeper.denies old new bytes was;
 }

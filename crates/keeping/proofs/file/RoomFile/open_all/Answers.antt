@@ -1,42 +1,41 @@
 use Rattle.std.proofs.Common.{◌≡◌, ◌++◌, ◌∷◌, [], length, map, take, get_or, sym, ap, ◌∙◌, arith, append_assoc, length-append}
-use Rattle.std.specs.Prelude.{slice_get}
-use Rattle.std.proofs.lemmas.List.{map-append, length-map, take_more, take_all}
-use Rattle.restore.specs.steps.Files.{FileView}
+use Rattle.std.proofs.lemmas.List.{map-append, take_more, take_all}
 use Rattle.room_lock.specs.Passes.{PrefixView}
-use Rattle.keeping.proofs.Places.{next_file, length-prefixes}
+use Rattle.room_lock.specs.InOrder.{name_of}
+use Rattle.keeping.proofs.Places.{next_file, length-files}
 use Rattle.keeping.proofs.file.RoomFile.open_all.Goals as goal
 
 pub bounds-begun-len : goal.bounds-begun-len
 bounds-begun-len g c =
     let i = c.loop-file.invariant in
     let whole = ap (λ l. c.loop-file.yielded ++ l) (sym c.in-Some.ensures.steps.0) ∙ i.2 in
-    let next = next_file c.args.files.items c.loop-file.yielded c.next.new.self.rest.items c.in-Some.file c.args.rooms.now c.args.begun.now c.requires.names c.requires.begun whole in
+    let next = next_file c.args.files.items c.loop-file.yielded c.next.new.self.rest.items c.in-Some.file c.args.begun.now c.requires.names c.requires.begun whole in
     omega (arith, next.within, c.len-in-loop-file.ensures, i.3)
 
 pub open-requires-clause-name : goal.open-requires-clause-name
 open-requires-clause-name g c =
     let i = c.loop-file.invariant in
     let whole = ap (λ l. c.loop-file.yielded ++ l) (sym c.in-Some.ensures.steps.0) ∙ i.2 in
-    let next = next_file c.args.files.items c.loop-file.yielded c.next.new.self.rest.items c.in-Some.file c.args.rooms.now c.args.begun.now c.requires.names c.requires.begun whole in
+    let next = next_file c.args.files.items c.loop-file.yielded c.next.new.self.rest.items c.in-Some.file c.args.begun.now c.requires.names c.requires.begun whole in
     let at : c.len-in-loop-file.result ≡ length c.loop-file.yielded = c.len-in-loop-file.ensures ∙ i.3 in
-    let prefix = c.index-begun-len.is ∙ ap (λ n. get_or c.args.begun.now n c.index-begun-len.result) at ∙ next.prefix c.index-begun-len.result in
-    ap (λ (p : PrefixView). slice_get c.args.rooms.now p.place) prefix ∙ next.name
+    let prefix = c.index-begun-len.is ∙ ap (λ n. get_or c.args.begun.now n c.index-begun-len.result) at in
+    ap (λ (p : PrefixView). name_of p.opening) prefix ∙ next.name c.index-begun-len.result
 
 pub open-requires-clause-begun : goal.open-requires-clause-begun
 open-requires-clause-begun g c =
     let i = c.loop-file.invariant in
     let whole = ap (λ l. c.loop-file.yielded ++ l) (sym c.in-Some.ensures.steps.0) ∙ i.2 in
-    let next = next_file c.args.files.items c.loop-file.yielded c.next.new.self.rest.items c.in-Some.file c.args.rooms.now c.args.begun.now c.requires.names c.requires.begun whole in
+    let next = next_file c.args.files.items c.loop-file.yielded c.next.new.self.rest.items c.in-Some.file c.args.begun.now c.requires.names c.requires.begun whole in
     let at : c.len-in-loop-file.result ≡ length c.loop-file.yielded = c.len-in-loop-file.ensures ∙ i.3 in
-    let prefix = c.index-begun-len.is ∙ ap (λ n. get_or c.args.begun.now n c.index-begun-len.result) at ∙ next.prefix c.index-begun-len.result in
-    ap (λ (p : PrefixView). p.entries) prefix
+    let prefix = c.index-begun-len.is ∙ ap (λ n. get_or c.args.begun.now n c.index-begun-len.result) at in
+    ap (λ (p : PrefixView). p.entries) prefix ∙ next.entries c.index-begun-len.result
 
 pub loop-file-preserved : goal.loop-file-preserved
 loop-file-preserved g c =
     let i = c.loop-file.invariant in
     let yielded = c.loop-file.yielded in
     let whole = ap (λ l. yielded ++ l) (sym c.in-Some.ensures.steps.0) ∙ i.2 in
-    let next = next_file c.args.files.items yielded c.next.new.self.rest.items c.in-Some.file c.args.rooms.now c.args.begun.now c.requires.names c.requires.begun whole in
+    let next = next_file c.args.files.items yielded c.next.new.self.rest.items c.in-Some.file c.args.begun.now c.requires.names c.requires.begun whole in
     let at : c.len-in-loop-file.result ≡ length yielded = c.len-in-loop-file.ensures ∙ i.3 in
     let here = ap (λ n. get_or c.args.begun.now n c.index-begun-len.result) (sym at) ∙ sym c.index-begun-len.is in
     let more = length-append yielded (c.in-Some.file ∷ []) in (
@@ -55,4 +54,4 @@ pub returns : goal.returns
 returns g c =
     let i = c.loop-file.invariant in
     i.5 ∙ take_all (length c.loop-file.yielded) c.args.begun.now
-    (omega (arith, i.4, c.in-None.ensures.steps.0, c.args.files.ok, ap length c.requires.begun, length-prefixes 0 (map (λ (f : FileView). f.entries) c.args.files.items), length-map c.args.files.items (λ (f : FileView). f.entries)))
+    (omega (arith, i.4, c.in-None.ensures.steps.0, c.args.files.ok, length-files c.args.files.items c.args.begun.now c.requires.begun))

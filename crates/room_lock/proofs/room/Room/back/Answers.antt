@@ -9,7 +9,7 @@ use Rattle.room_core.specs.Answers.{back_reply}
 use Rattle.room_lock.specs.steps.Entrances.{IfEntered}
 use Rattle.room_lock.specs.Passes.{PartView, PassView}
 use Rattle.room_lock.specs.Shelves.{Shelf, part_of}
-use Rattle.room_lock.specs.Kept.{IsRoomKept, Placed}
+use Rattle.room_lock.specs.Kept.{IsRoomKept, RoomView}
 use Rattle.room_lock.specs.Told.{IsBackOver}
 use Rattle.room_lock.proofs.Answers.{count_of_front}
 use Rattle.room_lock.proofs.Balance.{with_shelf}
@@ -30,51 +30,51 @@ invariant_of-part g c =
 pub invariant_of-self : goal.invariant_of-self
 invariant_of-self g c =
     let old = c.self.invariant in
-    let place = c.self.inside.place in
+    let opening = c.self.inside.opening in
     let room = c.self.inside.state.room in
-    let P : Shelf → Type 0 = IsRoomKept g.P.RoomHistories.books g.P.RoomHistories.limits place room c.self.inside.account in
-    subst P (sym c.take_part.ensures.rest) (with_shelf _ _ place room c.self.inside.account _ _ old (shelf_taken place room.entries c.self.inside.shelf.items old.shelved c.args.site))
+    let P : Shelf → Type 0 = IsRoomKept g.P.RoomHistories.limits opening room c.self.inside.account in
+    subst P (sym c.take_part.ensures.rest) (with_shelf _ opening room c.self.inside.account _ _ old (shelf_taken opening room.entries c.self.inside.shelf.items old.shelved c.args.site))
 
 pub invariant_of-self-in-None : goal.invariant_of-self-in-None
 invariant_of-self-in-None g c =
     let old = c.self.invariant in
-    let place = c.self.inside.place in
+    let opening = c.self.inside.opening in
     let room = c.self.inside.state.room in
-    let P : Shelf → Type 0 = IsRoomKept g.P.RoomHistories.books g.P.RoomHistories.limits place room c.self.inside.account in
-    subst P (sym c.take_part.ensures.rest) (with_shelf _ _ place room c.self.inside.account _ _ old (shelf_taken place room.entries c.self.inside.shelf.items old.shelved c.args.site))
+    let P : Shelf → Type 0 = IsRoomKept g.P.RoomHistories.limits opening room c.self.inside.account in
+    subst P (sym c.take_part.ensures.rest) (with_shelf _ opening room c.self.inside.account _ _ old (shelf_taken opening room.entries c.self.inside.shelf.items old.shelved c.args.site))
 
 pub invariant_of-self-2 : goal.invariant_of-self-2
 invariant_of-self-2 g c =
     let old = c.self.invariant in
-    let place = c.self.inside.place in
+    let opening = c.self.inside.opening in
     let room = c.self.inside.state.room in
-    let P : Shelf → Type 0 = IsRoomKept g.P.RoomHistories.books g.P.RoomHistories.limits place room c.self.inside.account in
-    subst P (sym c.take_part.ensures.rest) (with_shelf _ _ place room c.self.inside.account _ _ old (shelf_taken place room.entries c.self.inside.shelf.items old.shelved c.args.site))
+    let P : Shelf → Type 0 = IsRoomKept g.P.RoomHistories.limits opening room c.self.inside.account in
+    subst P (sym c.take_part.ensures.rest) (with_shelf _ opening room c.self.inside.account _ _ old (shelf_taken opening room.entries c.self.inside.shelf.items old.shelved c.args.site))
 
 pub returns-clause-entered : goal.returns-clause-entered
 returns-clause-entered g c =
     let r = c.self.inside.state.room.entries in
     let limits = g.P.RoomHistories.limits in
-    let P : Placed → PassView → _ → Type 0 = λ room pass reply. (x : PartView) × (part_of room.shelf c.args.site ≡ Some x) × IsBackOver limits room.entries c.args.site x pass reply × (pass.room ≡ c.args.name.now) in
+    let P : RoomView → PassView → _ → Type 0 = λ room pass reply. (x : PartView) × (part_of room.shelf c.args.site ≡ Some x) × IsBackOver limits room.entries c.args.site x pass reply × (pass.room ≡ c.args.name.now) in
     elim c.match-take_part.branch [
       | in-Some-take_part w ↦
           (let part = w.in-Some-take_part.part in
           let kept = c.self.invariant.shelved.parts c.args.site part (sym w.in-Some-take_part.ensures.part) in
           let found = within c.self.inside.shelf.items c.args.site part (sym w.in-Some-take_part.ensures.part) in
           let counted = c.self.invariant.shelved.counted in
-          let pass : PassView = record { room = c.in_ok-room.room; part = record { place = w.prefix.result.place; site = w.part.inside.site; seen = w.prefix.result.entries; added = w.part.inside.added } } in
+          let pass : PassView = record { room = c.in_ok-room.room; part = record { opening = w.prefix.result.opening; site = w.part.inside.site; seen = w.prefix.result.entries; added = w.part.inside.added } } in
           let back : IsBackOver limits r c.args.site part pass w.back-reply.result = record {
             joined = and_from _ _ (le-leb 1 c.args.site found.0) (le-leb c.args.site _ (omega (arith, found.1, counted)));
             reply_is = w.back-reply.ensures ∙ ap (λ room. back_reply room false c.args.site) (room_is limits c.self.inside.state.room c.self.invariant.limits_are);
-            was_of = (kept.site_is, kept.place_is ∙ sym (ap (λ v. v.place) w.prefix.ensures));
+            was_of = (kept.site_is, kept.opening_is ∙ sym (ap (λ v. v.opening) w.prefix.ensures));
             begins = kept.seen;
             site_is = ap (λ v. v.site) w.part.view_is ∙ kept.site_is;
             seen = ap (λ v. v.entries) w.prefix.ensures;
             added = ap (λ v. v.added) w.part.view_is;
             legal = subst (λ (l : LimitValues). IsLegal l r) c.self.invariant.limits_are c.len_of-entries.ensures.legal;
           } in
-          let here : P (record { place = c.self.inside.place; entries = r; shelf = c.self.inside.shelf.items }) pass w.back-reply.result =
+          let here : P (record { opening = c.self.inside.opening; entries = r; shelf = c.self.inside.shelf.items }) pass w.back-reply.result =
           (part, sym w.in-Some-take_part.ensures.part, back, c.in_ok-room.ensures) in
-          subst (λ result. IfOk result (IfEntered (P c.args.self.now))) (sym w.result-is) (subst (λ (room : Placed). P room pass w.back-reply.result) c.self.view_is here))
+          subst (λ result. IfOk result (IfEntered (P c.args.self.now))) (sym w.result-is) (subst (λ (room : RoomView). P room pass w.back-reply.result) c.self.view_is here))
       | in-None w ↦ subst (λ result. IfOk result (IfEntered (P c.args.self.now))) (sym w.result-is) tt
     ]

@@ -6,7 +6,7 @@ use Rattle.rules.specs.declared.history.Entry.{Entry}
 use Rattle.rules.specs.declared.limits.LimitValues.{LimitValues}
 use Rattle.rules.specs.Records.{IsLegal}
 use Rattle.room_lock.specs.Closing.{HasItsEntries, IsClosed, IsComplete, added_of}
-use Rattle.room_lock.specs.Kept.{Placed}
+use Rattle.room_lock.specs.Kept.{RoomView}
 use Rattle.room_lock.proofs.Closed.{absent_one, closed_by, other_sum}
 use Rattle.room_lock.proofs.room.Room.close.Goals as goal
 
@@ -23,7 +23,7 @@ returns-clause-closed g c =
     let whole : sum_by added_of parts ≡ length r = omega (arith, sum, c.if-added_together-len.false, counted, seen) in
     let legal = subst (λ (l : LimitValues). IsLegal l r) c.self.invariant.limits_are c.into_entries-entries.ensures.legal in
     subst (λ (l : List Entry). IsClosed limits l parts) (ap (λ v. v.entries) c.self.view_is)
-    (closed_by limits c.self.inside.place r c.self.inside.shelf.items parts legal c.self.invariant.shelved full (subst (All HasItsEntries) slice c.added_together.ensures.own) whole)
+    (closed_by limits c.self.inside.opening r c.self.inside.shelf.items parts legal c.self.invariant.shelved full (subst (All HasItsEntries) slice c.added_together.ensures.own) whole)
 
 pub returns-in_default-clause-missing : goal.returns-in_default-clause-missing
 returns-in_default-clause-missing g c =
@@ -31,7 +31,7 @@ returns-in_default-clause-missing g c =
     let shelf = c.self.inside.shelf.items in
     let absent : Contains shelf None = subst (λ all. MatchOption all (Contains shelf None) (λ (parts : _). map Some parts.items ≡ shelf)) c.in_default.is c.in_ok-parts.ensures in
     let not_all = absent_one r shelf absent in
-    inr (refl, subst (λ (room : Placed). ¬ (IsComplete room.entries room.shelf)) c.self.view_is not_all)
+    inr (refl, subst (λ (room : RoomView). ¬ (IsComplete room.entries room.shelf)) c.self.view_is not_all)
 
 pub returns-then-added_together-len-clause-missing : goal.returns-then-added_together-len-clause-missing
 returns-then-added_together-len-clause-missing g c =
@@ -43,4 +43,4 @@ returns-then-added_together-len-clause-missing g c =
     let counted = ap length c.into_entries-entries.ensures.entries in
     let seen = length-map c.into_entries-entries.result.items arc_value in
     let other : ¬ (sum_by added_of parts ≡ length r) = λ whole. c.if-added_together-len.true (omega (arith, sum, counted, seen, whole)) in
-    inr (refl, subst (λ (room : Placed). ¬ (IsComplete room.entries room.shelf)) c.self.view_is (other_sum r shelf parts full other))
+    inr (refl, subst (λ (room : RoomView). ¬ (IsComplete room.entries room.shelf)) c.self.view_is (other_sum r shelf parts full other))

@@ -11,7 +11,7 @@ use Rattle.rules.specs.declared.refusal.Refusal.TheVariants.{NotJoined}
 use Rattle.room_core.specs.Room.{room_of, Room}
 use Rattle.room_core.specs.Answers.{answer, has_site, site_answer, reply_alone}
 use Rattle.room_lock.specs.Passes.{PartView}
-use Rattle.room_lock.specs.Kept.{IsRoomKept, Placed}
+use Rattle.room_lock.specs.Kept.{IsRoomKept, RoomView}
 use Rattle.room_lock.specs.Shelves.{Shelf, IsShelfOf}
 use Rattle.room_lock.specs.Told.{IsLeaveOver}
 use Rattle.room_lock.proofs.Balance.{with_shelf}
@@ -34,12 +34,12 @@ invariant_of-self g c =
     let r = c.self.inside.state.room.entries in
     let part = c.pass.inside.part in
     let begins = seen_begins part.seen _ _ r refl (ap (λ v. v.entries) c.seen.ensures) (ap (λ v. v.entries) c.self.view_is) (c.torn_place.ensures.begins (subst IsNone (sym c.in_default.is) refl)) in
-    let place : part.place ≡ c.self.inside.place = ap (λ v. v.part.place) c.pass.view_is ∙ c.requires ∙ sym (ap (λ v. v.place) c.self.view_is) in
-    let P : Shelf → Type 0 = IsRoomKept g.P.RoomHistories.books g.P.RoomHistories.limits c.self.inside.place c.self.inside.state.room c.self.inside.account in
-    let with : (shelf : Shelf) → IsShelfOf c.self.inside.place r shelf → P shelf =
-    λ shelf shelved. with_shelf _ _ c.self.inside.place c.self.inside.state.room c.self.inside.account _ _ old shelved in
+    let opening : part.opening ≡ c.self.inside.opening = ap (λ v. v.part.opening) c.pass.view_is ∙ c.requires ∙ sym (ap (λ v. v.opening) c.self.view_is) in
+    let P : Shelf → Type 0 = IsRoomKept g.P.RoomHistories.limits c.self.inside.opening c.self.inside.state.room c.self.inside.account in
+    let with : (shelf : Shelf) → IsShelfOf c.self.inside.opening r shelf → P shelf =
+    λ shelf shelved. with_shelf _ c.self.inside.opening c.self.inside.state.room c.self.inside.account _ _ old shelved in
     elim c.match-put_part.branch [
-      | in-Ok w ↦ subst P (sym w.in-Ok.ensures.put) (with _ (shelf_put c.self.inside.place r c.self.inside.shelf.items old.shelved part place begins))
+      | in-Ok w ↦ subst P (sym w.in-Ok.ensures.put) (with _ (shelf_put c.self.inside.opening r c.self.inside.shelf.items old.shelved part opening begins))
       | in-Err w ↦ subst P (sym (ap (λ s. s.items) w.in-Err.ensures.err)) c.self.invariant
     ]
 
@@ -50,7 +50,7 @@ returns-clause-answer g c =
     let part = c.pass.inside.part in
     let begins = seen_begins part.seen _ _ r refl (ap (λ v. v.entries) c.seen.ensures) (ap (λ v. v.entries) c.self.view_is) (c.torn_place.ensures.begins (subst IsNone (sym c.in_default.is) refl)) in
     let at : c.len_of-at.result ≡ length r = c.len_of-at.ensures.len in
-    let P : Placed → PartView → Reply → Type 0 = λ room part reply. IsLeaveOver limits room.entries part reply in
+    let P : RoomView → PartView → Reply → Type 0 = λ room part reply. IsLeaveOver limits room.entries part reply in
     elim c.match-put_part.branch [
       | in-Ok w ↦
           (let away = and_parts _ _ (and_parts _ _ w.in-Ok.ensures.away).0 in

@@ -1,6 +1,5 @@
-use Rattle.std.proofs.Common.{ap, sym, subst}
-use Rattle.std.specs.Prelude.{IsNone, true, false}
-use Rattle.std.proofs.lemmas.Bool.{true≢false}
+use Rattle.std.proofs.Common.{ap, refl, sym, subst}
+use Rattle.std.specs.Prelude.{IsSome, true, false}
 use Rattle.room_lock.specs.Passes.{InUseView, PrefixView}
 use Rattle.room_lock.specs.Told.{IsBackRefusalOver}
 use Rattle.room_lock.proofs.Replies.{if_in_use_weaker, if_refused_weaker}
@@ -17,5 +16,5 @@ returns-clause-in_use g c = if_in_use_weaker c.back.result _ _
 pub returns-clause-no_room : goal.returns-clause-no_room
 returns-clause-no_room g c = (
   (λ none there. c.back.ensures.known none),
-  (λ absent. absurd (true≢false (subst IsNone c.in-Some.is (c.find.ensures.known.1 absent)))),
+  (λ absent. absurd (absent (c.find.ensures.known.0 (subst IsSome (sym c.in-Some.is) refl)))),
 )

@@ -1,5 +1,5 @@
 use Rattle.session_tests.proofs.tests.locks.each_call_reaches_its_room.Given as goal
 
--- the histories are those of the planned rooms
+-- the register is that of the planned rooms
 abbrev pub ghosts-missing_room : goal.ghosts-missing_room
-ghosts-missing_room g a = record { limits = a.planned.limits; books = a.planned.books }
+ghosts-missing_room g a = record { limits = a.planned.limits; register = a.planned.register }

@@ -1,5 +1,0 @@
-use Rattle.std.proofs.Common.{rules, append_assoc, append-nil}
-use Rattle.connection.proofs.head.health_response.Goals as goal
-
-pub returns : goal.returns
-returns c = search (rules, append_assoc, append-nil)

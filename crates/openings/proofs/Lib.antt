@@ -1,0 +1,2 @@
+mod Entering
+mod Rooms

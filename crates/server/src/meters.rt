@@ -1,0 +1,284 @@
+//! What a server counts from its start, for `GET /metrics`.
+
+use crate::tally::{EntrySums, Tally};
+use base_types::NoMemory;
+use command_line::VERSION;
+use crossbeam_utils::CachePadded;
+use metrics::{Family, Kind, Label, Number, Sample, Suffix, write_families};
+use rules::{MAX_REFUSAL_CODE, Refusal};
+use sessions::Cause;
+use std::alloc::{AllocError, Global};
+use std::sync::atomic::{AtomicU64, Ordering};
+
+/// The counters of replies. Replies on rooms of different places mostly count by different ones, so
+/// that threads in rooms of their own do not contend for one.
+const REPLY_COUNTERS: usize = 64;
+
+/// Why sessions end, in the order of their counters.
+const CAUSES: [Cause; 6] = [
+    Cause::Closed,
+    Cause::HandshakeFailed,
+    Cause::StreamFault,
+    Cause::NoMemory,
+    Cause::Torn,
+    Cause::NotKept,
+];
+
+/// Counters that begin at 0 with the server.
+#[derive(Drop)]
+pub(crate) struct Meters {
+    alloc: Global,
+    replies: Vec<CachePadded<AtomicU64>>,
+    /// By the code of the refusal.
+    refusals: Vec<AtomicU64>,
+    /// In the order of `CAUSES`.
+    ended: Vec<AtomicU64>,
+    turned_away: AtomicU64,
+    /// What the rooms began with.
+    first: EntrySums,
+}
+
+/// What a server says of its sessions and rooms at one time.
+#[derive(Clone, Copy, Debug)]
+pub(crate) struct Standing {
+    /// The sessions that have begun.
+    pub(crate) begun: u64,
+    /// The sessions that have ended.
+    pub(crate) ended: u64,
+    /// The most sessions at a time.
+    pub(crate) clients: u32,
+}
+
+/// This many counters.
+fn counters(alloc: Global, count: usize) -> Result<Vec<AtomicU64>, AllocError> {
+    let mut counters = Vec::with_capacity(alloc, count)?;
+    for _ in 0..count {
+        counters.push(AtomicU64::new(0))?;
+    }
+    Ok(counters)
+}
+
+/// Counts one more.
+fn count(counter: &AtomicU64) {
+    counter.fetch_add(1, Ordering::SeqCst);
+}
+
+impl Meters {
+    /// Counters of a server whose rooms begin so.
+    ///
+    /// # Errors
+    /// `AllocError` if an allocation failed.
+    pub(crate) fn new(alloc: Global, rooms: &[Tally<'_>]) -> Result<Meters, AllocError> {
+        let mut replies = Vec::with_capacity(alloc, REPLY_COUNTERS)?;
+        for _ in 0..REPLY_COUNTERS {
+            replies.push(CachePadded::new(AtomicU64::new(0)))?;
+        }
+        Ok(Meters {
+            alloc,
+            replies,
+            refusals: counters(alloc, MAX_REFUSAL_CODE as usize + 1)?,
+            ended: counters(alloc, CAUSES.len())?,
+            turned_away: AtomicU64::new(0),
+            first: EntrySums::of(rooms),
+        })
+    }
+
+    /// There is a reply, on the room at this place if it reports on one.
+    pub(crate) fn add_reply(&self, place: Option<usize>, refusal: Option<Refusal>) {
+        if let Some(counter) = self.replies.get(place.unwrap_or(0) % REPLY_COUNTERS) {
+            count(counter);
+        }
+        if let Some(refusal) = refusal
+            && let Some(counter) = self.refusals.get(refusal.code() as usize)
+        {
+            count(counter);
+        }
+    }
+
+    /// A session has ended so.
+    pub(crate) fn add_end(&self, cause: Cause) {
+        let place = CAUSES.iter().position(|known| *known == cause);
+        if let Some(place) = place
+            && let Some(counter) = self.ended.get(place)
+        {
+            count(counter);
+        }
+    }
+
+    /// A client was turned away.
+    pub(crate) fn add_turned_away(&self) {
+        count(&self.turned_away);
+    }
+
+    /// The text of all metrics. Linear in the number of rooms.
+    ///
+    /// # Errors
+    /// `NoMemory` if an allocation failed.
+    pub(crate) fn text(&self, standing: Standing, rooms: &[Tally<'_>]) -> Result<String, NoMemory> {
+        let alloc = self.alloc;
+        let mut families = Vec::new(alloc);
+        add_sessions(alloc, &mut families, standing)?;
+        families.push(self.ends()?)?;
+        let turned_away = load(&self.turned_away);
+        families.push(counter(
+            alloc,
+            "grace_turned_away_total",
+            "Clients turned away by 503.",
+            turned_away,
+        )?)?;
+        families.push(gauge(alloc, "grace_rooms", "Rooms.", rooms.len() as u64)?)?;
+        families.push(entries(alloc, EntrySums::of(rooms).since(self.first))?)?;
+        families.push(counter(
+            alloc,
+            "grace_replies_total",
+            "Replies.",
+            self.count_replies(),
+        )?)?;
+        families.push(self.refusals()?)?;
+        families.push(build(alloc)?)?;
+        write_families(alloc, &families)
+    }
+
+    /// The number of replies.
+    fn count_replies(&self) -> u64 {
+        let mut replies: u64 = 0;
+        for counter in &self.replies {
+            replies = replies.saturating_add(load(counter));
+        }
+        replies
+    }
+
+    /// The family of ended sessions, by their cause.
+    fn ends(&self) -> Result<Family, NoMemory> {
+        let mut samples = Vec::with_capacity(self.alloc, CAUSES.len())?;
+        for (cause, counter) in CAUSES.iter().zip(&self.ended) {
+            let word = format!(in self.alloc; "{cause}")?;
+            let labels = vec![in self.alloc; Label::new("cause", word)]?;
+            samples.push(Sample::new(Suffix::Plain, labels, Number::Whole(load(counter))))?;
+        }
+        let help = "Sessions that have ended.";
+        Ok(Family::new("grace_sessions_ended_total", help, Kind::Counter, samples))
+    }
+
+    /// The family of refusals, by their code and word.
+    fn refusals(&self) -> Result<Family, NoMemory> {
+        let mut samples = Vec::with_capacity(self.alloc, self.refusals.len())?;
+        for code in 1..=MAX_REFUSAL_CODE {
+            if let Some(refusal) = Refusal::from_code(code)
+                && let Some(counter) = self.refusals.get(code as usize)
+            {
+                samples.push(refusal_sample(self.alloc, refusal, load(counter))?)?;
+            }
+        }
+        let help = "Replies that are refusals.";
+        Ok(Family::new("grace_refusals_total", help, Kind::Counter, samples))
+    }
+}
+
+/// The count.
+fn load(counter: &AtomicU64) -> u64 {
+    counter.load(Ordering::SeqCst)
+}
+
+/// A family of one sample without labels.
+fn single(
+    alloc: Global,
+    name: &'static str,
+    help: &'static str,
+    kind: Kind,
+    number: u64,
+) -> Result<Family, NoMemory> {
+    let sample = Sample::new(Suffix::Plain, Vec::new(alloc), Number::Whole(number));
+    Ok(Family::new(name, help, kind, vec![in alloc; sample]?))
+}
+
+/// A counter without labels.
+fn counter(
+    alloc: Global,
+    name: &'static str,
+    help: &'static str,
+    number: u64,
+) -> Result<Family, NoMemory> {
+    single(alloc, name, help, Kind::Counter, number)
+}
+
+/// A gauge without labels.
+fn gauge(
+    alloc: Global,
+    name: &'static str,
+    help: &'static str,
+    number: u64,
+) -> Result<Family, NoMemory> {
+    single(alloc, name, help, Kind::Gauge, number)
+}
+
+/// Appends the families of the sessions that there are and were.
+fn add_sessions(
+    alloc: Global,
+    families: &mut Vec<Family>,
+    standing: Standing,
+) -> Result<(), NoMemory> {
+    let Standing {
+        begun,
+        ended,
+        clients,
+    } = standing;
+    let now = begun.saturating_sub(ended);
+    families.push(gauge(alloc, "grace_sessions", "Sessions now.", now)?)?;
+    let most = u64::from(clients);
+    families.push(gauge(
+        alloc,
+        "grace_sessions_max",
+        "The most sessions at a time.",
+        most,
+    )?)?;
+    families.push(counter(
+        alloc,
+        "grace_sessions_total",
+        "Sessions that have begun.",
+        begun,
+    )?)?;
+    Ok(())
+}
+
+/// A sample with one label.
+fn labelled(
+    alloc: Global,
+    name: &'static str,
+    value: &str,
+    number: u64,
+) -> Result<Sample, NoMemory> {
+    let label = Label::new(name, String::from_str(alloc, value)?);
+    Ok(Sample::new(Suffix::Plain, vec![in alloc; label]?, Number::Whole(number)))
+}
+
+/// The family of the entries that rooms have added, by their kind.
+fn entries(alloc: Global, sums: EntrySums) -> Result<Family, NoMemory> {
+    let mut samples = Vec::with_capacity(alloc, 3)?;
+    samples.push(labelled(alloc, "kind", "join", sums.joins)?)?;
+    samples.push(labelled(alloc, "kind", "creation", sums.creations)?)?;
+    samples.push(labelled(alloc, "kind", "change", sums.changes)?)?;
+    let help = "Entries that rooms have added.";
+    Ok(Family::new("grace_entries_total", help, Kind::Counter, samples))
+}
+
+/// The sample of one refusal.
+fn refusal_sample(alloc: Global, refusal: Refusal, number: u64) -> Result<Sample, NoMemory> {
+    let code = format!(in alloc; "{}", refusal.code())?;
+    let mut labels = Vec::with_capacity(alloc, 2)?;
+    labels.push(Label::new("code", code))?;
+    labels.push(Label::new("word", String::from_str(alloc, refusal.word())?))?;
+    Ok(Sample::new(Suffix::Plain, labels, Number::Whole(number)))
+}
+
+/// The family that tells the version.
+fn build(alloc: Global) -> Result<Family, NoMemory> {
+    let sample = labelled(alloc, "version", VERSION, 1)?;
+    let help = "The version of the program.";
+    Ok(Family::new(
+        "grace_build_info",
+        help,
+        Kind::Gauge,
+        vec![in alloc; sample]?,
+    ))
+}

@@ -1,0 +1,88 @@
+"""`GET /metrics`: what the server has counted."""
+
+import re
+import socket
+import time
+
+from lib.serving import CheckFailed, Server, expect_equal
+from lib.websocket_client import SECONDS
+
+PROBE = b"GET /metrics HTTP/1.1\r\nHost: localhost\r\n\r\n"
+HEAD = re.compile(
+    rb"HTTP/1\.1 200 OK\r\nContent-Type: text/plain; version=0\.0\.4\r\nContent-Length: (\d+)\r\n"
+    rb"Cache-Control: no-store\r\nConnection: close\r\n\r\n"
+)
+SAMPLE = re.compile(r'(grace_[a-z_]+)(\{[a-z]+="[^"]*"(?:,[a-z]+="[^"]*")*\})? (\d+)')
+CAUSES = [
+    "closed", "handshake failed", "stream fault", "out of memory", "torn from its room", "record not kept",
+]
+
+
+def samples(server):
+    """Returns the samples by their name and labels. Each has the help and the type of its family before it."""
+    with socket.create_connection(server.address, SECONDS) as client:
+        client.sendall(PROBE)
+        answer = b""
+        while data := client.recv(4096):
+            answer += data
+    head = HEAD.match(answer)
+    if not head:
+        raise CheckFailed(f"the answer {answer!r:.300}")
+    body = answer[head.end():].decode()
+    expect_equal("the length of the body", len(body), int(head[1]))
+    found, family = {}, None
+    for line in body.splitlines():
+        if line.startswith("# HELP "):
+            family = line.split()[2]
+        elif line.startswith("# TYPE "):
+            expect_equal("the family", line.split()[2], family)
+        else:
+            name, labels, number = SAMPLE.fullmatch(line).groups()
+            expect_equal("the family", name, family)
+            found[name + (labels or "")] = int(number)
+    return found
+
+
+def samples_once(server, sessions):
+    """Returns the samples once there are this many sessions."""
+    for _ in range(10 * SECONDS):
+        found = samples(server)
+        if found["grace_sessions"] == sessions:
+            return found
+        time.sleep(0.1)
+    raise CheckFailed(f"there are {found['grace_sessions']} sessions, not {sessions}")
+
+
+def test_metrics():
+    """Sessions, replies, refusals by their code, and entries by their kind are counted. A probe is no session."""
+    with Server(5, 2, rooms=("r", "s"), clients=7) as server:
+        closed, open_client = server.client(), server.client()
+        for request in ('["join","t"]', '["join","r"]', '["new",1,[],"rect",[["x",0]]]', '["leave"]', "hello"):
+            closed.ask(request)
+        closed.close()
+        for request in ('["back","r",1]', '["put",2,[[1,1]],[1,1],[],[["x",5]]]', '["put",9,[],[1,1],[],[["x",6]]]'):
+            open_client.ask(request)
+        server.client().expect_reply('["join","s"]', '["joined",0,1]')
+        server.client().hang_up()
+        found = samples_once(server, 2)
+        expected = {
+            "grace_sessions": 2, "grace_sessions_max": 7, "grace_sessions_total": 4, "grace_turned_away_total": 0,
+            "grace_rooms": 2, "grace_replies_total": 9,
+            **{f'grace_sessions_ended_total{{cause="{cause}"}}': 0 for cause in CAUSES},
+            'grace_sessions_ended_total{cause="closed"}': 1, 'grace_sessions_ended_total{cause="stream fault"}': 1,
+            'grace_entries_total{kind="join"}': 2, 'grace_entries_total{kind="creation"}': 1,
+            'grace_entries_total{kind="change"}': 1,
+        }
+        counts = {name: number for name, number in found.items() if not name.startswith("grace_refusals")}
+        version = [name for name in counts if name.startswith("grace_build_info")]
+        expect_equal("the samples that tell the version", [counts.pop(name) for name in version], [1])
+        expect_equal("the samples", counts, expected)
+        refusals = {name: number for name, number in found.items() if name.startswith("grace_refusals") and number}
+        expect_equal("the refusals", refusals, {
+            'grace_refusals_total{code="1",word="bad-message"}': 1,
+            'grace_refusals_total{code="4",word="no-such-room"}': 1,
+            'grace_refusals_total{code="7",word="wrong-seq"}': 1,
+        })
+        expect_equal("the refusals that are told", sum(name.startswith("grace_refusals") for name in found), 21)
+        server.client()
+        server.finish({4: "stream fault"})

@@ -4,3 +4,4 @@ pub mod Runs
 pub mod Queues
 pub mod Pieces
 pub mod Orders
+pub mod Blocks

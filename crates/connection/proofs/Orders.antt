@@ -9,7 +9,7 @@ use Rattle.connection.specs.Serving.{Answered, Does, Freed, Heard, Holds, Takes,
 use Rattle.connection.specs.Receiving.{Run, Served}
 use Rattle.connection.specs.Connections.{Receives}
 use Rattle.connection.specs.Histories.{AnsweredInOrder, Carries, Exchange, HasNoClose, Turns, data_of, messages}
-use Rattle.connection.specs.Talks.{Turn, Wait}
+use Rattle.connection.specs.Talks.{Block, Turn, Wait}
 
 carries_both : {D : Type 0} (f g : List (QueuedFrame D)) (e h : List (Exchange D)) → Carries f e → Carries g h → Carries (f ++ g) (e ++ h)
 carries_both [] g e h c d = rw c d
@@ -137,11 +137,12 @@ module _ {S D : Type 0} (turn : Turn S D) (waits : Wait S) where
       let then = in_order_both turn (data_of effect.message) [] a h.0 (queue h.0 (queued_reply h.2)) first (replied turn h.0 h.2) in
       subst (λ x. AnsweredInOrder turn x a b) (append-nil (data_of effect.message)) (subst (λ (x : Standing S D). AnsweredInOrder turn (data_of effect.message ++ []) a x) (sym h.4) then)
 
-  in_order : (ps : Run) (a b : Standing S D) → Served turn waits ps a b → HasNoClose ps → AnsweredInOrder turn (messages ps) a b
+module _ {S D : Type 0} (turn : Turn S D) (waits : Wait S) (blocks : Block S) where
+  in_order : (ps : Run) (a b : Standing S D) → Served turn waits blocks ps a b → HasNoClose ps → AnsweredInOrder turn (messages ps) a b
   in_order [] a b h no_close = nothing turn a b h
   in_order (p ∷ ps) a b h no_close =
-      in_order_both turn (data_of p.1.message) (messages ps) a h.1 b (done p.1 a h.1 no_close.0 h.2) (in_order ps h.1 b h.3 no_close.1)
+      in_order_both turn (data_of p.1.message) (messages ps) a h.1 b (done turn waits p.1 a h.1 no_close.0 h.2) (in_order ps h.1 b h.3 no_close.1)
 
-  pub received_in_order : (before after : ConnectionState S D) (bytes : List ℕ) (r : Receives turn waits before bytes after)
+  pub received_in_order : (before after : ConnectionState S D) (bytes : List ℕ) (r : Receives turn waits blocks before bytes after)
       → HasNoClose r.received.frames → AnsweredInOrder turn (messages r.received.frames) before.standing after.standing
   received_in_order before after bytes r no_close = in_order r.received.frames before.standing after.standing r.received.served no_close

@@ -6,7 +6,7 @@ use Rattle.websocket.proofs.StreamLemmas.{read_step-append, TookFrame_from_read}
 use Rattle.connection.specs.Standing.{ConnectionState, Standing}
 use Rattle.connection.specs.Receiving.{Run, Runs, Served}
 use Rattle.connection.specs.Connections.{Receives}
-use Rattle.connection.specs.Talks.{Turn, Wait}
+use Rattle.connection.specs.Talks.{Block, Turn, Wait}
 
 -- more bytes behind change nothing for the frames before
 runs_more : (c c2 : Connection) (i i2 more : List ℕ) (ps : Run) → Runs c i ps c2 i2 → Runs c (i ++ more) ps c2 (i2 ++ more)
@@ -21,14 +21,14 @@ runs_both : (c c1 c2 : Connection) (i i1 i2 : List ℕ) (ps qs : Run) → Runs c
 runs_both c c1 c2 i i1 i2 [] qs h k = rw (← h.0, ← h.1) k
 runs_both c c1 c2 i i1 i2 (p ∷ ps) qs h k = (h.0, runs_both p.1.next c1 c2 (drop p.0 i) i1 i2 ps qs h.1 k)
 
-module _ {S D : Type 0} (turn : Turn S D) (waits : Wait S) where
-  served_both : (ps qs : Run) (s s1 s2 : Standing S D) → Served turn waits ps s s1 → Served turn waits qs s1 s2
-      → Served turn waits (ps ++ qs) s s2
-  served_both [] qs s s1 s2 h k = subst (λ (x : Standing S D). Served turn waits qs x s2) h k
+module _ {S D : Type 0} (turn : Turn S D) (waits : Wait S) (blocks : Block S) where
+  served_both : (ps qs : Run) (s s1 s2 : Standing S D) → Served turn waits blocks ps s s1 → Served turn waits blocks qs s1 s2
+      → Served turn waits blocks (ps ++ qs) s s2
+  served_both [] qs s s1 s2 h k = subst (λ (x : Standing S D). Served turn waits blocks qs x s2) h k
   served_both (p ∷ ps) qs s s1 s2 h k = (h.0, h.1, h.2, served_both ps qs h.1 s1 s2 h.3 k)
 
-  pub both : (before mid after : ConnectionState S D) (first second : List ℕ) → Receives turn waits before first mid
-      → Receives turn waits mid second after → Receives turn waits before (first ++ second) after
+  pub both : (before mid after : ConnectionState S D) (first second : List ℕ) → Receives turn waits blocks before first mid
+      → Receives turn waits blocks mid second after → Receives turn waits blocks before (first ++ second) after
   both before mid after first second h k =
       let one = h.received in
       let two = k.received in

@@ -4,7 +4,7 @@ use Rattle.websocket.specs.Connection.{Effect}
 use Rattle.websocket.specs.Content.{Content, text, binary, ping, pong, close}
 use Rattle.websocket.specs.declared.protocol.config.Role.{Role}
 use Rattle.connection.specs.declared.item.TheConstants.{MAX_WAITING}
-use Rattle.connection.specs.Talks.{Turn, Wait}
+use Rattle.connection.specs.Talks.{Block, Turn, Wait}
 use Rattle.connection.specs.Standing.{ConnectionState, QueuedFrame, Standing, waiting_len}
 use Rattle.connection.specs.Serving.{Answered, Does, Freed, Heard, Holds, Takes, queued_reply, unheld}
 use Rattle.connection.specs.Receiving.{Run, Served}
@@ -65,16 +65,17 @@ module _ {S D : Type 0} (turn : Turn S D) (waits : Wait S) where
       let e : length b.waiting ≡ length (h.0.waiting ++ queued_reply h.2) = ap (λ (x : Standing S D). length x.waiting) h.4 in
       omega (arith, e, length-append h.0.waiting (queued_reply h.2), reply_adds h.2, taken_adds effect.message effect.next.role a h.0 h.1)
 
-  served_adds : (ps : Run) (a b : Standing S D) → Served turn waits ps a b → length a.waiting ≤ MAX_WAITING + 2
+module _ {S D : Type 0} (turn : Turn S D) (waits : Wait S) (blocks : Block S) where
+  served_adds : (ps : Run) (a b : Standing S D) → Served turn waits blocks ps a b → length a.waiting ≤ MAX_WAITING + 2
       → length b.waiting ≤ MAX_WAITING + 2
   served_adds [] a b h few =
       let e : length b.waiting ≡ length a.waiting = ap (λ (x : Standing S D). length x.waiting) h in omega (arith, e, few)
   served_adds (p ∷ ps) a b h few =
-      let step = done_adds p.1 a h.1 h.2 in
-      let here : length h.1.waiting ≤ MAX_WAITING + 2 = omega (arith, step, h.0.0) in
+      let step = done_adds turn waits p.1 a h.1 h.2 in
+      let here : length h.1.waiting ≤ MAX_WAITING + 2 = omega (arith, step, h.0.0.0) in
       served_adds ps h.1 b h.3 here
 
   -- no more frames wait than these, whatever comes
-  pub few_wait : (before after : ConnectionState S D) (bytes : List ℕ) → Receives turn waits before bytes after
+  pub few_wait : (before after : ConnectionState S D) (bytes : List ℕ) → Receives turn waits blocks before bytes after
       → length before.standing.waiting ≤ MAX_WAITING + 2 → length after.standing.waiting ≤ MAX_WAITING + 2
   few_wait before after bytes r few = served_adds r.received.frames before.standing after.standing r.received.served few

@@ -11,7 +11,7 @@ use Rattle.connection.specs.declared.end.End.TheVariants as end
 use Rattle.connection.specs.Standing.{ConnectionState}
 use Rattle.connection.specs.Serving.{FailsAtHeld, Freed, StaysHeld, queue, queued_reply}
 use Rattle.connection.specs.Receiving.{Received, Stopped}
-use Rattle.connection.specs.Talks.{Fault, Turn, Wait}
+use Rattle.connection.specs.Talks.{Block, Fault, Turn, Wait}
 
 -- a server's connection of which no byte came
 abbrev pub opened : {S D : Type 0} → S → ConnectionState S D
@@ -48,13 +48,14 @@ Closes before after =
       standing = queue before.standing (queued_reply frame);
     })
 
-module _ {S D : Type 0} (turn : Turn S D) (waits : Wait S) where
-  -- These bytes came: the whole frames were served, as far as what waits left room.
+module _ {S D : Type 0} (turn : Turn S D) (waits : Wait S) (blocks : Block S) where
+  -- These bytes came: the whole frames were served, as far as they may be.
   pub record Receives (before : ConnectionState S D) (bytes : List ℕ) (after : ConnectionState S D) : Type 0 where
-    pub received : Received turn waits before.protocol (before.input ++ bytes) before.standing
+    pub received : Received turn waits blocks before.protocol (before.input ++ bytes) before.standing
         after.protocol after.input after.standing after.is_behind
     pub goes_on : after.ended ≡ None
 
+module _ {S D : Type 0} (turn : Turn S D) (waits : Wait S) where
   -- The held message, if there was one, was answered, or it stays held by leave.
   abbrev pub AnswersHeld : Bool → ConnectionState S D → ConnectionState S D → Type 0
   AnswersHeld may_hold before after =
@@ -62,12 +63,12 @@ module _ {S D : Type 0} (turn : Turn S D) (waits : Wait S) where
       ⊎ ((may_hold ≡ true) × StaysHeld waits before.standing.held before.standing after.standing))
       × (after ≡ record before { standing = after.standing })
 
-module _ {S D : Type 0} (turn : Turn S D) (waits : Wait S) (fails : Fault S) where
+module _ {S D : Type 0} (turn : Turn S D) (waits : Wait S) (blocks : Block S) (fails : Fault S) where
   -- These bytes came, and the connection ended at them, or there was no memory to take them.
   pub record StopsReceiving
       (before : ConnectionState S D) (bytes : List ℕ) (why : End) (after : ConnectionState S D) : Type 0 where
     pub received :
-        Stopped turn waits fails before.protocol (before.input ++ bytes) before.standing why after.protocol
+        Stopped turn waits blocks fails before.protocol (before.input ++ bytes) before.standing why after.protocol
         after.standing
         ⊎ ((why ≡ end.NoMemory) × (after.protocol ≡ before.protocol) × (after.standing ≡ before.standing))
     pub stops :

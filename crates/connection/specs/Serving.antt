@@ -1,5 +1,5 @@
 -- What a connection does with the messages and the frames that come.
-use Rattle.std.specs.Prelude.{◌≡◌, ◌≤◌, ◌<◌, ◌⊎◌, ℕ, List, [], ◌∷◌, ◌++◌, length, Option, Some, None, Err}
+use Rattle.std.specs.Prelude.{◌≡◌, ◌≤◌, ◌<◌, ◌⊎◌, ℕ, List, [], ◌∷◌, ◌++◌, length, Option, Some, None, Err, IsSome}
 use Rattle.websocket.specs.declared.error.Error.{Error}
 use Rattle.websocket.specs.declared.error.Error.TheVariants as fault
 use Rattle.websocket.specs.Connection.{Connection, Effect, Outgoing, Sends, write_step}
@@ -12,7 +12,7 @@ use Rattle.connection.specs.declared.end.End.TheVariants as end
 use Rattle.connection.specs.declared.item.TheConstants.{MAX_WAITING, MAX_WAITING_LEN}
 use Rattle.connection.specs.declared.talk.TheConstants.{MAX_HELD_LEN}
 use Rattle.connection.specs.Standing.{QueuedFrame, Standing, waiting_len}
-use Rattle.connection.specs.Talks.{Fault, Turn, Wait}
+use Rattle.connection.specs.Talks.{Block, Fault, Turn, Wait}
 
 -- why the connection ends at this error of the protocol
 abbrev pub end_of : Error → End
@@ -46,9 +46,21 @@ unheld before = record before { held = None }
 abbrev pub IsFull : {D : Type 0} → List (QueuedFrame D) → Type 0
 IsFull waiting = (MAX_WAITING ≤ length waiting) ⊎ (MAX_WAITING_LEN ≤ waiting_len waiting)
 
--- one more frame may be served
+-- one more frame may wait
 abbrev pub HasRoom : {D : Type 0} → List (QueuedFrame D) → Type 0
 HasRoom waiting = (length waiting < MAX_WAITING) × (waiting_len waiting < MAX_WAITING_LEN)
+
+-- a message is held that blocks: no later frame is served before it is answered
+abbrev pub IsBlocked : {S D : Type 0} → Block S → Standing S D → Type 0
+IsBlocked blocks standing = IsSome standing.held × blocks standing.session
+
+-- no frame is served for now: too much waits, or the held message blocks
+abbrev pub IsPaused : {S D : Type 0} → Block S → Standing S D → Type 0
+IsPaused blocks standing = IsFull standing.waiting ⊎ IsBlocked blocks standing
+
+-- a frame may be served: one more may wait, and no held message blocks
+abbrev pub MayServe : {S D : Type 0} → Block S → Standing S D → Type 0
+MayServe blocks standing = HasRoom standing.waiting × ¬ IsBlocked blocks standing
 
 -- the frame of this text cannot be made: memory ran out, or the protocol allows no more frames
 abbrev pub CannotSend : Connection → List ℕ → End → Type 0

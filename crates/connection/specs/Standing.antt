@@ -20,7 +20,7 @@ waiting_len [] = 0
 waiting_len (item ∷ rest) = length item.bytes + waiting_len rest
 
 -- A connection: the state of the protocol, the bytes that no frame has taken, what stands beside
--- them, why it has ended, if it has, and whether bytes were left because too much waits.
+-- them, why it has ended, if it has, and whether bytes may be left because no frame may be served.
 pub record ConnectionState (S D : Type 0) : Type 0 where
   pub protocol : Connection
   pub input : List ℕ

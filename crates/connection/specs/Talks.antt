@@ -11,6 +11,10 @@ Turn S D = S → S → List ℕ → List ℕ → Option D → Type 0
 abbrev pub Wait : Type 0 → Type 1
 Wait S = S → List ℕ → Type 0
 
+-- while a message of this session is held, no later frame is served
+abbrev pub Block : Type 0 → Type 1
+Block S = S → Type 0
+
 -- the session may stand so after a message at which the connection ends
 abbrev pub Fault : Type 0 → Type 1
 Fault S = S → S → List ℕ → End → Type 0

@@ -1,9 +1,10 @@
 //! A connection after its handshake: bytes in, frames out.
 
 ghost use Rattle.std.specs.Prelude.{◌≡◌, ◌≢◌, ◌⊎◌, [], IfErr, None, OnErr, OnOk, Ok, Err, Some};
-ghost use Rattle.std.specs.Prelude.{◌+◌, false, is_some, length, min, true, unwrap_or};
+ghost use Rattle.std.specs.Prelude.{◌+◌, ◌↔◌, IsTrue, false, is_some, length, min, true, unwrap_or};
 ghost use Rattle.connection.specs.Standing.{waiting_len};
 ghost use Rattle.connection.specs.declared.item.TheConstants.{MAX_LOAD};
+ghost use Rattle.connection.specs.Serving.{IsBlocked};
 ghost use Rattle.connection.specs.Connections.{AnswersHeld, Closes, FailsAnsweringHeld, Receives};
 ghost use Rattle.connection.specs.Connections.{StopsReceiving, opened, stopped};
 ghost use Rattle.connection.specs.Releasing.{IsFirstLost, IsFirstUntold, Released};
@@ -82,6 +83,13 @@ impl<S, D: Drop> Connection<S, D> {
         self.dialogue.is_held()
     }
 
+    /// Returns whether a message is held that blocks: no later frame is served before it is answered.
+    pub fn is_blocked<T: Talk<Session = S, Told = D>>(&self, talk: &T) -> bool
+        ensures { IsTrue result ↔ IsBlocked (T.blocks talk.now) self.now.standing }
+    {
+        self.dialogue.is_blocked(talk)
+    }
+
     /// Returns whether frames wait for their release.
     pub fn has_waiting(&self) -> bool
         ensures some { result ≡ true → self.now.standing.waiting ≢ [] }
@@ -91,7 +99,7 @@ impl<S, D: Drop> Connection<S, D> {
     }
 
     /// Returns whether bytes that came may hold whole frames that were not served, since too much
-    /// waits. `receive` with no bytes goes on.
+    /// waited or a held message blocked. `receive` with no bytes goes on.
     pub fn is_behind(&self) -> bool
         ensures { result ≡ self.now.is_behind }
     {
@@ -113,7 +121,7 @@ impl<S, D: Drop> Connection<S, D> {
     }
 
     /// Serves the whole frames among the bytes that came, in order, until `MAX_WAITING` frames or
-    /// `MAX_WAITING_LEN` bytes wait. The talk answers each text and each binary message by one turn,
+    /// `MAX_WAITING_LEN` bytes wait, or a message is held that blocks. The talk answers each text and each binary message by one turn,
     /// or may hold one of at most `MAX_HELD_LEN` bytes; the next message has that one answered
     /// first. The frames of the answers and the replies of the protocol wait in this order behind
     /// those that waited. A close drops the message that is held.
@@ -130,9 +138,10 @@ impl<S, D: Drop> Connection<S, D> {
         ensures ended { (why : End) → self.old.ended ≡ Some why →
             (result ≡ Err why) × (self.new ≡ self.old) }
         ensures ok { self.old.ended ≡ None → OnOk result (Receives (T.turn talk.now)
-            (T.waits talk.now) self.old bytes.now self.new) }
+            (T.waits talk.now) (T.blocks talk.now) self.old bytes.now self.new) }
         ensures err { self.old.ended ≡ None → IfErr result (λ why. StopsReceiving
-            (T.turn talk.now) (T.waits talk.now) (T.fails talk.now) self.old bytes.now why self.new) }
+            (T.turn talk.now) (T.waits talk.now) (T.blocks talk.now) (T.fails talk.now) self.old bytes.now
+            why self.new) }
     {
         if let Some(end) = self.ended {
             return Err(end);

@@ -1,7 +1,7 @@
 //! What is said with one client: the session, a message that is held, and the frames that wait.
 
 ghost use Rattle.std.specs.Prelude.{ℕ, List, ◌≡◌, ◌≢◌, ◌≤◌, ◌⊎◌, ◌++◌, [], ◌∷◌, IfErr, IfOk, IfSome};
-ghost use Rattle.std.specs.Prelude.{IsSomeAnd, None, Ok, OnErr, OnOk, Some, drop, false, is_some};
+ghost use Rattle.std.specs.Prelude.{◌↔◌, IsSomeAnd, IsTrue, None, Ok, OnErr, OnOk, Some, drop, false, is_some};
 ghost use Rattle.std.specs.Prelude.{min, option_map, string_bytes, true};
 ghost use Rattle.websocket.specs.Connection.{Effect, Sends, read_step};
 ghost use Rattle.websocket.specs.declared.protocol.frame.codec.FrameStatus.TheVariants.{Complete};
@@ -13,7 +13,7 @@ ghost use Rattle.connection.specs.Standing.{waiting_len};
 ghost use Rattle.connection.specs.declared.item.TheConstants.{MAX_LOAD, MAX_WAITING_LEN};
 ghost use Rattle.connection.specs.Serving.{CannotSend, Does, FailsAtHeld, FailsHearing};
 ghost use Rattle.connection.specs.Serving.{FailsTaking, Freed, HasRoom, Heard, IsFull, StaysHeld};
-ghost use Rattle.connection.specs.Serving.{Takes, queue, queued_reply, sent_text, unheld};
+ghost use Rattle.connection.specs.Serving.{IsBlocked, IsPaused, MayServe, Takes, queue, queued_reply, sent_text, unheld};
 ghost use Rattle.connection.specs.declared.end.End.TheVariants as end;
 
 use crate::end::{End, end_of};
@@ -305,7 +305,8 @@ impl<S, D: Drop> Dialogue<S, D> {
         Ok(true)
     }
 
-    /// Serves the whole frames of the input in order, until too much waits. Returns whether it does.
+    /// Serves the whole frames of the input in order, until no more may be served. Returns whether
+    /// that is so.
     ///
     /// # Errors
     /// Why the connection ends.
@@ -317,11 +318,11 @@ impl<S, D: Drop> Dialogue<S, D> {
         input: &mut Input,
     ) -> Result<bool, End>
         ensures ok { IfOk result (Received (T.turn talk.now) (T.waits talk.now)
-            context.old input.old self.old context.new input.new self.new) }
+            (T.blocks talk.now) context.old input.old self.old context.new input.new self.new) }
         ensures err { IfErr result (λ why. Stopped (T.turn talk.now) (T.waits talk.now)
-            (T.fails talk.now) context.old input.old self.old why context.new self.new) }
+            (T.blocks talk.now) (T.fails talk.now) context.old input.old self.old why context.new self.new) }
     {
-        while !self.is_full() {
+        while !self.is_paused(talk) {
             match self.serve_frame(context, talk, scratch, input) {
                 Ok(true) => {}
                 Ok(false) => return Ok(false),
@@ -380,13 +381,28 @@ impl<S, D: Drop> Dialogue<S, D> {
         waiting_len(&self.waiting, most)
     }
 
-    /// Returns whether so much waits that no more frames are served.
+    /// Returns whether so much waits that no frame is served.
     fn is_full(&self) -> bool
         ensures full { result ≡ true → IsFull self.now.waiting }
         ensures room { result ≡ false → HasRoom self.now.waiting }
     {
         self.waiting.len() >= MAX_WAITING
             || waiting_len(&self.waiting, MAX_WAITING_LEN) >= MAX_WAITING_LEN
+    }
+
+    /// Returns whether a message is held that blocks: no later frame is served before it is answered.
+    pub(crate) fn is_blocked<T: Talk<Session = S, Told = D>>(&self, talk: &T) -> bool
+        ensures { IsTrue result ↔ IsBlocked (T.blocks talk.now) self.now }
+    {
+        self.held.is_some() && talk.is_blocked(&self.session)
+    }
+
+    /// Returns whether no frame is served for now: too much waits, or the held message blocks.
+    fn is_paused<T: Talk<Session = S, Told = D>>(&self, talk: &T) -> bool
+        ensures paused { result ≡ true → IsPaused (T.blocks talk.now) self.now }
+        ensures serves { result ≡ false → MayServe (T.blocks talk.now) self.now }
+    {
+        self.is_full() || self.is_blocked(talk)
     }
 
     /// Ends it, and gives the session back.

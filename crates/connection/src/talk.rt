@@ -1,11 +1,11 @@
 //! What answers the messages of a connection.
 
-ghost use Rattle.std.specs.Prelude.{◌≡◌, IfErr, IfOk, IfSome, None, Ok, string_bytes, true};
+ghost use Rattle.std.specs.Prelude.{◌≡◌, ◌↔◌, IfErr, IfOk, IfSome, IsTrue, None, Ok, string_bytes, true};
 
 use crate::end::End;
 
 /// A longer message is never held.
-pub const MAX_HELD_LEN: usize = 64;
+pub const MAX_HELD_LEN: usize = 256;
 
 /// The answer to a message: the text, and what it reports.
 #[derive(Drop)]
@@ -40,6 +40,9 @@ pub trait Talk {
     /// This message of the session may be held.
     ghost waits: { Self → Self.Session → List ℕ → Type 0 };
 
+    /// While a message of this session is held, no later frame is served.
+    ghost blocks: { Self → Self.Session → Type 0 };
+
     /// The session may stand so after a message at which the connection ends.
     ghost fails: { Self → Self.Session → Self.Session → List ℕ → End → Type 0 };
 
@@ -67,6 +70,10 @@ pub trait Talk {
             × Self.waits self.now session.old bytes.now }
         ensures failed { IfErr result (λ end. Self.fails self.now session.old session.new
             bytes.now end) };
+
+    /// Returns whether no later frame is served while a message of this session is held.
+    fn is_blocked(&self, session: &Self::Session) -> bool
+        ensures { IsTrue result ↔ Self.blocks self.now session.now };
 
     /// The receipt, if this is kept already. Does not wait.
     ///

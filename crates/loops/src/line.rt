@@ -62,24 +62,26 @@ impl<S, D: Drop> Line<S, D> {
     }
 
     /// What can be done. `is_full` says that nothing more is taken from clients.
-    fn load(&self, is_full: bool) -> Load {
-        let output_len = self.output.len();
-        let (is_behind, has_waiting, is_over) = match &self.stage {
-            Stage::Opening(_) => (false, false, false),
-            Stage::Open(served) => (
-                served.connection.is_behind(),
-                served.connection.has_waiting(),
-                served.is_over(),
-            ),
-            Stage::Leaving { is_sent } => (false, false, !*is_sent),
-        };
-        Load {
-            output_len,
-            is_behind,
-            has_waiting,
-            is_over,
+    fn load<V: Service<Session = S, Told = D>>(&self, service: &V, is_full: bool) -> Load {
+        let mut load = Load {
+            output_len: self.output.len(),
+            is_behind: false,
+            has_waiting: false,
+            is_blocked: false,
+            is_over: false,
             is_full,
+        };
+        match &self.stage {
+            Stage::Opening(_) => {}
+            Stage::Open(served) => {
+                load.is_behind = served.connection.is_behind();
+                load.has_waiting = served.connection.has_waiting();
+                load.is_blocked = served.connection.is_blocked(service);
+                load.is_over = served.is_over();
+            }
+            Stage::Leaving { is_sent } => load.is_over = !*is_sent,
         }
+        load
     }
 
     /// How many bytes it holds.
@@ -94,7 +96,7 @@ impl<S, D: Drop> Line<S, D> {
 
     /// What the line does next.
     fn next_step<R, V: Service<Session = S, Told = D>>(&self, shared: &Shared<'_, R, V>) -> Step {
-        let load = self.load(shared.burden.is_full());
+        let load = self.load(shared.service, shared.burden.is_full());
         next_step(load, self.readiness.is_readable)
     }
 

@@ -65,6 +65,8 @@ pub(crate) struct Load {
     pub(crate) is_behind: bool,
     /// Frames wait for what they report to be kept.
     pub(crate) has_waiting: bool,
+    /// A message is held that blocks: no later frame is served before it is answered.
+    pub(crate) is_blocked: bool,
     /// Nothing more is taken from the client.
     pub(crate) is_over: bool,
     /// All lines together hold so much that nothing more is taken from clients.
@@ -79,7 +81,7 @@ pub(crate) fn next_step(load: Load, is_readable: bool) -> Step
         return Step::Rest;
     }
     if load.is_behind {
-        return if load.has_waiting {
+        return if load.has_waiting || load.is_blocked {
             Step::Rest
         } else {
             Step::GoOn

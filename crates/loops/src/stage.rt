@@ -76,7 +76,8 @@ impl<S, D: Drop> Served<S, D> {
         bytes: &[u8],
     )
         ensures { self.old.connection.ended ≡ None → ReceivesOrStops (V.turn service.now)
-            (V.waits service.now) (V.fails service.now) self.old bytes.now self.new }
+            (V.waits service.now) (V.blocks service.now) (V.fails service.now) self.old bytes.now
+            self.new }
     {
         if let Err(end) = self.connection.receive(service, scratch, bytes) {
             self.fail(end);

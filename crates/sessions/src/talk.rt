@@ -30,6 +30,8 @@ impl<P: RoomHistories, R: Wait, O: Observer, K: Keeper<P>> Talk for Host<'_, P, 
 
     ghost waits = { λ _ session bytes. IsWait session bytes };
 
+    ghost blocks = { λ _ _. ⊥ };
+
     ghost fails = { λ host old new bytes end.
         IsMessageFault P.limits host.rooms.now (IsPermitted K.permits) K.denies old new bytes end };
 
@@ -48,6 +50,10 @@ impl<P: RoomHistories, R: Wait, O: Observer, K: Keeper<P>> Talk for Host<'_, P, 
             Ok(answer) => Ok(answer),
             Err(fault) => Err(end_of_message(fault)),
         }
+    }
+
+    fn is_blocked(&self, _session: &Session<P>) -> bool {
+        false
     }
 
     fn receipt(&self, told: &Prefix<P>) -> Result<Option<K::Receipt>, End> {

@@ -1,6 +1,6 @@
 //! A talk that gives each message back, and the bytes that a client sends.
 
-ghost use Rattle.std.specs.Prelude.{⊤};
+ghost use Rattle.std.specs.Prelude.{⊤, IsTrue};
 
 use connection::{Answer, Connection, End, Talk};
 use std::alloc::{AllocError, Global};
@@ -14,6 +14,19 @@ pub(super) struct Echo {
     pub(super) alloc: Global,
     /// The letters up to this one are kept.
     pub(super) kept: u8,
+    /// No later frame is served while a message is held.
+    pub(super) is_strict: bool,
+}
+
+impl Echo {
+    /// A talk that has kept nothing, and that does not block.
+    pub(super) fn new(alloc: Global) -> Echo {
+        Echo {
+            alloc,
+            kept: 0,
+            is_strict: false,
+        }
+    }
 }
 
 /// How many messages were answered.
@@ -31,6 +44,8 @@ impl Talk for Echo {
     ghost turn = { λ _ _ _ _ _ _. ⊤ };
 
     ghost waits = { λ _ _ _. ⊤ };
+
+    ghost blocks = { λ talk _. IsTrue talk.is_strict };
 
     ghost fails = { λ _ _ _ _ _. ⊤ };
 
@@ -59,6 +74,10 @@ impl Talk for Echo {
         };
         *session = session.saturating_add(1);
         Ok(Some(Answer { text, told }))
+    }
+
+    fn is_blocked(&self, _session: &Turns) -> bool {
+        self.is_strict
     }
 
     fn receipt(&self, told: &u8) -> Result<Option<u8>, End> {

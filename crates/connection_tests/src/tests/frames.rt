@@ -1,7 +1,7 @@
 //! Frames that come, and the frames that go.
 
 use super::echo::{Client, Echo, expect_released, frame, frames, released};
-use connection::{Connection, End};
+use connection::{Connection, End, MAX_HELD_LEN};
 use std::process::Abort;
 use std::test::Fail;
 
@@ -42,10 +42,7 @@ fn in_pieces(
 
 #[test]
 fn bytes_may_be_cut_anywhere(rt: HostRuntime) -> Result<(), Fail> {
-    let talk = Echo {
-        alloc: rt.alloc(),
-        kept: 0,
-    };
+    let talk = Echo::new(rt.alloc());
     let bytes = frames(rt.alloc(), &SENT)?;
     for first in 0..bytes.len() {
         for size in [1usize, 7, 1000] {
@@ -81,10 +78,10 @@ fn hold(rt: &impl Abort, client: &mut Client, talk: &Echo) -> Result<(), Fail> {
     )?;
     expect_released(rt, client, talk, b"\x81\x02w2")?;
     assert!(rt; client.is_held());
-    let long = &[b'w'; 65];
+    let long = &[b'w'; MAX_HELD_LEN + 1];
     client.receive(talk, &mut (), &frame(talk.alloc, 0x81, long)?)?;
     assert!(rt; !client.is_held());
-    assert_eq!(rt; released(client, talk)?.len(), 4 + 67);
+    assert_eq!(rt; released(client, talk)?.len(), 4 + 4 + long.len());
     // A close drops the message that is held.
     let last = frames(talk.alloc, &[(0x81, b"w4"), (0x88, b""), (0x81, b"no")])?;
     assert_eq!(rt; client.receive(talk, &mut (), &last), Err(End::Closed));
@@ -96,15 +93,54 @@ fn hold(rt: &impl Abort, client: &mut Client, talk: &Echo) -> Result<(), Fail> {
 
 #[test]
 fn one_message_is_held(rt: HostRuntime) -> Result<(), Fail> {
-    let talk = Echo {
-        alloc: rt.alloc(),
-        kept: 0,
-    };
+    let talk = Echo::new(rt.alloc());
     let mut client = Connection::open(rt.alloc(), 0);
     let outcome = hold(&rt, &mut client, &talk);
     let turns = client.end();
     outcome?;
     assert_eq!(rt; turns, 4);
+    Ok(())
+}
+
+fn block(rt: &impl Abort, client: &mut Client, talk: &Echo) -> Result<(), Fail> {
+    let sent = [
+        (0x81, b"one".as_slice()),
+        (0x81, b"w1"),
+        (0x89, b"p"),
+        (0x81, b"w2"),
+        (0x81, b"two"),
+    ];
+    client.receive(talk, &mut (), &frames(talk.alloc, &sent)?)?;
+    assert!(rt; client.is_blocked(talk) && client.is_behind());
+    expect_released(rt, client, talk, b"\x81\x03one")?;
+    // Neither more bytes nor another look serve what stands behind it.
+    client.receive(talk, &mut (), &frame(talk.alloc, 0x81, b"three")?)?;
+    client.answer_held(talk, &mut (), true)?;
+    client.receive(talk, &mut (), b"")?;
+    assert!(rt; client.is_blocked(talk) && client.is_behind());
+    expect_released(rt, client, talk, b"")?;
+    // Once it is answered they go on, up to the next that is held.
+    client.answer_held(talk, &mut (), false)?;
+    assert!(rt; !client.is_blocked(talk) && client.is_behind());
+    expect_released(rt, client, talk, b"\x81\x02w1")?;
+    client.receive(talk, &mut (), b"")?;
+    assert!(rt; client.is_blocked(talk) && client.is_behind());
+    expect_released(rt, client, talk, b"\x8a\x01p")?;
+    client.answer_held(talk, &mut (), false)?;
+    client.receive(talk, &mut (), b"")?;
+    assert!(rt; !client.is_held() && !client.is_behind());
+    expect_released(rt, client, talk, b"\x81\x02w2\x81\x03two\x81\x05three")
+}
+
+#[test]
+fn a_held_message_may_block(rt: HostRuntime) -> Result<(), Fail> {
+    let mut talk = Echo::new(rt.alloc());
+    talk.is_strict = true;
+    let mut client = Connection::open(rt.alloc(), 0);
+    let outcome = block(&rt, &mut client, &talk);
+    let turns = client.end();
+    outcome?;
+    assert_eq!(rt; turns, 5);
     Ok(())
 }
 
@@ -118,10 +154,7 @@ fn ends(talk: &Echo, bytes: &[u8]) -> Result<(Vec<u8>, Result<(), End>), Fail> {
 
 #[test]
 fn faults_end_a_connection(rt: HostRuntime) -> Result<(), Fail> {
-    let talk = Echo {
-        alloc: rt.alloc(),
-        kept: 0,
-    };
+    let talk = Echo::new(rt.alloc());
     let faults: [(&[u8], End); 8] = [
         // A length over the limit, of a whole message and of a fragment.
         (b"\x81\xff\x00\x00\x00\x00\x00\x04\x00\x01", End::Fault),

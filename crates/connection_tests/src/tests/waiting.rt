@@ -35,10 +35,7 @@ fn keep(rt: &impl Abort, client: &mut Client, talk: &mut Echo) -> Result<(), Fai
 
 #[test]
 fn an_answer_waits_for_its_receipt(rt: HostRuntime) -> Result<(), Fail> {
-    let mut talk = Echo {
-        alloc: rt.alloc(),
-        kept: 0,
-    };
+    let mut talk = Echo::new(rt.alloc());
     let mut client = Connection::open(rt.alloc(), 0);
     let outcome = keep(&rt, &mut client, &mut talk);
     client.end();
@@ -63,10 +60,7 @@ fn close(rt: &impl Abort, client: &mut Client, talk: &Echo) -> Result<(), Fail> 
 
 #[test]
 fn a_fault_of_the_server_closes_behind_the_answers(rt: HostRuntime) -> Result<(), Fail> {
-    let talk = Echo {
-        alloc: rt.alloc(),
-        kept: 0,
-    };
+    let talk = Echo::new(rt.alloc());
     let mut client = Connection::open(rt.alloc(), 0);
     let outcome = close(&rt, &mut client, &talk);
     client.end();
@@ -100,10 +94,7 @@ fn counts(client: &mut Client, talk: &Echo, count: usize, len: usize) -> Result<
 
 #[test]
 fn too_much_that_waits_stops_serving(rt: HostRuntime) -> Result<(), Fail> {
-    let talk = Echo {
-        alloc: rt.alloc(),
-        kept: 0,
-    };
+    let talk = Echo::new(rt.alloc());
     let rows: [(usize, usize, &[usize]); 4] = [
         (MAX_WAITING - 1, 1, &[MAX_WAITING - 1]),
         (MAX_WAITING, 1, &[MAX_WAITING, 0]),

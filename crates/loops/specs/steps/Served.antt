@@ -3,7 +3,7 @@ use Rattle.std.specs.Prelude.{◌≡◌, ◌⊎◌, ℕ, Bool, true, List, Optio
 use Rattle.connection.specs.declared.end.End.{End}
 use Rattle.connection.specs.Connections.{AnswersHeld, Closes, FailsAnsweringHeld, Receives, StopsReceiving}
 use Rattle.connection.specs.Standing.{ConnectionState}
-use Rattle.connection.specs.Talks.{Fault, Turn, Wait}
+use Rattle.connection.specs.Talks.{Block, Fault, Turn, Wait}
 use Rattle.loops.specs.declared.ending.Ending.{Ending}
 use Rattle.loops.specs.declared.ending.Ending.TheVariants.{Connection}
 use Rattle.loops.specs.declared.stage.Served.{Served}
@@ -18,14 +18,15 @@ module _ {S D : Type 0} where
       × ((after.connection.standing ≡ connection.standing)
       ⊎ ((is_fault_of_server why ≡ true) × Closes connection after.connection))
 
-  module _ (turn : Turn S D) (waits : Wait S) (fails : Fault S) where
+  module _ (turn : Turn S D) (waits : Wait S) (blocks : Block S) (fails : Fault S) where
     -- These bytes came: the connection received them, or ends at them.
     abbrev pub ReceivesOrStops : Served S D → List ℕ → Served S D → Type 0
     ReceivesOrStops before bytes after =
-        (Receives turn waits before.connection bytes after.connection × (after.over ≡ before.over))
+        (Receives turn waits blocks before.connection bytes after.connection × (after.over ≡ before.over))
         ⊎ ((why : End) × (mid : ConnectionState S D)
-        × StopsReceiving turn waits fails before.connection bytes why mid × Stops why mid before.over after)
+        × StopsReceiving turn waits blocks fails before.connection bytes why mid × Stops why mid before.over after)
 
+  module _ (turn : Turn S D) (waits : Wait S) (fails : Fault S) where
     -- The held message was heard again, or the connection ends at it.
     abbrev pub AnswersOrStops : Bool → Served S D → Served S D → Type 0
     AnswersOrStops may_hold before after =

@@ -16,7 +16,8 @@ abbrev pub after_read : Readiness → ℕ → ℕ → Readiness
 after_read known count room =
     record { is_readable = nat_le room count || known.is_read_closed; is_read_closed = known.is_read_closed }
 
--- by whether nothing more is taken, frames that were read may be whole, frames wait, and the socket may be readable
+-- by whether nothing more is taken, frames that were read may be whole, frames wait or a held message
+-- blocks, and the socket may be readable
 abbrev pub step_by : Bool → Bool → Bool → Bool → Step
 step_by true behind waiting readable = Rest
 step_by false true true readable = Rest
@@ -28,4 +29,4 @@ step_by false false waiting false = Rest
 -- lines hold too much
 abbrev pub step_of : Load → Bool → Step
 step_of load readable =
-    step_by (load.is_over || load.is_full || nat_lt MAX_OUTPUT_LEN load.output_len) load.is_behind load.has_waiting readable
+    step_by (load.is_over || load.is_full || nat_lt MAX_OUTPUT_LEN load.output_len) load.is_behind (load.has_waiting || load.is_blocked) readable

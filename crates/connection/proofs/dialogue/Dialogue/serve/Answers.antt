@@ -27,10 +27,10 @@ pub loop-self-preserved : goal.loop-self-preserved
 loop-self-preserved g c =
     let talk = c.args.talk.now in
     let inv = c.loop-self.invariant in
-    let room : c.is_full.result ≡ false = search rules in
+    let may : c.is_paused.result ≡ false = search rules in
     let ok : c.serve_frame.result ≡ Ok true = cc in
     let done = c.serve_frame.ensures.served ok in (
       inv.0 ++ done.0 ∷ [],
       runs_snoc _ c.loop-self.context _ _ c.loop-self.input _ inv.0 done.0 inv.1 done.1 done.2 done.3,
-      served_snoc (g.T.Talk.turn talk) (g.T.Talk.waits talk) inv.0 done.0 _ c.loop-self.self _ inv.2 (c.is_full.ensures.room room) done.4,
+      served_snoc (g.T.Talk.turn talk) (g.T.Talk.waits talk) (g.T.Talk.blocks talk) inv.0 done.0 _ c.loop-self.self _ inv.2 (c.is_paused.ensures.serves may) done.4,
     )

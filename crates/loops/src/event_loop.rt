@@ -280,12 +280,13 @@ impl<S, D: Drop, C: Drop> EventLoop<S, D, C> {
         }
         if watched != Some(place) {
             shared.bell.watch(self.number, place);
+            let before = if line.is_opening() { None } else { Some(place) };
             let next = line.look(shared, &mut self.bench.scratch, true, self.now);
             if next != Next::Rests {
                 self.follow(shared, key, next);
                 return;
             }
-            if line.place_to_wait(shared.service, Some(place)) != Some(place) {
+            if line.place_to_wait(shared.service, before) != Some(place) {
                 return;
             }
         }
@@ -312,10 +313,11 @@ impl<S, D: Drop, C: Drop> EventLoop<S, D, C> {
             let Some(line) = self.lines.get_mut(key) else {
                 continue;
             };
+            let before = line.session_parked_at();
             line.parked_at = None;
             let next = line.look(shared, &mut self.bench.scratch, true, self.now);
             self.follow(shared, key, next);
-            self.park(shared, key, Some(place), Some(place));
+            self.park(shared, key, before, Some(place));
         }
     }
 }

@@ -31,7 +31,7 @@ pub use client::{Arrival, Client};
 pub use ending::Ending;
 pub use fault::LoopsFault;
 pub use run::{Loops, Settings, run_loops};
-pub use service::Service;
+pub use service::{Admission, Service};
 
 #[cfg(test)]
 mod tests;

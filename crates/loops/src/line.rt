@@ -7,7 +7,7 @@ use crate::place::place_to_wait;
 use crate::readiness::{Load, Readiness, Step, next_step};
 use crate::service::Service;
 use crate::shared::{Bench, Shared};
-use crate::stage::Stage;
+use crate::stage::{Opening, Stage};
 use crate::times::{HELD_MILLIS, Patience, Phase, Times, has_passed, is_overdue};
 use mio::net::TcpStream;
 use std::alloc::Global;
@@ -50,7 +50,7 @@ impl<S, D: Drop> Line<S, D> {
         Line {
             stream,
             client,
-            stage: Stage::Opening(Vec::new(alloc)),
+            stage: Stage::Opening(Opening::new(alloc)),
             output: Output::new(alloc),
             readiness: Readiness::UNKNOWN,
             times: Times::new(now),
@@ -72,7 +72,10 @@ impl<S, D: Drop> Line<S, D> {
             is_full,
         };
         match &self.stage {
-            Stage::Opening(_) => {}
+            Stage::Opening(opening) => {
+                load.is_behind = opening.awaited.is_some();
+                load.is_blocked = opening.awaited.is_some();
+            }
             Stage::Open(served) => {
                 load.is_behind = served.connection.is_behind();
                 load.has_waiting = served.connection.has_waiting();
@@ -87,7 +90,7 @@ impl<S, D: Drop> Line<S, D> {
     /// How many bytes it holds.
     fn weight(&self) -> usize {
         let before_output = match &self.stage {
-            Stage::Opening(head) => head.len(),
+            Stage::Opening(opening) => opening.head.len(),
             Stage::Open(served) => served.connection.load(),
             Stage::Leaving { .. } => 0,
         };
@@ -108,9 +111,22 @@ impl<S, D: Drop> Line<S, D> {
         self.next_step(shared) != Step::Rest
     }
 
-    /// Returns whether the head of the request has not come.
+    /// Returns whether the request is not answered yet.
     pub(crate) fn is_opening(&self) -> bool {
         matches!(self.stage, Stage::Opening(_))
+    }
+
+    /// The place at whose news the service is asked again to let the client in.
+    fn awaited(&self) -> Option<usize> {
+        match &self.stage {
+            Stage::Opening(opening) => opening.awaited,
+            Stage::Open(_) | Stage::Leaving { .. } => None,
+        }
+    }
+
+    /// Returns whether the client waits to be let in.
+    pub(crate) fn is_awaiting(&self) -> bool {
+        self.awaited().is_some()
     }
 
     /// Returns whether a message is held.
@@ -161,6 +177,15 @@ impl<S, D: Drop> Line<S, D> {
         }
     }
 
+    /// The place at which it is parked, if its session has begun.
+    pub(crate) fn session_parked_at(&self) -> Option<usize> {
+        if self.is_opening() {
+            None
+        } else {
+            self.parked_at
+        }
+    }
+
     /// The place at which the line waits. The session was at the place `before` when its first
     /// frame that waits was made.
     pub(crate) fn place_to_wait<V: Service<Session = S, Told = D>>(
@@ -168,12 +193,12 @@ impl<S, D: Drop> Line<S, D> {
         service: &V,
         before: Option<usize>,
     ) -> Option<usize> {
-        place_to_wait(
+        self.awaited().or(place_to_wait(
             self.is_held(),
             self.has_waiting(),
             before,
             self.place(service),
-        )
+        ))
     }
 
     /// A turn: sends what waits, and reads once or serves more of what was read. Returns false if the
@@ -200,7 +225,8 @@ impl<S, D: Drop> Line<S, D> {
         }
     }
 
-    /// Hears the held message again. Without `may_hold` it is answered. Sends what is kept.
+    /// Hears the held message again. Without `may_hold` it is answered. Or asks again whether the
+    /// client is let in. Sends what is kept.
     pub(crate) fn look<R: Wait, V: Service<Session = S, Told = D>>(
         &mut self,
         shared: &Shared<'_, R, V>,
@@ -208,13 +234,16 @@ impl<S, D: Drop> Line<S, D> {
         may_hold: bool,
         now: u64,
     ) -> Next {
-        if let Stage::Open(served) = &mut self.stage
-            && served.connection.is_held()
-        {
-            served.answer_held(shared.service, scratch, may_hold);
-            if !served.connection.is_held() {
-                self.times.heard = now;
+        let was_waiting = self.is_held() || self.is_awaiting();
+        match &mut self.stage {
+            Stage::Opening(opening) if opening.awaited.is_some() => self.open(shared, scratch, now),
+            Stage::Open(served) if served.connection.is_held() => {
+                served.answer_held(shared.service, scratch, may_hold);
             }
+            Stage::Opening(_) | Stage::Open(_) | Stage::Leaving { .. } => {}
+        }
+        if was_waiting && !self.is_held() && !self.is_awaiting() {
+            self.times.heard = now;
         }
         self.deliver(shared, now)
     }
@@ -326,8 +355,8 @@ impl<S, D: Drop> Line<S, D> {
         now: u64,
     ) {
         match &mut self.stage {
-            Stage::Opening(head) => {
-                if head.extend_from_slice(bytes).is_ok() {
+            Stage::Opening(opening) => {
+                if opening.head.extend_from_slice(bytes).is_ok() {
                     self.open(shared, scratch, now);
                 } else {
                     self.finish(shared, Ending::Connection(connection::End::NoMemory));
@@ -364,7 +393,7 @@ impl<S, D: Drop> Line<S, D> {
     ) {
         match std::mem::replace(&mut self.stage, stage) {
             Stage::Open(served) => served.end(shared, &self.client, ending),
-            Stage::Opening(_head) => {}
+            Stage::Opening(_opening) => {}
             Stage::Leaving { is_sent: _ } => {}
         }
     }
@@ -418,7 +447,7 @@ impl<S, D: Drop> Line<S, D> {
             shared.burden.change_waiting(false);
         }
         match stage {
-            Stage::Opening(_head) => shared.refuse(&client, unopened(ending)),
+            Stage::Opening(_opening) => shared.refuse(&client, unopened(ending)),
             Stage::Open(served) => served.end(shared, &client, ending),
             Stage::Leaving { is_sent: _ } => {}
         }

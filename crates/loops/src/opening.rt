@@ -5,9 +5,9 @@ ghost use Rattle.websocket.specs.Handshake.{response_bytes};
 
 use crate::ending::Ending;
 use crate::line::Line;
-use crate::service::Service;
+use crate::service::{Admission, Service};
 use crate::shared::Shared;
-use crate::stage::{Served, Stage};
+use crate::stage::{Opening, Served, Stage};
 use connection::{
     Connection, End, Head, Page, UNAVAILABLE, health_answer, metrics_answer, read_head,
     write_switching,
@@ -16,7 +16,7 @@ use std::alloc::{AllocError, Global};
 use std::sync::Wait;
 
 impl<S, D: Drop> Line<S, D> {
-    /// Answers the head of the request, if it is whole.
+    /// Answers the head of the request, if it is whole and the service lets the client in or not.
     pub(crate) fn open<R: Wait, V: Service<Session = S, Told = D>>(
         &mut self,
         shared: &Shared<'_, R, V>,
@@ -27,7 +27,7 @@ impl<S, D: Drop> Line<S, D> {
             return;
         };
         match read_head(head.as_slice()) {
-            Head::Partial => self.keep_head(head),
+            Head::Partial => self.keep_head(head, None),
             Head::Refused => self.finish(shared, Ending::NoHandshake),
             Head::Probe(page) => self.answer_probe(shared, page),
             Head::Upgrade {
@@ -35,9 +35,19 @@ impl<S, D: Drop> Line<S, D> {
                 target,
                 len,
             } => {
-                if self.admit(shared, target.of(head.as_slice()), &accept_key) {
-                    let frames = head.get(len..).unwrap_or(&[]);
-                    self.receive(shared, scratch, frames, now);
+                let target = target.of(head.as_slice());
+                match shared.service.admission(target) {
+                    Admission::Now => {
+                        if self.admit(shared, target, &accept_key) {
+                            let frames = head.get(len..).unwrap_or(&[]);
+                            self.receive(shared, scratch, frames, now);
+                        }
+                    }
+                    Admission::Later(place) => self.keep_head(head, Some(place)),
+                    Admission::NotServed => {
+                        self.turn_away(shared);
+                        shared.service.not_served();
+                    }
                 }
             }
         }
@@ -46,15 +56,17 @@ impl<S, D: Drop> Line<S, D> {
     /// Takes out what has come of the head.
     fn take_head(&mut self, alloc: Global) -> Option<Vec<u8>> {
         match &mut self.stage {
-            Stage::Opening(head) => Some(std::mem::replace(head, Vec::new(alloc))),
+            Stage::Opening(opening) => {
+                Some(std::mem::replace(&mut opening.head, Vec::new(alloc)))
+            }
             Stage::Open(_) | Stage::Leaving { .. } => None,
         }
     }
 
-    /// Keeps what has come of the head until more comes.
-    fn keep_head(&mut self, so_far: Vec<u8>) {
-        if let Stage::Opening(head) = &mut self.stage {
-            *head = so_far;
+    /// Keeps what has come of the head until more comes, or there is news at the place `awaited`.
+    fn keep_head(&mut self, head: Vec<u8>, awaited: Option<usize>) {
+        if let Stage::Opening(opening) = &mut self.stage {
+            *opening = Opening { head, awaited };
         }
     }
 
@@ -87,6 +99,7 @@ impl<S, D: Drop> Line<S, D> {
     ) -> bool {
         let Some(seat) = shared.seats.take(shared.rt) else {
             self.turn_away(shared);
+            shared.service.turned_away();
             return false;
         };
         let Some(session) = shared.service.new_session(target) else {
@@ -105,10 +118,9 @@ impl<S, D: Drop> Line<S, D> {
         true
     }
 
-    /// There is no seat for the client.
+    /// The client is answered by 503.
     fn turn_away<R: Wait, V: Service<Session = S, Told = D>>(&mut self, shared: &Shared<'_, R, V>) {
         let _ = self.output.append(UNAVAILABLE.as_bytes());
-        shared.service.turned_away();
         self.enter(
             shared,
             Stage::Leaving { is_sent: false },

@@ -61,11 +61,11 @@ pub(crate) enum Step {
 pub(crate) struct Load {
     /// How many bytes wait to be sent.
     pub(crate) output_len: usize,
-    /// Bytes that were read may hold whole frames.
+    /// Bytes that were read may be served.
     pub(crate) is_behind: bool,
     /// Frames wait for what they report to be kept.
     pub(crate) has_waiting: bool,
-    /// A message is held that blocks: no later frame is served before it is answered.
+    /// They may not be yet: a held message blocks, or the client waits to be let in.
     pub(crate) is_blocked: bool,
     /// Nothing more is taken from the client.
     pub(crate) is_over: bool,

@@ -78,7 +78,7 @@ impl<S, D: Drop, C: Drop> EventLoop<S, D, C> {
         self.give_turn(shared, key);
     }
 
-    /// Ends a line if it has not opened.
+    /// Ends a line if its head has not come.
     fn end_unopened<R: Wait, V: Service<Session = S, Told = D, Scratch = C>>(
         &mut self,
         shared: &Shared<'_, R, V>,
@@ -87,13 +87,15 @@ impl<S, D: Drop, C: Drop> EventLoop<S, D, C> {
         if let Some(line) = self.lines.get_mut(begun.key)
             && line.client.session == begun.session
             && line.is_opening()
+            && !line.is_awaiting()
         {
             self.end_line(shared, begun.key);
         }
     }
 
-    /// Ends the lines that are overdue, answers what is held for long, and sends what is kept. A line
-    /// that rested since all lines held too much goes on.
+    /// Ends the lines that are overdue, answers what is held for long, asks again for clients that
+    /// wait to be let in, and sends what is kept. A line that rested since all lines held too much
+    /// goes on.
     pub(crate) fn sweep<R: Wait, V: Service<Session = S, Told = D, Scratch = C>>(
         &mut self,
         shared: &Shared<'_, R, V>,
@@ -105,8 +107,8 @@ impl<S, D: Drop, C: Drop> EventLoop<S, D, C> {
             };
             if line.is_overdue(self.now, patience) {
                 self.end_line(shared, key);
-            } else if line.is_held_long(self.now) || line.has_waiting() {
-                let before = line.parked_at;
+            } else if line.is_held_long(self.now) || line.has_waiting() || line.is_awaiting() {
+                let before = line.session_parked_at();
                 let may_hold = !line.is_held_long(self.now);
                 let next = line.look(shared, &mut self.bench.scratch, may_hold, self.now);
                 self.follow(shared, key, next);

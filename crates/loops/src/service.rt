@@ -6,6 +6,17 @@ use crate::client::Client;
 use crate::ending::Ending;
 use connection::Talk;
 
+/// When a client is let in.
+#[derive(Clone, Copy, Debug, PartialEq, Eq)]
+pub enum Admission {
+    /// Now.
+    Now,
+    /// Once there is news at this place. The service is then asked again.
+    Later(usize),
+    /// Not at all: what the request names cannot be served now.
+    NotServed,
+}
+
 /// What loops serve: a talk, and what it wants to hear of connections. All loops share one value,
 /// and call it in their threads. A method may block its thread for a short time only.
 pub trait Service: Talk {
@@ -13,6 +24,12 @@ pub trait Service: Talk {
 
     /// A session that begins with a request for this target.
     ghost begins: { Self → List ℕ → Self.Session → Type 0 };
+
+    /// When a client is let in whose request has this target (RFC 9112, section 3.2). A client that
+    /// waits takes no seat, and nothing is read from it.
+    fn admission(&self, _target: &[u8]) -> Admission {
+        Admission::Now
+    }
 
     /// The session of a new connection, whose request had this target (RFC 9112, section 3.2). `None`
     /// if an allocation failed.
@@ -33,6 +50,9 @@ pub trait Service: Talk {
 
     /// A client was turned away by 503: all seats are taken.
     fn turned_away(&self);
+
+    /// A client was turned away by 503: what its request names cannot be served now.
+    fn not_served(&self) {}
 
     /// The session has ended, and is given back. `None` if there was no handshake.
     fn after_session(&self, client: &Client, session: Option<Self::Session>, ending: Ending);

@@ -11,6 +11,7 @@ use crate::seats::Seat;
 use crate::service::Service;
 use crate::shared::Shared;
 use connection::{Connection, End};
+use std::alloc::Global;
 use std::sync::Wait;
 
 /// A close frame of a server with the code 1011 (RFC 6455, sections 5.5.1 and 7.4.1).
@@ -177,10 +178,33 @@ fn release_all<S, D: Drop, V: Service<Session = S, Told = D>>(
     Ok(())
 }
 
+/// A request that is not answered yet.
+#[derive(Drop)]
+pub(crate) struct Opening {
+    /// What has come of its head.
+    pub(crate) head: Vec<u8>,
+    /// The place at whose news the service is asked again to let the client in. Nothing is read until
+    /// then.
+    pub(crate) awaited: Option<usize>,
+}
+
+impl Opening {
+    /// A request of which nothing has come.
+    pub(crate) fn new(alloc: Global) -> Opening
+        ensures head { result.head.items ≡ [] }
+        ensures awaited { result.awaited ≡ None }
+    {
+        Opening {
+            head: Vec::new(alloc),
+            awaited: None,
+        }
+    }
+}
+
 /// The stage of a line.
 pub(crate) enum Stage<S, D> {
-    /// The head of the request has come so far.
-    Opening(Vec<u8>),
+    /// The head of the request comes, or the client waits to be let in.
+    Opening(Opening),
     /// Messages are served.
     Open(Served<S, D>),
     /// What waits is sent. Once that is done the end of the stream is awaited.

@@ -1,3 +1,5 @@
+mod admissions;
+
 use crate::client::Client;
 use crate::mail::Mail;
 use crate::output::Output;

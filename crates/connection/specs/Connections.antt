@@ -4,7 +4,10 @@ use Rattle.websocket.specs.Connection.{close_step}
 use Rattle.websocket.specs.View.{Leaves}
 use Rattle.websocket.specs.declared.protocol.config.Role.TheVariants as Role
 use Rattle.websocket.specs.declared.protocol.state.WebSocketState.TheVariants as WebSocketState
-use Rattle.websocket.specs.declared.protocol.frame.coding.CloseCode.TheVariants as CloseCode
+use Rattle.websocket.specs.declared.protocol.frame.coding.CloseCode.{CloseCode}
+use Rattle.websocket.specs.declared.protocol.frame.coding.CloseCode.TheVariants as code
+use Rattle.connection.specs.declared.closing.Closing.{Closing}
+use Rattle.connection.specs.declared.closing.Closing.TheVariants as closing
 use Rattle.connection.specs.declared.connection.TheConstants.{MAX_MESSAGE_LEN}
 use Rattle.connection.specs.declared.end.End.{End}
 use Rattle.connection.specs.declared.end.End.TheVariants as end
@@ -37,12 +40,17 @@ opened session =
 abbrev pub stopped : {S D : Type 0} → ConnectionState S D → End → ConnectionState S D
 stopped before why = record before { input = []; ended = Some why; is_behind = false }
 
--- A close frame with the code 1011 stands behind the frames that wait, unless a close was sent or
--- read, and the connection serves no more.
-abbrev pub Closes : {S D : Type 0} → ConnectionState S D → ConnectionState S D → Type 0
-Closes before after =
+-- the code of a close frame that says why
+abbrev pub code_of : Closing → CloseCode
+code_of closing.Away = code.Away
+code_of closing.Fault = code.Error
+
+-- A close frame with the code that says why stands behind the frames that wait, unless a close was
+-- sent or read, and the connection serves no more.
+abbrev pub Closes : {S D : Type 0} → Closing → ConnectionState S D → ConnectionState S D → Type 0
+Closes why before after =
     (frame : List ℕ)
-    × Leaves (close_step before.protocol (Some (CloseCode.Error, []))) after.protocol [] frame
+    × Leaves (close_step before.protocol (Some (code_of why, []))) after.protocol [] frame
     × (after ≡ record (stopped before (unwrap_or before.ended end.Closed)) {
       protocol = after.protocol;
       standing = queue before.standing (queued_reply frame);

@@ -11,6 +11,7 @@ ghost use Rattle.connection.specs.Releasing.{IsFirstLost, IsFirstUntold, Release
 ghost use Rattle.connection.specs.declared.end.End.{End};
 ghost use Rattle.connection.specs.declared.end.End.TheVariants as end;
 
+use crate::closing::{Closing, code_of};
 use crate::dialogue::Dialogue;
 use crate::end::End;
 use crate::input::Input;
@@ -18,7 +19,7 @@ use crate::item::MAX_LOAD;
 use crate::talk::Talk;
 use std::alloc::Global;
 use std::marker::Model;
-use websocket::protocol::{CloseCode, CloseFrame, NoMask, Role, WebSocketConfig, WebSocketContext};
+use websocket::protocol::{CloseFrame, NoMask, Role, WebSocketConfig, WebSocketContext};
 
 /// The most bytes of a message and of a frame. A longer one ends the connection before memory is
 /// allocated for it.
@@ -231,14 +232,14 @@ impl<S, D: Drop> Connection<S, D> {
         self.dialogue.release_first(talk, output)
     }
 
-    /// Puts a close frame with the code 1011 (RFC 6455, section 7.4.1) behind the frames that wait,
-    /// unless a close was sent or read. The connection then serves no more, also after an error:
+    /// Puts a close frame with the code that says why behind the frames that wait, unless a close was
+    /// sent or read. The connection then serves no more, also after an error:
     /// `receive` gives the error that it gave before, or `Closed`.
     ///
     /// # Errors
     /// `NoMemory` if an allocation failed. What waits is unchanged.
-    pub fn close_for_fault(&mut self) -> Result<(), End>
-        ensures ok { OnOk result (Closes self.old self.new) }
+    pub fn close(&mut self, closing: Closing) -> Result<(), End>
+        ensures ok { OnOk result (Closes closing self.old self.new) }
         ensures err { OnErr result (self.new ≡ record (stopped self.old
             (unwrap_or self.old.ended end.Closed)) { protocol = self.new.protocol }) }
         ensures why { IfErr result (λ why. why ≡ end.NoMemory) }
@@ -246,7 +247,7 @@ impl<S, D: Drop> Connection<S, D> {
         self.stop(self.ended.unwrap_or(End::Closed));
         let mut frame = Vec::new(self.alloc);
         let close = CloseFrame {
-            code: CloseCode::Error,
+            code: code_of(closing),
             reason: "",
         };
         match self.context.close(Some(close), &mut frame, &mut NoMask) {

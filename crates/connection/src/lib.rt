@@ -2,6 +2,7 @@
 //! No socket is opened here, and no thread waits.
 #![tactic(auto)]
 
+mod closing;
 mod connection;
 mod dialogue;
 mod end;
@@ -11,6 +12,7 @@ mod item;
 pub mod laws;
 mod talk;
 
+pub use closing::Closing;
 pub use connection::{Connection, MAX_MESSAGE_LEN};
 pub use end::End;
 pub use head::{

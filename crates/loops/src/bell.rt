@@ -3,7 +3,7 @@
 ghost use Rattle.std.specs.Prelude.{◌≡◌, ◌≢◌, ◌⊎◌, ◌^◌, ◌<◌, ◌≤◌, ◌↔◌, IfOk, vec_len};
 
 use crate::fault::LoopsFault;
-use crate::mail::{Handed, Mail, News};
+use crate::mail::{Handed, Mail, News, Outlook};
 use mio::{Poll, Token, Waker};
 use std::alloc::{AllocError, Global};
 use std::net::Net;
@@ -163,12 +163,30 @@ impl Bell {
         }
     }
 
-    /// Exchanges what came for the loop of this number with this news, which is empty. Returns
-    /// whether there are no more arrivals.
-    pub(crate) fn take(&self, rt: &impl Wait, number: usize, empty: &mut News) -> bool {
+    /// The server goes away: the loops take no more arrivals. Lines that have not opened end. A
+    /// session is closed with the code 1001 (RFC 6455, section 7.4.1) behind the answers that wait,
+    /// which are sent once they are kept. A line that has not ended after 10 seconds is ended.
+    pub fn go_away(&self, rt: &impl Wait) {
+        for mailbox in &self.mailboxes {
+            mailbox.mail.lock(rt).go_away();
+            mailbox.wake();
+        }
+    }
+
+    /// Returns whether the server goes away.
+    pub(crate) fn is_away(&self, rt: &impl Wait) -> bool {
+        match self.mailboxes.first() {
+            Some(mailbox) => mailbox.mail.lock(rt).outlook() == Outlook::Away,
+            None => false,
+        }
+    }
+
+    /// Exchanges what came for the loop of this number with this news, which is empty. Returns what
+    /// is to come.
+    pub(crate) fn take(&self, rt: &impl Wait, number: usize, empty: &mut News) -> Outlook {
         match self.mailboxes.get(number) {
             Some(mailbox) => mailbox.mail.lock(rt).take(empty),
-            None => true,
+            None => Outlook::Last,
         }
     }
 

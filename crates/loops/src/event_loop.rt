@@ -3,14 +3,14 @@
 use crate::bell::WAKE;
 use crate::ending::Ending;
 use crate::line::{Line, Next};
-use crate::mail::News;
+use crate::mail::{News, Outlook};
 use crate::openings::Openings;
 use crate::parked::Parked;
 use crate::parts::Parts;
 use crate::service::Service;
 use crate::shared::{Bench, Shared};
 use crate::slots::Slots;
-use crate::times::{SWEEP_MILLIS, has_passed, millis_since};
+use crate::times::{AWAY_MILLIS, SWEEP_MILLIS, has_passed, millis_since};
 use mio::event::Event;
 use mio::{Events, Poll};
 use std::sync::Wait;
@@ -40,8 +40,10 @@ pub(crate) struct EventLoop<S, D, C: Drop> {
     pub(crate) now: u64,
     /// When all lines were looked at.
     pub(crate) swept: u64,
-    /// There are no more arrivals.
-    pub(crate) is_last: bool,
+    /// What is to come.
+    pub(crate) outlook: Outlook,
+    /// When it heard that the server goes away.
+    pub(crate) away_since: u64,
 }
 
 /// A line that had its turn, and the place that its session was at before.
@@ -85,7 +87,8 @@ where
         eager: 0,
         now: 0,
         swept: 0,
-        is_last: false,
+        outlook: Outlook::More,
+        away_since: 0,
     };
     for _ in shared.rt.forever() {
         if !served.wait(shared, &mut events) {
@@ -102,7 +105,7 @@ impl<S, D: Drop, C: Drop> EventLoop<S, D, C> {
     /// for a moment after a line began to wait for a disk, if no other line of any loop does: a thread
     /// that sleeps is woken late. Returns false if all is done, or waiting fails.
     fn wait<R, V>(&mut self, shared: &Shared<'_, R, V>, events: &mut Events) -> bool {
-        if self.is_last && self.lines.is_empty() {
+        if self.is_done() {
             return false;
         }
         let is_eager = self.eager > 0 && shared.burden.is_one_waiting();
@@ -115,6 +118,17 @@ impl<S, D: Drop, C: Drop> EventLoop<S, D, C> {
         self.poll
             .poll(events, Some(Duration::from_secs(limit)))
             .is_ok()
+    }
+
+    /// Returns whether all is done: no line is left and none comes, or the server went away long ago.
+    fn is_done(&self) -> bool {
+        match self.outlook {
+            Outlook::More => false,
+            Outlook::Last => self.lines.is_empty(),
+            Outlook::Away => {
+                self.lines.is_empty() || has_passed(self.now, self.away_since, AWAY_MILLIS)
+            }
+        }
     }
 
     /// One round: the lines that are reported, those that had more to do and those that arrived, then
@@ -195,7 +209,7 @@ impl<S, D: Drop, C: Drop> EventLoop<S, D, C> {
 
     /// The answers of a line leave, and it waits for news if it has to. Its session was at the place
     /// `before` its turn.
-    fn deliver<R: Wait, V: Service<Session = S, Told = D, Scratch = C>>(
+    pub(crate) fn deliver<R: Wait, V: Service<Session = S, Told = D, Scratch = C>>(
         &mut self,
         shared: &Shared<'_, R, V>,
         key: usize,

@@ -412,6 +412,20 @@ impl<S, D: Drop> Line<S, D> {
         self.enter(shared, Stage::Leaving { is_sent: false }, ending);
     }
 
+    /// The server goes away: the session is closed behind the answers that wait. Returns false if it
+    /// has not begun.
+    pub(crate) fn go_away(&mut self, now: u64) -> bool {
+        match &mut self.stage {
+            Stage::Opening(_) => return false,
+            Stage::Open(served) => {
+                served.go_away();
+                self.times.heard = now;
+            }
+            Stage::Leaving { .. } => {}
+        }
+        true
+    }
+
     /// Once all is sent on a line whose session has ended, the client hears the end of the stream.
     fn shut_down(&mut self, now: u64) {
         if self.output.len() == 0

@@ -72,12 +72,22 @@ impl News {
     }
 }
 
+/// What is to come for a loop.
+#[derive(Clone, Copy, Debug, PartialEq, Eq)]
+pub(crate) enum Outlook {
+    /// More arrivals.
+    More,
+    /// No more arrivals.
+    Last,
+    /// No more arrivals, and the server goes away.
+    Away,
+}
+
 /// The mail of a loop.
 #[derive(Drop)]
 pub(crate) struct Mail {
     news: News,
-    /// There are no more arrivals.
-    is_last: bool,
+    outlook: Outlook,
     /// The loop takes no more arrivals.
     is_closed: bool,
 }
@@ -87,7 +97,7 @@ impl Mail {
     pub(crate) fn new(alloc: Global, places: usize) -> Result<Mail, AllocError> {
         Ok(Mail {
             news: News::new(alloc, places)?,
-            is_last: false,
+            outlook: Outlook::More,
             is_closed: false,
         })
     }
@@ -128,9 +138,29 @@ impl Mail {
 
     /// There are no more arrivals.
     pub(crate) fn end(&mut self)
-        ensures { self.new ≡ record self.old { is_last = true } }
+        ensures last { self.old.outlook ≢ Outlook.Away →
+            self.new ≡ record self.old { outlook = Outlook.Last } }
+        ensures away { self.old.outlook ≡ Outlook.Away → self.new ≡ self.old }
     {
-        self.is_last = true;
+        match self.outlook {
+            Outlook::More | Outlook::Last => self.outlook = Outlook::Last,
+            Outlook::Away => {}
+        }
+    }
+
+    /// The server goes away. The loop takes no more arrivals.
+    pub(crate) fn go_away(&mut self)
+        ensures { self.new ≡ record self.old { outlook = Outlook.Away; is_closed = true } }
+    {
+        self.outlook = Outlook::Away;
+        self.is_closed = true;
+    }
+
+    /// What is to come.
+    pub(crate) fn outlook(&self) -> Outlook
+        ensures { result ≡ self.now.outlook }
+    {
+        self.outlook
     }
 
     /// The loop takes no more arrivals.
@@ -140,14 +170,13 @@ impl Mail {
         self.is_closed = true;
     }
 
-    /// Exchanges what came with this news, which is empty. Returns whether there are no more
-    /// arrivals.
-    pub(crate) fn take(&mut self, empty: &mut News) -> bool
+    /// Exchanges what came with this news, which is empty. Returns what is to come.
+    pub(crate) fn take(&mut self, empty: &mut News) -> Outlook
         ensures taken { empty.new ≡ self.old.news }
         ensures left { self.new ≡ record self.old { news = empty.old } }
-        ensures last { result ≡ self.old.is_last }
+        ensures outlook { result ≡ self.old.outlook }
     {
         std::mem::swap(&mut self.news, empty);
-        self.is_last
+        self.outlook
     }
 }

@@ -16,7 +16,7 @@ use std::alloc::{AllocError, Global};
 use std::sync::Wait;
 
 impl<S, D: Drop> Line<S, D> {
-    /// Answers the head of the request, if it is whole and the service lets the client in or not.
+    /// Answers the head of the request, if it is whole. If the client is let in later, the head is kept.
     pub(crate) fn open<R: Wait, V: Service<Session = S, Told = D>>(
         &mut self,
         shared: &Shared<'_, R, V>,

@@ -4,7 +4,7 @@ use crate::client::Client;
 use crate::ending::Ending;
 use crate::event_loop::EventLoop;
 use crate::line::{Line, Next};
-use crate::mail::Handed;
+use crate::mail::{Handed, Outlook};
 use crate::openings::Begun;
 use crate::service::Service;
 use crate::shared::Shared;
@@ -16,15 +16,38 @@ use mio::{Interest, Token};
 use std::sync::Wait;
 
 impl<S, D: Drop, C: Drop> EventLoop<S, D, C> {
-    /// Takes what came, and begins the lines that arrived.
+    /// Takes what came, and begins the lines that arrived. Closes all lines once the server goes away.
     pub(crate) fn take_mail<R: Wait, V: Service<Session = S, Told = D, Scratch = C>>(
         &mut self,
         shared: &Shared<'_, R, V>,
     ) {
-        self.is_last = shared.bell.take(shared.rt, self.number, &mut self.news);
+        let before = self.outlook;
+        self.outlook = shared.bell.take(shared.rt, self.number, &mut self.news);
         let arrivals = std::mem::replace(&mut self.news.arrivals, Vec::new(shared.alloc));
         for handed in arrivals {
             self.begin(shared, handed);
+        }
+        if self.outlook == Outlook::Away && before != Outlook::Away {
+            self.go_away(shared);
+        }
+    }
+
+    /// The server goes away: ends the lines that have not opened, and closes the others.
+    fn go_away<R: Wait, V: Service<Session = S, Told = D, Scratch = C>>(
+        &mut self,
+        shared: &Shared<'_, R, V>,
+    ) {
+        self.away_since = self.now;
+        for key in 0..self.lines.end_of_keys() {
+            let Some(line) = self.lines.get_mut(key) else {
+                continue;
+            };
+            let before = line.session_parked_at().or(line.place(shared.service));
+            if line.go_away(self.now) {
+                self.deliver(shared, key, before);
+            } else {
+                self.end_line(shared, key);
+            }
         }
     }
 
@@ -137,7 +160,8 @@ impl<S, D: Drop, C: Drop> EventLoop<S, D, C> {
             eager: _,
             now: _,
             swept: _,
-            is_last: _,
+            outlook: _,
+            away_since: _,
         } = self;
         shared.bell.close(shared.rt, number);
         shared.bell.take(shared.rt, number, &mut news);

@@ -2,7 +2,7 @@
 
 ghost use Rattle.std.specs.Prelude.{◌≡◌, [], IsNone, IsSome, is_some, None, Some, unwrap_or};
 ghost use Rattle.loops.specs.steps.Delivering.{Delivers, DeliversAndMay};
-ghost use Rattle.loops.specs.steps.Served.{AnswersOrStops, ReceivesOrStops, Stops};
+ghost use Rattle.loops.specs.steps.Served.{AnswersOrStops, GoesAway, ReceivesOrStops, Stops};
 
 use crate::client::Client;
 use crate::ending::{Ending, is_server_fault};
@@ -10,7 +10,7 @@ use crate::output::Output;
 use crate::seats::Seat;
 use crate::service::Service;
 use crate::shared::Shared;
-use connection::{Connection, End};
+use connection::{Closing, Connection, End};
 use std::alloc::Global;
 use std::sync::Wait;
 
@@ -109,9 +109,21 @@ impl<S, D: Drop> Served<S, D> {
             return;
         }
         if is_server_fault(end) {
-            let _ = self.connection.close_for_fault();
+            let _ = self.connection.close(Closing::Fault);
         }
         self.over = Some(Ending::Connection(end));
+    }
+
+    /// The server goes away: a close stands behind what waits, and nothing more is taken from the
+    /// client. If its connection has ended already, nothing changes.
+    pub(crate) fn go_away(&mut self)
+        ensures { GoesAway self.old self.new }
+    {
+        if self.over.is_some() {
+            return;
+        }
+        let _ = self.connection.close(Closing::Away);
+        self.over = Some(Ending::Connection(End::Closed));
     }
 
     /// Moves to the output what is kept. Returns why the connection has ended, once nothing of it

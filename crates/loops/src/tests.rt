@@ -1,7 +1,8 @@
-mod admissions;
+mod door;
+mod runs;
 
 use crate::client::Client;
-use crate::mail::Mail;
+use crate::mail::{Mail, Outlook};
 use crate::output::Output;
 use crate::seats::Seats;
 use std::io;
@@ -86,7 +87,7 @@ fn news_of_a_room_comes_once(rt: HostRuntime) -> Result<(), Fail> {
     mail.add_room(1);
     mail.add_room(1);
     mail.add_room(7);
-    assert!(rt; !mail.take(&mut news));
+    assert!(rt; mail.take(&mut news) == Outlook::More);
     assert_eq!(rt; news.next_room(), Some(1));
     assert_eq!(rt; news.next_room(), None);
     Ok(())

@@ -21,6 +21,9 @@ pub(crate) const CROWDED_MILLIS: u64 = 1_000;
 /// How long the end of a stream is awaited.
 pub(crate) const LINGER_MILLIS: u64 = 2_000;
 
+/// How long lines may take to end once the server goes away.
+pub(crate) const AWAY_MILLIS: u64 = 10_000;
+
 /// How often a loop looks at all its lines.
 pub(crate) const SWEEP_MILLIS: u64 = 1_000;
 

@@ -1,7 +1,7 @@
 //! Frames that wait: for their receipts, and until there is room.
 
 use super::echo::{Client, Echo, expect_released, frame, frames, released};
-use connection::{Connection, End, MAX_WAITING};
+use connection::{Closing, Connection, End, MAX_WAITING};
 use std::process::Abort;
 use std::test::Fail;
 
@@ -42,7 +42,14 @@ fn an_answer_waits_for_its_receipt(rt: HostRuntime) -> Result<(), Fail> {
     outcome
 }
 
-fn close(rt: &impl Abort, client: &mut Client, talk: &Echo) -> Result<(), Fail> {
+/// A message at which the talk fails, and then two closes. The first counts.
+fn close(
+    rt: &impl Abort,
+    client: &mut Client,
+    talk: &Echo,
+    closing: Closing,
+    expected: &[u8],
+) -> Result<(), Fail> {
     client.receive(
         talk,
         &mut (),
@@ -52,19 +59,26 @@ fn close(rt: &impl Abort, client: &mut Client, talk: &Echo) -> Result<(), Fail> 
         client.receive(talk, &mut (), &frame(talk.alloc, 0x81, b"f")?),
         Err(End::Stray)
     );
-    client.close_for_fault()?;
-    client.close_for_fault()?;
+    client.close(closing)?;
+    client.close(Closing::Fault)?;
     assert_eq!(rt; client.receive(talk, &mut (), b""), Err(End::Stray));
-    expect_released(rt, client, talk, b"\x81\x03one\x81\x01w\x88\x02\x03\xf3")
+    expect_released(rt, client, talk, expected)
 }
 
 #[test]
-fn a_fault_of_the_server_closes_behind_the_answers(rt: HostRuntime) -> Result<(), Fail> {
+fn a_server_closes_behind_the_answers(rt: HostRuntime) -> Result<(), Fail> {
     let talk = Echo::new(rt.alloc());
-    let mut client = Connection::open(rt.alloc(), 0);
-    let outcome = close(&rt, &mut client, &talk);
-    client.end();
-    outcome
+    let rows: [(Closing, &[u8]); 2] = [
+        (Closing::Away, b"\x81\x03one\x81\x01w\x88\x02\x03\xe9"),
+        (Closing::Fault, b"\x81\x03one\x81\x01w\x88\x02\x03\xf3"),
+    ];
+    for (closing, expected) in rows {
+        let mut client = Connection::open(rt.alloc(), 0);
+        let outcome = close(&rt, &mut client, &talk, closing, expected);
+        client.end();
+        outcome?;
+    }
+    Ok(())
 }
 
 /// Receives so many messages of this length at once, and returns how many frames are released at a

@@ -1,6 +1,8 @@
 -- What is done with the bytes of a client, and what stays once its connection has ended.
-use Rattle.std.specs.Prelude.{◌≡◌, ◌⊎◌, ℕ, Bool, true, List, Option, Some, unwrap_or}
+use Rattle.std.specs.Prelude.{◌≡◌, ◌⊎◌, ℕ, Bool, true, List, Option, None, Some, IsSome, unwrap_or}
+use Rattle.connection.specs.declared.closing.Closing.TheVariants as closing
 use Rattle.connection.specs.declared.end.End.{End}
+use Rattle.connection.specs.declared.end.End.TheVariants as end
 use Rattle.connection.specs.Connections.{AnswersHeld, Closes, FailsAnsweringHeld, Receives, StopsReceiving}
 use Rattle.connection.specs.Standing.{ConnectionState}
 use Rattle.connection.specs.Talks.{Block, Fault, Turn, Wait}
@@ -16,7 +18,16 @@ module _ {S D : Type 0} where
   Stops why connection over after =
       (after.over ≡ Some (unwrap_or over (Connection why)))
       × ((after.connection.standing ≡ connection.standing)
-      ⊎ ((is_fault_of_server why ≡ true) × Closes connection after.connection))
+      ⊎ ((is_fault_of_server why ≡ true) × Closes closing.Fault connection after.connection))
+
+  -- The server goes away: the connection has ended, and a close of 1001 may stand behind what waits.
+  -- If it had ended before, nothing changes.
+  abbrev pub GoesAway : Served S D → Served S D → Type 0
+  GoesAway before after =
+      (IsSome before.over → after ≡ before)
+      × (before.over ≡ None → (after.over ≡ Some (Connection end.Closed))
+      × ((after.connection.standing ≡ before.connection.standing)
+      ⊎ Closes closing.Away before.connection after.connection))
 
   module _ (turn : Turn S D) (waits : Wait S) (blocks : Block S) (fails : Fault S) where
     -- These bytes came: the connection received them, or ends at them.

@@ -1,6 +1,6 @@
 //! A line over a stream of memory: it reads, has what came served, and writes what may leave.
 
-use connection::{Connection, End, Head, read_head, write_switching};
+use connection::{Closing, Connection, End, Head, read_head, write_switching};
 use keeper::Keeper;
 use loops::{Client, Ending, Service};
 use room_lock::{Prefix, RoomHistories};
@@ -137,7 +137,7 @@ impl<S: Read + Write> Line<S> {
         for _ in 0..usize::MAX {
             let served = connection.receive(host, &mut scratch, &bytes);
             if let Err(End::NoMemory | End::Stray) = served {
-                let _ = connection.close_for_fault();
+                let _ = connection.close(Closing::Fault);
             }
             if let Err(end) = self.release(host, connection) {
                 let _ = self.output.extend_from_slice(CLOSE_FOR_FAULT);

@@ -24,7 +24,7 @@ INSIDE = {
     "join": {3}, "back": {3}, "new": {6, 7, 8, 9, 10, 16}, "put": {*range(6, 16), 18}, "drop": {*range(6, 14), 15, 18},
     "set": {*range(6, 16), 18}, "show": {11}, "list": {17}, "pull": {17}, "wait": {17}, "leave": set(),
 }
-OUTSIDE = {"join": {4, 5, 6, 21}, "back": {4, 19, 20}}
+OUTSIDE = {"join": {4, 5, 6, 21}, "back": {4, 19, 20, 21}}
 
 
 class NoAnswer(Exception):

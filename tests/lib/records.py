@@ -2,8 +2,12 @@
 
 import collections
 import json
+import re
 
 from lib.answers import BY_SESSION, OF_BACK
+
+# The line before a room's record in the output.
+HEAD = re.compile(r"room ([a-z0-9-]{1,64}) (0|[1-9]\d*)")
 
 
 class Differs(Exception):
@@ -81,19 +85,29 @@ class Transcript:
                 yield [compact(entry_of(site, request)) for site in sites]
 
 
-def split_rooms(lines, rooms):
-    """Splits the lines of the output into the record of each room."""
+def split_rooms(lines, rooms, on_demand=0):
+    """Splits the lines of the output into the record of each room: first these, then at most `on_demand` others."""
     records, place = {}, 0
-    for room in rooms:
-        head = lines[place].split(" ") if place < len(lines) else []
-        if head[:2] != ["room", room] or len(head) != 3 or not head[2].isdecimal():
-            raise Differs(f"line {place + 2} of the output is not the head of room {room}: {head}")
+    while place < len(lines):
+        head = HEAD.fullmatch(lines[place])
+        if not head or head[1] in records:
+            raise Differs(f"line {place + 2} of the output is not the head of a further room: {lines[place]:.200}")
         count = int(head[2])
-        records[room] = lines[place + 1 : place + 1 + count]
+        records[head[1]] = lines[place + 1 : place + 1 + count]
         place += 1 + count
     if place != len(lines):
         raise Differs(f"the output has {len(lines)} lines after the first; its rooms have {place}")
+    names = list(records)
+    if names[: len(rooms)] != list(rooms) or len(names) > len(rooms) + on_demand:
+        raise Differs(f"the output has the rooms {names}, which do not begin with {rooms} or are too many")
     return records
+
+
+def compare_rooms(records, transcripts):
+    """Raises Differs if replies reported an entry of a room that has no record."""
+    reported = {room for transcript in transcripts for room, *_ in transcript.places}
+    if not reported <= set(records):
+        raise Differs(f"the output has no record of the rooms {sorted(reported - set(records))}")
 
 
 def claims_of(room, transcripts):

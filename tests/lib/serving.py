@@ -16,7 +16,7 @@ import threading
 import time
 
 from lib.websocket_client import CLOSE, SECONDS, TEXT, Connection, Ended, Fault, closing, frame
-from lib.records import Transcript, compact, compare_record, split_rooms, transcript_lines
+from lib.records import Transcript, compact, compare_record, compare_rooms, split_rooms, transcript_lines
 
 ROOT = pathlib.Path(__file__).resolve().parent.parent.parent
 
@@ -213,11 +213,11 @@ def pump(stream, lines):
 class Server:
     """`grace serve` on a free port, for this many sessions. `patience` bounds, in seconds, the time to listen, the time
     to exit after the last session, and the checker's time for each room. `keep` is the folder of the rooms. `before`
-    has the transcripts of clients of earlier runs over it."""
+    has the transcripts of clients of earlier runs over it. `on_demand` is the number of rooms that it opens on demand."""
 
     def __init__(
         self, sessions=1, workers=4, rooms=("r",), idle=None, patience=SECONDS, keep=None, before=(), report=None,
-        clients=None, by_path=False,
+        clients=None, by_path=False, on_demand=0,
     ):
         self.port = 0
         self.sessions = sessions
@@ -234,6 +234,9 @@ class Server:
             self.words += ["--clients", str(clients)]
         if by_path:
             self.words += ["--by-path"]
+        if on_demand:
+            self.words += ["--rooms", str(on_demand)]
+        self.on_demand = on_demand
         self.places = 10_000 if clients is None else clients
         self.keep = keep
         self.before = list(before)
@@ -331,8 +334,9 @@ class Server:
         lines = self.output()
         expect_equal("the status", self.process.returncode, 0)
         expect_equal("the warnings", self.warnings(), warnings or {})
-        records = split_rooms(lines, self.rooms)
+        records = split_rooms(lines, self.rooms, self.on_demand)
         transcripts = self.transcripts()
+        compare_rooms(records, transcripts)
         for room, record in records.items():
             compare_record(room, record, transcripts)
             result = verdict(record, transcript_lines(room, transcripts), max(RUN, self.patience))

@@ -1,46 +1,14 @@
 """`GET /metrics`: what the server has counted."""
 
-import re
-import socket
 import time
 
+from lib.observing import samples
 from lib.serving import CheckFailed, Server, expect_equal
 from lib.websocket_client import SECONDS
 
-PROBE = b"GET /metrics HTTP/1.1\r\nHost: localhost\r\n\r\n"
-HEAD = re.compile(
-    rb"HTTP/1\.1 200 OK\r\nContent-Type: text/plain; version=0\.0\.4\r\nContent-Length: (\d+)\r\n"
-    rb"Cache-Control: no-store\r\nConnection: close\r\n\r\n"
-)
-SAMPLE = re.compile(r'(grace_[a-z_]+)(\{[a-z]+="[^"]*"(?:,[a-z]+="[^"]*")*\})? (\d+)')
 CAUSES = [
     "closed", "handshake failed", "stream fault", "out of memory", "torn from its room", "record not kept",
 ]
-
-
-def samples(server):
-    """Returns the samples by their name and labels. Each has the help and the type of its family before it."""
-    with socket.create_connection(server.address, SECONDS) as client:
-        client.sendall(PROBE)
-        answer = b""
-        while data := client.recv(4096):
-            answer += data
-    head = HEAD.match(answer)
-    if not head:
-        raise CheckFailed(f"the answer {answer!r:.300}")
-    body = answer[head.end():].decode()
-    expect_equal("the length of the body", len(body), int(head[1]))
-    found, family = {}, None
-    for line in body.splitlines():
-        if line.startswith("# HELP "):
-            family = line.split()[2]
-        elif line.startswith("# TYPE "):
-            expect_equal("the family", line.split()[2], family)
-        else:
-            name, labels, number = SAMPLE.fullmatch(line).groups()
-            expect_equal("the family", name, family)
-            found[name + (labels or "")] = int(number)
-    return found
 
 
 def samples_once(server, sessions):
@@ -67,7 +35,8 @@ def test_metrics():
         found = samples_once(server, 2)
         expected = {
             "grace_sessions": 2, "grace_sessions_max": 7, "grace_sessions_total": 4, "grace_turned_away_total": 0,
-            "grace_rooms": 2, "grace_replies_total": 9,
+            "grace_rooms_open": 2, "grace_rooms_max": 2, "grace_rooms_opened_total": 0,
+            'grace_rooms_not_served_total{reason="full"}': 0, "grace_replies_total": 9,
             **{f'grace_sessions_ended_total{{cause="{cause}"}}': 0 for cause in CAUSES},
             'grace_sessions_ended_total{cause="closed"}': 1, 'grace_sessions_ended_total{cause="stream fault"}': 1,
             'grace_entries_total{kind="join"}': 2, 'grace_entries_total{kind="creation"}': 1,

@@ -6,6 +6,7 @@ import socket
 import tempfile
 import time
 
+from lib.observing import await_report, expect_turned_away, report_of, wait_until
 from lib.records import compact
 from lib.running import cases
 from lib.serving import CheckFailed, Server, expect_equal
@@ -16,20 +17,8 @@ ANSWER = (
     b"HTTP/1.1 200 OK\r\nContent-Type: text/plain\r\nContent-Length: 3\r\nCache-Control: no-store\r\n"
     b"Connection: close\r\n\r\nok\n"
 )
-FULL = (
-    b"HTTP/1.1 503 Service Unavailable\r\nRetry-After: 5\r\nContent-Length: 0\r\nConnection: close\r\n\r\n"
-)
 NO_DESCRIPTOR = "no descriptor is left for another connection"
 PROBE = b"GET /health HTTP/1.1\r\nHost: localhost\r\nUser-Agent: monitor\r\n\r\n"
-
-
-def wait_until(what, is_so):
-    """Waits until the condition holds."""
-    bound = time.monotonic() + SECONDS
-    while not is_so():
-        if time.monotonic() > bound:
-            raise CheckFailed(f"not within {SECONDS} seconds: {what}")
-        time.sleep(0.02)
 
 
 # ---- the client of a session
@@ -54,23 +43,6 @@ def test_who_and_where():
 
 
 # ---- reports
-
-
-def report_of(server, clients, begun, rooms):
-    """Returns the lines of a report: current and started sessions, and joins, entries and objects of each room."""
-    of_all = f"/{server.sessions}" if server.sessions else ""
-    lines = [f"report: server clients {clients}/{server.places} begun {begun}{of_all}"]
-    for room, (joins, entries, objects) in rooms.items():
-        lines.append(f"report: room {room} joins {joins}/256 entries {entries}/16384 objects {objects}/512")
-    return [("INFO", line) for line in lines]
-
-
-def await_report(server, report):
-    """Waits for a report of exactly these lines in sequence."""
-    def is_there():
-        notices = server.notices()
-        return any(notices[place : place + len(report)] == report for place in range(len(notices)))
-    wait_until(report[0][1], is_there)
 
 
 def test_reports():
@@ -161,16 +133,6 @@ def test_entries(start, added, count):
             server.output()
             notices = [notice for notice in server.notices() if notice[0] == "WARN"]
     expect_equal("the notices", notices, [("WARN", f"room r has {count} of 16384 entries")])
-
-
-def expect_turned_away(server):
-    """Expects that the server turns a further client away."""
-    with socket.create_connection(server.address, SECONDS) as client:
-        client.sendall(head(new_key()))
-        received = b""
-        while data := client.recv(4096):
-            received += data
-    expect_equal("the answer", received, FULL)
 
 
 def test_places():

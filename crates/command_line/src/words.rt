@@ -66,6 +66,19 @@ fn clients<'a>(alloc: Global) -> Arg<'a> {
         .help("How many sessions to serve at a time, 1 to 100000; others are answered by 503")
 }
 
+/// The option for the number of rooms that are opened on demand.
+fn on_demand<'a>(alloc: Global) -> Result<Arg<'a>, AllocError> {
+    Arg::new(alloc, "rooms")
+        .long("rooms")
+        .value_name("N")
+        .action(ArgAction::Set)
+        .value_parser(value_parser!(u32).range(1..=100_000))
+        .help(
+            "Open any other room at its first join, N rooms at most, 1 to 100000; not with --keep",
+        )
+        .conflicts_with("keep")
+}
+
 /// The option to go on watching.
 fn follow<'a>(alloc: Global) -> Arg<'a> {
     Arg::new(alloc, "follow")
@@ -75,19 +88,18 @@ fn follow<'a>(alloc: Global) -> Arg<'a> {
 }
 
 /// The names of rooms, last on the command line.
-fn rooms<'a>(alloc: Global) -> Arg<'a> {
+fn names<'a>(alloc: Global, help: &'a str) -> Arg<'a> {
     Arg::new(alloc, "ROOM")
-        .required(true)
         .num_args(1..)
         .action(ArgAction::Append)
-        .help("The name of a room: 1 to 64 of a-z, 0-9 and -")
+        .help(help)
 }
 
 /// `grace script`.
 fn script_command<'a>(alloc: Global) -> Result<Command<'a>, AllocError> {
     Command::new(alloc, "script")
         .about("Answers a script: lines SESSION MESSAGE from standard input")
-        .arg(rooms(alloc))
+        .arg(names(alloc, "The name of a room: 1 to 64 of a-z, 0-9 and -").required(true))
 }
 
 /// `grace serve`.
@@ -99,6 +111,7 @@ fn serve_command<'a>(alloc: Global) -> Result<Command<'a>, AllocError> {
         .arg(report(alloc))?
         .arg(clients(alloc))?
         .arg(by_path(alloc))?
+        .arg(on_demand(alloc)?)?
         .arg(word(
             alloc,
             "ADDRESS",
@@ -116,7 +129,11 @@ fn serve_command<'a>(alloc: Global) -> Result<Command<'a>, AllocError> {
             "How many threads serve the sessions, 1 to 64; 0 starts one for each processor",
         )
         .value_parser(value_parser!(u32).range(0..=64)))?
-        .arg(rooms(alloc))
+        .arg(names(
+            alloc,
+            "A room that is open from the start: 1 to 64 of a-z, 0-9 and -; needed without --rooms",
+        )
+        .required_unless_present("rooms")?)
 }
 
 /// `grace watch`.

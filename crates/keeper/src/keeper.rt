@@ -2,9 +2,13 @@
 //! reports.
 
 ghost use Rattle.std.specs.Prelude.{◌≡◌, IfErr, IfOk, IfSome, IsNone};
+ghost use Rattle.room_lock.specs.InOrder.{IsOpeningFor};
+ghost use Rattle.room_lock.specs.Rooms.{IsOnDemand};
+ghost use Rattle.room_lock.specs.Lookups.{IfKnown, IfNew};
 
 use crate::attempt::Attempt;
-use room_lock::{Opening, Prefix, RoomHistories, Rooms};
+use base_types::{NoMemory, RoomName};
+use room_lock::{Opened, Opening, Prefix, RoomHistories, Rooms};
 use std::alloc::Global;
 use std::sync::Wait;
 use thiserror::Error;
@@ -54,6 +58,23 @@ pub trait Keeper<P: RoomHistories> {
     fn receipt(&self, rt: &impl Wait, told: &Prefix<P>) -> Result<Option<Self::Receipt>, KeepFault>
         ensures kept { IfOk result (λ found. IfSome found (λ receipt. shows receipt told.now)) }
         ensures fault { IfErr result (λ fault. fails fault told.now) };
+
+    /// Opens the room of this name on demand, or gives its opening if it is open by now. `Full` if it
+    /// cannot be opened now.
+    ///
+    /// # Errors
+    /// `NoMemory` if an allocation failed.
+    fn open(
+        &self,
+        rt: &impl Wait,
+        alloc: Global,
+        rooms: &Rooms<P>,
+        name: &RoomName,
+    ) -> Result<Opened<P>, NoMemory>
+        requires { IsOnDemand rooms.now name.now }
+        ensures new { IfOk result (IfNew (λ begun.
+            IsOpeningFor rooms.now name.now begun.opening)) }
+        ensures known { IfOk result (IfKnown (IsOpeningFor rooms.now name.now)) };
 
     /// A permit to let a new site into the room of this opening, or `None` if the last attempt to
     /// keep the room's record failed.

@@ -5,10 +5,10 @@ ghost use Rattle.std.specs.Prelude.{◌≡◌};
 use crate::file::{Clean, Kept, RoomFile};
 use crate::orders::Orders;
 use crate::room::{KeptRoom, Standing};
-use base_types::NoMemory;
+use base_types::{NoMemory, RoomName};
 use journal::Journal;
 use keeper::{Attempt, Change, KeepFault, Keeper};
-use room_lock::{Opening, Prefix, RoomHistories, Rooms};
+use room_lock::{Opened, Opening, Prefix, RoomHistories, Rooms};
 use std::alloc::Global;
 use std::sync::Wait;
 use std::sync::atomic::{AtomicUsize, Ordering};
@@ -118,6 +118,17 @@ impl<P: RoomHistories, J: Journal + Drop> Keeper<P> for Keeping<P, J> {
                 Ok(None)
             }
         }
+    }
+
+    /// No room is kept on demand.
+    fn open(
+        &self,
+        _rt: &impl Wait,
+        _alloc: Global,
+        _rooms: &Rooms<P>,
+        _name: &RoomName,
+    ) -> Result<Opened<P>, NoMemory> {
+        Ok(Opened::Full)
     }
 
     fn permit(&self, rt: &impl Wait, opening: &Opening<P>) -> Option<Clean> {

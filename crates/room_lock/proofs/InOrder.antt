@@ -1,6 +1,6 @@
 -- Rooms that were opened in the order of their names.
-use Rattle.std.proofs.Common.{◌≡◌, ℕ, zero, suc, ◌+◌, List, [], ◌∷◌, ◌++◌, Some, length, map, ap, sym, ◌∙◌, arith, length-append, slice_get}
-use Rattle.std.specs.Prelude.{bytes_eq, option_map, position}
+use Rattle.std.proofs.Common.{◌≡◌, ℕ, zero, suc, ◌+◌, List, [], ◌∷◌, ◌++◌, Some, length, map, ap, sym, ◌∙◌, arith, length-append, slice_get, subst}
+use Rattle.std.specs.Prelude.{Contains, bytes_eq, option_map, position}
 use Rattle.std.specs.List.{range_with_len}
 use Rattle.std.specs.Map.{keys_of}
 use Rattle.std.proofs.lemmas.List.{length-map, map-append}
@@ -11,7 +11,8 @@ use Rattle.crossbeam_utils.specs.declared.cache_padded.CachePadded.{CachePadded}
 use Rattle.base_types.specs.Texts.{Bytes}
 use Rattle.openings.specs.Openings.{OpeningView}
 use Rattle.room_core.proofs.Seen.{some_same}
-use Rattle.room_lock.specs.InOrder.{AreInOrder, IsOpeningFor, name_of, number_of, openings_in, place_of}
+use Rattle.room_lock.specs.InOrder.{AreInOrder, AreNamed, IsOpeningFor, name_of, number_of, openings_in, place_of}
+use Rattle.room_lock.specs.Rooms.{RoomsView}
 
 -- a run of numbers with the next one
 run_more : (from count next : ℕ) → from + count ≡ next → range_with_len from (suc count) ≡ range_with_len from count ++ next ∷ []
@@ -49,12 +50,27 @@ module _ (rooms : List (Bytes × CachePadded OpeningView)) (kept : AreInOrder (k
         some_same (sym key ∙ ap (λ l. slice_get l place) (sym kept.names_are) ∙ name)
 
     -- the room that stands first under a name is the name's
-    pub opening_for : (name : Bytes) → name ≡ room.0 → position (bytes_eq name) (keys_of rooms) ≡ Some place → IsOpeningFor (keys_of rooms) name (padded_value room.1)
-    opening_for name key at = record {
+    pub opening_for : (view : RoomsView) → keys_of rooms ≡ view.names → (name : Bytes) → name ≡ room.0 → position (bytes_eq name) (keys_of rooms) ≡ Some place → IsOpeningFor view name (padded_value room.1)
+    opening_for view names name key at = record {
       name_is = sym (key ∙ opened_by_name);
-      number_is = at ∙ ap Some (sym number_is_place);
-      place_is = opened_at_place ∙ sym number_is_place;
+      number_is = λ first. ap (position (bytes_eq name)) (sym names) ∙ at ∙ ap Some (sym number_is_place);
+      place_is = λ first. opened_at_place ∙ sym number_is_place;
     }
+
+-- an opening of a room on demand
+pub opening_of_other : (view : RoomsView) (name : Bytes) (opening : OpeningView) → ¬ (Contains view.names name) → name_of opening ≡ name → IsOpeningFor view name opening
+opening_of_other view name opening other named = record {
+  name_is = named;
+  number_is = λ first. absurd (other first);
+  place_is = λ first. absurd (other first);
+}
+
+-- what stands at a place among named openings has its name
+pub named_at : (openings : List (Bytes × OpeningView)) → AreNamed openings → (place : ℕ) (name : Bytes) (opening : OpeningView) → slice_get openings place ≡ Some (name, opening) → name_of opening ≡ name
+named_at openings all place name opening is =
+    let within = slice_get_within openings place (name, opening) is in
+    let P : Bytes × OpeningView → Type 0 = λ named. name_of named.1 ≡ named.0 in
+    subst P (get_or_from_slice_get openings place (name, opening) (name, opening) is) (all place (name, opening) within)
 
 -- with a room more, which was opened behind them
 pub more_in_order : (names : List Bytes) (openings : List OpeningView) (name : Bytes) (opening : OpeningView) → AreInOrder names openings

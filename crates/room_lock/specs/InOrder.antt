@@ -1,11 +1,12 @@
 -- Rooms that were opened in the order of their names.
-use Rattle.std.specs.Prelude.{◌≡◌, ℕ, List, Some, bytes_eq, length, map, position}
+use Rattle.std.specs.Prelude.{◌≡◌, ℕ, All, Contains, List, Some, bytes_eq, length, map, position}
 use Rattle.std.specs.List.{range_with_len}
 use Rattle.crossbeam_utils.specs.Padded.{padded_value}
 use Rattle.crossbeam_utils.specs.declared.cache_padded.CachePadded.{CachePadded}
 use Rattle.base_types.specs.Texts.{Bytes}
 use Rattle.openings.specs.Openings.{OpeningView}
 use Rattle.room_lock.specs.Passes.{PrefixView}
+use Rattle.room_lock.specs.Rooms.{RoomsView}
 
 abbrev pub number_of : OpeningView → ℕ
 number_of opening = opening.number
@@ -16,11 +17,13 @@ place_of opening = opening.room.place
 abbrev pub name_of : OpeningView → Bytes
 name_of opening = opening.room.name
 
--- the opening of the room of this name: its number, and the place of its room, are the name's place
-pub record IsOpeningFor (names : List Bytes) (name : Bytes) (opening : OpeningView) : Type 0 where
+-- An opening of the room of this name. Where the room is open from the start, the number of its one
+-- opening, and its place, are the place of its name.
+pub record IsOpeningFor (rooms : RoomsView) (name : Bytes) (opening : OpeningView) : Type 0 where
   pub name_is : name_of opening ≡ name
-  pub number_is : position (bytes_eq name) names ≡ Some (number_of opening)
-  pub place_is : place_of opening ≡ number_of opening
+  pub number_is : Contains rooms.names name
+      → position (bytes_eq name) rooms.names ≡ Some (number_of opening)
+  pub place_is : Contains rooms.names name → place_of opening ≡ number_of opening
 
 -- the rooms of these names were opened in order: the number of each opening, and the place of its
 -- room, are the name's place
@@ -36,3 +39,7 @@ openings_of prefixes = map (λ (prefix : PrefixView). prefix.opening) prefixes
 -- the openings of rooms by name
 abbrev pub openings_in : List (Bytes × CachePadded OpeningView) → List OpeningView
 openings_in rooms = map (λ (room : Bytes × CachePadded OpeningView). padded_value room.1) rooms
+
+-- each opening stands under the name of its room
+abbrev pub AreNamed : List (Bytes × OpeningView) → Type 0
+AreNamed openings = All (λ (named : Bytes × OpeningView). name_of named.1 ≡ named.0) openings

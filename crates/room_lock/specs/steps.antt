@@ -1,3 +1,4 @@
 pub mod Planned
 pub mod Entrances
 pub mod Differences
+pub mod Stages

@@ -1,20 +1,23 @@
 //! Closing rooms, and their records.
 
-ghost use Rattle.std.specs.Prelude.{◌≡◌, ◌++◌, ◌∷◌, [], All, IfOk, OnOk, map, sum_by};
+ghost use Rattle.std.specs.Prelude.{◌≡◌, ◌≤◌, ◌++◌, ◌∷◌, [], All, IfOk, List, OnOk, length, map};
+ghost use Rattle.std.specs.Prelude.{sum_by};
 ghost use Rattle.std.specs.Arc.{arc_value};
+ghost use Rattle.base_types.specs.Texts.{Bytes};
 ghost use Rattle.indexmap.specs.IndexMap.{keys};
 ghost use Rattle.room_lock.specs.Closing.{HasItsEntries, IsClosed, added_of};
 
 use crate::fault::CloseFault;
+use crate::others::Others;
 use crate::part::Part;
-use crate::slot::Slot;
+use crate::slot::{Slot, Stage};
 use base_types::{NoMemory, RoomName};
 use crossbeam_utils::CachePadded;
 use indexmap::IndexMap;
-use openings::RoomHistories;
+use openings::{Opening, RoomHistories};
 use rules::Entry;
 use std::alloc::Global;
-use std::sync::Arc;
+use std::sync::{Arc, Mutex};
 
 /// The record of a closed room, and the parts of all its sites in order.
 #[derive(Drop)]
@@ -51,10 +54,67 @@ pub(crate) fn close_all<P: RoomHistories>(
 {
     let mut records = Vec::new(alloc);
     for (name, room) in rooms {
-        let record = room.into_inner().into_room().close(alloc, name)?;
+        let record = close_stage(alloc, room.into_inner().into_stage(), name)?;
         push_record(&mut records, record)?;
     }
     Ok(records)
+}
+
+/// The record of the room, which has this name. `Missing` if the room is not open.
+fn close_stage<P: RoomHistories>(
+    alloc: Global,
+    stage: Stage<P>,
+    name: RoomName,
+) -> Result<RoomRecord<P>, CloseFault>
+    ensures name { IfOk result (λ one. one.room ≡ name) }
+    ensures closed { IfOk result (λ one.
+        IsClosed P.limits (map arc_value one.entries.items) one.parts.items) }
+{
+    match stage {
+        Stage::Open(room) => room.close(alloc, name),
+        Stage::Free => Err(CloseFault::Missing { room: name }),
+    }
+}
+
+/// Appends the records of the rooms that are open on demand, in the order of their slots. `Missing`
+/// if a slot has no room, or one of another opening.
+pub(crate) fn close_others<P: RoomHistories>(
+    alloc: Global,
+    others: Others<P>,
+    records: &mut Vec<RoomRecord<P>>,
+) -> Result<(), CloseFault>
+    ensures names { OnOk result ((names : List Bytes) × (length names ≤ others)
+        × (map (λ one. one.room) records.new.items
+        ≡ map (λ one. one.room) records.old.items ++ names)) }
+    ensures closed { All (λ one. IsClosed P.limits
+        (map arc_value one.entries.items) one.parts.items) records.old.items →
+        OnOk result (All (λ one. IsClosed P.limits
+        (map arc_value one.entries.items) one.parts.items) records.new.items) }
+{
+    let (openings, mut slots) = others.into_parts();
+    let mut index: usize = 0;
+    for (name, opening) in openings {
+        let Some(slot) = slots.get_mut(index) else {
+            return Err(CloseFault::Missing { room: name });
+        };
+        let stage = take_stage(slot, &opening);
+        push_record(records, close_stage(alloc, stage, name)?)?;
+        index += 1;
+    }
+    Ok(())
+}
+
+/// Takes the room of this opening out of its slot. `Free` if it is not there.
+fn take_stage<P: RoomHistories>(
+    slot: &mut CachePadded<Mutex<Stage<P>>>,
+    opening: &Opening<P>,
+) -> Stage<P> {
+    let stage = std::mem::replace(slot.get_mut(), Stage::Free);
+    if stage.is_open_as(opening) {
+        stage
+    } else {
+        Stage::Free
+    }
 }
 
 /// Appends a record.

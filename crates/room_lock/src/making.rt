@@ -1,7 +1,7 @@
 //! Creating rooms.
 
 ghost use Rattle.std.specs.Prelude.{◌≡◌, ◌+◌, ◌≤◌, ◌^◌, ◌++◌, ◌∷◌, [], ◌↔◌, ℕ, All, IfErr};
-ghost use Rattle.std.specs.Prelude.{IfOk, IsErrOf, OnOk, None, Some, bytes_eq, length, map};
+ghost use Rattle.std.specs.Prelude.{IfOk, IsErrOf, OnErr, OnOk, None, Some, bytes_eq, length, map};
 ghost use Rattle.indexmap.specs.IndexMap.{get, keys};
 ghost use Rattle.base_types.specs.Repeats.{first_repeat};
 ghost use Rattle.base_types.specs.declared.fault.RoomsFault.TheVariants as rooms_fault;
@@ -9,6 +9,7 @@ ghost use Rattle.room_lock.specs.InOrder.{AreInOrder, openings_in, openings_of};
 ghost use Rattle.room_lock.specs.steps.Planned.{IsPlanOf};
 
 use crate::new_room::{NewRoom, empty_states};
+use crate::others::Others;
 use crate::prefix::Prefix;
 use crate::room::Room;
 use crate::rooms::Rooms;
@@ -31,6 +32,8 @@ const MAX_ROOMS: usize = 1 << 49;
 pub struct NewRooms {
     states: Vec<RoomState>,
     names: Vec<RoomName>,
+    /// How many rooms may be open besides.
+    others: u32,
     limits: Limits,
     register: Blank,
 }
@@ -46,6 +49,7 @@ impl Model for NewRooms {
       register = new.register;
       records = map (λ state. state.room.entries) new.states.items;
       names = new.names.items;
+      others = new.others;
     } };
 
     ghost invariant = { λ new. CanBeMade (record {
@@ -53,6 +57,7 @@ impl Model for NewRooms {
       register = new.register;
       records = map (λ state. state.room.entries) new.states.items;
       names = new.names.items;
+      others = new.others;
     })
         × All (λ state. state.room.limits ≡ new.limits) new.states.items };
 }
@@ -67,6 +72,7 @@ impl NewRooms {
     pub fn plan(alloc: Global, names: Vec<RoomName>, limits: Limits) -> Result<NewRooms, RoomsFault>
         ensures names { IfOk result (λ planned. planned.names ≡ names.items) }
         ensures limits { IfOk result (λ planned. planned.limits ≡ limits) }
+        ensures others { IfOk result (λ planned. planned.others ≡ 0) }
         ensures empty { IfOk result (λ planned. All (λ r. r ≡ []) planned.records) }
         ensures apart { OnOk result (first_repeat bytes_eq names.items ≡ None) }
         ensures same_name { (place : ℕ) → IsErrOf result (RoomsFault.SameName place)
@@ -94,6 +100,7 @@ impl NewRooms {
         // The plan, where no name occurs twice:
         ensures names { IfOk result (λ planned. planned.names ≡ names.items) }
         ensures limits { IfOk result (λ planned. planned.limits ≡ limits) }
+        ensures others { IfOk result (λ planned. planned.others ≡ 0) }
         ensures records { IfOk result (λ planned. planned.records
             ≡ map (λ state. state.room.entries) states.items) }
         ensures apart { OnOk result (first_repeat bytes_eq names.items ≡ None) }
@@ -117,6 +124,7 @@ impl NewRooms {
         // The plan:
         ensures names { IfOk result (λ planned. planned.names ≡ names.items) }
         ensures limits { IfOk result (λ planned. planned.limits ≡ limits) }
+        ensures others { IfOk result (λ planned. planned.others ≡ 0) }
         ensures records { IfOk result (λ planned. planned.records
             ≡ map (λ state. state.room.entries) states.items) }
         ensures no_memory { IfErr result (λ why. why ≡ rooms_fault.NoMemory) }
@@ -127,9 +135,17 @@ impl NewRooms {
         Ok(NewRooms {
             states,
             names,
+            others: 0,
             limits,
             register: Blank::new(),
         })
+    }
+
+    /// The same rooms, where so many others may be open at a time besides.
+    pub fn and_on_demand(self, others: u32) -> NewRooms
+        ensures { result ≡ record self { others = others } }
+    {
+        NewRooms { others, ..self }
     }
 }
 
@@ -146,8 +162,9 @@ fn check_names(names: &[RoomName]) -> Result<(), RoomsFault>
 }
 
 impl<P: RoomHistories> Rooms<P> {
-    /// Creates the planned rooms: opens them in order, each at the place of its name. Returns them
-    /// with the record that each begins with, in order. Linear in each record for each of its sites.
+    /// Creates the planned rooms: opens those that have a name in order, each at the place of its
+    /// name. Returns them with the record that each begins with, in order. Linear in each record for
+    /// each of its sites, and in the number of others.
     ///
     /// # Errors
     /// `NoMemory` if an allocation failed.
@@ -157,7 +174,8 @@ impl<P: RoomHistories> Rooms<P> {
         planned: NewRooms,
     ) -> Result<(Rooms<P>, Vec<Prefix<P>>), NoMemory>
         requires { IsPlanOf planned P.limits P.register }
-        ensures rooms { IfOk result (λ made. made.0 ≡ planned.names) }
+        ensures rooms { IfOk result (λ made.
+            made.0 ≡ record { names = planned.names; others = planned.others }) }
         ensures openings { IfOk result (λ made.
             AreInOrder planned.names (openings_of made.1.items)) }
         ensures records { IfOk result (λ made.
@@ -166,29 +184,45 @@ impl<P: RoomHistories> Rooms<P> {
         let NewRooms {
             states,
             names,
-            limits: _,
+            others,
+            limits,
             register,
         } = planned;
-        make(rt, alloc, register.named(), states, &names)
+        let mut register = register.named();
+        let (rooms, begun) = make(rt, alloc, &mut register, states, &names)?;
+        let others = Others::new(alloc, register, names.len(), others as usize)?;
+        Ok((
+            Rooms {
+                rooms,
+                others,
+                limits,
+            },
+            begun,
+        ))
     }
 }
+
+/// The rooms that are open from the start, by name.
+type FirstRooms<P> = IndexMap<RoomName, CachePadded<Slot<P>>>;
 
 /// Opens a room under each name. Returns them with the records that they begin with.
 fn make<P: RoomHistories>(
     rt: &impl Wait,
     alloc: Global,
-    mut register: Register<P>,
+    register: &mut Register<P>,
     states: Vec<RoomState>,
     names: &[RoomName],
-) -> Result<(Rooms<P>, Vec<Prefix<P>>), NoMemory>
+) -> Result<(FirstRooms<P>, Vec<Prefix<P>>), NoMemory>
     // The register has no openings. The limits are those that the type names, there is a record for
     // each name, and no name occurs twice.
-    requires register { register ≡ [] }
+    requires register { register.old ≡ [] }
     requires limits { All (λ state. state.room.limits ≡ P.limits) states.items }
     requires counted { length states.items ≡ length names.now }
     requires few { length names.now ≤ 2 ^ 49 }
     requires apart { first_repeat bytes_eq names.now ≡ None }
-    ensures rooms { IfOk result (λ made. made.0 ≡ names.now) }
+    ensures rooms { IfOk result (λ made. keys made.0 ≡ names.now) }
+    ensures in_order { IfOk result (λ made.
+        AreInOrder names.now (openings_in made.0.entries)) }
     ensures openings { IfOk result (λ made.
         AreInOrder names.now (openings_of made.1.items)) }
     ensures records { IfOk result (λ made. map (λ begun. begun.entries) made.1.items
@@ -200,9 +234,9 @@ fn make<P: RoomHistories>(
         let place = rooms.len();
         let name = names[place].copy(alloc)?;
         let new = NewRoom { place, name, state };
-        begun.push(begin_room(rt, alloc, &mut register, &mut rooms, new)?)?;
+        begun.push(begin_room(rt, alloc, register, &mut rooms, new)?)?;
     }
-    Ok((Rooms { rooms }, begun))
+    Ok((rooms, begun))
 }
 
 /// Opens a room, behind those that are there. Returns the record that it begins with.
@@ -210,7 +244,7 @@ fn begin_room<P: RoomHistories>(
     rt: &impl Wait,
     alloc: Global,
     register: &mut Register<P>,
-    rooms: &mut IndexMap<RoomName, CachePadded<Slot<P>>>,
+    rooms: &mut FirstRooms<P>,
     new: NewRoom,
 ) -> Result<Prefix<P>, NoMemory>
     // The limits are those that the type names, and the name is new.
@@ -234,13 +268,14 @@ fn begin_room<P: RoomHistories>(
 }
 
 /// Appends a room under a new name.
-fn insert_new<V: Drop>(
+pub(crate) fn insert_new<V: Drop>(
     rooms: &mut IndexMap<RoomName, V>,
     name: RoomName,
     room: V,
 ) -> Result<(), NoMemory>
     requires { get bytes_eq rooms.old name ≡ None }
-    ensures { OnOk result (rooms.new.entries ≡ rooms.old.entries ++ (name, room) ∷ []) }
+    ensures ok { OnOk result (rooms.new.entries ≡ rooms.old.entries ++ (name, room) ∷ []) }
+    ensures err { OnErr result (rooms.new.entries ≡ rooms.old.entries) }
 {
     match rooms.insert(name, room) {
         Ok(_) => Ok(()),

@@ -144,14 +144,10 @@ impl<P: RoomHistories> Room<P> {
     }
 
     /// Lets the next site in if the limits allow it, and gives its pass.
-    pub(crate) fn enter(
-        &mut self,
-        rt: &impl Wait,
-        alloc: Global,
-        name: &RoomName,
-    ) -> Result<Entrance<P>, NoMemory>
+    pub(crate) fn enter(&mut self, rt: &impl Wait, alloc: Global) -> Result<Entrance<P>, NoMemory>
         ensures entered { IfOk result (IfEntered (λ pass reply.
-            IsJoinOver P.limits self.old.entries pass reply × (pass.room ≡ name.now))) }
+            IsJoinOver P.limits self.old.entries pass reply
+            × (pass.room ≡ self.old.opening.room.name))) }
         ensures entrance_refused { IfOk result (IfRefused (λ prefix reply.
             IsRefusalOver P.limits self.old.entries reply
             × (prefix ≡ record { opening = self.old.opening; entries = self.old.entries }))) }
@@ -169,7 +165,6 @@ impl<P: RoomHistories> Room<P> {
         ensures opening { self.new.opening ≡ self.old.opening }
         ensures err { OnErr result (self.new ≡ self.old) }
     {
-        let room = name.copy(alloc)?;
         self.shelf.reserve(1)?;
         let had = len_of(&self.state);
         let reply = self.state.join(alloc)?;
@@ -184,55 +179,44 @@ impl<P: RoomHistories> Room<P> {
             added: 1,
             seen: self.prefix(),
         };
-        Ok(Entrance::Entered(Pass { room, part }, reply))
+        Ok(Entrance::Entered(Pass { part }, reply))
     }
 
     /// Lets this site in again if its part is on the shelf.
-    pub(crate) fn back(
-        &mut self,
-        alloc: Global,
-        name: &RoomName,
-        site: u32,
-    ) -> Result<Entrance<P>, NoMemory>
-        ensures entered { IfOk result (IfEntered (λ pass reply. (was : _)
+    pub(crate) fn back(&mut self, site: u32) -> Entrance<P>
+        ensures entered { IfEntered (λ pass reply. (was : _)
             × (part_of self.old.shelf site ≡ Some was)
             × IsBackOver P.limits self.old.entries site was pass reply
-            × (pass.room ≡ name.now))) }
-        ensures entrance_refused { IfOk result (IfRefused (λ prefix reply.
+            × (pass.room ≡ self.old.opening.room.name)) result }
+        ensures entrance_refused { IfRefused (λ prefix reply.
             IsBackRefusalOver P.limits self.old.entries site false reply
-            × (prefix ≡ record { opening = self.old.opening; entries = self.old.entries }))) }
-        ensures in_use { IfOk result (IfInUse (λ it reply.
+            × (prefix ≡ record { opening = self.old.opening; entries = self.old.entries })) result }
+        ensures in_use { IfInUse (λ it reply.
             IsBackRefusalOver P.limits self.old.entries site true reply
             × (it ≡ record {
               prefix = record { opening = self.old.opening; entries = self.old.entries };
               site = site;
             })
-            × (is_away self.old.shelf site ≡ true))) }
-        ensures known { result ≢ Ok NoRoom }
-        ensures pass_opening { IfOk result (IfEntered (λ pass reply.
-            pass.part.opening ≡ self.old.opening)) }
+            × (is_away self.old.shelf site ≡ true)) result }
+        ensures known { result ≢ NoRoom }
+        ensures pass_opening { IfEntered (λ pass reply.
+            pass.part.opening ≡ self.old.opening) result }
         // Nothing but the shelf changes:
-        ensures shelf { OnOk result (self.new.shelf ≡ with_at self.old.shelf site None) }
+        ensures shelf { self.new.shelf ≡ with_at self.old.shelf site None }
         ensures entries { self.new.entries ≡ self.old.entries }
         ensures opening { self.new.opening ≡ self.old.opening }
-        ensures err { OnErr result (self.new ≡ self.old) }
     {
-        let room = name.copy(alloc)?;
         let _entries = len_of(&self.state);
         if let Some(in_use) = InUse::of(self, site) {
-            drop(room);
-            return Ok(Entrance::InUse(in_use, self.state.back(site, true)));
+            return Entrance::InUse(in_use, self.state.back(site, true));
         }
         match take_part(&mut self.shelf, site) {
             Some(mut part) => {
                 part.seen = self.prefix();
                 let reply = self.state.back(site, false);
-                Ok(Entrance::Entered(Pass { room, part }, reply))
+                Entrance::Entered(Pass { part }, reply)
             }
-            None => {
-                drop(room);
-                Ok(Entrance::Refused(self.prefix(), self.state.back(site, false)))
-            }
+            None => Entrance::Refused(self.prefix(), self.state.back(site, false)),
         }
     }
 
@@ -295,13 +279,10 @@ impl<P: RoomHistories> Room<P> {
             return Err(pass);
         }
         let prefix = self.prefix();
-        let Pass { room, part } = pass;
+        let Pass { part } = pass;
         match put_part(&mut self.shelf, part) {
-            Ok(()) => {
-                drop(room);
-                Ok((prefix, Reply::Left { at }))
-            }
-            Err(part) => Err(Pass { room, part }),
+            Ok(()) => Ok((prefix, Reply::Left { at })),
+            Err(part) => Err(Pass { part }),
         }
     }
 

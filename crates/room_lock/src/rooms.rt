@@ -1,102 +1,161 @@
 //! The rooms.
 
-ghost use Rattle.std.specs.Prelude.{◌≡◌, ◌↔◌, ◌++◌, ◌<◌, ◌≤◌, All, Contains, Err, IfErr, IfOk};
-ghost use Rattle.std.specs.Prelude.{IfSome, IsErr, IsSome, OnErr, Ok, false, length, map};
-ghost use Rattle.std.specs.Prelude.{option_map, slice_get, true};
+ghost use Rattle.std.specs.Prelude.{◌≡◌, ◌↔◌, ◌+◌, ◌++◌, ◌<◌, ◌≤◌, ℕ, All, Err, IfErr, IfOk};
+ghost use Rattle.std.specs.Prelude.{IfSome, IsErr, IsNone, IsSome, List, OnErr, Ok, false, length};
+ghost use Rattle.std.specs.Prelude.{map, option_map, slice_get, true};
 ghost use Rattle.std.specs.Arc.{arc_value};
+ghost use Rattle.std.specs.Sync.Mutex.{mutex_guard_value};
+ghost use Rattle.base_types.specs.Texts.{Bytes};
 ghost use Rattle.room_lock.specs.declared.fault.CallFault.TheVariants as call_fault;
+ghost use Rattle.room_lock.specs.declared.lookup.Lookup.TheVariants as lookup;
 ghost use Rattle.room_lock.specs.Closing.{IsClosed};
 ghost use Rattle.room_lock.specs.InOrder.{IsOpeningFor};
-ghost use Rattle.room_lock.specs.Passes.{IsOfRooms};
+ghost use Rattle.room_lock.specs.Passes.{MayBeOf};
+ghost use Rattle.room_lock.specs.Rooms.{IsListOf, IsOnDemand, Serves};
+ghost use Rattle.room_lock.specs.Lookups.{IfKnown, IfNew, IfOpen};
+ghost use Rattle.room_lock.specs.steps.Stages.{IsOpenAs};
 ghost use Rattle.room_lock.specs.Told.{IsBack, IsBackRefusalOver, IsCall, IsJoin, IsLeaveOver};
 ghost use Rattle.room_lock.specs.Told.{IsRefusalOver};
 
-use crate::closing::{RoomRecord, close_all};
+use crate::closing::{RoomRecord, close_all, close_others};
 use crate::entrance::Entrance;
 use crate::fault::{CallFault, CloseFault};
+use crate::lookup::{Lookup, Opened};
 use crate::news::News;
+use crate::others::Others;
 use crate::pass::Pass;
 use crate::prefix::Prefix;
-use crate::slot::Slot;
+use crate::slot::{Slot, Stage};
 use base_types::{NoMemory, RoomName};
 use crossbeam_utils::CachePadded;
 use indexmap::IndexMap;
 use openings::{Opening, RoomHistories};
+use room_core::RoomState;
+use rules::Limits;
 use std::alloc::Global;
 use std::marker::Model;
-use std::sync::Wait;
+use std::sync::{MutexGuard, Wait};
 use wire::{Reply, Request};
 
-/// Rooms by name, each behind a lock of its own. Each lock has its own cache line, so threads in
-/// different rooms do not contend for one. Contracts see the names, in order.
+/// Rooms, each behind a lock of its own: those that are open from the start, by name, and those that
+/// are opened on demand. Each lock has its own cache line, so threads in different rooms do not
+/// contend for one. Contracts see the names of the first, in order, and how many others may be open.
 #[derive(Drop)]
 pub struct Rooms<P: RoomHistories> {
     pub(crate) rooms: IndexMap<RoomName, CachePadded<Slot<P>>>,
+    pub(crate) others: Others<P>,
+    pub(crate) limits: Limits,
 }
 
 impl<P: RoomHistories> Model for Rooms<P> {
-    ghost use Rattle.std.specs.Prelude.{List};
-    ghost use Rattle.base_types.specs.Texts.{Bytes};
+    ghost use Rattle.std.specs.Prelude.{◌≡◌, ◌≤◌, ◌<◌, ◌^◌, length};
     ghost use Rattle.indexmap.specs.IndexMap.{keys};
     ghost use Rattle.room_lock.specs.InOrder.{AreInOrder, openings_in};
+    ghost use Rattle.room_lock.specs.Rooms.{RoomsView};
 
-    ghost Value = { List Bytes };
+    ghost Value = { RoomsView };
 
-    ghost view = { λ r. keys r.rooms };
+    ghost view = { λ r. record { names = keys r.rooms; others = r.others } };
 
-    ghost invariant = { λ r. AreInOrder (keys r.rooms) (openings_in r.rooms.entries) };
+    ghost invariant = { λ r. AreInOrder (keys r.rooms) (openings_in r.rooms.entries)
+        × (r.limits ≡ P.limits) × (length (keys r.rooms) ≤ 2 ^ 49) × (r.others < 2 ^ 32) };
 }
 
 impl<P: RoomHistories> Rooms<P> {
     ghost use Rattle.room_lock.specs.steps.Entrances.{IfEntered, IfInUse, IfRefused};
     ghost use Rattle.room_lock.specs.declared.entrance.Entrance.TheVariants.{NoRoom};
 
-    /// The room of this opening behind its lock, with its name.
-    fn find(&self, opening: &Opening<P>) -> Option<(&RoomName, &Slot<P>)>
-        ensures known { IsSome result ↔ (opening.now.number < length self.now) }
-        ensures name { IfSome result (λ found. found.0.now ≡ opening.now.room.name) }
-        ensures room { IfSome result (λ found. found.1.now ≡ opening.now) }
+    /// Takes the lock of the room of this opening. `None` if it is none of these rooms, or not open.
+    fn lock(&self, rt: &impl Wait, opening: &Opening<P>) -> Option<MutexGuard<'_, Stage<P>>>
+        ensures open { IfSome result (λ stage. IsOpenAs opening.now (mutex_guard_value stage)) }
+        ensures first { opening.now.number < length self.now.names → IsSome result }
+        ensures none { ¬ (MayBeOf self.now opening.now) → IsNone result }
     {
-        let (name, room) = self.rooms.get_index(opening.number() as usize)?;
-        let room: &Slot<P> = room;
-        room.opening().agree(opening);
-        Some((name, room))
+        match self.rooms.get_index(opening.number() as usize) {
+            Some((_name, room)) => {
+                let room: &Slot<P> = room;
+                room.opening().agree(opening);
+                Some(room.lock(rt))
+            }
+            None => self.others.lock(rt, opening),
+        }
     }
 
-    /// The number of rooms.
-    pub fn count(&self) -> usize
-        ensures { result ≡ length self.now }
+    /// The limits of the rooms.
+    pub fn limits(&self) -> Limits
+        ensures { result ≡ P.limits }
     {
-        self.rooms.len()
+        self.limits
     }
 
-    /// The name of the room at a place, from 0, or `None` if there is no such room.
+    /// The number of places: one for each room that is open from the start, and one for each other
+    /// that may be open.
+    pub fn count_places(&self) -> usize
+        ensures { result ≡ length self.now.names + self.now.others }
+    {
+        self.rooms.len() + self.others.most()
+    }
+
+    /// The name of the room at a place, from 0, that is open from the start, or `None` if there is no
+    /// such room.
     pub fn name_at(&self, place: usize) -> Option<&RoomName>
-        ensures { option_map (λ name. name.now) result ≡ slice_get self.now place }
+        ensures { option_map (λ name. name.now) result ≡ slice_get self.now.names place }
     {
         let (name, _room) = self.rooms.get_index(place)?;
         Some(name)
     }
 
-    /// The opening of the room of this name, or `None` if there is no such room.
-    pub fn opening_of(&self, name: &RoomName) -> Option<&Opening<P>>
-        ensures known { IsSome result ↔ Contains self.now name.now }
-        ensures opening { IfSome result (λ opening.
-            IsOpeningFor self.now name.now opening.now) }
+    /// Looks up the room of this name. Where it is open, gives its opening. Waits for the lock of the
+    /// directory if the room is opened on demand. Constant time.
+    pub fn opening_of(&self, rt: &impl Wait, name: &RoomName) -> Lookup<P>
+        ensures open { IfOpen (λ opening. Serves self.now name.now
+            × IsOpeningFor self.now name.now opening) result }
+        ensures closed { result ≡ lookup.Closed → IsOnDemand self.now name.now }
+        ensures no_room { (result ≡ lookup.NoRoom) ↔ ¬ (Serves self.now name.now) }
     {
-        match self.rooms.get_full(name) {
-            Some((_place, _name, room)) => Some(room.opening()),
-            None => None,
+        if let Some((_place, _name, room)) = self.rooms.get_full(name) {
+            return Lookup::Open(room.opening().copy());
         }
+        if self.others.most() == 0 {
+            return Lookup::NoRoom;
+        }
+        match self.others.opening_of(rt, name) {
+            Some(opening) => Lookup::Open(opening),
+            None => Lookup::Closed,
+        }
+    }
+
+    /// Opens the room of this name on demand. It begins with this record. Waits for the lock of the
+    /// directory. Linear in the record for each of its sites.
+    ///
+    /// # Errors
+    /// `NoMemory` if an allocation failed. The room is not open then.
+    pub fn open(
+        &self,
+        rt: &impl Wait,
+        alloc: Global,
+        name: RoomName,
+        state: RoomState,
+    ) -> Result<Opened<P>, NoMemory>
+        requires limits { state.room.limits ≡ P.limits }
+        requires on_demand { IsOnDemand self.now name }
+        ensures new { IfOk result (IfNew (λ begun. IsOpeningFor self.now name begun.opening
+            × (begun.entries ≡ state.room.entries))) }
+        ensures known { IfOk result (IfKnown (IsOpeningFor self.now name)) }
+    {
+        self.others.open(rt, alloc, name, state)
     }
 
     /// The number of entries in the record of the pass's room, or `None` if the pass belongs to
     /// other rooms. Waits for the room's lock. Constant time.
     pub fn count_entries(&self, rt: &impl Wait, pass: &Pass<P>) -> Option<usize>
-        ensures { IsSome result ↔ IsOfRooms self.now pass.now }
+        ensures first { pass.now.part.opening.number < length self.now.names → IsSome result }
+        ensures none { ¬ (MayBeOf self.now pass.now.part.opening) → IsNone result }
     {
-        let (_name, room) = self.find(pass.opening())?;
-        Some(room.lock(rt).count_entries())
+        match &*self.lock(rt, pass.opening())? {
+            Stage::Open(room) => Some(room.count_entries()),
+            Stage::Free => unreachable!(),
+        }
     }
 
     /// Lets the next site into the room of this opening if the room's limits allow it. Gives its pass
@@ -117,55 +176,52 @@ impl<P: RoomHistories> Rooms<P> {
         ensures entrance_refused { IfOk result (IfRefused (λ prefix reply.
             IsRefusalOver P.limits prefix.entries reply)) }
         ensures never_in_use { IfOk result (IfInUse (λ it reply. ⊥)) }
-        ensures no_room { (result ≡ Ok NoRoom) ↔ ¬ (opening.now.number < length self.now) }
+        ensures no_room { result ≡ Ok NoRoom → length self.now.names ≤ opening.now.number }
+        ensures other_rooms { ¬ (MayBeOf self.now opening.now) → result ≡ Ok NoRoom }
         // The pass, or the record, is that of this opening:
         ensures pass_opening { IfOk result (IfEntered (λ pass reply.
             pass.part.opening ≡ opening.now)) }
         ensures refusal_opening { IfOk result (IfRefused (λ prefix reply.
             prefix.opening ≡ opening.now)) }
     {
-        let Some((name, room)) = self.find(opening) else {
+        let Some(mut stage) = self.lock(rt, opening) else {
             return Ok(Entrance::NoRoom);
         };
-        room.lock(rt).enter(rt, alloc, name)
+        match &mut *stage {
+            Stage::Open(room) => room.enter(rt, alloc),
+            Stage::Free => unreachable!(),
+        }
     }
 
     /// Lets a site into the room of this opening again, if the site has joined and no session is in as
     /// it. Gives its pass and the reply. The pass has then seen the whole record, which begins with
     /// what the site had seen. Where a session is in as the site, gives the proof of that and the
-    /// reply. Where the site has not joined, gives the record at that time and the reply. Waits for
-    /// the room's lock. The time does not depend on the size of the record.
-    ///
-    /// # Errors
-    /// `NoMemory` if an allocation failed. That no room has changed is a clause of the room under
-    /// its lock.
-    pub fn back(
-        &self,
-        rt: &impl Wait,
-        alloc: Global,
-        opening: &Opening<P>,
-        site: u32,
-    ) -> Result<Entrance<P>, NoMemory>
-        ensures entered { IfOk result (IfEntered (λ pass reply.
-            IsBack P.limits site pass reply × (pass.room ≡ opening.now.room.name))) }
-        ensures entrance_refused { IfOk result (IfRefused (λ prefix reply.
-            IsBackRefusalOver P.limits prefix.entries site false reply)) }
+    /// reply. Where the site has not joined, gives the record at that time and the reply. Allocates
+    /// nothing. Waits for the room's lock. The time does not depend on the size of the record.
+    pub fn back(&self, rt: &impl Wait, opening: &Opening<P>, site: u32) -> Entrance<P>
+        ensures entered { IfEntered (λ pass reply.
+            IsBack P.limits site pass reply × (pass.room ≡ opening.now.room.name)) result }
+        ensures entrance_refused { IfRefused (λ prefix reply.
+            IsBackRefusalOver P.limits prefix.entries site false reply) result }
         // Only a room under its lock gives the proof that a session is in as the site:
-        ensures in_use { IfOk result (IfInUse (λ it reply. (it.site ≡ site)
-            × IsBackRefusalOver P.limits it.prefix.entries site true reply)) }
-        ensures no_room { (result ≡ Ok NoRoom) ↔ ¬ (opening.now.number < length self.now) }
+        ensures in_use { IfInUse (λ it reply. (it.site ≡ site)
+            × IsBackRefusalOver P.limits it.prefix.entries site true reply) result }
+        ensures no_room { result ≡ NoRoom → length self.now.names ≤ opening.now.number }
+        ensures other_rooms { ¬ (MayBeOf self.now opening.now) → result ≡ NoRoom }
         // The pass, or the record, is that of this opening:
-        ensures pass_opening { IfOk result (IfEntered (λ pass reply.
-            pass.part.opening ≡ opening.now)) }
-        ensures refusal_opening { IfOk result (IfRefused (λ prefix reply.
-            prefix.opening ≡ opening.now)) }
-        ensures in_use_opening { IfOk result (IfInUse (λ it reply.
-            it.prefix.opening ≡ opening.now)) }
+        ensures pass_opening { IfEntered (λ pass reply.
+            pass.part.opening ≡ opening.now) result }
+        ensures refusal_opening { IfRefused (λ prefix reply. prefix.opening ≡ opening.now) result }
+        ensures in_use_opening { IfInUse (λ it reply.
+            it.prefix.opening ≡ opening.now) result }
     {
-        let Some((name, room)) = self.find(opening) else {
-            return Ok(Entrance::NoRoom);
+        let Some(mut stage) = self.lock(rt, opening) else {
+            return Entrance::NoRoom;
         };
-        room.lock(rt).back(alloc, name, site)
+        match &mut *stage {
+            Stage::Open(room) => room.back(site),
+            Stage::Free => unreachable!(),
+        }
     }
 
     /// Answers a request of the pass's site. The pass has then seen the room's whole record.
@@ -187,13 +243,16 @@ impl<P: RoomHistories> Rooms<P> {
     ) -> Result<Reply, CallFault>
         ensures answer { IfOk result (IsCall P.limits pass.old pass.new request) }
         ensures err { OnErr result (pass.new ≡ pass.old) }
-        ensures other_rooms { ¬ IsOfRooms self.now pass.old
+        ensures other_rooms { ¬ (MayBeOf self.now pass.old.part.opening)
             → result ≡ Err (call_fault.Torn 0) }
     {
-        let Some((_name, room)) = self.find(pass.opening()) else {
+        let Some(mut stage) = self.lock(rt, pass.opening()) else {
             return Err(CallFault::Torn { place: 0 });
         };
-        room.lock(rt).call(rt, alloc, pass, request)
+        match &mut *stage {
+            Stage::Open(room) => room.call(rt, alloc, pass, request),
+            Stage::Free => unreachable!(),
+        }
     }
 
     /// Takes a pass back, and replies as to a `leave` of its site, with the record at that time.
@@ -208,12 +267,15 @@ impl<P: RoomHistories> Rooms<P> {
             IsLeaveOver P.limits left.0.entries pass.part left.1) }
         ensures opening { IfOk result (λ left. left.0.opening ≡ pass.part.opening) }
         ensures back { IfErr result (λ back. back ≡ pass) }
-        ensures other_rooms { ¬ IsOfRooms self.now pass → IsErr result }
+        ensures other_rooms { ¬ (MayBeOf self.now pass.part.opening) → IsErr result }
     {
-        let Some((_name, room)) = self.find(pass.opening()) else {
+        let Some(mut stage) = self.lock(rt, pass.opening()) else {
             return Err(pass);
         };
-        room.lock(rt).hand_back(pass)
+        match &mut *stage {
+            Stage::Open(room) => room.hand_back(pass),
+            Stage::Free => unreachable!(),
+        }
     }
 
     /// All that the prefix's room has, and the entries behind the prefix. Waits for the room's
@@ -233,28 +295,35 @@ impl<P: RoomHistories> Rooms<P> {
         ensures entries { IfOk result (λ news. since.now.entries ++ news.entries
             ≡ news.whole.entries) }
         ensures opening { IfOk result (λ news. news.whole.opening ≡ since.now.opening) }
-        ensures other_rooms { length self.now ≤ since.now.opening.number
+        ensures other_rooms { ¬ (MayBeOf self.now since.now.opening)
             → result ≡ Err (call_fault.Torn 0) }
     {
-        let Some((_name, room)) = self.find(since.opening()) else {
+        let Some(stage) = self.lock(rt, since.opening()) else {
             return Err(CallFault::Torn { place: 0 });
         };
-        News::of(&room.lock(rt), alloc, since)
+        match &*stage {
+            Stage::Open(room) => News::of(room, alloc, since),
+            Stage::Free => unreachable!(),
+        }
     }
 }
 
 impl<P: RoomHistories> Rooms<P> {
-    /// Consumes the rooms for their records, in order, each with the parts of its sites. Each
-    /// record is legal. Linear in the number of sites.
+    /// Consumes the rooms for their records, each with the parts of its sites: those that were open
+    /// from the start, in order, and then those that were opened. Each record is legal. Linear in the
+    /// number of sites.
     ///
     /// # Errors
     /// `Missing` for the first room of which a pass was not handed back, which tests show.
     /// `NoMemory` if an allocation failed.
     pub fn close(self, alloc: Global) -> Result<Vec<RoomRecord<P>>, CloseFault>
-        ensures names { IfOk result (λ records. map (λ one. one.room) records.items ≡ self) }
+        ensures names { IfOk result (λ records. IsListOf self
+            (map (λ one. one.room) records.items)) }
         ensures closed { IfOk result (λ records. All (λ one. IsClosed P.limits
             (map arc_value one.entries.items) one.parts.items) records.items) }
     {
-        close_all(alloc, self.rooms)
+        let mut records = close_all(alloc, self.rooms)?;
+        close_others(alloc, self.others, &mut records)?;
+        Ok(records)
     }
 }

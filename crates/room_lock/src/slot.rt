@@ -1,7 +1,8 @@
-//! A room behind its lock.
+//! Rooms behind their locks.
 
-ghost use Rattle.std.specs.Prelude.{◌≡◌};
+ghost use Rattle.std.specs.Prelude.{◌≡◌, ◌↔◌, true};
 ghost use Rattle.std.specs.Sync.Mutex.{mutex_guard_value};
+ghost use Rattle.room_lock.specs.steps.Stages.{IsOpenAs};
 
 use crate::room::Room;
 use crossbeam_utils::Backoff;
@@ -12,11 +13,32 @@ use std::sync::{Mutex, MutexGuard, Wait};
 /// The number of attempts to take a lock before the thread sleeps: one to two milliseconds.
 const TRIES: u32 = 400;
 
-/// A room behind its lock. Contracts see its opening.
+/// What a lock guards: a room, or the space for one.
+#[derive(Drop)]
+pub(crate) enum Stage<P: RoomHistories> {
+    /// No room is open.
+    Free,
+    /// The room is open.
+    Open(Room<P>),
+}
+
+impl<P: RoomHistories> Stage<P> {
+    /// Returns whether the room of this opening is open.
+    pub(crate) fn is_open_as(&self, opening: &Opening<P>) -> bool
+        ensures { (result ≡ true) ↔ IsOpenAs opening.now self.now }
+    {
+        match self {
+            Stage::Free => false,
+            Stage::Open(room) => room.opening().is_same(opening),
+        }
+    }
+}
+
+/// A room that is open from the start, behind its lock. Contracts see its opening.
 #[derive(Drop)]
 pub(crate) struct Slot<P: RoomHistories> {
     opening: Opening<P>,
-    room: Mutex<Room<P>>,
+    stage: Mutex<Stage<P>>,
 }
 
 impl<P: RoomHistories> Model for Slot<P> {
@@ -34,7 +56,7 @@ impl<P: RoomHistories> Slot<P> {
     {
         Slot {
             opening: room.opening().copy(),
-            room: Mutex::new(room),
+            stage: Mutex::new(Stage::Open(room)),
         }
     }
 
@@ -45,37 +67,37 @@ impl<P: RoomHistories> Slot<P> {
         &self.opening
     }
 
-    /// Takes the lock of the room. Does not return if the lock guards a room of another opening,
-    /// which never occurs, but no clause of a lock says so.
-    pub(crate) fn lock(&self, rt: &impl Wait) -> MutexGuard<'_, Room<P>>
-        ensures { (mutex_guard_value result).opening ≡ self.now }
+    /// Takes the lock of the room. Does not return if the lock guards no room of this opening, which
+    /// never occurs, but no clause of a lock says so.
+    pub(crate) fn lock(&self, rt: &impl Wait) -> MutexGuard<'_, Stage<P>>
+        ensures { IsOpenAs self.now (mutex_guard_value result) }
     {
         for _ in rt.forever() {
-            let room = lock_of(rt, &self.room);
-            if room.opening().is_same(&self.opening) {
-                return room;
+            let stage = lock_of(rt, &self.stage);
+            if stage.is_open_as(&self.opening) {
+                return stage;
             }
         }
         unreachable!()
     }
 
-    /// The room without its lock.
-    pub(crate) fn into_room(self) -> Room<P> {
-        let Slot { opening: _, room } = self;
-        room.into_inner()
+    /// What the lock guards.
+    pub(crate) fn into_stage(self) -> Stage<P> {
+        let Slot { opening: _, stage } = self;
+        stage.into_inner()
     }
 }
 
 /// Takes a lock. Holds take microseconds, and a thread that sleeps is woken late, so the thread
 /// spins first. It does not yield: where threads outnumber processors, a thread that yields may
 /// wait for milliseconds.
-fn lock_of<'a, T>(rt: &impl Wait, room: &'a Mutex<T>) -> MutexGuard<'a, T> {
+pub(crate) fn lock_of<'a, T>(rt: &impl Wait, guarded: &'a Mutex<T>) -> MutexGuard<'a, T> {
     let backoff = Backoff::new();
     for _try in 0..TRIES {
-        if let Some(guard) = room.try_lock() {
+        if let Some(guard) = guarded.try_lock() {
             return guard;
         }
         backoff.spin();
     }
-    room.lock(rt)
+    guarded.lock(rt)
 }

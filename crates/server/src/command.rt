@@ -48,6 +48,7 @@ fn service_of<'a, 'w, R, W>(
         report: seconds(report),
         dir: words.get_str("keep"),
         is_confining: words.get_flag("by-path"),
+        on_demand: words.get_one("rooms").unwrap_or(0),
         output,
     })
 }

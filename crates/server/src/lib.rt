@@ -9,6 +9,7 @@ mod platform;
 mod serve;
 mod server_observer;
 mod stamped_log;
+mod tallies;
 mod tally;
 mod turnstile;
 

@@ -1,6 +1,7 @@
 //! What a server counts from its start, for `GET /metrics`.
 
-use crate::tally::{EntrySums, Tally};
+use crate::tallies::Tallies;
+use crate::tally::EntrySums;
 use base_types::NoMemory;
 use command_line::VERSION;
 use crossbeam_utils::CachePadded;
@@ -34,6 +35,8 @@ pub(crate) struct Meters {
     /// In the order of `CAUSES`.
     ended: Vec<AtomicU64>,
     turned_away: AtomicU64,
+    /// Joins, backs and handshakes for which no further room could be opened.
+    not_served: AtomicU64,
     /// What the rooms began with.
     first: EntrySums,
 }
@@ -68,7 +71,7 @@ impl Meters {
     ///
     /// # Errors
     /// `AllocError` if an allocation failed.
-    pub(crate) fn new(alloc: Global, rooms: &[Tally<'_>]) -> Result<Meters, AllocError> {
+    pub(crate) fn new(alloc: Global, rooms: &Tallies<'_>) -> Result<Meters, AllocError> {
         let mut replies = Vec::with_capacity(alloc, REPLY_COUNTERS)?;
         for _ in 0..REPLY_COUNTERS {
             replies.push(CachePadded::new(AtomicU64::new(0)))?;
@@ -79,7 +82,8 @@ impl Meters {
             refusals: counters(alloc, MAX_REFUSAL_CODE as usize + 1)?,
             ended: counters(alloc, CAUSES.len())?,
             turned_away: AtomicU64::new(0),
-            first: EntrySums::of(rooms),
+            not_served: AtomicU64::new(0),
+            first: rooms.sums(),
         })
     }
 
@@ -110,11 +114,16 @@ impl Meters {
         count(&self.turned_away);
     }
 
+    /// A room was not opened, since no further room may be open.
+    pub(crate) fn add_not_served(&self) {
+        count(&self.not_served);
+    }
+
     /// The text of all metrics. Linear in the number of rooms.
     ///
     /// # Errors
     /// `NoMemory` if an allocation failed.
-    pub(crate) fn text(&self, standing: Standing, rooms: &[Tally<'_>]) -> Result<String, NoMemory> {
+    pub(crate) fn text(&self, standing: Standing, rooms: &Tallies<'_>) -> Result<String, NoMemory> {
         let alloc = self.alloc;
         let mut families = Vec::new(alloc);
         add_sessions(alloc, &mut families, standing)?;
@@ -126,8 +135,9 @@ impl Meters {
             "Clients turned away by 503.",
             turned_away,
         )?)?;
-        families.push(gauge(alloc, "grace_rooms", "Rooms.", rooms.len() as u64)?)?;
-        families.push(entries(alloc, EntrySums::of(rooms).since(self.first))?)?;
+        add_rooms(alloc, &mut families, rooms)?;
+        families.push(not_served(alloc, load(&self.not_served))?)?;
+        families.push(entries(alloc, rooms.sums().since(self.first))?)?;
         families.push(counter(
             alloc,
             "grace_replies_total",
@@ -239,6 +249,41 @@ fn add_sessions(
         begun,
     )?)?;
     Ok(())
+}
+
+/// Appends the families of the rooms that are open and were opened.
+fn add_rooms(
+    alloc: Global,
+    families: &mut Vec<Family>,
+    rooms: &Tallies<'_>,
+) -> Result<(), NoMemory> {
+    let open = rooms.count_open();
+    families.push(gauge(alloc, "grace_rooms_open", "Open rooms.", open)?)?;
+    families.push(gauge(
+        alloc,
+        "grace_rooms_max",
+        "The most open rooms at a time.",
+        rooms.most_open(),
+    )?)?;
+    families.push(counter(
+        alloc,
+        "grace_rooms_opened_total",
+        "Rooms opened on demand.",
+        rooms.count_opened(),
+    )?)?;
+    Ok(())
+}
+
+/// The family of joins, backs and handshakes whose room was not opened, by the reason.
+fn not_served(alloc: Global, number: u64) -> Result<Family, NoMemory> {
+    let sample = labelled(alloc, "reason", "full", number)?;
+    let help = "Joins, backs and handshakes whose room was not opened.";
+    Ok(Family::new(
+        "grace_rooms_not_served_total",
+        help,
+        Kind::Counter,
+        vec![in alloc; sample]?,
+    ))
 }
 
 /// A sample with one label.

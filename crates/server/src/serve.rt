@@ -10,10 +10,11 @@ use crate::early_end::EarlyEnd;
 use crate::meters::Meters;
 use crate::platform::Platform;
 use crate::server_observer::{ServerObserver, SessionLimits};
-use crate::tally::{Tally, empty_tallies, tallies_of};
+use crate::tallies::Tallies;
 use base_types::repeated_name;
 use command_fault::Fault;
 use commands::{fault_of_rooms, room_names};
+use crossbeam_channel::{Receiver, Sender};
 use journal::Synced;
 use keeper::{Forgets, Keeper};
 use keeping::{Keeping, RoomFile};
@@ -68,6 +69,8 @@ pub(crate) struct Service<'a, 'w, R, W> {
     pub(crate) dir: Option<&'w str>,
     /// A session may enter only the room of its request's path.
     pub(crate) is_confining: bool,
+    /// The number of rooms that may be opened on demand, 1 to 100,000; 0 for none.
+    pub(crate) on_demand: u32,
     /// Where it reports that it listens, and writes the records.
     pub(crate) output: &'a mut W,
 }
@@ -97,7 +100,7 @@ impl<R: Platform, W: Write> Service<'_, '_, R, W> {
     fn serve_rooms<P, K>(
         self,
         rooms: Rooms<P>,
-        tallies: &[Tally<'_>],
+        tallies: &Tallies<'_>,
         keeper: &K,
     ) -> Result<(), Fault>
     where
@@ -207,7 +210,7 @@ where
         is_told: false,
         failed: &failed,
     };
-    let (bell, polls) = match open_loops(rt, options, rooms.count()) {
+    let (bell, polls) = match open_loops(rt, options, rooms.count_places()) {
         Ok(opened) => opened,
         Err(fault) => return Err(fault_of(fault)),
     };
@@ -228,6 +231,15 @@ where
     Ok(())
 }
 
+/// When to report, and the channel whose end stops that.
+#[derive(Drop)]
+struct Reports {
+    /// The period; `None` for no reports.
+    period: Option<Duration>,
+    running: Sender<()>,
+    stop: Receiver<()>,
+}
+
 /// Serves these connections to their end, and reports once each period if there is one.
 fn serve_reporting<P, R, K, W>(
     served: Served<'_, R, ServerObserver<'_, R>, K>,
@@ -244,9 +256,41 @@ where
     K::Permit: Send,
     W: Write,
 {
-    let (rt, observer) = (served.rt, served.observer);
     let (running, stop) = crossbeam_channel::bounded::<(), _>(served.alloc, 1)?;
-    let served = thread::scope(
+    let reports = Reports {
+        period,
+        running,
+        stop,
+    };
+    match serve_in_threads(served, rooms, streams, reports, output) {
+        Ok(()) => Ok(()),
+        Err(fault) => Err(fault_of(fault)),
+    }
+}
+
+/// Serves these connections to their end, beside a thread that reports.
+fn serve_in_threads<P, R, K, W>(
+    served: Served<'_, R, ServerObserver<'_, R>, K>,
+    rooms: Rooms<P>,
+    streams: Accepted<'_, '_, R>,
+    reports: Reports,
+    output: &mut W,
+) -> Result<(), ServeFault>
+where
+    P: RoomHistories + Send + Sync,
+    R: Platform,
+    K: Keeper<P> + Sync,
+    K::Receipt: Send,
+    K::Permit: Send,
+    W: Write,
+{
+    let (rt, observer) = (served.rt, served.observer);
+    let Reports {
+        period,
+        running,
+        stop,
+    } = reports;
+    thread::scope(
         thread::scope_env(),
         rt,
         |scope| -> Result<(), ServeFault>
@@ -265,18 +309,14 @@ where
             }
             served
         },
-    );
-    match served {
-        Ok(()) => Ok(()),
-        Err(fault) => Err(fault_of(fault)),
-    }
+    )
 }
 
 /// Serves in rooms that are kept nowhere.
 fn serve_in_memory<P, R, W>(
     service: Service<'_, '_, R, W>,
     planned: NewRooms,
-    tallies: &[Tally<'_>],
+    tallies: &Tallies<'_>,
 ) -> Result<(), Fault>
 where
     P: RoomHistories + Send + Sync,
@@ -293,7 +333,7 @@ where
 fn serve_in_files<'a, P, R, W>(
     service: Service<'_, 'a, R, W>,
     planned: NewRooms,
-    tallies: &[Tally<'_>],
+    tallies: &Tallies<'_>,
     files: Vec<RestoredFile<Synced<File>>>,
 ) -> Result<(), EarlyEnd<'a>>
 where
@@ -317,12 +357,15 @@ where
 }
 
 impl<'w, R: Platform, W: Write> Service<'_, 'w, R, W> {
-    /// Serves in rooms of these names with full limits.
+    /// Serves in rooms of these names, and in rooms on demand, with full limits.
     fn serve(self, names: &[&'w str]) -> Result<(), Fault> {
         let rooms = room_names(self.alloc, names)?;
-        let tallies = empty_tallies(self.alloc, names)?;
+        let tallies = Tallies::empty(self.alloc, names, self.on_demand)?;
         match NewRooms::plan(self.alloc, rooms, Limits::full()) {
-            Ok(planned) => serve_in_memory::<Brand, R, W>(self, planned, &tallies),
+            Ok(planned) => {
+                let planned = planned.and_on_demand(self.on_demand);
+                serve_in_memory::<Brand, R, W>(self, planned, &tallies)
+            }
             Err(fault) => Err(fault_of_rooms(fault)),
         }
     }
@@ -336,7 +379,7 @@ impl<'w, R: Platform, W: Write> Service<'_, 'w, R, W> {
         }
         let folder = Folder::open(rt, dir)?;
         let (states, found) = folder.read(rt, alloc, names)?;
-        let tallies = tallies_of(alloc, names, &states)?;
+        let tallies = Tallies::of_rooms(alloc, names, &states)?;
         let files = folder.settle(rt, alloc, found)?;
         match NewRooms::with_records(rooms, Limits::full(), states) {
             Ok(planned) => serve_in_files::<Brand, R, W>(self, planned, &tallies, files),
@@ -344,7 +387,8 @@ impl<'w, R: Platform, W: Write> Service<'_, 'w, R, W> {
         }
     }
 
-    /// Serves in rooms of these names with full limits, and returns the exit status:
+    /// Serves in rooms of these names, and in rooms on demand, with full limits. Returns the exit
+    /// status:
     ///
     /// - 0 if all sessions were served and the records written;
     /// - 2 for a bad room name, or, if all are good, for a room named twice;

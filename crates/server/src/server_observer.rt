@@ -3,7 +3,7 @@
 ghost use Rattle.std.specs.Prelude.{◌≡◌, ◌↔◌, IsNone};
 
 use crate::meters::{Meters, Standing};
-use crate::tally::Tally;
+use crate::tallies::Tallies;
 use crate::turnstile::Turnstile;
 use base_types::RoomName;
 use crossbeam_channel::Receiver;
@@ -30,7 +30,7 @@ pub(crate) struct SessionLimits {
 #[derive(Drop)]
 pub(crate) struct ServerObserver<'a, R> {
     rt: &'a R,
-    rooms: &'a [Tally<'a>],
+    rooms: &'a Tallies<'a>,
     meters: Meters,
     /// The folder that keeps the rooms; `None` if nothing does.
     dir: Option<&'a str>,
@@ -39,6 +39,8 @@ pub(crate) struct ServerObserver<'a, R> {
     turnstile: Option<Turnstile>,
     /// Whether a warning was logged since a session last ended.
     is_told: AtomicBool,
+    /// Whether a warning was logged that all rooms are open.
+    is_told_of_rooms: AtomicBool,
     begun: AtomicU64,
     ended: AtomicU64,
 }
@@ -47,7 +49,7 @@ impl<'a, R> ServerObserver<'a, R> {
     /// An observer of these rooms, in order, which this folder keeps if one does.
     pub(crate) fn new(
         rt: &'a R,
-        rooms: &'a [Tally<'a>],
+        rooms: &'a Tallies<'a>,
         meters: Meters,
         dir: Option<&'a str>,
         limits: SessionLimits,
@@ -60,6 +62,7 @@ impl<'a, R> ServerObserver<'a, R> {
             limits,
             turnstile: turnstile_of(limits.sessions),
             is_told: AtomicBool::new(false),
+            is_told_of_rooms: AtomicBool::new(false),
             begun: AtomicU64::new(0),
             ended: AtomicU64::new(0),
         }
@@ -96,9 +99,7 @@ impl<R: Wait + Log> ServerObserver<'_, R> {
 
     /// Warns of rooms that begin nearly full.
     pub(crate) fn begin(&self) {
-        for room in self.rooms {
-            room.begin(self.rt);
-        }
+        self.rooms.begin(self.rt);
     }
 
     /// Reports on the sessions and on each room.
@@ -111,9 +112,7 @@ impl<R: Wait + Log> ServerObserver<'_, R> {
         } else {
             info!(self.rt; "report: server clients {now}/{clients} begun {begun}/{sessions}");
         }
-        for room in self.rooms {
-            room.report(self.rt);
-        }
+        self.rooms.report(self.rt);
     }
 
     /// Reports once each period, until the channel has no sender.
@@ -135,18 +134,28 @@ impl<R: Wait + Log> Observer for ServerObserver<'_, R> {
         self.meters.add_reply(place, refusal);
     }
 
-    fn after_entry(&self, place: usize, kind: EntryKind) {
-        if let Some(room) = self.rooms.get(place) {
-            room.add(self.rt, kind);
+    fn after_entry(&self, room: &RoomName, place: usize, kind: EntryKind) {
+        self.rooms.add(self.rt, room.text(), place, kind);
+    }
+
+    fn after_opening(&self, _place: usize) {
+        self.rooms.add_opening();
+    }
+
+    /// Warns once that all rooms are open. They stay open to the end.
+    fn not_served(&self) {
+        self.meters.add_not_served();
+        if !self.is_told_of_rooms.swap(true, Ordering::SeqCst) {
+            let most = self.rooms.most_open();
+            warn!(self.rt; "all {most} rooms are open");
         }
     }
 
     /// Logs once why a room is not kept, and once that it is kept again.
     fn keeping_changed(&self, place: usize, change: &Change) {
-        let (Some(dir), Some(room)) = (self.dir, self.rooms.get(place)) else {
+        let (Some(dir), Some(name)) = (self.dir, self.rooms.name_at(place)) else {
             return;
         };
-        let name = room.name();
         match change {
             Change::Fails(reason) => error!(self.rt; "{dir}/{name}.record is not kept: {reason}"),
             Change::KeptAgain => info!(self.rt; "{dir}/{name}.record is kept again"),
@@ -175,6 +184,12 @@ impl<R: Wait + Log> Observer for ServerObserver<'_, R> {
         if !self.is_told.swap(true, Ordering::SeqCst) {
             let clients = self.limits.clients;
             warn!(self.rt; "all {clients} clients are in");
+        }
+    }
+
+    fn not_let_in(&self) {
+        if let Some(turnstile) = &self.turnstile {
+            turnstile.is_no_session(self.rt);
         }
     }
 

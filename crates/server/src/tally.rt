@@ -1,11 +1,10 @@
-//! Counts of what the rooms have.
+//! Counts of what one room has.
 
 ghost use Rattle.std.specs.Prelude.{◌≡◌, ◌≤◌, ◌<◌, ◌+◌, ◌-◌, ◌*◌};
 
 use log::{Log, info, warn};
 use room_core::RoomState;
 use rules::Limits;
-use std::alloc::{AllocError, Global};
 use std::sync::atomic::{AtomicU64, Ordering};
 use wire::EntryKind;
 
@@ -17,10 +16,9 @@ fn nine_tenths(limit: u32) -> u64
     (u64::from(limit) * 9).div_ceil(10)
 }
 
-/// A room's name, and its numbers of joins, entries and objects.
+/// A room's numbers of joins, entries and objects.
 #[derive(Drop)]
-pub(crate) struct Tally<'a> {
-    name: &'a str,
+pub(crate) struct Tally {
     joins: AtomicU64,
     entries: AtomicU64,
     objects: AtomicU64,
@@ -31,11 +29,10 @@ fn count(counter: &AtomicU64) -> u64 {
     counter.fetch_add(1, Ordering::SeqCst).saturating_add(1)
 }
 
-impl<'a> Tally<'a> {
+impl Tally {
     /// The tally of a room that begins empty.
-    fn empty(name: &'a str) -> Tally<'a> {
+    pub(crate) fn empty() -> Tally {
         Tally {
-            name,
             joins: AtomicU64::new(0),
             entries: AtomicU64::new(0),
             objects: AtomicU64::new(0),
@@ -43,58 +40,51 @@ impl<'a> Tally<'a> {
     }
 
     /// The tally of a room that begins with this record.
-    fn of_room(name: &'a str, room: &RoomState) -> Tally<'a> {
+    pub(crate) fn of_room(room: &RoomState) -> Tally {
         Tally {
-            name,
             joins: AtomicU64::new(u64::from(room.sites())),
             entries: AtomicU64::new(room.entries().len() as u64),
             objects: AtomicU64::new(u64::from(room.count_objects())),
         }
     }
 
-    /// The room's name.
-    pub(crate) fn name(&self) -> &'a str
-        ensures { result.now ≡ self.now.name.now }
-    {
-        self.name
-    }
-
-    /// Counts an entry of this kind. Warns when the joins, the objects or the entries reach nine
-    /// tenths of their limit.
-    pub(crate) fn add<R: Log>(&self, rt: &R, kind: EntryKind) {
+    /// Counts an entry of this kind of the room of this name. Warns when the joins, the objects or
+    /// the entries reach nine tenths of their limit.
+    pub(crate) fn add<R: Log>(&self, rt: &R, name: &str, kind: EntryKind) {
         let entries = count(&self.entries);
         if entries == nine_tenths(Limits::MAX_ENTRIES) {
-            self.warn_of_entries(rt, entries);
+            warn_of_entries(rt, name, entries);
         }
         match kind {
             EntryKind::Join => {
                 let joins = count(&self.joins);
                 if joins == nine_tenths(Limits::MAX_JOINS) {
-                    self.warn_of_joins(rt, joins);
+                    warn_of_joins(rt, name, joins);
                 }
             }
             EntryKind::Creation => {
                 let objects = count(&self.objects);
                 if objects == nine_tenths(Limits::MAX_OBJECTS) {
-                    self.warn_of_objects(rt, objects);
+                    warn_of_objects(rt, name, objects);
                 }
             }
             EntryKind::Change => {}
         }
     }
 
-    /// Warns if a room begins with nine tenths of its joins, its objects or its entries, or more.
-    pub(crate) fn begin<R: Log>(&self, rt: &R) {
+    /// Warns if the room of this name begins with nine tenths of its joins, its objects or its
+    /// entries, or more.
+    pub(crate) fn begin<R: Log>(&self, rt: &R, name: &str) {
         let (joins, entries) = (load(&self.joins), load(&self.entries));
         if entries >= nine_tenths(Limits::MAX_ENTRIES) {
-            self.warn_of_entries(rt, entries);
+            warn_of_entries(rt, name, entries);
         }
         if joins >= nine_tenths(Limits::MAX_JOINS) {
-            self.warn_of_joins(rt, joins);
+            warn_of_joins(rt, name, joins);
         }
         let objects = load(&self.objects);
         if objects >= nine_tenths(Limits::MAX_OBJECTS) {
-            self.warn_of_objects(rt, objects);
+            warn_of_objects(rt, name, objects);
         }
     }
 
@@ -111,24 +101,8 @@ impl<'a> Tally<'a> {
         sums.changes = sums.changes.saturating_add(changes);
     }
 
-    fn warn_of_entries<R: Log>(&self, rt: &R, entries: u64) {
-        let (name, limit) = (self.name, Limits::MAX_ENTRIES);
-        warn!(rt; "room {name} has {entries} of {limit} entries");
-    }
-
-    fn warn_of_joins<R: Log>(&self, rt: &R, joins: u64) {
-        let (name, limit) = (self.name, Limits::MAX_JOINS);
-        warn!(rt; "room {name} has {joins} of {limit} joins");
-    }
-
-    fn warn_of_objects<R: Log>(&self, rt: &R, objects: u64) {
-        let (name, limit) = (self.name, Limits::MAX_OBJECTS);
-        warn!(rt; "room {name} has {objects} of {limit} objects");
-    }
-
-    /// Reports what the room has.
-    pub(crate) fn report<R: Log>(&self, rt: &R) {
-        let name = self.name;
+    /// Reports what the room of this name has.
+    pub(crate) fn report<R: Log>(&self, rt: &R, name: &str) {
         let (joins, entries, objects) = (
             load(&self.joins),
             load(&self.entries),
@@ -138,6 +112,21 @@ impl<'a> Tally<'a> {
         let most_objects = Limits::MAX_OBJECTS;
         info!(rt; "report: room {name} joins {joins}/{most_joins} entries {entries}/{most_entries} objects {objects}/{most_objects}");
     }
+}
+
+fn warn_of_entries<R: Log>(rt: &R, name: &str, entries: u64) {
+    let limit = Limits::MAX_ENTRIES;
+    warn!(rt; "room {name} has {entries} of {limit} entries");
+}
+
+fn warn_of_joins<R: Log>(rt: &R, name: &str, joins: u64) {
+    let limit = Limits::MAX_JOINS;
+    warn!(rt; "room {name} has {joins} of {limit} joins");
+}
+
+fn warn_of_objects<R: Log>(rt: &R, name: &str, objects: u64) {
+    let limit = Limits::MAX_OBJECTS;
+    warn!(rt; "room {name} has {objects} of {limit} objects");
 }
 
 /// How many entries of each kind rooms have together.
@@ -150,7 +139,7 @@ pub(crate) struct EntrySums {
 
 impl EntrySums {
     /// What these rooms have. Linear in their number.
-    pub(crate) fn of(rooms: &[Tally<'_>]) -> EntrySums {
+    pub(crate) fn of(rooms: &[Tally]) -> EntrySums {
         let mut sums = EntrySums {
             joins: 0,
             creations: 0,
@@ -179,29 +168,4 @@ impl EntrySums {
 /// The count.
 fn load(counter: &AtomicU64) -> u64 {
     counter.load(Ordering::SeqCst)
-}
-
-/// The tallies of rooms of these names that begin empty, in the same order.
-pub(crate) fn empty_tallies<'a>(
-    alloc: Global,
-    names: &[&'a str],
-) -> Result<Vec<Tally<'a>>, AllocError> {
-    let mut tallies = Vec::with_capacity(alloc, names.len())?;
-    for name in names {
-        tallies.push(Tally::empty(name))?;
-    }
-    Ok(tallies)
-}
-
-/// The tallies of rooms of these names that begin with these records, in the same order.
-pub(crate) fn tallies_of<'a>(
-    alloc: Global,
-    names: &[&'a str],
-    rooms: &[RoomState],
-) -> Result<Vec<Tally<'a>>, AllocError> {
-    let mut tallies = Vec::with_capacity(alloc, names.len())?;
-    for (name, room) in names.iter().zip(rooms) {
-        tallies.push(Tally::of_room(name, room))?;
-    }
-    Ok(tallies)
 }

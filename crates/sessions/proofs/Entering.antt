@@ -1,6 +1,6 @@
 -- What a session is after an entrance.
-use Rattle.std.proofs.Common.{◌≡◌, ◌⊎◌, ◌<◌, ℕ, Bool, cond, nat_lt, arith, inl, inr, true, false, is_some, List, length, Option, None, Some, Result, Ok, refl, sym, subst, ◌∙◌}
-use Rattle.std.specs.Prelude.{◌↔◌, IfSome, position}
+use Rattle.std.proofs.Common.{◌≡◌, ◌⊎◌, ◌<◌, ℕ, Bool, cond, nat_lt, arith, inl, inr, true, false, is_some, List, length, Option, None, Some, refl, sym, subst, ◌∙◌}
+use Rattle.std.specs.Prelude.{◌≤◌, Contains, IfSome, bytes_eq, position}
 use Rattle.std.specs.List.{position_or_len}
 use Rattle.std.proofs.lemmas.Bool.Decides.{nat_tests}
 use Rattle.base_types.specs.Texts.{Bytes}
@@ -9,7 +9,9 @@ use Rattle.wire.specs.declared.reply.Reply.{Reply}
 use Rattle.wire.specs.declared.reply.Reply.TheVariants.{No}
 use Rattle.rules.specs.declared.refusal.Refusal.TheVariants.{NoSuchRoom, NotServed}
 use Rattle.rules.specs.declared.limits.LimitValues.{LimitValues}
+use Rattle.wire.specs.declared.request.Request.{Request}
 use Rattle.wire.specs.declared.request.Request.TheVariants.{Join, Back}
+use Rattle.scope.specs.Scopes.{allows}
 use Rattle.scope.specs.declared.scope.Scope.{Scope}
 use Rattle.openings.specs.Openings.{OpeningView}
 use Rattle.room_lock.specs.declared.entrance.Entrance.{Entrance}
@@ -17,9 +19,10 @@ use Rattle.room_lock.specs.declared.entrance.Entrance.TheVariants.{Entered, Refu
 use Rattle.room_lock.specs.steps.Entrances.{IfEntered, IfInUse, IfRefused}
 use Rattle.room_lock.specs.InOrder.{IsOpeningFor}
 use Rattle.room_lock.specs.Passes.{InUseView, PassView, PrefixView}
+use Rattle.room_lock.specs.Rooms.{IsOnDemand, RoomsView, Serves}
 use Rattle.room_lock.specs.Told.{IsBack, IsJoin, IsRefusalOver}
 use Rattle.sessions.specs.steps.Entrances.{IsAfter}
-use Rattle.sessions.specs.Turns.{IsAnswer, IsBackRefusal, IsLetIn, IsPermitted, IsPermittedJoin, IsTurnedAway, MayEnter}
+use Rattle.sessions.specs.Turns.{IsAnswer, IsBackRefusal, IsEntering, IsNotServed, IsPermitted, IsPermittedJoin, IsTurnedAway, MayBeShut, MayEnter}
 
 -- the place of a name is one of the places
 found_within : (n len k : ℕ) (b : Bool) → nat_lt n len ≡ b → cond b (Some n) None ≡ Some k → k < len
@@ -47,37 +50,48 @@ if_in_use_so Is So (Refused prefix reply) so holds = tt
 if_in_use_so Is So (InUse it reply) so holds = so it reply holds
 if_in_use_so Is So NoRoom so holds = tt
 
-module _ (names : List Bytes) (opening : OpeningView) (Enters : PassView → Reply → Type 0) (Refuses : List Entry → Reply → Type 0) where
+module _ (rooms : RoomsView) (opening : OpeningView) (Enters : PassView → Reply → Type 0) (Refuses : List Entry → Reply → Type 0) where
   -- what `Rooms::join` and `back` say of an entrance by this opening
-  pub record IsEntrance {P : Type 0} (E : Type 0) (went : Entrance P) : Type 0 where
+  pub record IsEntrance {P : Type 0} (went : Entrance P) : Type 0 where
     pub entered : IfEntered (λ pass reply. Enters pass reply × (pass.room ≡ opening.room.name)) went
     pub refused : IfRefused (λ prefix reply. Refuses prefix.entries reply) went
     pub in_use : IfInUse (λ it reply. Refuses it.prefix.entries reply) went
-    pub no_room : let entrance : Result (Entrance P) E = Ok went in (entrance ≡ Ok NoRoom) ↔ ¬ (opening.number < length names)
+    pub no_room : went ≡ NoRoom → length rooms.names ≤ opening.number
     pub pass_opening : IfEntered (λ pass reply. pass.part.opening ≡ opening) went
     pub refusal_opening : IfRefused (λ prefix reply. prefix.opening ≡ opening) went
     pub in_use_opening : IfInUse (λ it reply. it.prefix.opening ≡ opening) went
 
-  -- the pass of who was let in is the session's, and who wasn't is in no room
-  pub told_after : {P : Type 0} (E : Type 0) (scope : Scope) (name : Bytes) (went : Entrance P) (new : Option PassView) (told : Option PrefixView) (reply : Reply)
-      → MayEnter scope names name → IsOpeningFor names name opening → IsEntrance E went → IsAfter went new told reply
-      → IsLetIn Enters scope names name new told reply ⊎ IsTurnedAway Refuses scope names name new told reply
-  told_after E scope name (Entered pass it) new told reply may at is after =
-      inl (pass, subst (λ r. Enters pass r) (sym after.0) is.entered.0, may.0, is.entered.1 ∙ at.name_is, subst (IsOpeningFor names name) (sym is.pass_opening) at, after.1, after.2)
-  told_after E scope name (Refused prefix it) new told reply may at is after =
-      inr (record {
-        known = λ there. (prefix, subst (λ r. Refuses prefix.entries r) (sym after.0) is.refused, subst (IsOpeningFor names name) (sym is.refusal_opening) at, after.1);
+  -- what is not among the openings of the start is of a room on demand
+  on_demand : (scope : Scope) (name : Bytes) → MayEnter scope rooms name → IsOpeningFor rooms name opening → length rooms.names ≤ opening.number → IsOnDemand rooms name
+  on_demand scope name may at past = (other, served may.1)
+    where
+      other : Contains rooms.names name → ⊥
+      other there = (let within = place_bound (bytes_eq name) rooms.names opening.number (at.number_is there) in omega (arith, within, past))
+
+      served : Serves rooms name → 0 < rooms.others
+      served (inl there) = absurd (other there)
+      served (inr some) = some
+
+  -- The pass of who was let in is the session's, and who was not is in no room.
+  pub told_after : {P : Type 0} (denied : ℕ → Type 0) (scope : Scope) (name : Bytes) (went : Entrance P) (new : Option PassView) (told : Option PrefixView) (reply : Reply)
+      → MayEnter scope rooms name → IsOpeningFor rooms name opening → IsEntrance went → IsAfter went new told reply
+      → IsEntering Enters Refuses denied scope rooms name new told reply
+  told_after denied scope name (Entered pass it) new told reply may at is after =
+      inl (pass, subst (λ r. Enters pass r) (sym after.0) is.entered.0, may.0, is.entered.1 ∙ at.name_is, subst (IsOpeningFor rooms name) (sym is.pass_opening) at, after.1, after.2)
+  told_after denied scope name (Refused prefix it) new told reply may at is after =
+      inr (inl (record {
+        known = λ there. (prefix, subst (λ r. Refuses prefix.entries r) (sym after.0) is.refused, subst (IsOpeningFor rooms name) (sym is.refusal_opening) at, after.1);
         unknown = λ absent. absurd (absent may);
         same = after.2;
-      })
-  told_after E scope name (InUse it answer) new told reply may at is after =
-      inr (record {
-        known = λ there. (it.prefix, subst (λ r. Refuses it.prefix.entries r) (sym after.0) is.in_use, subst (IsOpeningFor names name) (sym is.in_use_opening) at, after.1);
+      }))
+  told_after denied scope name (InUse it answer) new told reply may at is after =
+      inr (inl (record {
+        known = λ there. (it.prefix, subst (λ r. Refuses it.prefix.entries r) (sym after.0) is.in_use, subst (IsOpeningFor rooms name) (sym is.in_use_opening) at, after.1);
         unknown = λ absent. absurd (absent may);
         same = after.2;
-      })
-  told_after E scope name NoRoom new told reply may at is after =
-      absurd (is.no_room.0 refl (place_bound _ names opening.number at.number_is))
+      }))
+  told_after denied scope name NoRoom new told reply may at is after =
+      inr (inr (may.0, inl (on_demand scope name may at (is.no_room refl)), after))
 
 none_of : {A : Type 0} (o : Option A) → is_some o ≡ false → o ≡ None
 none_of None is = refl
@@ -99,50 +113,51 @@ pub given_permit : {Permit : Type 0} (permits : Permit → ℕ → Type 0) (numb
 given_permit permits number None is holds = absurd (cc is)
 given_permit permits number (Some permit) is holds = (permit, holds)
 
-joined : {A B C : Type 0} → A ⊎ B → A ⊎ B ⊎ C
-joined (inl a) = inl a
-joined (inr b) = inr (inl b)
-
 -- nobody is let in where the session may not enter, or there is no room
-away : (Refuses : List Entry → Reply → Type 0) (scope : Scope) (names : List Bytes) (name : Bytes) (old new : Option PassView) (told : Option PrefixView) (reply : Reply)
-    → old ≡ None → ¬ (MayEnter scope names name) → (reply ≡ No 0 NoSuchRoom) × (told ≡ None) × (new ≡ old) → IsTurnedAway Refuses scope names name new told reply
-away Refuses scope names name old new told reply empty absent is = record {
+away : (Refuses : List Entry → Reply → Type 0) (scope : Scope) (rooms : RoomsView) (name : Bytes) (old new : Option PassView) (told : Option PrefixView) (reply : Reply)
+    → old ≡ None → ¬ (MayEnter scope rooms name) → (reply ≡ No 0 NoSuchRoom) × (told ≡ None) × (new ≡ old) → IsTurnedAway Refuses scope rooms name new told reply
+away Refuses scope rooms name old new told reply empty absent is = record {
   known = λ may. absurd (absent may);
   unknown = λ other. (is.0, is.1);
   same = is.2 ∙ empty;
 }
 
-module _ (limits : LimitValues) (names : List Bytes) (permitted denied : ℕ → Type 0) (scope : Scope) (name : Bytes) (old new : Option PassView) (told : Option PrefixView) (reply : Reply) (none : is_some old ≡ false) where
-  -- an entrance answers a session in no room
-  pub join_answered : {P : Type 0} (E : Type 0) (opening : OpeningView) (went : Entrance P) → MayEnter scope names name → IsOpeningFor names name opening
-      → IsEntrance names opening (IsPermittedJoin limits permitted) (IsRefusalOver limits) E went → IsAfter went new told reply → IsAnswer limits names permitted denied scope old new (Join name) told reply
-  join_answered E opening went may at is after =
-      subst (λ (old : Option PassView). IsAnswer limits names permitted denied scope old new (Join name) told reply) (sym (none_of old none))
-      (joined (told_after names opening (IsPermittedJoin limits permitted) (IsRefusalOver limits) E scope name went new told reply may at is after))
+module _ (limits : LimitValues) (rooms : RoomsView) (permitted denied : ℕ → Type 0) (scope : Scope) (name : Bytes) (old new : Option PassView) (told : Option PrefixView) (reply : Reply) (none : is_some old ≡ false) where
+  -- what comes of a session in no room
+  outside : (request : Request) → IsAnswer limits rooms permitted denied scope None new request told reply → IsAnswer limits rooms permitted denied scope old new request told reply
+  outside request = subst (λ (old : Option PassView). IsAnswer limits rooms permitted denied scope old new request told reply) (sym (none_of old none))
 
-  pub back_answered : {P : Type 0} (E : Type 0) (site : ℕ) (opening : OpeningView) (went : Entrance P) → MayEnter scope names name → IsOpeningFor names name opening
-      → IsEntrance names opening (IsBack limits site) (IsBackRefusal limits site) E went → IsAfter went new told reply → IsAnswer limits names permitted denied scope old new (Back name site) told reply
-  back_answered E site opening went may at is after =
-      subst (λ (old : Option PassView). IsAnswer limits names permitted denied scope old new (Back name site) told reply) (sym (none_of old none))
-      (told_after names opening (IsBack limits site) (IsBackRefusal limits site) E scope name went new told reply may at is after)
+  -- an entrance answers a session in no room
+  pub join_answered : {P : Type 0} (opening : OpeningView) (went : Entrance P) → MayEnter scope rooms name → IsOpeningFor rooms name opening
+      → IsEntrance rooms opening (IsPermittedJoin limits permitted) (IsRefusalOver limits) went → IsAfter went new told reply → IsAnswer limits rooms permitted denied scope old new (Join name) told reply
+  join_answered opening went may at is after =
+      outside (Join name) (told_after rooms opening (IsPermittedJoin limits permitted) (IsRefusalOver limits) denied scope name went new told reply may at is after)
+
+  pub back_answered : {P : Type 0} (site : ℕ) (opening : OpeningView) (went : Entrance P) → MayEnter scope rooms name → IsOpeningFor rooms name opening
+      → IsEntrance rooms opening (IsBack limits site) (IsBackRefusal limits site) went → IsAfter went new told reply → IsAnswer limits rooms permitted denied scope old new (Back name site) told reply
+  back_answered site opening went may at is after =
+      outside (Back name site) (told_after rooms opening (IsBack limits site) (IsBackRefusal limits site) (λ number. ⊥) scope name went new told reply may at is after)
+
+  -- a room that is not served
+  shut : (denies : ℕ → Type 0) → allows scope name ≡ true → MayBeShut denies rooms name → (reply ≡ No 0 NotServed) × (told ≡ None) × (new ≡ old)
+      → IsNotServed denies scope rooms name new told reply
+  shut denies may is refused = (may, is, (refused.0, refused.1, refused.2 ∙ none_of old none))
 
   -- a join that is denied
-  pub denied_answered : (opening : OpeningView) → MayEnter scope names name → IsOpeningFor names name opening → denied opening.number
-      → (reply ≡ No 0 NotServed) × (told ≡ None) × (new ≡ old) → IsAnswer limits names permitted denied scope old new (Join name) told reply
-  denied_answered opening may at denies is =
-      let empty = none_of old none in
-      subst (λ (old : Option PassView). IsAnswer limits names permitted denied scope old new (Join name) told reply) (sym empty)
-      (inr (inr (opening, may.0, at, denies, (is.0, is.1, is.2 ∙ empty))))
+  pub denied_answered : (opening : OpeningView) → MayEnter scope rooms name → IsOpeningFor rooms name opening → denied opening.number
+      → (reply ≡ No 0 NotServed) × (told ≡ None) × (new ≡ old) → IsAnswer limits rooms permitted denied scope old new (Join name) told reply
+  denied_answered opening may at denies is = outside (Join name) (inr (inr (shut denied may.0 (inr (opening, at, denies)) is)))
+
+  -- a room that cannot be opened now
+  pub join_shut : allows scope name ≡ true → IsOnDemand rooms name → (reply ≡ No 0 NotServed) × (told ≡ None) × (new ≡ old) → IsAnswer limits rooms permitted denied scope old new (Join name) told reply
+  join_shut may demand is = outside (Join name) (inr (inr (shut denied may (inl demand) is)))
+
+  pub back_shut : (site : ℕ) → allows scope name ≡ true → IsOnDemand rooms name → (reply ≡ No 0 NotServed) × (told ≡ None) × (new ≡ old) → IsAnswer limits rooms permitted denied scope old new (Back name site) told reply
+  back_shut site may demand is = outside (Back name site) (inr (inr (shut (λ number. ⊥) may (inl demand) is)))
 
   -- there is no room that the session may enter
-  pub join_away : ¬ (MayEnter scope names name) → (reply ≡ No 0 NoSuchRoom) × (told ≡ None) × (new ≡ old) → IsAnswer limits names permitted denied scope old new (Join name) told reply
-  join_away absent is =
-      let empty = none_of old none in
-      subst (λ (old : Option PassView). IsAnswer limits names permitted denied scope old new (Join name) told reply) (sym empty)
-      (inr (inl (away (IsRefusalOver limits) scope names name old new told reply empty absent is)))
+  pub join_away : ¬ (MayEnter scope rooms name) → (reply ≡ No 0 NoSuchRoom) × (told ≡ None) × (new ≡ old) → IsAnswer limits rooms permitted denied scope old new (Join name) told reply
+  join_away absent is = outside (Join name) (inr (inl (away (IsRefusalOver limits) scope rooms name old new told reply (none_of old none) absent is)))
 
-  pub back_away : (site : ℕ) → ¬ (MayEnter scope names name) → (reply ≡ No 0 NoSuchRoom) × (told ≡ None) × (new ≡ old) → IsAnswer limits names permitted denied scope old new (Back name site) told reply
-  back_away site absent is =
-      let empty = none_of old none in
-      subst (λ (old : Option PassView). IsAnswer limits names permitted denied scope old new (Back name site) told reply) (sym empty)
-      (inr (away (IsBackRefusal limits site) scope names name old new told reply empty absent is))
+  pub back_away : (site : ℕ) → ¬ (MayEnter scope rooms name) → (reply ≡ No 0 NoSuchRoom) × (told ≡ None) × (new ≡ old) → IsAnswer limits rooms permitted denied scope old new (Back name site) told reply
+  back_away site absent is = outside (Back name site) (inr (inl (away (IsBackRefusal limits site) scope rooms name old new told reply (none_of old none) absent is)))

@@ -1,6 +1,6 @@
 -- Sessions stay in their rooms and in their scopes, and replies report on these rooms.
 use Rattle.std.proofs.Common.{◌≡◌, ◌⊎◌, ◌∙◌, ℕ, inl, inr, true, List, Option, Some, None, sym, ap, subst}
-use Rattle.std.specs.Prelude.{MatchOption}
+use Rattle.std.specs.Prelude.{Contains, MatchOption}
 use Rattle.base_types.specs.Texts.{Bytes}
 use Rattle.rules.specs.declared.history.Entry.{Entry}
 use Rattle.rules.specs.declared.limits.LimitValues.{LimitValues}
@@ -12,68 +12,52 @@ use Rattle.scope.specs.Scopes.{allows}
 use Rattle.scope.specs.declared.scope.Scope.{Scope}
 use Rattle.room_lock.specs.InOrder.{IsOpeningFor}
 use Rattle.room_lock.specs.Passes.{PassView, PrefixView, prefix_of}
+use Rattle.room_lock.specs.Rooms.{RoomsView}
 use Rattle.sessions.specs.Sessions.{SessionView}
 use Rattle.rules.specs.declared.refusal.Refusal.TheVariants.{BadMessage}
 use Rattle.room_lock.specs.Told.{IsBack, IsRefusalOver}
-use Rattle.sessions.specs.Turns.{IsAnswer, IsAnswerInside, IsAnswerOutside, IsBackBy, IsBackRefusal, IsCallBy, IsJoinBy, IsLetIn, IsPermittedJoin, IsRefused, IsTurn, IsTurnedAway, MayEnter}
+use Rattle.sessions.specs.Turns.{IsAnswer, IsAnswerInside, IsAnswerOutside, IsBackRefusal, IsCallBy, IsEntering, IsJoinBy, IsLetIn, IsPermittedJoin, IsRefused, IsTurn, IsTurnedAway, MayBeShut, MayEnter}
 
 -- the pass is of the named room, which the scope allows
-abbrev pub IsInNamed : Scope → List Bytes → Bytes → PassView → Type 0
-IsInNamed scope names name pass = (allows scope name ≡ true) × (pass.room ≡ name) × IsOpeningFor names name pass.part.opening
+abbrev pub IsInNamed : Scope → RoomsView → Bytes → PassView → Type 0
+IsInNamed scope rooms name pass = (allows scope name ≡ true) × (pass.room ≡ name) × IsOpeningFor rooms name pass.part.opening
 
-module _ (scope : Scope) (names : List Bytes) (name : Bytes) (Enters : PassView → Reply → Type 0) (Refuses : List Entry → Reply → Type 0) where
+module _ (scope : Scope) (rooms : RoomsView) (name : Bytes) (Enters : PassView → Reply → Type 0) (Refuses : List Entry → Reply → Type 0) (denied : ℕ → Type 0) where
   -- who is let in is in the named room
   pub let_in : (pass : PassView) (told : Option PrefixView) (reply : Reply)
-      → IsLetIn Enters scope names name (Some pass) told reply ⊎ IsTurnedAway Refuses scope names name (Some pass) told reply
-      → IsInNamed scope names name pass
+      → IsEntering Enters Refuses denied scope rooms name (Some pass) told reply → IsInNamed scope rooms name pass
   let_in pass told reply (inl is) =
       let same : pass ≡ is.0 = cc is.6 in
-      subst (IsInNamed scope names name) (sym same) (is.2, is.3, is.4)
-  let_in pass told reply (inr away) = absurd (cc away.same)
+      subst (IsInNamed scope rooms name) (sym same) (is.2, is.3, is.4)
+  let_in pass told reply (inr (inl away)) = absurd (cc away.same)
+  let_in pass told reply (inr (inr shut)) = absurd (cc shut.2.2)
 
   -- what is reported is of the named room
   pub told_of : (new : Option PassView) (told : PrefixView) (reply : Reply)
-      → IsLetIn Enters scope names name new (Some told) reply ⊎ IsTurnedAway Refuses scope names name new (Some told) reply
-      → MayEnter scope names name → IsOpeningFor names name told.opening
+      → IsEntering Enters Refuses denied scope rooms name new (Some told) reply
+      → MayEnter scope rooms name → IsOpeningFor rooms name told.opening
   told_of new told reply (inl is) there =
       let same : told ≡ prefix_of is.0.part = cc is.5 in
-      let P : PrefixView → Type 0 = λ p. IsOpeningFor names name p.opening in
+      let P : PrefixView → Type 0 = λ p. IsOpeningFor rooms name p.opening in
       subst P (sym same) is.4
-  told_of new told reply (inr away) there =
+  told_of new told reply (inr (inl away)) there =
       let is = away.known there in
       let same : told ≡ is.0 = cc is.3 in
-      let P : PrefixView → Type 0 = λ p. IsOpeningFor names name p.opening in
+      let P : PrefixView → Type 0 = λ p. IsOpeningFor rooms name p.opening in
       subst P (sym same) is.2
+  told_of new told reply (inr (inr shut)) there = absurd (cc shut.2.1)
 
--- a join that may be denied
-pub joined_in : (limits : LimitValues) (names : List Bytes) (permitted denied : ℕ → Type 0) (scope : Scope) (name : Bytes) (pass : PassView) (told : Option PrefixView) (reply : Reply)
-    → IsJoinBy limits names permitted denied scope name (Some pass) told reply → IsInNamed scope names name pass
-joined_in limits names permitted denied scope name pass told reply (inl is) =
-    let_in scope names name (IsPermittedJoin limits permitted) (IsRefusalOver limits) pass told reply (inl is)
-joined_in limits names permitted denied scope name pass told reply (inr (inl is)) =
-    let_in scope names name (IsPermittedJoin limits permitted) (IsRefusalOver limits) pass told reply (inr is)
-joined_in limits names permitted denied scope name pass told reply (inr (inr is)) = absurd (cc is.4.2)
-
-pub back_in : (limits : LimitValues) (names : List Bytes) (scope : Scope) (name : Bytes) (site : ℕ) (pass : PassView) (told : Option PrefixView) (reply : Reply)
-    → IsBackBy limits names scope name site (Some pass) told reply → IsInNamed scope names name pass
-back_in limits names scope name site pass told reply is =
-    let_in scope names name (IsBack limits site) (IsBackRefusal limits site) pass told reply is
-
-pub join_told_of : (limits : LimitValues) (names : List Bytes) (permitted denied : ℕ → Type 0) (scope : Scope) (name : Bytes) (new : Option PassView) (told : PrefixView) (reply : Reply)
-    → IsJoinBy limits names permitted denied scope name new (Some told) reply → MayEnter scope names name → IsOpeningFor names name told.opening
-join_told_of limits names permitted denied scope name new told reply (inl is) there =
-    told_of scope names name (IsPermittedJoin limits permitted) (IsRefusalOver limits) new told reply (inl is) there
-join_told_of limits names permitted denied scope name new told reply (inr (inl is)) there =
-    told_of scope names name (IsPermittedJoin limits permitted) (IsRefusalOver limits) new told reply (inr is) there
-join_told_of limits names permitted denied scope name new told reply (inr (inr is)) there = absurd (cc is.4.1)
-
--- where no room is denied, the refusal of the server is not made
-pub served : (limits : LimitValues) (names : List Bytes) (permitted denied : ℕ → Type 0) (scope : Scope) (name : Bytes) (new : Option PassView) (told : Option PrefixView) (reply : Reply)
-    → ((number : ℕ) → ¬ (denied number)) → IsJoinBy limits names permitted denied scope name new told reply
-    → IsLetIn (IsPermittedJoin limits permitted) scope names name new told reply ⊎ IsTurnedAway (IsRefusalOver limits) scope names name new told reply
-served limits names permitted denied scope name new told reply never (inl is) = inl is
-served limits names permitted denied scope name new told reply never (inr (inl is)) = inr is
-served limits names permitted denied scope name new told reply never (inr (inr is)) = absurd (never is.0.number is.3)
+-- where no room is denied, a room that is open from the start is served
+pub served : (limits : LimitValues) (rooms : RoomsView) (permitted denied : ℕ → Type 0) (scope : Scope) (name : Bytes) (new : Option PassView) (told : Option PrefixView) (reply : Reply)
+    → ((number : ℕ) → ¬ (denied number)) → Contains rooms.names name → IsJoinBy limits rooms permitted denied scope name new told reply
+    → IsLetIn (IsPermittedJoin limits permitted) scope rooms name new told reply ⊎ IsTurnedAway (IsRefusalOver limits) scope rooms name new told reply
+served limits rooms permitted denied scope name new told reply never first (inl is) = inl is
+served limits rooms permitted denied scope name new told reply never first (inr (inl is)) = inr is
+served limits rooms permitted denied scope name new told reply never first (inr (inr shut)) = absurd (go shut.1)
+  where
+    go : MayBeShut denied rooms name → ⊥
+    go (inl demand) = demand.0 first
+    go (inr denies) = never denies.0.number denies.2
 
 -- the room of one pass is that of another
 abbrev pub IsSameRoom : PassView → PassView → Type 0
@@ -117,24 +101,24 @@ inside_told limits was new (Listing from) told reply is = call_told limits was n
 inside_told limits was new (Pull from waits) told reply is = call_told limits was new (Pull from waits) told reply is
 
 -- who enters a room is allowed to
-outside_allowed : (limits : LimitValues) (names : List Bytes) (permitted denied : ℕ → Type 0) (scope : Scope) (now : PassView) (request : Request) (told : Option PrefixView) (reply : Reply)
-    → IsAnswerOutside limits names permitted denied scope (Some now) request told reply → allows scope now.room ≡ true
-outside_allowed limits names permitted denied scope now (Join name) told reply is =
-    let in_room = joined_in limits names permitted denied scope name now told reply is in
+outside_allowed : (limits : LimitValues) (rooms : RoomsView) (permitted denied : ℕ → Type 0) (scope : Scope) (now : PassView) (request : Request) (told : Option PrefixView) (reply : Reply)
+    → IsAnswerOutside limits rooms permitted denied scope (Some now) request told reply → allows scope now.room ≡ true
+outside_allowed limits rooms permitted denied scope now (Join name) told reply is =
+    let in_room = let_in scope rooms name (IsPermittedJoin limits permitted) (IsRefusalOver limits) denied now told reply is in
     ap (allows scope) in_room.1 ∙ in_room.0
-outside_allowed limits names permitted denied scope now (Back name site) told reply is =
-    let in_room = back_in limits names scope name site now told reply is in
+outside_allowed limits rooms permitted denied scope now (Back name site) told reply is =
+    let in_room = let_in scope rooms name (IsBack limits site) (IsBackRefusal limits site) (λ number. ⊥) now told reply is in
     ap (allows scope) in_room.1 ∙ in_room.0
-outside_allowed limits names permitted denied scope now Leave told reply is = absurd (cc is.2)
-outside_allowed limits names permitted denied scope now (Change seq seen body) told reply is = absurd (cc is.2)
-outside_allowed limits names permitted denied scope now (Show object) told reply is = absurd (cc is.2)
-outside_allowed limits names permitted denied scope now (Listing from) told reply is = absurd (cc is.2)
-outside_allowed limits names permitted denied scope now (Pull from waits) told reply is = absurd (cc is.2)
+outside_allowed limits rooms permitted denied scope now Leave told reply is = absurd (cc is.2)
+outside_allowed limits rooms permitted denied scope now (Change seq seen body) told reply is = absurd (cc is.2)
+outside_allowed limits rooms permitted denied scope now (Show object) told reply is = absurd (cc is.2)
+outside_allowed limits rooms permitted denied scope now (Listing from) told reply is = absurd (cc is.2)
+outside_allowed limits rooms permitted denied scope now (Pull from waits) told reply is = absurd (cc is.2)
 
-module _ (limits : LimitValues) (names : List Bytes) (permitted denied : ℕ → Type 0) (scope : Scope) (told : Option PrefixView) (reply : Reply) where
+module _ (limits : LimitValues) (rooms : RoomsView) (permitted denied : ℕ → Type 0) (scope : Scope) (told : Option PrefixView) (reply : Reply) where
   -- what an answer to the bytes says of the passes before and after, whether or not they are a request
   abbrev pub IsAnswered : Option PassView → Option PassView → Option Request → Type 0
-  IsAnswered was now read = MatchOption read (IsRefused BadMessage was now told reply) (λ request. IsAnswer limits names permitted denied scope was now request told reply)
+  IsAnswered was now read = MatchOption read (IsRefused BadMessage was now told reply) (λ request. IsAnswer limits rooms permitted denied scope was now request told reply)
 
   pub answered_stays : (was now : PassView) (read : Option Request) → IsAnswered (Some was) (Some now) read → IsSameRoom was now
   answered_stays was now None is = unmoved was now (cc is.2)
@@ -142,30 +126,30 @@ module _ (limits : LimitValues) (names : List Bytes) (permitted denied : ℕ →
 
   pub answered_allowed : (now : PassView) (read : Option Request) → IsAnswered None (Some now) read → allows scope now.room ≡ true
   answered_allowed now None is = absurd (cc is.2)
-  answered_allowed now (Some request) is = outside_allowed limits names permitted denied scope now request told reply is
+  answered_allowed now (Some request) is = outside_allowed limits rooms permitted denied scope now request told reply is
 
-pub answered_told : (limits : LimitValues) (names : List Bytes) (permitted denied : ℕ → Type 0) (scope : Scope) (was : PassView) (new : Option PassView) (told : PrefixView) (reply : Reply) (read : Option Request)
-    → IsAnswered limits names permitted denied scope (Some told) reply (Some was) new read → told.opening ≡ was.part.opening
-answered_told limits names permitted denied scope was new told reply None is = absurd (cc is.1)
-answered_told limits names permitted denied scope was new told reply (Some request) is = inside_told limits was new request told reply is
+pub answered_told : (limits : LimitValues) (rooms : RoomsView) (permitted denied : ℕ → Type 0) (scope : Scope) (was : PassView) (new : Option PassView) (told : PrefixView) (reply : Reply) (read : Option Request)
+    → IsAnswered limits rooms permitted denied scope (Some told) reply (Some was) new read → told.opening ≡ was.part.opening
+answered_told limits rooms permitted denied scope was new told reply None is = absurd (cc is.1)
+answered_told limits rooms permitted denied scope was new told reply (Some request) is = inside_told limits was new request told reply is
 
-module _ (limits : LimitValues) (names : List Bytes) (permitted denied : ℕ → Type 0) (old new : SessionView) (bytes : Bytes) where
+module _ (limits : LimitValues) (rooms : RoomsView) (permitted denied : ℕ → Type 0) (old new : SessionView) (bytes : Bytes) where
   pub turn_stays : (was now : PassView) (told : Option PrefixView) (reply : Reply) → old.pass ≡ Some was → new.pass ≡ Some now
-      → IsTurn limits names permitted denied old new bytes told reply → IsSameRoom was now
+      → IsTurn limits rooms permitted denied old new bytes told reply → IsSameRoom was now
   turn_stays was now told reply before after is =
-      answered_stays limits names permitted denied old.scope told reply was now (request_read bytes)
-      (subst (λ p. IsAnswered limits names permitted denied old.scope told reply (Some was) p (request_read bytes)) after
-      (subst (λ p. IsAnswered limits names permitted denied old.scope told reply p new.pass (request_read bytes)) before is.1))
+      answered_stays limits rooms permitted denied old.scope told reply was now (request_read bytes)
+      (subst (λ p. IsAnswered limits rooms permitted denied old.scope told reply (Some was) p (request_read bytes)) after
+      (subst (λ p. IsAnswered limits rooms permitted denied old.scope told reply p new.pass (request_read bytes)) before is.1))
 
   pub turn_allowed : (now : PassView) (told : Option PrefixView) (reply : Reply) → old.pass ≡ None → new.pass ≡ Some now
-      → IsTurn limits names permitted denied old new bytes told reply → allows old.scope now.room ≡ true
+      → IsTurn limits rooms permitted denied old new bytes told reply → allows old.scope now.room ≡ true
   turn_allowed now told reply before after is =
-      answered_allowed limits names permitted denied old.scope told reply now (request_read bytes)
-      (subst (λ p. IsAnswered limits names permitted denied old.scope told reply None p (request_read bytes)) after
-      (subst (λ p. IsAnswered limits names permitted denied old.scope told reply p new.pass (request_read bytes)) before is.1))
+      answered_allowed limits rooms permitted denied old.scope told reply now (request_read bytes)
+      (subst (λ p. IsAnswered limits rooms permitted denied old.scope told reply None p (request_read bytes)) after
+      (subst (λ p. IsAnswered limits rooms permitted denied old.scope told reply p new.pass (request_read bytes)) before is.1))
 
   pub turn_told : (was : PassView) (told : PrefixView) (reply : Reply) → old.pass ≡ Some was
-      → IsTurn limits names permitted denied old new bytes (Some told) reply → told.opening ≡ was.part.opening
+      → IsTurn limits rooms permitted denied old new bytes (Some told) reply → told.opening ≡ was.part.opening
   turn_told was told reply before is =
-      answered_told limits names permitted denied old.scope was new.pass told reply (request_read bytes)
-      (subst (λ p. IsAnswered limits names permitted denied old.scope (Some told) reply p new.pass (request_read bytes)) before is.1)
+      answered_told limits rooms permitted denied old.scope was new.pass told reply (request_read bytes)
+      (subst (λ p. IsAnswered limits rooms permitted denied old.scope (Some told) reply p new.pass (request_read bytes)) before is.1)

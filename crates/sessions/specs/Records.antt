@@ -1,11 +1,12 @@
 -- The records of closed rooms, as they are printed.
-use Rattle.std.specs.Prelude.{◌≡◌, ◌++◌, ◌∷◌, [], ℕ, All, List, Option, codes, length, map}
+use Rattle.std.specs.Prelude.{◌++◌, ◌∷◌, [], ℕ, All, List, Option, codes, length, map}
 use Rattle.std.specs.Fmt.{decimal}
 use Rattle.std.specs.Io.KnownBytes.{Appends}
 use Rattle.base_types.specs.Texts.{Bytes}
 use Rattle.rules.specs.declared.history.Entry.{Entry}
 use Rattle.rules.specs.declared.limits.LimitValues.{LimitValues}
 use Rattle.rules.specs.Records.{IsLegal}
+use Rattle.room_lock.specs.Rooms.{IsListOf, RoomsView}
 use Rattle.record_file.specs.RecordText.{record_text}
 
 -- a room's name and its record
@@ -24,10 +25,10 @@ abbrev pub all_lines : List NamedRecord → List ℕ
 all_lines [] = []
 all_lines (room ∷ rooms) = record_lines room ++ all_lines rooms
 
--- A writer got the lines of these rooms' records, in order. Each record is legal.
+-- A writer got the lines of the records of all rooms that were open, in order. Each record is legal.
 pub record PrintsRecords
-    (limits : LimitValues) (names : List Bytes) (before after : Option (List ℕ)) : Type 0 where
-  pub rooms : List NamedRecord
-  pub names_are : map (λ room. room.name) rooms ≡ names
-  pub legal : All (λ room. IsLegal limits room.entries) rooms
-  pub printed : Appends before after (all_lines rooms)
+    (limits : LimitValues) (rooms : RoomsView) (before after : Option (List ℕ)) : Type 0 where
+  pub records : List NamedRecord
+  pub names_are : IsListOf rooms (map (λ room. room.name) records)
+  pub legal : All (λ room. IsLegal limits room.entries) records
+  pub printed : Appends before after (all_lines records)

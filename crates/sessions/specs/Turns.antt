@@ -1,7 +1,7 @@
 -- One message of a session and its reply. `told` is the prefix of a room's record that the reply
 -- reports on, if it does. Of the room of an opening, `permitted` says that a new site may be let in,
 -- and `denied` that it need not be; both are told the opening's number.
-use Rattle.std.specs.Prelude.{◌≡◌, ◌⊎◌, ℕ, Bool, List, Option, Some, None, Contains, MatchOption, true}
+use Rattle.std.specs.Prelude.{◌≡◌, ◌⊎◌, ℕ, Bool, List, Option, Some, None, MatchOption, true}
 use Rattle.base_types.specs.Texts.{Bytes}
 use Rattle.rules.specs.declared.history.Entry.{Entry}
 use Rattle.rules.specs.declared.limits.LimitValues.{LimitValues}
@@ -18,6 +18,7 @@ use Rattle.scope.specs.Scopes.{allows}
 use Rattle.scope.specs.declared.scope.Scope.{Scope}
 use Rattle.openings.specs.Openings.{OpeningView}
 use Rattle.room_lock.specs.InOrder.{IsOpeningFor}
+use Rattle.room_lock.specs.Rooms.{IsOnDemand, RoomsView, Serves}
 use Rattle.room_lock.specs.Passes.{PassView, PrefixView, prefix_of}
 use Rattle.room_lock.specs.Told.{IsBack, IsBackRefusalOver, IsCall, IsJoin, IsLeaveOver}
 use Rattle.room_lock.specs.Told.{IsRefusalOver}
@@ -43,32 +44,32 @@ IsLeaveBy limits was new told reply =
     × (then.opening ≡ was.part.opening) × (told ≡ Some then) × (new ≡ None)
 
 -- the session may enter the room of this name, and there is one
-abbrev pub MayEnter : Scope → List Bytes → Bytes → Type 0
-MayEnter scope names name = (allows scope name ≡ true) × Contains names name
+abbrev pub MayEnter : Scope → RoomsView → Bytes → Type 0
+MayEnter scope rooms name = (allows scope name ≡ true) × Serves rooms name
 
 -- A site was let in: the session has its pass, of the room of this name, which it may enter. The
 -- reply reports on all that the pass has seen.
-abbrev pub IsLetIn : (PassView → Reply → Type 0) → Scope → List Bytes → Bytes → Option PassView
+abbrev pub IsLetIn : (PassView → Reply → Type 0) → Scope → RoomsView → Bytes → Option PassView
     → Option PrefixView → Reply → Type 0
-IsLetIn Holds scope names name new told reply =
+IsLetIn Holds scope rooms name new told reply =
     (pass : PassView) × Holds pass reply × (allows scope name ≡ true) × (pass.room ≡ name)
-    × IsOpeningFor names name pass.part.opening × (told ≡ Some (prefix_of pass.part))
+    × IsOpeningFor rooms name pass.part.opening × (told ≡ Some (prefix_of pass.part))
     × (new ≡ Some pass)
 
 -- the room of this name refused; the reply reports on its record at that time
-abbrev pub IsRefusedOn : (List Entry → Reply → Type 0) → List Bytes → Bytes → Option PrefixView
+abbrev pub IsRefusedOn : (List Entry → Reply → Type 0) → RoomsView → Bytes → Option PrefixView
     → Reply → Type 0
-IsRefusedOn Holds names name told reply =
-    (then : PrefixView) × Holds then.entries reply × IsOpeningFor names name then.opening
+IsRefusedOn Holds rooms name told reply =
+    (then : PrefixView) × Holds then.entries reply × IsOpeningFor rooms name then.opening
     × (told ≡ Some then)
 
 -- No site was let in: the room of this name refused, or the session may not enter it, or there is
 -- none. Of the last two it is not told which. The session stays in no room.
 pub record IsTurnedAway
-    (Holds : List Entry → Reply → Type 0) (scope : Scope) (names : List Bytes) (name : Bytes)
+    (Holds : List Entry → Reply → Type 0) (scope : Scope) (rooms : RoomsView) (name : Bytes)
     (new : Option PassView) (told : Option PrefixView) (reply : Reply) : Type 0 where
-  pub known : MayEnter scope names name → IsRefusedOn Holds names name told reply
-  pub unknown : ¬ (MayEnter scope names name) → (reply ≡ No 0 NoSuchRoom) × (told ≡ None)
+  pub known : MayEnter scope rooms name → IsRefusedOn Holds rooms name told reply
+  pub unknown : ¬ (MayEnter scope rooms name) → (reply ≡ No 0 NoSuchRoom) × (told ≡ None)
   pub same : new ≡ None
 
 -- the room refuses a coming back as a site, whether or not a session is in as it
@@ -84,26 +85,39 @@ abbrev pub IsPermittedJoin : LimitValues → (ℕ → Type 0) → PassView → R
 IsPermittedJoin limits permitted pass reply =
     IsJoin limits pass reply × permitted pass.part.opening.number
 
--- the session may enter the room of this name, and the room is denied
-abbrev pub IsNotServed : (ℕ → Type 0) → Scope → List Bytes → Bytes → Option PassView
-    → Option PrefixView → Reply → Type 0
-IsNotServed denied scope names name new told reply =
-    (opening : OpeningView) × (allows scope name ≡ true) × IsOpeningFor names name opening
-    × denied opening.number × IsRefused NotServed None new told reply
+-- The room of this name may not be served now: it is opened on demand, or an opening of it is denied.
+abbrev pub MayBeShut : (ℕ → Type 0) → RoomsView → Bytes → Type 0
+MayBeShut denied rooms name =
+    IsOnDemand rooms name
+    ⊎ ((opening : OpeningView) × IsOpeningFor rooms name opening × denied opening.number)
 
--- a join, and a coming back as a site
-abbrev pub IsJoinBy : LimitValues → List Bytes → (ℕ → Type 0) → (ℕ → Type 0) → Scope → Bytes
+-- the session may enter the room of this name, which is not served now
+abbrev pub IsNotServed : (ℕ → Type 0) → Scope → RoomsView → Bytes → Option PassView
+    → Option PrefixView → Reply → Type 0
+IsNotServed denied scope rooms name new told reply =
+    (allows scope name ≡ true) × MayBeShut denied rooms name
+    × IsRefused NotServed None new told reply
+
+-- a site is let in, or it is turned away, or the room is not served
+abbrev pub IsEntering : (PassView → Reply → Type 0) → (List Entry → Reply → Type 0) → (ℕ → Type 0)
+    → Scope → RoomsView → Bytes → Option PassView → Option PrefixView → Reply → Type 0
+IsEntering Enters Refuses denied scope rooms name new told reply =
+    IsLetIn Enters scope rooms name new told reply
+    ⊎ IsTurnedAway Refuses scope rooms name new told reply
+    ⊎ IsNotServed denied scope rooms name new told reply
+
+-- a join, and a coming back as a site, which no keeper denies
+abbrev pub IsJoinBy : LimitValues → RoomsView → (ℕ → Type 0) → (ℕ → Type 0) → Scope → Bytes
     → Option PassView → Option PrefixView → Reply → Type 0
-IsJoinBy limits names permitted denied scope name new told reply =
-    IsLetIn (IsPermittedJoin limits permitted) scope names name new told reply
-    ⊎ IsTurnedAway (IsRefusalOver limits) scope names name new told reply
-    ⊎ IsNotServed denied scope names name new told reply
+IsJoinBy limits rooms permitted denied scope name new told reply =
+    IsEntering (IsPermittedJoin limits permitted) (IsRefusalOver limits) denied scope rooms name new
+    told reply
 
-abbrev pub IsBackBy : LimitValues → List Bytes → Scope → Bytes → ℕ → Option PassView
+abbrev pub IsBackBy : LimitValues → RoomsView → Scope → Bytes → ℕ → Option PassView
     → Option PrefixView → Reply → Type 0
-IsBackBy limits names scope name site new told reply =
-    IsLetIn (IsBack limits site) scope names name new told reply
-    ⊎ IsTurnedAway (IsBackRefusal limits site) scope names name new told reply
+IsBackBy limits rooms scope name site new told reply =
+    IsEntering (IsBack limits site) (IsBackRefusal limits site) (λ number. ⊥) scope rooms name new
+    told reply
 
 -- the answer to a request of a session that is in a room, which cannot enter another
 abbrev pub IsAnswerInside : LimitValues → PassView → Option PassView → Request → Option PrefixView
@@ -116,38 +130,38 @@ IsAnswerInside limits was new Leave told reply = IsLeaveBy limits was new told r
 IsAnswerInside limits was new request told reply = IsCallBy limits was new request told reply
 
 -- the answer to a request of a session in no room, which can only enter one
-abbrev pub IsAnswerOutside : LimitValues → List Bytes → (ℕ → Type 0) → (ℕ → Type 0) → Scope
+abbrev pub IsAnswerOutside : LimitValues → RoomsView → (ℕ → Type 0) → (ℕ → Type 0) → Scope
     → Option PassView → Request → Option PrefixView → Reply → Type 0
-IsAnswerOutside limits names permitted denied scope new (Join name) told reply =
-    IsJoinBy limits names permitted denied scope name new told reply
-IsAnswerOutside limits names permitted denied scope new (Back name site) told reply =
-    IsBackBy limits names scope name site new told reply
-IsAnswerOutside limits names permitted denied scope new request told reply =
+IsAnswerOutside limits rooms permitted denied scope new (Join name) told reply =
+    IsJoinBy limits rooms permitted denied scope name new told reply
+IsAnswerOutside limits rooms permitted denied scope new (Back name site) told reply =
+    IsBackBy limits rooms scope name site new told reply
+IsAnswerOutside limits rooms permitted denied scope new request told reply =
     IsRefused NotJoined None new told reply
 
 -- the answer to a request of a session of this scope, with its passes before and after
-abbrev pub IsAnswer : LimitValues → List Bytes → (ℕ → Type 0) → (ℕ → Type 0) → Scope
+abbrev pub IsAnswer : LimitValues → RoomsView → (ℕ → Type 0) → (ℕ → Type 0) → Scope
     → Option PassView → Option PassView → Request → Option PrefixView → Reply → Type 0
-IsAnswer limits names permitted denied scope (Some was) new request told reply =
+IsAnswer limits rooms permitted denied scope (Some was) new request told reply =
     IsAnswerInside limits was new request told reply
-IsAnswer limits names permitted denied scope None new request told reply =
-    IsAnswerOutside limits names permitted denied scope new request told reply
+IsAnswer limits rooms permitted denied scope None new request told reply =
+    IsAnswerOutside limits rooms permitted denied scope new request told reply
 
 -- the answer to a message; the session keeps its scope
-abbrev pub IsTurn : LimitValues → List Bytes → (ℕ → Type 0) → (ℕ → Type 0) → SessionView
+abbrev pub IsTurn : LimitValues → RoomsView → (ℕ → Type 0) → (ℕ → Type 0) → SessionView
     → SessionView → Bytes → Option PrefixView → Reply → Type 0
-IsTurn limits names permitted denied old new bytes told reply =
+IsTurn limits rooms permitted denied old new bytes told reply =
     (new.scope ≡ old.scope)
     × MatchOption (request_read bytes) (IsRefused BadMessage old.pass new.pass told reply)
     (λ request.
-    IsAnswer limits names permitted denied old.scope old.pass new.pass request told reply)
+    IsAnswer limits rooms permitted denied old.scope old.pass new.pass request told reply)
 
 -- the text is that of the answer, which reports on this prefix of a record
-abbrev pub IsTextOfTurn : LimitValues → List Bytes → (ℕ → Type 0) → (ℕ → Type 0) → SessionView
+abbrev pub IsTextOfTurn : LimitValues → RoomsView → (ℕ → Type 0) → (ℕ → Type 0) → SessionView
     → SessionView → Bytes → Option PrefixView → List ℕ → Type 0
-IsTextOfTurn limits names permitted denied old new bytes told text =
+IsTextOfTurn limits rooms permitted denied old new bytes told text =
     (reply : Reply) × (text ≡ reply_text reply)
-    × IsTurn limits names permitted denied old new bytes told reply
+    × IsTurn limits rooms permitted denied old new bytes told reply
 
 -- a session that is in a room asks to wait for an entry
 abbrev pub IsWaitInRoom : Option PassView → Request → Type 0
@@ -159,9 +173,9 @@ abbrev pub IsWait : SessionView → Bytes → Type 0
 IsWait session bytes = MatchOption (request_read bytes) ⊥ (IsWaitInRoom session.pass)
 
 -- the message changed nothing, or it was answered, but the reply was lost
-abbrev pub MayStand : LimitValues → List Bytes → (ℕ → Type 0) → (ℕ → Type 0) → SessionView
+abbrev pub MayStand : LimitValues → RoomsView → (ℕ → Type 0) → (ℕ → Type 0) → SessionView
     → SessionView → Bytes → Type 0
-MayStand limits names permitted denied old new bytes =
+MayStand limits rooms permitted denied old new bytes =
     (new ≡ old)
     ⊎ ((told : Option PrefixView) × (reply : Reply)
-    × IsTurn limits names permitted denied old new bytes told reply)
+    × IsTurn limits rooms permitted denied old new bytes told reply)

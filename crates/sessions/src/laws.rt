@@ -1,6 +1,6 @@
 //! Laws of the definitions. These functions have no effect at run time.
 
-ghost use Rattle.std.specs.Prelude.{◌≡◌, ◌⊎◌, ◌∷◌, ◌++◌, ℕ, List, None, Option, Some, true};
+ghost use Rattle.std.specs.Prelude.{◌≡◌, ◌⊎◌, ◌∷◌, ◌++◌, ℕ, Contains, None, Option, Some, true};
 ghost use Rattle.base_types.specs.Texts.{Bytes};
 ghost use Rattle.rules.specs.declared.limits.LimitValues.{LimitValues};
 ghost use Rattle.wire.specs.declared.reply.Reply.{Reply};
@@ -8,6 +8,7 @@ ghost use Rattle.scope.specs.Scopes.{IsQuery, allows, scope_of_target};
 ghost use Rattle.scope.specs.declared.scope.Scope.{Scope};
 ghost use Rattle.room_lock.specs.InOrder.{IsOpeningFor};
 ghost use Rattle.room_lock.specs.Passes.{PassView, PrefixView};
+ghost use Rattle.room_lock.specs.Rooms.{RoomsView};
 ghost use Rattle.sessions.specs.Sessions.{SessionView};
 ghost use Rattle.room_lock.specs.Told.{IsRefusalOver};
 ghost use Rattle.sessions.specs.Turns.{IsBackBy, IsJoinBy, IsLetIn, IsPermitted, IsPermittedJoin};
@@ -18,71 +19,71 @@ use room_lock::RoomHistories;
 
 /// A session that is let in by a join or a coming back is in the named room.
 pub fn a_session_enters_the_named_room<P: RoomHistories, K: Keeper<P>>()
-    ensures join { (limits : LimitValues) (names : List Bytes) (scope : Scope) (name : Bytes)
+    ensures join { (limits : LimitValues) (rooms : RoomsView) (scope : Scope) (name : Bytes)
         (pass : PassView) (told : Option PrefixView) (reply : Reply) →
-        IsJoinBy limits names (IsPermitted K.permits) K.denies scope name (Some pass) told reply →
+        IsJoinBy limits rooms (IsPermitted K.permits) K.denies scope name (Some pass) told reply →
         (allows scope name ≡ true) × (pass.room ≡ name)
-        × IsOpeningFor names name pass.part.opening }
-    ensures back { (limits : LimitValues) (names : List Bytes) (scope : Scope) (name : Bytes)
+        × IsOpeningFor rooms name pass.part.opening }
+    ensures back { (limits : LimitValues) (rooms : RoomsView) (scope : Scope) (name : Bytes)
         (site : ℕ) (pass : PassView) (told : Option PrefixView) (reply : Reply) →
-        IsBackBy limits names scope name site (Some pass) told reply →
+        IsBackBy limits rooms scope name site (Some pass) told reply →
         (allows scope name ≡ true) × (pass.room ≡ name)
-        × IsOpeningFor names name pass.part.opening }
+        × IsOpeningFor rooms name pass.part.opening }
 {}
 
 /// A session that is in a room stays in it until it leaves.
 pub fn a_session_stays_in_its_room<P: RoomHistories, K: Keeper<P>>()
-    ensures { (limits : LimitValues) (names : List Bytes) (old new : SessionView)
+    ensures { (limits : LimitValues) (rooms : RoomsView) (old new : SessionView)
         (was now : PassView) (bytes : Bytes) (told : Option PrefixView) (reply : Reply) →
         old.pass ≡ Some was → new.pass ≡ Some now →
-        IsTurn limits names (IsPermitted K.permits) K.denies old new bytes told reply →
+        IsTurn limits rooms (IsPermitted K.permits) K.denies old new bytes told reply →
         (now.room ≡ was.room) × (now.part.opening ≡ was.part.opening) }
 {}
 
 /// A session whose scope is that of its request's target enters a room only if the target is a slash
 /// and the room's name, and then nothing or a query.
 pub fn a_session_enters_only_the_room_of_its_path<P: RoomHistories, K: Keeper<P>>()
-    ensures { (limits : LimitValues) (names : List Bytes) (target : Bytes)
+    ensures { (limits : LimitValues) (rooms : RoomsView) (target : Bytes)
         (old new : SessionView) (pass : PassView) (bytes : Bytes) (told : Option PrefixView)
         (reply : Reply) → old.scope ≡ scope_of_target target → old.pass ≡ None →
         new.pass ≡ Some pass →
-        IsTurn limits names (IsPermitted K.permits) K.denies old new bytes told reply →
+        IsTurn limits rooms (IsPermitted K.permits) K.denies old new bytes told reply →
         (query : Bytes) × (target ≡ 47 ∷ pass.room ++ query) × IsQuery query }
 {}
 
 /// What the reply to a join or a coming back reports is a record of the named room. What a reply
 /// in a room reports is a record of that room.
 pub fn a_reply_reports_on_the_room_of_the_session<P: RoomHistories, K: Keeper<P>>()
-    ensures join { (limits : LimitValues) (names : List Bytes) (scope : Scope) (name : Bytes)
+    ensures join { (limits : LimitValues) (rooms : RoomsView) (scope : Scope) (name : Bytes)
         (new : Option PassView) (told : PrefixView) (reply : Reply) →
-        IsJoinBy limits names (IsPermitted K.permits) K.denies scope name new (Some told) reply →
-        MayEnter scope names name → IsOpeningFor names name told.opening }
-    ensures back { (limits : LimitValues) (names : List Bytes) (scope : Scope) (name : Bytes)
+        IsJoinBy limits rooms (IsPermitted K.permits) K.denies scope name new (Some told) reply →
+        MayEnter scope rooms name → IsOpeningFor rooms name told.opening }
+    ensures back { (limits : LimitValues) (rooms : RoomsView) (scope : Scope) (name : Bytes)
         (site : ℕ) (new : Option PassView) (told : PrefixView) (reply : Reply) →
-        IsBackBy limits names scope name site new (Some told) reply →
-        MayEnter scope names name → IsOpeningFor names name told.opening }
-    ensures inside { (limits : LimitValues) (names : List Bytes) (old new : SessionView)
+        IsBackBy limits rooms scope name site new (Some told) reply →
+        MayEnter scope rooms name → IsOpeningFor rooms name told.opening }
+    ensures inside { (limits : LimitValues) (rooms : RoomsView) (old new : SessionView)
         (was : PassView) (bytes : Bytes) (told : PrefixView) (reply : Reply) →
         old.pass ≡ Some was →
-        IsTurn limits names (IsPermitted K.permits) K.denies old new bytes (Some told) reply →
+        IsTurn limits rooms (IsPermitted K.permits) K.denies old new bytes (Some told) reply →
         told.opening ≡ was.part.opening }
 {}
 
-/// Where no room is denied, no join is refused as not served.
+/// Where no room is denied, no join of a room that is open from the start is refused as not served.
 pub fn a_room_that_is_not_denied_is_served<P: RoomHistories, K: Keeper<P>>()
-    ensures { (limits : LimitValues) (names : List Bytes) (scope : Scope) (name : Bytes)
+    ensures { (limits : LimitValues) (rooms : RoomsView) (scope : Scope) (name : Bytes)
         (new : Option PassView) (told : Option PrefixView) (reply : Reply) →
-        ((number : ℕ) → ¬ (K.denies number)) →
-        IsJoinBy limits names (IsPermitted K.permits) K.denies scope name new told reply →
-        IsLetIn (IsPermittedJoin limits (IsPermitted K.permits)) scope names name new told reply
-        ⊎ IsTurnedAway (IsRefusalOver limits) scope names name new told reply }
+        ((number : ℕ) → ¬ (K.denies number)) → Contains rooms.names name →
+        IsJoinBy limits rooms (IsPermitted K.permits) K.denies scope name new told reply →
+        IsLetIn (IsPermittedJoin limits (IsPermitted K.permits)) scope rooms name new told reply
+        ⊎ IsTurnedAway (IsRefusalOver limits) scope rooms name new told reply }
 {}
 
-/// Two sessions that are let into rooms of one name are in one room. By `Prefix::begins`, of what
+/// Two sessions that are let into rooms of one name, which is open from the start, are in one room. By `Prefix::begins`, of what
 /// they have seen the shorter then begins the longer.
 pub fn one_name_is_one_room()
-    ensures { (names : List Bytes) (one other : PassView) →
-        IsOpeningFor names one.room one.part.opening →
-        IsOpeningFor names other.room other.part.opening → one.room ≡ other.room →
+    ensures { (rooms : RoomsView) (one other : PassView) → Contains rooms.names one.room →
+        IsOpeningFor rooms one.room one.part.opening →
+        IsOpeningFor rooms other.room other.part.opening → one.room ≡ other.room →
         one.part.opening.number ≡ other.part.opening.number }
 {}

@@ -13,8 +13,14 @@ pub trait Observer {
     /// be a refusal.
     fn after_reply(&self, _place: Option<usize>, _refusal: Option<Refusal>) {}
 
-    /// The room at this place, from 0, has added an entry of this kind.
-    fn after_entry(&self, _place: usize, _kind: EntryKind) {}
+    /// The room of this name, at this place from 0, has added an entry of this kind.
+    fn after_entry(&self, _room: &RoomName, _place: usize, _kind: EntryKind) {}
+
+    /// A room was opened on demand, at this place from 0.
+    fn after_opening(&self, _place: usize) {}
+
+    /// A room could not be opened on demand.
+    fn not_served(&self) {}
 
     /// The last attempt to keep the record of the room at this place failed, and the one before had
     /// not. Or it succeeded, and the one before had not.
@@ -28,6 +34,9 @@ pub trait Observer {
 
     /// A client was turned away, since all places are taken. It was no session.
     fn turned_away(&self) {}
+
+    /// A client was not let in, since the room of its path could not be opened. It was no session.
+    fn not_let_in(&self) {}
 
     /// The session ends. `room` is the room that it is still in.
     fn after_session(&self, client: &Client, room: Option<&RoomName>, cause: Cause);

@@ -3,10 +3,11 @@
 use crate::cause::Cause;
 use crate::host::Host;
 use crate::observer::Observer;
-use crate::session::Session;
+use crate::session::{Session, open_room};
 use keeper::Keeper;
-use loops::{Client, Ending, Service};
-use room_lock::{Pass, RoomHistories};
+use loops::{Admission, Client, Ending, Service};
+use room_lock::{Lookup, Pass, RoomHistories};
+use scope::Scope;
 use std::sync::Wait;
 use wire_reader::Scratch;
 
@@ -20,6 +21,24 @@ impl<P: RoomHistories, R: Wait, O: Observer, K: Keeper<P>> Service for Host<'_, 
     fn new_session(&self, target: &[u8]) -> Option<Session<P>> {
         let scope = self.scope_of(target).ok()?;
         Some(Session::new(scope))
+    }
+
+    /// A client that is confined to a room waits for nobody: where the room cannot be opened now, it is
+    /// not let in, so that a proxy can ask another server.
+    fn admission(&self, target: &[u8]) -> Admission {
+        if self.is_confining
+            && let Ok(Scope::Only(name)) = Scope::of_target(self.alloc, target)
+            && let Lookup::Closed = self.rooms.opening_of(self.rt, &name)
+            && let Ok(Lookup::Closed) = open_room(self, &name)
+        {
+            Admission::NotServed
+        } else {
+            Admission::Now
+        }
+    }
+
+    fn not_served(&self) {
+        self.observer.not_let_in();
     }
 
     fn new_scratch(&self) -> Scratch {
@@ -46,8 +65,7 @@ impl<P: RoomHistories, R: Wait, O: Observer, K: Keeper<P>> Service for Host<'_, 
         let cause = Cause::of_ending(ending);
         match session {
             Some(session) => {
-                let room = session.pass().map(Pass::room);
-                self.observer.after_session(client, room, cause);
+                self.observer.after_session(client, session.room(), cause);
                 session.end(self);
             }
             None => self.observer.after_session(client, None, cause),

@@ -1,14 +1,19 @@
 //! A session: the messages of one client, one after the other.
 
-ghost use Rattle.std.specs.Prelude.{◌≡◌, ◌⊎◌, Err, IfErr, IfOk, IfSome, IsNone, IsTrue, OnErr, None, Ok};
+ghost use Rattle.std.specs.Prelude.{◌≡◌, ◌≢◌, ◌⊎◌, Err, IfErr, IfOk, IfSome, IsNone, IsTrue, OnErr, None, Ok};
 ghost use Rattle.std.specs.Prelude.{Some, false, true};
 ghost use Rattle.std.specs.Prelude.{MatchOption, option_map, string_bytes};
 ghost use Rattle.wire.specs.declared.request.Request.TheVariants.{Join, Back, Leave};
-ghost use Rattle.room_lock.specs.Passes.{IsOfRooms};
 ghost use Rattle.sessions.specs.declared.cause.MessageFault.TheVariants as message_fault;
 ghost use Rattle.sessions.specs.steps.Calls.{IsCallIf};
 ghost use Rattle.sessions.specs.steps.Entrances.{IsAfter};
 ghost use Rattle.room_lock.specs.InOrder.{IsOpeningFor};
+ghost use Rattle.room_lock.specs.Passes.{MayBeOf};
+ghost use Rattle.room_lock.specs.Rooms.{IsOnDemand};
+ghost use Rattle.room_lock.specs.declared.lookup.Lookup.TheVariants as lookup;
+ghost use Rattle.room_lock.specs.steps.Entrances.{IfEntered};
+ghost use Rattle.room_lock.specs.Lookups.{IfOpen};
+ghost use Rattle.scope.specs.Scopes.{allows};
 ghost use Rattle.sessions.specs.Turns.{IsAnswer, IsCallBy, IsPermitted, IsTextOfTurn, IsTurn, IsWait};
 ghost use Rattle.sessions.specs.Turns.{IsWaitInRoom, MayEnter, MayStand};
 
@@ -19,18 +24,35 @@ use crate::session_reply::SessionReply;
 use base_types::RoomName;
 use connection::Answer;
 use keeper::Keeper;
-use room_lock::{Entrance, Opening, Pass, Prefix, RoomHistories, Rooms};
+use room_lock::{Entrance, Lookup, Opened, Pass, Prefix, RoomHistories};
 use scope::Scope;
 use std::marker::Model;
 use std::sync::Wait;
 use wire::{Refusal, Request};
 use wire_reader::{ReadFault, Scratch, read_request};
 
+/// A session's pass, and the name of its room. Contracts see the pass.
+struct Inside<P: RoomHistories> {
+    room: RoomName,
+    pass: Pass<P>,
+}
+
+impl<P: RoomHistories> Model for Inside<P> {
+    ghost use Rattle.std.specs.Prelude.{◌≡◌};
+    ghost use Rattle.room_lock.specs.Passes.{PassView};
+
+    ghost Value = { PassView };
+
+    ghost view = { λ inside. inside.pass };
+
+    ghost invariant = { λ inside. inside.room ≡ inside.pass.room };
+}
+
 /// A session: which rooms it may enter, and its pass if it is in a room. It cannot be dropped: `end`
 /// hands the pass back.
 pub struct Session<P: RoomHistories> {
     scope: Scope,
-    pass: Option<Pass<P>>,
+    inside: Option<Inside<P>>,
 }
 
 impl<P: RoomHistories> Model for Session<P> {
@@ -38,7 +60,7 @@ impl<P: RoomHistories> Model for Session<P> {
 
     ghost Value = { SessionView };
 
-    ghost view = { λ s. record { scope = s.scope; pass = s.pass } };
+    ghost view = { λ s. record { scope = s.scope; pass = s.inside } };
 }
 
 impl<P: RoomHistories> Session<P> {
@@ -46,20 +68,37 @@ impl<P: RoomHistories> Session<P> {
     pub fn new(scope: Scope) -> Session<P>
         ensures { result ≡ record { scope = scope; pass = None } }
     {
-        Session { scope, pass: None }
+        Session {
+            scope,
+            inside: None,
+        }
     }
 
     /// The pass, if the session is in a room.
     pub fn pass(&self) -> Option<&Pass<P>>
         ensures { option_map (λ pass. pass.now) result ≡ self.now.pass }
     {
-        self.pass.as_ref()
+        match &self.inside {
+            Some(inside) => Some(&inside.pass),
+            None => None,
+        }
+    }
+
+    /// The name of the room, if the session is in a room.
+    pub fn room(&self) -> Option<&RoomName>
+        ensures { option_map (λ name. name.now) result
+            ≡ option_map (λ pass. pass.room) self.now.pass }
+    {
+        match &self.inside {
+            Some(inside) => Some(&inside.room),
+            None => None,
+        }
     }
 
     /// Ends the session, and frees its site for a coming back.
     pub fn end<R: Wait, O, K>(self, host: &Host<'_, P, R, O, K>) {
-        let Session { scope: _, pass } = self;
-        if let Some(pass) = pass
+        let Session { scope: _, inside } = self;
+        if let Some(Inside { room: _, pass }) = inside
             && let Err(stray) = host.rooms.hand_back(host.rt, pass)
         {
             stray.give_up();
@@ -70,7 +109,7 @@ impl<P: RoomHistories> Session<P> {
     /// holds the message: then it is `None`, and nothing has changed.
     /// The session itself refuses five things. These are bytes that are no request, `join` and
     /// `back` in a room, other requests in no room, rooms that do not exist or are not in its scope,
-    /// and a `join` of a room for which the keeper has no permit. Every other request is one call of
+    /// and rooms that cannot be opened now, or for which the keeper has no permit. Every other request is one call of
     /// the rooms: `join` and `back` may give a pass, `leave` hands it back, and the rest call the room
     /// by it.
     /// With `may_hold` it holds a `wait` in a room whose record has exactly the number of entries
@@ -102,7 +141,7 @@ impl<P: RoomHistories> Session<P> {
         ensures torn { result ≡ Err message_fault.Torn → self.new ≡ self.old }
     {
         match self.reply_to(host, scratch, bytes, may_hold)? {
-            Some(reply) => Ok(Some(reply.into_answer(host)?)),
+            Some(reply) => Ok(Some(reply.into_answer(host, self.room())?)),
             None => Ok(None),
         }
     }
@@ -138,10 +177,10 @@ impl<P: RoomHistories> Session<P> {
     fn waits<R: Wait, O, K>(&self, host: &Host<'_, P, R, O, K>, request: &Request) -> bool
         ensures { IsTrue result → IsWaitInRoom self.now.pass request.now }
     {
-        let (Some(pass), Request::Pull { from, waits: true }) = (&self.pass, request) else {
+        let (Some(inside), Request::Pull { from, waits: true }) = (&self.inside, request) else {
             return false;
         };
-        host.rooms.count_entries(host.rt, pass) == Some(*from as usize)
+        host.rooms.count_entries(host.rt, &inside.pass) == Some(*from as usize)
     }
 
     /// The answer to a request. On `Err` nothing has changed.
@@ -157,24 +196,36 @@ impl<P: RoomHistories> Session<P> {
         ensures err { OnErr result (self.new ≡ self.old) }
     {
         match request {
-            Request::Join { room } => self.join(host, &room),
-            Request::Back { room, site } => self.back(host, &room, site),
+            Request::Join { room } => self.join(host, room),
+            Request::Back { room, site } => self.back(host, room, site),
             Request::Leave => self.leave(host),
             request => self.call(host, request),
         }
     }
 
-    /// The opening of the room of this name, if the session may enter it and there is one. The scope is
-    /// asked before the rooms are.
-    fn find_room<'r>(&self, rooms: &'r Rooms<P>, name: &RoomName) -> Option<&'r Opening<P>>
-        ensures some { IfSome result (λ opening. MayEnter self.now.scope rooms.now name.now
-            × IsOpeningFor rooms.now name.now opening.now) }
-        ensures none { IsNone result → ¬ (MayEnter self.now.scope rooms.now name.now) }
+    /// Looks up the room of this name if the session may enter it, and has it opened if it is not open.
+    /// `Closed` if it cannot be opened now. The scope is asked before the rooms are.
+    fn look_up<R: Wait, O: Observer, K: Keeper<P>>(
+        &self,
+        host: &Host<'_, P, R, O, K>,
+        name: &RoomName,
+    ) -> Result<Lookup<P>, MessageFault>
+        ensures open { IfOk result (IfOpen (λ opening.
+            MayEnter self.now.scope host.now.rooms.now name.now
+            × IsOpeningFor host.now.rooms.now name.now opening)) }
+        ensures closed { result ≡ Ok lookup.Closed → (allows self.now.scope name.now ≡ true)
+            × IsOnDemand host.now.rooms.now name.now }
+        ensures no_room { result ≡ Ok lookup.NoRoom →
+            ¬ (MayEnter self.now.scope host.now.rooms.now name.now) }
+        ensures cause { IfErr result (λ why. why ≡ message_fault.NoMemory) }
     {
-        if self.scope.allows(name) {
-            rooms.opening_of(name)
-        } else {
-            None
+        if !self.scope.allows(name) {
+            return Ok(Lookup::NoRoom);
+        }
+        match host.rooms.opening_of(host.rt, name) {
+            Lookup::Closed => open_room(host, name),
+            Lookup::Open(opening) => Ok(Lookup::Open(opening)),
+            Lookup::NoRoom => Ok(Lookup::NoRoom),
         }
     }
 
@@ -183,50 +234,56 @@ impl<P: RoomHistories> Session<P> {
     fn join<R: Wait, O: Observer, K: Keeper<P>>(
         &mut self,
         host: &Host<'_, P, R, O, K>,
-        name: &RoomName,
+        name: RoomName,
     ) -> Result<SessionReply<P>, MessageFault>
         ensures ok { IfOk result (λ answer. IsAnswer P.limits
             host.now.rooms.now (IsPermitted K.permits) K.denies self.old.scope self.old.pass
-            self.new.pass (Join name.now) answer.told answer.reply) }
+            self.new.pass (Join name) answer.told answer.reply) }
         ensures scope { self.new.scope ≡ self.old.scope }
         ensures err { OnErr result (self.new ≡ self.old) }
         ensures cause { IfErr result (λ why. why ≡ message_fault.NoMemory) }
     {
-        if self.pass.is_some() {
+        if self.inside.is_some() {
             return Ok(SessionReply::own_refusal(Refusal::AlreadyJoined));
         }
-        let Some(opening) = self.find_room(host.rooms, name) else {
-            return Ok(SessionReply::own_refusal(Refusal::NoSuchRoom));
+        let found = self.look_up(host, &name)?;
+        let opening = match found {
+            Lookup::Open(opening) => opening,
+            Lookup::Closed => return Ok(SessionReply::own_refusal(Refusal::NotServed)),
+            Lookup::NoRoom => return Ok(SessionReply::own_refusal(Refusal::NoSuchRoom)),
         };
-        if host.keeper.permit(host.rt, opening).is_none() {
+        if host.keeper.permit(host.rt, &opening).is_none() {
             return Ok(SessionReply::own_refusal(Refusal::NotServed));
         }
-        let entrance = host.rooms.join(host.rt, host.alloc, opening)?;
-        Ok(self.enter(entrance))
+        let entrance = host.rooms.join(host.rt, host.alloc, &opening)?;
+        Ok(self.enter(name, entrance))
     }
 
     /// Comes back as this site of the room of this name, unless the session is in a room.
     fn back<R: Wait, O: Observer, K: Keeper<P>>(
         &mut self,
         host: &Host<'_, P, R, O, K>,
-        name: &RoomName,
+        name: RoomName,
         site: u32,
     ) -> Result<SessionReply<P>, MessageFault>
         ensures ok { IfOk result (λ answer. IsAnswer P.limits
             host.now.rooms.now (IsPermitted K.permits) K.denies self.old.scope self.old.pass
-            self.new.pass (Back name.now site) answer.told answer.reply) }
+            self.new.pass (Back name site) answer.told answer.reply) }
         ensures scope { self.new.scope ≡ self.old.scope }
         ensures err { OnErr result (self.new ≡ self.old) }
         ensures cause { IfErr result (λ why. why ≡ message_fault.NoMemory) }
     {
-        if self.pass.is_some() {
+        if self.inside.is_some() {
             return Ok(SessionReply::own_refusal(Refusal::AlreadyJoined));
         }
-        let Some(opening) = self.find_room(host.rooms, name) else {
-            return Ok(SessionReply::own_refusal(Refusal::NoSuchRoom));
+        let found = self.look_up(host, &name)?;
+        let opening = match found {
+            Lookup::Open(opening) => opening,
+            Lookup::Closed => return Ok(SessionReply::own_refusal(Refusal::NotServed)),
+            Lookup::NoRoom => return Ok(SessionReply::own_refusal(Refusal::NoSuchRoom)),
         };
-        let entrance = host.rooms.back(host.rt, host.alloc, opening, site)?;
-        Ok(self.enter(entrance))
+        let entrance = host.rooms.back(host.rt, &opening, site);
+        Ok(self.enter(name, entrance))
     }
 
     /// Hands the pass back, if the session has one. On `Err` the session keeps it.
@@ -241,15 +298,16 @@ impl<P: RoomHistories> Session<P> {
         ensures err { OnErr result (self.new ≡ self.old) }
         ensures cause { IfErr result (λ why. why ≡ message_fault.Torn) }
         ensures other_rooms { MatchOption self.old.pass (Unit {0})
-            (λ was. ¬ IsOfRooms host.now.rooms.now was → result ≡ Err message_fault.Torn) }
+            (λ was. ¬ (MayBeOf host.now.rooms.now was.part.opening) →
+            result ≡ Err message_fault.Torn) }
     {
-        let Some(pass) = self.pass.take() else {
+        let Some(Inside { room, pass }) = self.inside.take() else {
             return Ok(SessionReply::own_refusal(Refusal::NotJoined));
         };
         match host.rooms.hand_back(host.rt, pass) {
             Ok((told, reply)) => Ok(SessionReply::of_room(told, reply)),
             Err(pass) => {
-                self.set_pass(pass);
+                self.go_in(room, pass);
                 Err(MessageFault::Torn)
             }
         }
@@ -266,40 +324,67 @@ impl<P: RoomHistories> Session<P> {
         ensures scope { self.new.scope ≡ self.old.scope }
         ensures err { OnErr result (self.new ≡ self.old) }
         ensures other_rooms { MatchOption self.old.pass (Unit {0})
-            (λ was. ¬ IsOfRooms host.now.rooms.now was → result ≡ Err message_fault.Torn) }
+            (λ was. ¬ (MayBeOf host.now.rooms.now was.part.opening) →
+            result ≡ Err message_fault.Torn) }
     {
-        match &mut self.pass {
-            Some(pass) => call_by(host, pass, request),
+        match &mut self.inside {
+            Some(inside) => call_by(host, &mut inside.pass, request),
             None => Ok(SessionReply::own_refusal(Refusal::NotJoined)),
         }
     }
 
-    /// Takes the pass of who was let in. Gives the answer to who asked to be let in.
-    fn enter(&mut self, entrance: Entrance<P>) -> SessionReply<P>
-        requires { self.old.pass ≡ None }
+    /// Takes the pass of who was let into the room of this name. Gives the answer to who asked to be
+    /// let in.
+    fn enter(&mut self, name: RoomName, entrance: Entrance<P>) -> SessionReply<P>
+        requires outside { self.old.pass ≡ None }
+        requires name { IfEntered (λ pass reply. pass.room ≡ name) entrance }
         ensures after { IsAfter entrance self.new.pass result.told result.reply }
         ensures scope { self.new.scope ≡ self.old.scope }
     {
         match entrance {
             Entrance::Entered(pass, reply) => {
                 let answer = SessionReply::of_room(pass.part().prefix(), reply);
-                self.set_pass(pass);
+                self.go_in(name, pass);
                 answer
             }
             Entrance::Refused(told, reply) => SessionReply::of_room(told, reply),
             Entrance::InUse(in_use, reply) => SessionReply::of_room(in_use.into_prefix(), reply),
-            Entrance::NoRoom => SessionReply::own_refusal(Refusal::NoSuchRoom),
+            Entrance::NoRoom => SessionReply::own_refusal(Refusal::NotServed),
         }
     }
 
-    /// Puts the session into the room of the pass.
-    fn set_pass(&mut self, pass: Pass<P>)
-        requires { self.old.pass ≡ None }
+    /// Puts the session into the room of the pass, which has this name.
+    fn go_in(&mut self, room: RoomName, pass: Pass<P>)
+        requires outside { self.old.pass ≡ None }
+        requires name { room ≡ pass.room }
         ensures { self.new ≡ record self.old { pass = Some pass } }
     {
-        match self.pass.replace(pass) {
+        match self.inside.replace(Inside { room, pass }) {
             None => {}
             Some(_) => unreachable!(),
+        }
+    }
+}
+
+/// Has the room of this name opened on demand. `Closed` if it cannot be opened now.
+pub(crate) fn open_room<P: RoomHistories, R: Wait, O: Observer, K: Keeper<P>>(
+    host: &Host<'_, P, R, O, K>,
+    name: &RoomName,
+) -> Result<Lookup<P>, MessageFault>
+    requires { IsOnDemand host.now.rooms.now name.now }
+    ensures open { IfOk result (IfOpen (IsOpeningFor host.now.rooms.now name.now)) }
+    ensures some { result ≢ Ok lookup.NoRoom }
+    ensures cause { IfErr result (λ why. why ≡ message_fault.NoMemory) }
+{
+    match host.keeper.open(host.rt, host.alloc, host.rooms, name)? {
+        Opened::New(begun) => {
+            host.observer.after_opening(begun.place());
+            Ok(Lookup::Open(begun.opening().copy()))
+        }
+        Opened::Known(opening) => Ok(Lookup::Open(opening)),
+        Opened::Full => {
+            host.observer.not_served();
+            Ok(Lookup::Closed)
         }
     }
 }
@@ -313,7 +398,7 @@ fn call_by<P: RoomHistories, R: Wait, O, K>(
     ensures ok { IfOk result (λ answer. IsCallBy P.limits
         pass.old (Some pass.new) request answer.told answer.reply) }
     ensures err { OnErr result (pass.new ≡ pass.old) }
-    ensures other_rooms { ¬ IsOfRooms host.now.rooms.now pass.old →
+    ensures other_rooms { ¬ (MayBeOf host.now.rooms.now pass.old.part.opening) →
         result ≡ Err message_fault.Torn }
 {
     let reply = host.rooms.call(host.rt, host.alloc, pass, request)?;

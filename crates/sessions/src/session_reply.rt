@@ -7,7 +7,7 @@ ghost use Rattle.wire.specs.Texts.{reply_text};
 
 use crate::host::Host;
 use crate::observer::Observer;
-use base_types::NoMemory;
+use base_types::{NoMemory, RoomName};
 use connection::Answer;
 use room_lock::{Prefix, RoomHistories};
 use std::sync::Wait;
@@ -44,8 +44,8 @@ impl<P: RoomHistories> SessionReply<P> {
     }
 
     /// The observer hears of the reply, and of the entry that the room has added with it, if there is
-    /// one. The loops in which sessions wait for that entry are woken.
-    fn tell<R: Wait, O: Observer, K>(&self, host: &Host<'_, P, R, O, K>) {
+    /// one. The loops in which sessions wait for that entry are woken. The session is in this room.
+    fn tell<R: Wait, O: Observer, K>(&self, host: &Host<'_, P, R, O, K>, room: Option<&RoomName>) {
         let place = match &self.told {
             Some(told) => Some(told.place()),
             None => None,
@@ -54,25 +54,28 @@ impl<P: RoomHistories> SessionReply<P> {
         if let Some(place) = place
             && let Some(kind) = self.reply.entry_kind()
         {
-            host.observer.after_entry(place, kind);
+            if let Some(room) = room {
+                host.observer.after_entry(room, place, kind);
+            }
             host.bell.ring(host.rt, place);
         }
     }
 
-    /// The text of the reply, with what it reports. Its entry is reported first, since it stands
-    /// whatever follows.
+    /// The text of the reply to a session in this room, with what it reports. Its entry is reported
+    /// first, since it stands whatever follows.
     ///
     /// # Errors
     /// `NoMemory` if an allocation failed.
     pub(crate) fn into_answer<R: Wait, O: Observer, K>(
         self,
         host: &Host<'_, P, R, O, K>,
+        room: Option<&RoomName>,
     ) -> Result<Answer<Prefix<P>>, NoMemory>
         ensures text { IfOk result (λ answer.
             string_bytes answer.text ≡ reply_text self.reply) }
         ensures told { IfOk result (λ answer. answer.told ≡ self.told) }
     {
-        self.tell(host);
+        self.tell(host, room);
         let text = write_reply(host.alloc, &self.reply)?;
         let SessionReply { reply: _, told } = self;
         Ok(Answer { text, told })

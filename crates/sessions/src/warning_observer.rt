@@ -21,8 +21,16 @@ impl<R: Log, O: Observer> Observer for WarningObserver<'_, R, O> {
         self.observer.after_reply(place, refusal);
     }
 
-    fn after_entry(&self, place: usize, kind: EntryKind) {
-        self.observer.after_entry(place, kind);
+    fn after_entry(&self, room: &RoomName, place: usize, kind: EntryKind) {
+        self.observer.after_entry(room, place, kind);
+    }
+
+    fn after_opening(&self, place: usize) {
+        self.observer.after_opening(place);
+    }
+
+    fn not_served(&self) {
+        self.observer.not_served();
     }
 
     fn keeping_changed(&self, place: usize, change: &Change) {
@@ -39,6 +47,10 @@ impl<R: Log, O: Observer> Observer for WarningObserver<'_, R, O> {
 
     fn turned_away(&self) {
         self.observer.turned_away();
+    }
+
+    fn not_let_in(&self) {
+        self.observer.not_let_in();
     }
 
     fn after_session(&self, client: &Client, room: Option<&RoomName>, cause: Cause) {

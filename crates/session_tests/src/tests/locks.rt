@@ -4,7 +4,7 @@ ghost use Rattle.room_lock.specs.steps.Planned.{IsPlanOf};
 
 use super::{plan_rooms, room_name};
 use base_types::{NoMemory, RoomName};
-use room_lock::{CloseFault, Entrance, NewRooms, Pass, RoomHistories, Rooms};
+use room_lock::{CloseFault, Entrance, Lookup, NewRooms, Pass, RoomHistories, Rooms};
 use std::marker::Brand;
 use std::process::Abort;
 use std::sync::Wait;
@@ -15,10 +15,10 @@ fn join_room<P: RoomHistories>(
     rooms: &Rooms<P>,
     name: &str,
 ) -> Pass<P> {
-    let Some(opening) = rooms.opening_of(&room_name(rt, name)) else {
+    let Lookup::Open(opening) = rooms.opening_of(rt, &room_name(rt, name)) else {
         panic!(rt; "no such room")
     };
-    match rooms.join(rt, rt.alloc(), opening) {
+    match rooms.join(rt, rt.alloc(), &opening) {
         Ok(Entrance::Entered(pass, _)) => pass,
         Ok(Entrance::Refused(_, _) | Entrance::InUse(_, _) | Entrance::NoRoom) => {
             panic!(rt; "a refused join")

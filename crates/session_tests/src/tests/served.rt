@@ -5,11 +5,11 @@ ghost use Rattle.room_lock.specs.steps.Planned.{IsPlanOf};
 use super::faults::{Calls, Expecting, Parts};
 use super::line::serve_one;
 use super::{CLOSE, CLOSED, add_part, add_reply, add_request, bytewise, plan_rooms};
-use base_types::RoomName;
+use base_types::{NoMemory, RoomName};
 use keeper::{Attempt, KeepFault, Keeper};
 use log::Log;
 use loops::{Bell, Client, Settings};
-use room_lock::{NewRooms, Opening, Prefix, RoomHistories, Rooms};
+use room_lock::{NewRooms, Opened, Opening, Prefix, RoomHistories, Rooms};
 use sessions::{Cause, Host, Observer, ServeFault, Served, serve_streams};
 use std::alloc::Global;
 use std::io::{Read, Write};
@@ -96,7 +96,7 @@ where
     requires { IsPlanOf planned P.limits P.register }
 {
     let (rooms, _begun) = Rooms::<P>::new(rt, rt.alloc(), planned).expect(rt, "rooms");
-    let (bell, mut polls) = Bell::new(rt, rt.alloc(), 1, rooms.count()).expect(rt, "a bell");
+    let (bell, mut polls) = Bell::new(rt, rt.alloc(), 1, rooms.count_places()).expect(rt, "a bell");
     if !streams.has_loop {
         polls.clear();
     }
@@ -216,7 +216,7 @@ impl Told {
 }
 
 impl Observer for Told {
-    fn after_entry(&self, _place: usize, _kind: EntryKind) {
+    fn after_entry(&self, _room: &RoomName, _place: usize, _kind: EntryKind) {
         self.entries.fetch_add(1, Ordering::SeqCst);
     }
 
@@ -248,6 +248,16 @@ impl<P: RoomHistories> Keeper<P> for Told {
             Some((number, fault)) if number == asked => Err(fault),
             _ => Ok(Some(())),
         }
+    }
+
+    fn open(
+        &self,
+        _rt: &impl Wait,
+        _alloc: Global,
+        _rooms: &Rooms<P>,
+        _name: &RoomName,
+    ) -> Result<Opened<P>, NoMemory> {
+        Ok(Opened::Full)
     }
 
     fn permit(&self, _rt: &impl Wait, opening: &Opening<P>) -> Option<()> {

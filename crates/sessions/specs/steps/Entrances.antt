@@ -1,6 +1,6 @@
 -- The effect of an entrance on a session.
 use Rattle.std.specs.Prelude.{◌≡◌, Option, Some, None}
-use Rattle.rules.specs.declared.refusal.Refusal.TheVariants.{NoSuchRoom}
+use Rattle.rules.specs.declared.refusal.Refusal.TheVariants.{NotServed}
 use Rattle.wire.specs.declared.reply.Reply.{Reply}
 use Rattle.wire.specs.declared.reply.Reply.TheVariants.{No}
 use Rattle.room_lock.specs.declared.entrance.Entrance.{Entrance}
@@ -15,4 +15,4 @@ module _ {P : Type 0} where
   IsAfter (Refused prefix it) new told reply = (reply ≡ it) × (told ≡ Some prefix) × (new ≡ None)
   IsAfter (InUse in_use it) new told reply =
       (reply ≡ it) × (told ≡ Some in_use.prefix) × (new ≡ None)
-  IsAfter NoRoom new told reply = (reply ≡ No 0 NoSuchRoom) × (told ≡ None) × (new ≡ None)
+  IsAfter NoRoom new told reply = (reply ≡ No 0 NotServed) × (told ≡ None) × (new ≡ None)

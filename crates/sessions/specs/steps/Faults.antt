@@ -5,6 +5,7 @@ use Rattle.rules.specs.declared.limits.LimitValues.{LimitValues}
 use Rattle.connection.specs.declared.end.End.{End}
 use Rattle.keeper.specs.declared.keeper.KeepFault.{KeepFault}
 use Rattle.room_lock.specs.Passes.{PrefixView}
+use Rattle.room_lock.specs.Rooms.{RoomsView}
 use Rattle.sessions.specs.declared.cause.MessageFault.{MessageFault}
 use Rattle.sessions.specs.declared.cause.MessageFault.TheVariants.{Torn}
 use Rattle.sessions.specs.Sessions.{SessionView}
@@ -12,11 +13,11 @@ use Rattle.sessions.specs.Turns.{MayStand}
 use Rattle.sessions.specs.steps.Causes.{end_of_keep_fault, end_of_message_fault}
 
 -- The message is not answered. The call of the rooms may stand, unless the session is torn.
-abbrev pub IsMessageFault : LimitValues → List Bytes → (ℕ → Type 0) → (ℕ → Type 0) → SessionView
+abbrev pub IsMessageFault : LimitValues → RoomsView → (ℕ → Type 0) → (ℕ → Type 0) → SessionView
     → SessionView → Bytes → End → Type 0
-IsMessageFault limits names permitted denied old new bytes end =
+IsMessageFault limits rooms permitted denied old new bytes end =
     (fault : MessageFault) × (end ≡ end_of_message_fault fault)
-    × MayStand limits names permitted denied old new bytes × (fault ≡ Torn → new ≡ old)
+    × MayStand limits rooms permitted denied old new bytes × (fault ≡ Torn → new ≡ old)
 
 -- the keeper failed so to keep this prefix of a record
 abbrev pub IsNotKept : (KeepFault → PrefixView → Type 0) → PrefixView → End → Type 0

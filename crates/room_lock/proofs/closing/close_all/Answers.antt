@@ -1,11 +1,10 @@
-use Rattle.std.proofs.Common.{◌≡◌, ◌++◌, ◌∷◌, [], List, map, append_assoc, ap, sym, subst, ◌∙◌}
+use Rattle.std.proofs.Common.{◌≡◌, ◌++◌, ◌∷◌, [], map, append_assoc, ap, sym, subst, ◌∙◌}
 use Rattle.std.specs.Prelude.{All}
 use Rattle.std.specs.Arc.{arc_value}
 use Rattle.std.specs.Map.{keys_of}
 use Rattle.std.proofs.lemmas.List.{map-append}
 use Rattle.std.proofs.lemmas.List.Elements.{All-push}
 use Rattle.base_types.specs.Texts.{Bytes}
-use Rattle.rules.specs.declared.history.Entry.{Entry}
 use Rattle.room_lock.specs.Closing.{IsClosed}
 use Rattle.room_lock.proofs.closing.close_all.Goals as goal
 
@@ -20,8 +19,7 @@ loop-name-preserved g c =
     let put = c.in_ok-push_record.ensures in
     let room : _ → Bytes = λ one. one.room in
     let P : _ → Type 0 = λ one. IsClosed g.P.RoomHistories.limits (map arc_value one.entries.items) one.parts.items in
-    let A : List Entry → Type 0 = λ r. IsClosed g.P.RoomHistories.limits r last.parts.items in
-    let here : P last = subst A (sym e.entries) e.closed in
+    let here : P last = e.closed in
     let steps : keys_of c.loop-name.name-iterator ≡ name ∷ rest = ap keys_of c.in-Some.ensures.steps in (
       ap (λ l. map room l ++ rest) put ∙ ap (λ l. l ++ rest) (map-append room old (last ∷ []))
           ∙ append_assoc (map room old) (room last ∷ []) rest

@@ -2,4 +2,4 @@ use Rattle.sessions.proofs.Staying.{served}
 use Rattle.sessions.proofs.laws.a_room_that_is_not_denied_is_served.Goals as goal
 
 pub returns : goal.returns
-returns g c = λ limits names scope. served limits names _ _ scope
+returns g c = λ limits rooms scope. served limits rooms _ _ scope

@@ -11,6 +11,7 @@ invariant_of-result c =
       record {
         counted = length-map c.args.states.items entries_in ∙ c.requires.counted;
         few = omega (arith, c.if-len-gt-MAX_ROOMS.false, c.len.ensures);
+        few_others = omega arith;
         apart = c.requires.apart;
       },
       c.requires.limits,

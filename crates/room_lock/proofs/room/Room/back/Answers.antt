@@ -1,5 +1,4 @@
 use Rattle.std.proofs.Common.{◌≡◌, List, Some, arith, ap, sym, ◌∙◌, subst, false}
-use Rattle.std.specs.Prelude.{IfOk}
 use Rattle.std.proofs.lemmas.Bool.{and_from, le-leb}
 use mathlib.Core.List.{IsPrefix}
 use Rattle.rules.specs.declared.history.Entry.{Entry}
@@ -55,14 +54,14 @@ pub returns-clause-entered : goal.returns-clause-entered
 returns-clause-entered g c =
     let r = c.self.inside.state.room.entries in
     let limits = g.P.RoomHistories.limits in
-    let P : RoomView → PassView → _ → Type 0 = λ room pass reply. (x : PartView) × (part_of room.shelf c.args.site ≡ Some x) × IsBackOver limits room.entries c.args.site x pass reply × (pass.room ≡ c.args.name.now) in
+    let P : RoomView → PassView → _ → Type 0 = λ room pass reply. (x : PartView) × (part_of room.shelf c.args.site ≡ Some x) × IsBackOver limits room.entries c.args.site x pass reply × (pass.room ≡ room.opening.room.name) in
     elim c.match-take_part.branch [
       | in-Some-take_part w ↦
           (let part = w.in-Some-take_part.part in
           let kept = c.self.invariant.shelved.parts c.args.site part (sym w.in-Some-take_part.ensures.part) in
           let found = within c.self.inside.shelf.items c.args.site part (sym w.in-Some-take_part.ensures.part) in
           let counted = c.self.invariant.shelved.counted in
-          let pass : PassView = record { room = c.in_ok-room.room; part = record { opening = w.prefix.result.opening; site = w.part.inside.site; seen = w.prefix.result.entries; added = w.part.inside.added } } in
+          let pass : PassView = record { room = w.prefix.result.opening.room.name; part = record { opening = w.prefix.result.opening; site = w.part.inside.site; seen = w.prefix.result.entries; added = w.part.inside.added } } in
           let back : IsBackOver limits r c.args.site part pass w.back-reply.result = record {
             joined = and_from _ _ (le-leb 1 c.args.site found.0) (le-leb c.args.site _ (omega (arith, found.1, counted)));
             reply_is = w.back-reply.ensures ∙ ap (λ room. back_reply room false c.args.site) (room_is limits c.self.inside.state.room c.self.invariant.limits_are);
@@ -74,7 +73,7 @@ returns-clause-entered g c =
             legal = subst (λ (l : LimitValues). IsLegal l r) c.self.invariant.limits_are c.len_of-entries.ensures.legal;
           } in
           let here : P (record { opening = c.self.inside.opening; entries = r; shelf = c.self.inside.shelf.items }) pass w.back-reply.result =
-          (part, sym w.in-Some-take_part.ensures.part, back, c.in_ok-room.ensures) in
-          subst (λ result. IfOk result (IfEntered (P c.args.self.now))) (sym w.result-is) (subst (λ (room : RoomView). P room pass w.back-reply.result) c.self.view_is here))
-      | in-None w ↦ subst (λ result. IfOk result (IfEntered (P c.args.self.now))) (sym w.result-is) tt
+          (part, sym w.in-Some-take_part.ensures.part, back, ap (λ v. v.opening.room.name) w.prefix.ensures) in
+          subst (IfEntered (P c.args.self.now)) (sym w.result-is) (subst (λ (room : RoomView). P room pass w.back-reply.result) c.self.view_is here))
+      | in-None w ↦ subst (IfEntered (P c.args.self.now)) (sym w.result-is) tt
     ]

@@ -1,5 +1,5 @@
-use Rattle.std.proofs.Common.{ap, refl, sym, subst}
-use Rattle.std.specs.Prelude.{IsSome, true, false}
+use Rattle.std.proofs.Common.{ap, sym, subst}
+use Rattle.std.specs.Prelude.{true, false}
 use Rattle.room_lock.specs.Passes.{InUseView, PrefixView}
 use Rattle.room_lock.specs.Told.{IsBackRefusalOver}
 use Rattle.room_lock.proofs.Replies.{if_in_use_weaker, if_refused_weaker}
@@ -12,9 +12,3 @@ returns-clause-entrance_refused g c = if_refused_weaker c.back.result _ _
 pub returns-clause-in_use : goal.returns-clause-in_use
 returns-clause-in_use g c = if_in_use_weaker c.back.result _ _
     (λ it reply all. (ap (λ i. i.site) all.1, subst (λ (i : InUseView). IsBackRefusalOver g.P.RoomHistories.limits i.prefix.entries c.args.site true reply) (sym all.1) all.0)) c.back.ensures.in_use
-
-pub returns-clause-no_room : goal.returns-clause-no_room
-returns-clause-no_room g c = (
-  (λ none there. c.back.ensures.known none),
-  (λ absent. absurd (absent (c.find.ensures.known.0 (subst IsSome (sym c.in-Some.is) refl)))),
-)

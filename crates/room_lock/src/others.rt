@@ -1,0 +1,223 @@
+//! Rooms that are opened on demand.
+
+ghost use Rattle.std.specs.Prelude.{◌≡◌, ◌↔◌, ◌∷◌, ◌++◌, [], IfOk, IfSome, IsNone, None, OnErr};
+ghost use Rattle.std.specs.Prelude.{OnOk, bytes_eq, length, vec_len};
+ghost use Rattle.std.specs.Map.{lookup};
+ghost use Rattle.std.specs.Sync.Mutex.{mutex_guard_value};
+ghost use Rattle.room_lock.specs.InOrder.{name_of};
+ghost use Rattle.room_lock.specs.Lookups.{IfKnown, IfNew};
+ghost use Rattle.room_lock.specs.steps.Stages.{IsOpenAs};
+
+use crate::lookup::Opened;
+use crate::making::insert_new;
+use crate::new_room::NewRoom;
+use crate::prefix::Prefix;
+use crate::room::Room;
+use crate::slot::{Stage, lock_of};
+use base_types::{NoMemory, RoomName};
+use crossbeam_utils::CachePadded;
+use indexmap::IndexMap;
+use openings::{Opening, Register, RoomHistories};
+use room_core::RoomState;
+use std::alloc::Global;
+use std::marker::Model;
+use std::sync::{Mutex, MutexGuard, Wait};
+
+/// The openings of the rooms that are open on demand, by name, and the register. The order is that of
+/// their slots. Contracts see the openings with their names.
+#[derive(Drop)]
+pub(crate) struct Directory<P: RoomHistories> {
+    register: Register<P>,
+    openings: IndexMap<RoomName, Opening<P>>,
+}
+
+impl<P: RoomHistories> Model for Directory<P> {
+    ghost use Rattle.std.specs.Prelude.{List};
+    ghost use Rattle.base_types.specs.Texts.{Bytes};
+    ghost use Rattle.openings.specs.Openings.{OpeningView};
+    ghost use Rattle.room_lock.specs.InOrder.{AreNamed};
+
+    ghost Value = { List (Bytes × OpeningView) };
+
+    ghost view = { λ d. d.openings.entries };
+
+    ghost invariant = { λ d. AreNamed d.openings.entries };
+}
+
+impl<P: RoomHistories> Directory<P> {
+    /// No room is open on demand.
+    fn new(alloc: Global, register: Register<P>) -> Directory<P>
+        ensures { result ≡ [] }
+    {
+        Directory {
+            register,
+            openings: IndexMap::new(alloc),
+        }
+    }
+
+    /// The number of rooms that are open on demand.
+    fn count(&self) -> usize
+        ensures { result ≡ length self.now }
+    {
+        self.openings.len()
+    }
+
+    /// The opening of the room of this name, if it is open on demand.
+    fn opening_of(&self, name: &RoomName) -> Option<Opening<P>>
+        ensures some { IfSome result (λ opening. name_of opening ≡ name.now) }
+        ensures none { IsNone result → lookup (bytes_eq name.now) self.now ≡ None }
+    {
+        match self.openings.get_full(name) {
+            Some((_index, _name, opening)) => Some(opening.copy()),
+            None => None,
+        }
+    }
+
+    /// Opens a room, behind those that are open.
+    ///
+    /// # Errors
+    /// `NoMemory` if an allocation failed. No room more is open.
+    fn begin(&mut self, rt: &impl Wait, alloc: Global, new: NewRoom) -> Result<Room<P>, NoMemory>
+        // The limits are those that the type names, and the name is new.
+        requires limits { new.state.room.limits ≡ P.limits }
+        requires name { lookup (bytes_eq new.name) self.old ≡ None }
+        ensures opened { IfOk result (λ room.
+            self.new ≡ self.old ++ (new.name, room.opening) ∷ []) }
+        ensures name { IfOk result (λ room. name_of room.opening ≡ new.name) }
+        ensures entries { IfOk result (λ room. room.entries ≡ new.state.room.entries) }
+        ensures err { OnErr result (self.new ≡ self.old) }
+    {
+        let name = new.name.copy(alloc)?;
+        let room = Room::open(rt, alloc, &mut self.register, new)?;
+        insert_new(&mut self.openings, name, room.opening().copy())?;
+        Ok(room)
+    }
+}
+
+/// Rooms that are opened on demand. Each has a slot with a lock of its own. Contracts see how many
+/// may be open.
+#[derive(Drop)]
+pub(crate) struct Others<P: RoomHistories> {
+    directory: Mutex<Directory<P>>,
+    slots: Vec<CachePadded<Mutex<Stage<P>>>>,
+    /// The place of the first slot among the places of all rooms.
+    first: usize,
+}
+
+impl<P: RoomHistories> Model for Others<P> {
+    ghost use Rattle.std.specs.Prelude.{ℕ, vec_len};
+
+    ghost Value = { ℕ };
+
+    ghost view = { λ others. vec_len others.slots };
+}
+
+impl<P: RoomHistories> Others<P> {
+    /// Space for `most` rooms, of which none is open. The place of the first is `first`.
+    ///
+    /// # Errors
+    /// `NoMemory` if an allocation failed.
+    pub(crate) fn new(
+        alloc: Global,
+        register: Register<P>,
+        first: usize,
+        most: usize,
+    ) -> Result<Others<P>, NoMemory>
+        ensures { IfOk result (λ others. others ≡ most) }
+    {
+        let mut slots = Vec::with_capacity(alloc, most)?;
+        for _ in 0..most {
+            slots.push(CachePadded::new(Mutex::new(Stage::Free)))?;
+        }
+        Ok(Others {
+            directory: Mutex::new(Directory::new(alloc, register)),
+            slots,
+            first,
+        })
+    }
+
+    /// How many rooms may be open.
+    pub(crate) fn most(&self) -> usize
+        ensures { result ≡ self.now }
+    {
+        self.slots.len()
+    }
+
+    /// The opening of the room of this name, if it is open. Waits for the lock of the directory.
+    pub(crate) fn opening_of(&self, rt: &impl Wait, name: &RoomName) -> Option<Opening<P>>
+        ensures { IfSome result (λ opening. name_of opening ≡ name.now) }
+    {
+        lock_of(rt, &self.directory).opening_of(name)
+    }
+
+    /// Takes the lock of the room of this opening. `None` if the room is not open as it.
+    pub(crate) fn lock(
+        &self,
+        rt: &impl Wait,
+        opening: &Opening<P>,
+    ) -> Option<MutexGuard<'_, Stage<P>>>
+        ensures open { IfSome result (λ stage. IsOpenAs opening.now (mutex_guard_value stage)) }
+        ensures none { self.now ≡ 0 → IsNone result }
+    {
+        let index = opening.place().checked_sub(self.first)?;
+        let stage = lock_of(rt, self.slots.get(index)?);
+        if stage.is_open_as(opening) {
+            Some(stage)
+        } else {
+            None
+        }
+    }
+
+    /// Opens the room of this name with a record, unless it is open or as many are open as may be.
+    /// Waits for the locks of the directory and of the slot. Linear in the record for each site.
+    ///
+    /// # Errors
+    /// `NoMemory` if an allocation failed.
+    pub(crate) fn open(
+        &self,
+        rt: &impl Wait,
+        alloc: Global,
+        name: RoomName,
+        state: RoomState,
+    ) -> Result<Opened<P>, NoMemory>
+        requires { state.room.limits ≡ P.limits }
+        ensures new { IfOk result (IfNew (λ begun. (name_of begun.opening ≡ name)
+            × (begun.entries ≡ state.room.entries))) }
+        ensures known { IfOk result (IfKnown (λ opening. name_of opening ≡ name)) }
+    {
+        let mut directory = lock_of(rt, &self.directory);
+        if let Some(opening) = directory.opening_of(&name) {
+            return Ok(Opened::Known(opening));
+        }
+        let index = directory.count();
+        let Some(slot) = self.slots.get(index) else {
+            return Ok(Opened::Full);
+        };
+        let place = self.first.saturating_add(index);
+        let room = directory.begin(rt, alloc, NewRoom { place, name, state })?;
+        let begun = room.prefix();
+        *lock_of(rt, slot) = Stage::Open(room);
+        Ok(Opened::New(begun))
+    }
+
+    /// The openings of the rooms that are open, by name, and the slots in the same order.
+    pub(crate) fn into_parts(
+        self,
+    ) -> (
+        IndexMap<RoomName, Opening<P>>,
+        Vec<CachePadded<Mutex<Stage<P>>>>,
+    )
+        ensures { vec_len result.1 ≡ self }
+    {
+        let Others {
+            directory,
+            slots,
+            first: _,
+        } = self;
+        let Directory {
+            register: _,
+            openings,
+        } = directory.into_inner();
+        (openings, slots)
+    }
+}

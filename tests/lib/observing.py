@@ -1,0 +1,79 @@
+"""What an operator sees: the metrics and the reports of a server."""
+
+import re
+import socket
+import time
+
+from lib.serving import CheckFailed, expect_equal
+from lib.websocket_client import SECONDS, head, new_key
+
+METRICS = b"GET /metrics HTTP/1.1\r\nHost: localhost\r\n\r\n"
+HEAD = re.compile(
+    rb"HTTP/1\.1 200 OK\r\nContent-Type: text/plain; version=0\.0\.4\r\nContent-Length: (\d+)\r\n"
+    rb"Cache-Control: no-store\r\nConnection: close\r\n\r\n"
+)
+TURNED_AWAY = (
+    b"HTTP/1.1 503 Service Unavailable\r\nRetry-After: 5\r\nContent-Length: 0\r\nConnection: close\r\n\r\n"
+)
+SAMPLE = re.compile(r'(grace_[a-z_]+)(\{[a-z]+="[^"]*"(?:,[a-z]+="[^"]*")*\})? (\d+)')
+
+
+def wait_until(what, is_so):
+    """Waits until the condition holds."""
+    bound = time.monotonic() + SECONDS
+    while not is_so():
+        if time.monotonic() > bound:
+            raise CheckFailed(f"not within {SECONDS} seconds: {what}")
+        time.sleep(0.02)
+
+
+def expect_turned_away(server, target="/"):
+    """Expects that the server turns a further client away, who asks for this target."""
+    with socket.create_connection(server.address, SECONDS) as client:
+        client.sendall(head(new_key(), target))
+        received = b""
+        while data := client.recv(4096):
+            received += data
+    expect_equal("the answer", received, TURNED_AWAY)
+
+
+def samples(server):
+    """Returns the samples by their name and labels. Each has the help and the type of its family before it."""
+    with socket.create_connection(server.address, SECONDS) as client:
+        client.sendall(METRICS)
+        answer = b""
+        while data := client.recv(4096):
+            answer += data
+    head = HEAD.match(answer)
+    if not head:
+        raise CheckFailed(f"the answer {answer!r:.300}")
+    body = answer[head.end():].decode()
+    expect_equal("the length of the body", len(body), int(head[1]))
+    found, family = {}, None
+    for line in body.splitlines():
+        if line.startswith("# HELP "):
+            family = line.split()[2]
+        elif line.startswith("# TYPE "):
+            expect_equal("the family", line.split()[2], family)
+        else:
+            name, labels, number = SAMPLE.fullmatch(line).groups()
+            expect_equal("the family", name, family)
+            found[name + (labels or "")] = int(number)
+    return found
+
+
+def report_of(server, clients, begun, rooms):
+    """Returns the lines of a report: current and started sessions, and joins, entries and objects of each room."""
+    of_all = f"/{server.sessions}" if server.sessions else ""
+    lines = [f"report: server clients {clients}/{server.places} begun {begun}{of_all}"]
+    for room, (joins, entries, objects) in rooms.items():
+        lines.append(f"report: room {room} joins {joins}/256 entries {entries}/16384 objects {objects}/512")
+    return [("INFO", line) for line in lines]
+
+
+def await_report(server, report):
+    """Waits for a report of exactly these lines in sequence."""
+    def is_there():
+        notices = server.notices()
+        return any(notices[place : place + len(report)] == report for place in range(len(notices)))
+    wait_until(report[0][1], is_there)

@@ -172,6 +172,18 @@ class Client(Connection):
         except TimeoutError:
             raise CheckFailed(f"the connection is still open after {SECONDS} seconds") from None
 
+    def await_away(self):
+        """Reads replies up to a close of 1001, which it answers. Expects that the server then ends the connection.
+        Requests without a reply were not executed."""
+        while True:
+            opcode, payload = self.read_frame()
+            if opcode != TEXT:
+                break
+            self.transcript.add_reply(payload.decode())
+        expect_equal("the last frame", (opcode, payload), (CLOSE, closing(1001)))
+        self.send(frame(CLOSE, payload))
+        self.expect_end()
+
     def hang_up(self):
         """Disconnects without a close. The server may or may not execute the unanswered requests."""
         super().hang_up()
@@ -213,11 +225,12 @@ def pump(stream, lines):
 class Server:
     """`grace serve` on a free port, for this many sessions. `patience` bounds, in seconds, the time to listen, the time
     to exit after the last session, and the checker's time for each room. `keep` is the folder of the rooms. `before`
-    has the transcripts of clients of earlier runs over it. `on_demand` is the number of rooms that it opens on demand."""
+    has the transcripts of clients of earlier runs over it. `on_demand` is the number of rooms that it opens on demand.
+    With `until_input_ends` it gets that option and a pipe as its input. `wrapper` is what runs it."""
 
     def __init__(
         self, sessions=1, workers=4, rooms=("r",), idle=None, patience=SECONDS, keep=None, before=(), report=None,
-        clients=None, by_path=False, on_demand=0,
+        clients=None, by_path=False, on_demand=0, until_input_ends=False, wrapper=(),
     ):
         self.port = 0
         self.sessions = sessions
@@ -236,6 +249,10 @@ class Server:
             self.words += ["--by-path"]
         if on_demand:
             self.words += ["--rooms", str(on_demand)]
+        if until_input_ends:
+            self.words += ["--until-input-ends"]
+        self.input = subprocess.PIPE if until_input_ends else subprocess.DEVNULL
+        self.wrapper = list(wrapper)
         self.on_demand = on_demand
         self.places = 10_000 if clients is None else clients
         self.keep = keep
@@ -272,6 +289,7 @@ class Server:
         self.process.wait()
         self.reader.join(SECONDS)
         self.process.stdout.close()
+        self.end_input()
         self.errors.close()
 
     def start(self):
@@ -282,12 +300,18 @@ class Server:
         self.errors = tempfile.TemporaryFile()
         fcntl.fcntl(self.errors, fcntl.F_SETFL, fcntl.fcntl(self.errors, fcntl.F_GETFL) | os.O_APPEND)
         self.process = subprocess.Popen(
-            [program(), "serve", f"127.0.0.1:{self.port}", *self.words], env={**os.environ, **self.variables},
-            stdin=subprocess.DEVNULL, stdout=subprocess.PIPE, stderr=self.errors, text=True,
+            [*self.wrapper, program(), "serve", f"127.0.0.1:{self.port}", *self.words],
+            env={**os.environ, **self.variables}, stdin=self.input, stdout=subprocess.PIPE, stderr=self.errors,
+            text=True,
         )
         self.lines = queue.Queue()
         self.reader = threading.Thread(target=pump, args=(self.process.stdout, self.lines), daemon=True)
         self.reader.start()
+
+    def end_input(self):
+        """Ends the input of the program, if it is a pipe of this process."""
+        if self.process.stdin:
+            self.process.stdin.close()
 
     def error_text(self):
         """Returns the complete lines on standard error so far."""
@@ -331,6 +355,10 @@ class Server:
             if not client.is_over:
                 client.close()
         expect_equal("the sessions opened", len(self.clients), self.sessions)
+        return self.check_output(warnings)
+
+    def check_output(self, warnings=None):
+        """Waits for the program's exit and checks all its output, as `finish`."""
         lines = self.output()
         expect_equal("the status", self.process.returncode, 0)
         expect_equal("the warnings", self.warnings(), warnings or {})

@@ -79,6 +79,14 @@ fn on_demand<'a>(alloc: Global) -> Result<Arg<'a>, AllocError> {
         .conflicts_with("keep")
 }
 
+/// The option to end with standard input.
+fn until_input_ends<'a>(alloc: Global) -> Arg<'a> {
+    Arg::new(alloc, "until-input-ends")
+        .long("until-input-ends")
+        .action(ArgAction::SetTrue)
+        .help("End when standard input ends: close each session with 1001, then print the records")
+}
+
 /// The option to go on watching.
 fn follow<'a>(alloc: Global) -> Arg<'a> {
     Arg::new(alloc, "follow")
@@ -112,6 +120,7 @@ fn serve_command<'a>(alloc: Global) -> Result<Command<'a>, AllocError> {
         .arg(clients(alloc))?
         .arg(by_path(alloc))?
         .arg(on_demand(alloc)?)?
+        .arg(until_input_ends(alloc))?
         .arg(word(
             alloc,
             "ADDRESS",

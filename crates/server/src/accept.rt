@@ -2,6 +2,7 @@
 
 ghost use Rattle.std.specs.Iterator.{at_most};
 
+use crate::departure::Door;
 use crate::server_observer::ServerObserver;
 use log::{Log, warn};
 use loops::Arrival;
@@ -21,14 +22,16 @@ const NO_DESCRIPTOR: [i32; 2] = [23, 24];
 /// The error number of a connection that was gone before it was accepted (`ECONNABORTED`).
 const ABORTED: i32 = 103;
 
-/// The next connections of a listener. Ends once there may be no more sessions, or accepting fails.
+/// The next connections of a listener. Ends once there may be no more sessions, the server goes away,
+/// or accepting fails.
 #[derive(Drop)]
 pub(crate) struct Accepted<'a, 'f, R> {
-    pub(crate) rt: &'a R,
     pub(crate) listener: &'a TcpListener,
     pub(crate) observer: &'a ServerObserver<'a, R>,
     /// The most connections. Probes are no sessions, so nothing else bounds their number.
     pub(crate) left: u64,
+    /// Waits for the next connection if the server may go away meanwhile.
+    pub(crate) door: Option<Door>,
     /// Whether a warning was logged since a connection was last accepted at once.
     pub(crate) is_told: bool,
     /// Set once accepting has failed.
@@ -45,23 +48,34 @@ impl<R: Wait + Clock + Log> Iterator for Accepted<'_, '_, R> {
             return None;
         }
         self.left -= 1;
-        let arrival = accept(self.rt, self.listener, &mut self.is_told);
+        let arrival = accept(
+            self.observer,
+            self.listener,
+            &mut self.door,
+            &mut self.is_told,
+        );
         if arrival.is_none() {
-            self.failed.store(true, Ordering::SeqCst);
+            self.failed
+                .store(!self.observer.is_away(), Ordering::SeqCst);
         }
         arrival
     }
 }
 
-/// The next connection, or `None` if accepting fails. Waits where no descriptor is left, and warns
-/// of it unless `is_told`, which it sets to whether it waited.
+/// The next connection, or `None` if accepting fails or the server goes away. Waits where no descriptor
+/// is left, and warns of it unless `is_told`, which it sets to whether it waited.
 fn accept<R: Wait + Clock + Log>(
-    rt: &R,
+    observer: &ServerObserver<'_, R>,
     listener: &TcpListener,
+    door: &mut Option<Door>,
     is_told: &mut bool,
 ) -> Option<Arrival> {
+    let rt = observer.runtime();
     let mut has_waited = false;
     for _ in rt.forever() {
+        if !is_open(observer, door) {
+            return None;
+        }
         match listener.accept() {
             Ok((stream, address)) => {
                 *is_told = has_waited;
@@ -80,6 +94,14 @@ fn accept<R: Wait + Clock + Log>(
         }
     }
     unreachable!()
+}
+
+/// Waits at the door, if there is one. Returns whether the server takes connections still.
+fn is_open<R: Wait + Log>(observer: &ServerObserver<'_, R>, door: &mut Option<Door>) -> bool {
+    match door {
+        Some(door) => door.wait(observer.runtime()) && !observer.is_away(),
+        None => true,
+    }
 }
 
 /// Returns whether no descriptor was left.

@@ -49,6 +49,7 @@ fn service_of<'a, 'w, R, W>(
         dir: words.get_str("keep"),
         is_confining: words.get_flag("by-path"),
         on_demand: words.get_one("rooms").unwrap_or(0),
+        ends_with_input: words.get_flag("until-input-ends"),
         output,
     })
 }

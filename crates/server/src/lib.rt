@@ -3,6 +3,7 @@
 
 mod accept;
 mod command;
+mod departure;
 mod early_end;
 mod meters;
 mod platform;

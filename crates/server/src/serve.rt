@@ -6,6 +6,7 @@ ghost use Rattle.room_lock.specs.steps.Planned.{IsPlanOf};
 ghost use Rattle.server.specs.steps.Faults.{of_serving};
 
 use crate::accept::Accepted;
+use crate::departure::{Departure, Parts};
 use crate::early_end::EarlyEnd;
 use crate::meters::Meters;
 use crate::platform::Platform;
@@ -20,7 +21,7 @@ use keeper::{Forgets, Keeper};
 use keeping::{Keeping, RoomFile};
 use log::warn;
 use loops::{Bell, MAX_LOOPS, Settings};
-use mio::Poll;
+use mio::{Poll, Waker};
 use restore::RestoredFile;
 use room_folder::Folder;
 use room_lock::{NewRooms, RoomHistories, Rooms};
@@ -71,6 +72,8 @@ pub(crate) struct Service<'a, 'w, R, W> {
     pub(crate) is_confining: bool,
     /// The number of rooms that may be opened on demand, 1 to 100,000; 0 for none.
     pub(crate) on_demand: u32,
+    /// The server goes away when standard input ends.
+    pub(crate) ends_with_input: bool,
     /// Where it reports that it listens, and writes the records.
     pub(crate) output: &'a mut W,
 }
@@ -127,6 +130,7 @@ impl<R: Platform, W: Write> Service<'_, '_, R, W> {
             loops: self.count_loops(),
             settings: self.settings(),
             is_confining: self.is_confining,
+            ends_with_input: self.ends_with_input,
             report: self.report,
         };
         serve_listening(options, rooms, &listener, &observer, keeper, self.output)
@@ -170,6 +174,8 @@ struct Options {
     settings: Settings,
     /// A session may enter only the room of its request's path.
     is_confining: bool,
+    /// The server goes away when standard input ends.
+    ends_with_input: bool,
     /// The period of reports; `None` for no reports.
     report: Option<Duration>,
 }
@@ -203,10 +209,10 @@ where
     let (rt, alloc) = (observer.runtime(), options.alloc);
     let failed = AtomicBool::new(false);
     let streams = Accepted {
-        rt,
         listener,
         observer,
         left: u64::MAX,
+        door: None,
         is_told: false,
         failed: &failed,
     };
@@ -224,28 +230,48 @@ where
         keeper,
         is_confining: options.is_confining,
     };
-    serve_reporting(served, rooms, streams, options.report, output)?;
+    serve_attended(served, rooms, streams, options, output)?;
     if failed.load(Ordering::SeqCst) {
         return Err(Fault::Accept);
     }
     Ok(())
 }
 
-/// When to report, and the channel whose end stops that.
+/// What has the server go away when standard input ends, if it is to.
+fn departure_of<'a, R: Platform, K>(
+    served: &Served<'a, R, ServerObserver<'a, R>, K>,
+    listener: &TcpListener,
+    options: Options,
+) -> Result<Option<Parts<'a, R>>, Fault> {
+    if !options.ends_with_input {
+        return Ok(None);
+    }
+    match Parts::new(options.alloc, served.observer, served.bell, listener) {
+        Ok(parts) => Ok(Some(parts)),
+        Err(_) => Err(Fault::NoWorker),
+    }
+}
+
+/// What runs beside the loops, and what ends it.
 #[derive(Drop)]
-struct Reports {
-    /// The period; `None` for no reports.
+struct Attendants<'a, R> {
+    /// The period of reports; `None` for no reports.
     period: Option<Duration>,
     running: Sender<()>,
     stop: Receiver<()>,
+    /// Has the server go away when standard input ends, if it is to.
+    departure: Option<Departure<'a, R>>,
+    /// Ends that wait.
+    over: Option<Waker>,
 }
 
-/// Serves these connections to their end, and reports once each period if there is one.
-fn serve_reporting<P, R, K, W>(
+/// Serves these connections to their end. Reports once each period if there is one, and waits for the
+/// end of standard input if the server is to go away then.
+fn serve_attended<P, R, K, W>(
     served: Served<'_, R, ServerObserver<'_, R>, K>,
     rooms: Rooms<P>,
-    streams: Accepted<'_, '_, R>,
-    period: Option<Duration>,
+    mut streams: Accepted<'_, '_, R>,
+    options: Options,
     output: &mut W,
 ) -> Result<(), Fault>
 where
@@ -257,23 +283,32 @@ where
     W: Write,
 {
     let (running, stop) = crossbeam_channel::bounded::<(), _>(served.alloc, 1)?;
-    let reports = Reports {
-        period,
+    let (departure, over) = match departure_of(&served, streams.listener, options)? {
+        Some(parts) => {
+            streams.door = Some(parts.door);
+            (Some(parts.departure), parts.over)
+        }
+        None => (None, None),
+    };
+    let attendants = Attendants {
+        period: options.report,
         running,
         stop,
+        departure,
+        over,
     };
-    match serve_in_threads(served, rooms, streams, reports, output) {
+    match serve_in_threads(served, rooms, streams, attendants, output) {
         Ok(()) => Ok(()),
         Err(fault) => Err(fault_of(fault)),
     }
 }
 
-/// Serves these connections to their end, beside a thread that reports.
-fn serve_in_threads<P, R, K, W>(
-    served: Served<'_, R, ServerObserver<'_, R>, K>,
+/// Serves these connections to their end, beside the threads of the attendants.
+fn serve_in_threads<'a, P, R, K, W>(
+    served: Served<'a, R, ServerObserver<'a, R>, K>,
     rooms: Rooms<P>,
     streams: Accepted<'_, '_, R>,
-    reports: Reports,
+    attendants: Attendants<'a, R>,
     output: &mut W,
 ) -> Result<(), ServeFault>
 where
@@ -285,11 +320,13 @@ where
     W: Write,
 {
     let (rt, observer) = (served.rt, served.observer);
-    let Reports {
+    let Attendants {
         period,
         running,
         stop,
-    } = reports;
+        departure,
+        over,
+    } = attendants;
     thread::scope(
         thread::scope_env(),
         rt,
@@ -302,8 +339,21 @@ where
                     .ok(),
                 None => None,
             };
+            let departing = match departure {
+                Some(departure) => match scope.spawn(move || departure.run()) {
+                    Ok(thread) => Some(thread),
+                    Err(_) => return Err(ServeFault::NoWorker),
+                },
+                None => None,
+            };
             let served = serve_streams(served, rooms, streams, output);
             drop(running);
+            if let Some(over) = &over {
+                let _ = over.wake();
+            }
+            if let Some(departing) = departing {
+                let _door = departing.join(rt);
+            }
             if let Some(reporter) = reporter {
                 reporter.join(rt);
             }

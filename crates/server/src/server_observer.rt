@@ -37,6 +37,8 @@ pub(crate) struct ServerObserver<'a, R> {
     limits: SessionLimits,
     /// `None` if nothing limits the sessions.
     turnstile: Option<Turnstile>,
+    /// The server goes away.
+    is_away: AtomicBool,
     /// Whether a warning was logged since a session last ended.
     is_told: AtomicBool,
     /// Whether a warning was logged that all rooms are open.
@@ -61,6 +63,7 @@ impl<'a, R> ServerObserver<'a, R> {
             dir,
             limits,
             turnstile: turnstile_of(limits.sessions),
+            is_away: AtomicBool::new(false),
             is_told: AtomicBool::new(false),
             is_told_of_rooms: AtomicBool::new(false),
             begun: AtomicU64::new(0),
@@ -91,10 +94,26 @@ impl<R: Wait + Log> ServerObserver<'_, R> {
     /// Admits a connection, or returns false if there may be no more sessions. May wait until that
     /// is known.
     pub(crate) fn let_in(&self) -> bool {
+        if self.is_away() {
+            return false;
+        }
         match &self.turnstile {
             Some(turnstile) => turnstile.let_in(self.rt),
             None => true,
         }
+    }
+
+    /// The server goes away: no connection is admitted any more.
+    pub(crate) fn go_away(&self) {
+        self.is_away.store(true, Ordering::SeqCst);
+        if let Some(turnstile) = &self.turnstile {
+            turnstile.go_away(self.rt);
+        }
+    }
+
+    /// Returns whether the server goes away.
+    pub(crate) fn is_away(&self) -> bool {
+        self.is_away.load(Ordering::SeqCst)
     }
 
     /// Warns of rooms that begin nearly full.

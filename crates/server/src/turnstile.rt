@@ -1,6 +1,6 @@
 //! The number of sessions that a server may still admit.
 
-ghost use Rattle.std.specs.Prelude.{◌≡◌, ◌↔◌, ◌<◌, ◌+◌, ◌^◌, IsTrue, IsFalse};
+ghost use Rattle.std.specs.Prelude.{◌≡◌, ◌⊎◌, ◌↔◌, ◌<◌, ◌+◌, ◌^◌, IsTrue, IsFalse, false, true};
 
 use std::sync::{Condvar, Mutex, Wait};
 
@@ -18,22 +18,29 @@ pub(crate) struct Turnstile {
 struct Counts {
     left: u32,
     unknown: u32,
+    /// The server goes away: nobody is admitted.
+    is_away: bool,
 }
 
 impl Counts {
     /// Returns whether no place is left, but a connection that is not known yet may give one back.
+    /// False if the server goes away.
     fn is_undecided(&self) -> bool
-        ensures { IsTrue result ↔ (self.now.left ≡ 0) × (0 < self.now.unknown) }
+        ensures { IsTrue result
+            ↔ (self.now.left ≡ 0) × (0 < self.now.unknown) × (self.now.is_away ≡ false) }
     {
-        self.left == 0 && self.unknown > 0
+        self.left == 0 && self.unknown > 0 && !self.is_away
     }
 
-    /// Takes a place, if one is left, for a connection that is not known yet.
+    /// Takes a place, if one is left, for a connection that is not known yet. Takes none if the
+    /// server goes away.
     fn take(&mut self) -> bool
-        ensures taken { IsTrue result → self.old.left ≡ self.new.left + 1 }
-        ensures none { IsFalse result → (self.old.left ≡ 0) × (self.new ≡ self.old) }
+        ensures taken { IsTrue result →
+            (self.old.left ≡ self.new.left + 1) × (self.old.is_away ≡ false) }
+        ensures none { IsFalse result →
+            ((self.old.left ≡ 0) ⊎ (self.old.is_away ≡ true)) × (self.new ≡ self.old) }
     {
-        if self.left == 0 {
+        if self.left == 0 || self.is_away {
             return false;
         }
         self.left -= 1;
@@ -56,6 +63,13 @@ impl Counts {
     {
         self.left = self.left.saturating_add(1);
     }
+
+    /// The server goes away.
+    fn go_away(&mut self)
+        ensures { self.new ≡ record self.old { is_away = true } }
+    {
+        self.is_away = true;
+    }
 }
 
 impl Turnstile {
@@ -65,19 +79,27 @@ impl Turnstile {
             counts: Mutex::new(Counts {
                 left: sessions,
                 unknown: 0,
+                is_away: false,
             }),
             changed: Condvar::new(),
         }
     }
 
     /// Admits a connection, or returns false if no place is left. In the latter case it first waits
-    /// until all admitted connections are known.
+    /// until all admitted connections are known. Returns false if the server goes away, also while
+    /// it waits.
     pub(crate) fn let_in(&self, rt: &impl Wait) -> bool {
         let counts = self.counts.lock(rt);
         let mut counts = self
             .changed
             .wait_while(rt, counts, |counts| counts.is_undecided());
         counts.take()
+    }
+
+    /// The server goes away: nobody is admitted any more.
+    pub(crate) fn go_away(&self, rt: &impl Wait) {
+        self.counts.lock(rt).go_away();
+        self.changed.notify_all();
     }
 
     /// An admitted connection is a session.

@@ -8,7 +8,7 @@ import signal
 import subprocess
 import tempfile
 
-from lib.records import compare_record, transcript_lines
+from lib.records import compare_record, split_rooms, transcript_lines
 from lib.serving import ROOT, Server, Skipped, expect_equal, run, verdict
 from lib.websocket_client import CLOSE, SECONDS, closing
 
@@ -30,6 +30,15 @@ class KeepingServer(Server):
         for client in self.clients:
             client.is_over = client.transcript.hung_up = True
 
+    def open_files(self):
+        """Returns the names of the rooms' files that the program has open, in order."""
+        names = []
+        for link in pathlib.Path(f"/proc/{self.process.pid}/fd").iterdir():
+            # It may have been closed meanwhile.
+            with contextlib.suppress(FileNotFoundError):
+                names.append(link.readlink().name)
+        return sorted(name for name in names if name.endswith(".record"))
+
     def error_lines(self):
         """Returns the lines on standard error."""
         return [line for line in self.error_text().splitlines() if line != NOTICE]
@@ -38,6 +47,30 @@ class KeepingServer(Server):
         """Expects that the program exits with this status and this last line on standard error."""
         self.output()
         expect_equal("the end", (self.process.returncode, self.error_lines()[-1:]), (status, [line]))
+
+
+class OnDemandServer(KeepingServer):
+    """`grace serve --rooms N --keep` over this folder, for any number of sessions. It ends when its input does."""
+
+    def __init__(self, folder, on_demand, rooms=(), workers=2, **options):
+        super().__init__(folder, rooms, 0, workers, on_demand=on_demand, until_input_ends=True, **options)
+
+    def finish(self, warnings=None, status=0, printed=()):
+        """Closes the open clients, ends the program and checks its output. It prints the rooms of the command line, and
+        of those on demand only these. Each room's file has all that the transcripts report. Returns the record of each
+        room that clients were in."""
+        for client in self.clients:
+            if not client.is_over:
+                client.close()
+        self.end_input()
+        printed_rooms = split_rooms(self.output(), self.rooms, self.on_demand)
+        expect_equal("the status", self.process.returncode, status)
+        expect_equal("the warnings", self.warnings(), warnings or {})
+        expect_equal("the rooms that are printed", list(printed_rooms), [*self.rooms, *printed])
+        transcripts = self.transcripts()
+        rooms = {room for transcript in transcripts for room, *_ in transcript.lines}
+        expect_kept(self.keep, sorted(rooms), transcripts)
+        return {room: whole_lines(self.keep, room) for room in rooms}
 
 
 class FileLibrary:

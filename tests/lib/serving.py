@@ -230,7 +230,7 @@ class Server:
 
     def __init__(
         self, sessions=1, workers=4, rooms=("r",), idle=None, patience=SECONDS, keep=None, before=(), report=None,
-        clients=None, by_path=False, on_demand=0, until_input_ends=False, wrapper=(),
+        clients=None, by_path=False, on_demand=0, close_after=None, until_input_ends=False, wrapper=(),
     ):
         self.port = 0
         self.sessions = sessions
@@ -249,6 +249,8 @@ class Server:
             self.words += ["--by-path"]
         if on_demand:
             self.words += ["--rooms", str(on_demand)]
+        if close_after is not None:
+            self.words += ["--close-after", str(close_after)]
         if until_input_ends:
             self.words += ["--until-input-ends"]
         self.input = subprocess.PIPE if until_input_ends else subprocess.DEVNULL

@@ -9,6 +9,7 @@ from lib.websocket_client import SECONDS
 CAUSES = [
     "closed", "handshake failed", "stream fault", "out of memory", "torn from its room", "record not kept",
 ]
+REASONS = ["full", "elsewhere", "file", "memory"]
 
 
 def samples_once(server, sessions):
@@ -35,8 +36,8 @@ def test_metrics():
         found = samples_once(server, 2)
         expected = {
             "grace_sessions": 2, "grace_sessions_max": 7, "grace_sessions_total": 4, "grace_turned_away_total": 0,
-            "grace_rooms_open": 2, "grace_rooms_max": 2, "grace_rooms_opened_total": 0,
-            'grace_rooms_not_served_total{reason="full"}': 0, "grace_replies_total": 9,
+            "grace_rooms_open": 2, "grace_rooms_max": 2, "grace_rooms_opened_total": 0, "grace_rooms_closed_total": 0,
+            **{f'grace_rooms_not_served_total{{reason="{reason}"}}': 0 for reason in REASONS}, "grace_replies_total": 9,
             **{f'grace_sessions_ended_total{{cause="{cause}"}}': 0 for cause in CAUSES},
             'grace_sessions_ended_total{cause="closed"}': 1, 'grace_sessions_ended_total{cause="stream fault"}': 1,
             'grace_entries_total{kind="join"}': 2, 'grace_entries_total{kind="creation"}': 1,

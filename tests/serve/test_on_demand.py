@@ -155,9 +155,11 @@ def test_metrics_and_reports():
         client.expect_reply('["put",2,[[1,1]],[1,1],[],[["x",5]]]', '["taken",2,[[]]]')
         found = {name: number for name, number in samples(server).items() if name.startswith(("grace_rooms", "grace_e"))}
         expect_equal("the samples", found, {
-            "grace_rooms_open": 3, "grace_rooms_max": 3, "grace_rooms_opened_total": 2,
-            'grace_rooms_not_served_total{reason="full"}': 2, 'grace_entries_total{kind="join"}': 2,
-            'grace_entries_total{kind="creation"}': 2, 'grace_entries_total{kind="change"}': 1,
+            "grace_rooms_open": 3, "grace_rooms_max": 3, "grace_rooms_opened_total": 2, "grace_rooms_closed_total": 0,
+            'grace_rooms_not_served_total{reason="full"}': 2, 'grace_rooms_not_served_total{reason="elsewhere"}': 0,
+            'grace_rooms_not_served_total{reason="file"}': 0, 'grace_rooms_not_served_total{reason="memory"}': 0,
+            'grace_entries_total{kind="join"}': 2, 'grace_entries_total{kind="creation"}': 2,
+            'grace_entries_total{kind="change"}': 1,
         })
         server_line, *room_lines = report_of(server, 1, 1, {"r": (0, 0, 0)})
         await_report(server, [server_line, ("INFO", "report: rooms open 3/3"), *room_lines])

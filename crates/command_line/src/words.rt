@@ -67,16 +67,24 @@ fn clients<'a>(alloc: Global) -> Arg<'a> {
 }
 
 /// The option for the number of rooms that are opened on demand.
-fn on_demand<'a>(alloc: Global) -> Result<Arg<'a>, AllocError> {
+fn on_demand<'a>(alloc: Global) -> Arg<'a> {
     Arg::new(alloc, "rooms")
         .long("rooms")
         .value_name("N")
         .action(ArgAction::Set)
         .value_parser(value_parser!(u32).range(1..=100_000))
-        .help(
-            "Open any other room at its first join, N rooms at most, 1 to 100000; not with --keep",
-        )
-        .conflicts_with("keep")
+        .help("Open any other room at its first join, N rooms at most, 1 to 100000")
+}
+
+/// The option for the time after which a room on demand is closed that nobody is in.
+fn close_after<'a>(alloc: Global) -> Arg<'a> {
+    Arg::new(alloc, "close-after")
+        .long("close-after")
+        .value_name("SECONDS")
+        .action(ArgAction::Set)
+        .value_parser(value_parser!(u32).range(1..=86_400))
+        .default_value("60")
+        .help("How long a kept room of --rooms stays open while nobody is in it, 1 to 86400")
 }
 
 /// The option to end with standard input.
@@ -119,7 +127,8 @@ fn serve_command<'a>(alloc: Global) -> Result<Command<'a>, AllocError> {
         .arg(report(alloc))?
         .arg(clients(alloc))?
         .arg(by_path(alloc))?
-        .arg(on_demand(alloc)?)?
+        .arg(on_demand(alloc))?
+        .arg(close_after(alloc))?
         .arg(until_input_ends(alloc))?
         .arg(word(
             alloc,

@@ -1,0 +1,2 @@
+pub use Rattle.room_lock.specs.Lookups
+pub mod Accesses

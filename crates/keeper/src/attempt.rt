@@ -1,19 +1,40 @@
-//! Attempts to keep what a room's record has.
+//! What the threads of a keeper do.
 
-/// One attempt to keep all that the record of a room has.
+/// One thing that a thread of a keeper did: it kept the record of a room, opened a room, or closed
+/// one.
 #[derive(Drop)]
 pub struct Attempt {
-    /// The place of the room among the rooms, from 0.
-    pub place: usize,
-    /// What the attempt changed for people, if it did.
+    /// The places at which there is news: that of the room, and that at which who asked for it waits.
+    pub news: [Option<usize>; 2],
+    /// What it changed for people, if it did.
     pub change: Option<Change>,
 }
 
-/// What an attempt changed.
+/// What changed.
 #[derive(Debug, Drop, PartialEq, Eq)]
 pub enum Change {
-    /// It failed, and the attempt before did not. The text says why, for people.
-    Fails(String),
-    /// It succeeded, and the attempt before did not.
-    KeptAgain,
+    /// The record of the room of this name was not kept, and had been before. `why` is a text for
+    /// people.
+    Fails { room: String, why: String },
+    /// The record of the room of this name was kept, and had not been before.
+    KeptAgain { room: String },
+    /// A room was opened on demand.
+    Opened(Beginning),
+    /// The room at this place was closed.
+    Closed { place: usize },
+}
+
+/// How a room begins that was opened on demand.
+#[derive(Debug, Drop, PartialEq, Eq)]
+pub struct Beginning {
+    /// The name of the room.
+    pub room: String,
+    /// Its place among the rooms, from 0.
+    pub place: usize,
+    /// The number of its sites.
+    pub sites: u32,
+    /// The number of its entries.
+    pub entries: usize,
+    /// The number of its objects.
+    pub objects: u32,
 }

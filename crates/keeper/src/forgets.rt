@@ -1,12 +1,13 @@
 //! The keeper that keeps nothing.
 
-ghost use Rattle.std.specs.Prelude.{◌≡◌, [], IfOk, None};
+ghost use Rattle.std.specs.Prelude.{◌≡◌, ◌≢◌, ℕ, [], IfOk, None, Ok};
 ghost use Rattle.room_lock.specs.InOrder.{IsOpeningFor};
 ghost use Rattle.room_lock.specs.Rooms.{IsOnDemand};
-ghost use Rattle.room_lock.specs.Lookups.{IfKnown, IfNew};
+ghost use Rattle.keeper.specs.Accesses.{IfKnown, IfNew};
 
+use crate::access::{Access, Reason};
 use crate::attempt::Attempt;
-use crate::keeper::{KeepFault, Keeper};
+use crate::keeper::{Failing, KeepFault, Keeper};
 use base_types::{NoMemory, RoomName};
 use room_core::RoomState;
 use room_lock::{Opened, Opening, Prefix, RoomHistories, Rooms};
@@ -33,30 +34,35 @@ impl<P: RoomHistories> Keeper<P> for Forgets {
         Ok(Some(()))
     }
 
-    /// The room begins with the empty record.
+    /// The room begins with the empty record. Who asks for it never has to wait.
     fn open(
         &self,
         rt: &impl Wait,
         alloc: Global,
         rooms: &Rooms<P>,
         name: &RoomName,
-    ) -> Result<Opened<P>, NoMemory>
+    ) -> Result<Access<P>, NoMemory>
         requires { IsOnDemand rooms.now name.now }
         ensures new { IfOk result (IfNew (λ begun.
             IsOpeningFor rooms.now name.now begun.opening)) }
         ensures known { IfOk result (IfKnown (IsOpeningFor rooms.now name.now)) }
         ensures empty { IfOk result (IfNew (λ begun. begun.entries ≡ [])) }
+        ensures now { (place : ℕ) → result ≢ Ok (Access.Later place) }
     {
         let state = RoomState::new(alloc, rooms.limits())?;
         let copied = name.copy(alloc)?;
-        rooms.open(rt, alloc, copied, state)
+        match rooms.open(rt, alloc, copied, state)? {
+            Opened::New(begun) => Ok(Access::New(begun)),
+            Opened::Known(opening) => Ok(Access::Known(opening)),
+            Opened::Full => Ok(Access::NotServed(Reason::Full)),
+        }
     }
 
     fn permit(&self, _rt: &impl Wait, _opening: &Opening<P>) -> Option<()> {
         Some(())
     }
 
-    fn failing(&self, _rt: &impl Wait) -> Option<u64>
+    fn failing(&self, _rt: &impl Wait, _alloc: Global) -> Option<Failing>
         ensures { result ≡ None }
     {
         None
@@ -68,13 +74,22 @@ impl<P: RoomHistories> Keeper<P> for Forgets {
         0
     }
 
+    fn count_waiting_places(&self) -> usize
+        ensures { result ≡ 0 }
+    {
+        0
+    }
+
     fn keep_next(&self, _rt: &impl Wait, _alloc: Global, _rooms: &Rooms<P>) -> Option<Attempt>
         ensures { result ≡ None }
     {
         None
     }
 
-    fn retry(&self, _rt: &impl Wait) {}
+    fn tick(&self, _rt: &impl Wait, _rooms: &Rooms<P>) {}
 
     fn end(&self, _rt: &impl Wait) {}
+
+    /// Rooms in memory stay open.
+    fn close(&self, _rt: &impl Wait, _alloc: Global, _rooms: &Rooms<P>) {}
 }

@@ -4,11 +4,12 @@
 ghost use Rattle.std.specs.Prelude.{◌≡◌, IfErr, IfOk, IfSome, IsNone};
 ghost use Rattle.room_lock.specs.InOrder.{IsOpeningFor};
 ghost use Rattle.room_lock.specs.Rooms.{IsOnDemand};
-ghost use Rattle.room_lock.specs.Lookups.{IfKnown, IfNew};
+ghost use Rattle.keeper.specs.Accesses.{IfKnown, IfNew};
 
+use crate::access::Access;
 use crate::attempt::Attempt;
 use base_types::{NoMemory, RoomName};
-use room_lock::{Opened, Opening, Prefix, RoomHistories, Rooms};
+use room_lock::{Opening, Prefix, RoomHistories, Rooms};
 use std::alloc::Global;
 use std::sync::Wait;
 use thiserror::Error;
@@ -22,6 +23,15 @@ pub enum KeepFault {
     /// An allocation failed.
     #[error("out of memory")]
     NoMemory,
+}
+
+/// A room of which the last attempt failed.
+#[derive(Debug, Drop, PartialEq, Eq)]
+pub struct Failing {
+    /// The number of its opening.
+    pub number: u64,
+    /// Its name, for people. Empty if an allocation failed.
+    pub room: String,
 }
 
 /// Keeps what replies report of rooms, before they are sent. Who asks for a receipt never waits for
@@ -59,8 +69,9 @@ pub trait Keeper<P: RoomHistories> {
         ensures kept { IfOk result (λ found. IfSome found (λ receipt. shows receipt told.now)) }
         ensures fault { IfErr result (λ fault. fails fault told.now) };
 
-    /// Opens the room of this name on demand, or gives its opening if it is open by now. `Full` if it
-    /// cannot be opened now.
+    /// Opens the room of this name on demand, or gives its opening if it is open by now. Never
+    /// waits for a disk: where the room has a file, a thread of the keeper opens it. Who asks again
+    /// once there is news at the place that `Later` names learns what came of it.
     ///
     /// # Errors
     /// `NoMemory` if an allocation failed.
@@ -70,7 +81,7 @@ pub trait Keeper<P: RoomHistories> {
         alloc: Global,
         rooms: &Rooms<P>,
         name: &RoomName,
-    ) -> Result<Opened<P>, NoMemory>
+    ) -> Result<Access<P>, NoMemory>
         requires { IsOnDemand rooms.now name.now }
         ensures new { IfOk result (IfNew (λ begun.
             IsOpeningFor rooms.now name.now begun.opening)) }
@@ -82,22 +93,31 @@ pub trait Keeper<P: RoomHistories> {
         ensures some { IfSome result (λ permit. permits permit opening.now.number) }
         ensures none { IsNone result → denies opening.now.number };
 
-    /// The number of the first opening of whose room the last attempt failed, or `None` if there is
-    /// none.
-    fn failing(&self, rt: &impl Wait) -> Option<u64>
-        ensures { IfSome result denies };
+    /// The first room of which the last attempt failed, if there is one.
+    fn failing(&self, rt: &impl Wait, alloc: Global) -> Option<Failing>
+        ensures { IfSome result (λ failing. denies failing.number) };
 
     /// The number of threads that are to call `keep_next`.
     fn count_threads(&self) -> usize;
 
-    /// Waits until a room's record is to be kept, and keeps all that it has. Gives `None` once `end`
-    /// was called and each record that was to be kept has had its attempt.
+    /// The number of places, behind those of the rooms, at which who asked for a room may have to
+    /// wait.
+    fn count_waiting_places(&self) -> usize;
+
+    /// Waits until a room's record is to be kept, or a room is to be opened or closed, and does
+    /// that. Gives `None` once `end` was called and each record that was to be kept has had its
+    /// attempt.
     fn keep_next(&self, rt: &impl Wait, alloc: Global, rooms: &Rooms<P>) -> Option<Attempt>;
 
-    /// Has each record of which the last attempt failed kept next. Linear in the number of rooms if
-    /// there is one, otherwise constant time.
-    fn retry(&self, rt: &impl Wait);
+    /// Is called once a second. Has each record of which the last attempt failed kept next, and
+    /// each room closed that was opened on demand and that nobody has been in for long enough.
+    /// Linear in the number of rooms.
+    fn tick(&self, rt: &impl Wait, rooms: &Rooms<P>);
 
-    /// Nobody asks for receipts any more.
+    /// Nobody asks for receipts or rooms any more.
     fn end(&self, rt: &impl Wait);
+
+    /// Closes the rooms that were opened on demand, if all that they have is kept. Is called when
+    /// all sessions have ended, and the threads that called `keep_next`.
+    fn close(&self, rt: &impl Wait, alloc: Global, rooms: &Rooms<P>);
 }

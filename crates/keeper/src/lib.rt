@@ -1,10 +1,12 @@
 //! What keeps the records of rooms: the trait of a keeper, and the keeper that keeps nothing.
 #![tactic(auto)]
 
+mod access;
 mod attempt;
 mod forgets;
 mod keeper;
 
-pub use attempt::{Attempt, Change};
+pub use access::{Access, Reason};
+pub use attempt::{Attempt, Beginning, Change};
 pub use forgets::Forgets;
-pub use keeper::{KeepFault, Keeper};
+pub use keeper::{Failing, KeepFault, Keeper};

@@ -1,95 +1,198 @@
 //! The files of all rooms of a server.
 
-ghost use Rattle.std.specs.Prelude.{◌≡◌};
+ghost use Rattle.std.specs.Prelude.{◌≡◌, IfOk, IfSome};
+ghost use Rattle.keeping.specs.Kept.{IsKeptIn};
+ghost use Rattle.keeping.specs.steps.Standings.{IfKept};
 
+use crate::desk::{Place, Standing};
+use crate::doors::{Doors, Hold};
 use crate::file::{Clean, Kept, RoomFile};
-use crate::orders::Orders;
-use crate::room::{KeptRoom, Standing};
+use crate::files::RoomFiles;
+use crate::moving::Idle;
+use crate::orders::{Order, Orders};
 use base_types::{NoMemory, RoomName};
 use journal::Journal;
-use keeper::{Attempt, Change, KeepFault, Keeper};
-use room_lock::{Opened, Opening, Prefix, RoomHistories, Rooms};
+use keeper::{Access, Attempt, Change, Failing, KeepFault, Keeper, Reason};
+use room_lock::{Lookup, Opening, Prefix, RoomHistories, Rooms};
 use std::alloc::Global;
-use std::sync::Wait;
 use std::sync::atomic::{AtomicUsize, Ordering};
+use std::sync::{Mutex, Wait};
 
 /// The most threads that write and sync.
 const MAX_THREADS: usize = 16;
 
+/// The number of places at which who asked for a room may have to wait.
+const WAITING_PLACES: usize = 64;
+
 /// The files of all rooms, by the places of the rooms. A thread writes and syncs all that a room has
-/// by then for all that wait for it. No two threads write for one room.
+/// by then for all that wait for it. No two threads write for one room. Rooms on demand are opened and
+/// closed by these threads too, with their files. Locks are taken in this order: the doors, a place,
+/// and then what `Rooms` locks.
 #[derive(Drop)]
-pub struct Keeping<P: RoomHistories, J: Journal> {
-    rooms: Vec<KeptRoom<P, J>>,
-    orders: Orders,
+pub struct Keeping<P: RoomHistories, J: Journal, F> {
+    pub(crate) places: Vec<Place<P, J>>,
+    /// The number of rooms that are open from the start.
+    pub(crate) first: usize,
+    pub(crate) orders: Orders,
     /// The number of rooms of which the last attempt failed.
     failing: AtomicUsize,
+    pub(crate) doors: Mutex<Doors<P>>,
+    /// The files of rooms on demand.
+    pub(crate) files: F,
+    /// After how many ticks a room is closed that nobody is in.
+    close_after: u32,
 }
 
-impl<P: RoomHistories, J: Journal + Drop> Keeping<P, J> {
-    /// Keeps the rooms in these files, which are in the order of the rooms.
+/// The files of rooms on demand, and when they are closed.
+#[derive(Drop)]
+pub struct OnDemand<F> {
+    /// The files.
+    pub files: F,
+    /// After how many ticks a room is closed that nobody is in, from 1.
+    pub close_after: u32,
+}
+
+impl<P: RoomHistories, J: Journal + Drop, F: RoomFiles<J> + Drop> Keeping<P, J, F> {
+    /// Keeps the rooms that are open from the start in these files, which are in the order of the
+    /// rooms, and rooms on demand in files that are opened with them.
     ///
     /// # Errors
     /// `NoMemory` if an allocation failed.
-    pub fn new(alloc: Global, files: Vec<RoomFile<P, J>>) -> Result<Keeping<P, J>, NoMemory> {
-        let mut rooms = Vec::with_capacity(alloc, files.len())?;
-        for file in files {
-            rooms.push(KeptRoom::new(file))?;
-        }
-        let orders = Orders::new(alloc, rooms.len())?;
+    pub fn new(
+        rt: &impl Wait,
+        alloc: Global,
+        rooms: &Rooms<P>,
+        files: Vec<RoomFile<P, J>>,
+        on_demand: OnDemand<F>,
+    ) -> Result<Keeping<P, J, F>, NoMemory> {
+        let OnDemand {
+            files: others,
+            close_after,
+        } = on_demand;
+        let first = files.len();
+        let places = places_of(rt, alloc, rooms, files)?;
+        let movers = (places.len().min(MAX_THREADS) / 2).max(1);
+        let orders = Orders::new(alloc, first, movers)?;
         Ok(Keeping {
-            rooms,
+            places,
+            first,
             orders,
             failing: AtomicUsize::new(0),
+            doors: Mutex::new(Doors::new(alloc)),
+            files: others,
+            close_after,
         })
     }
 
     /// Returns whether no room's last attempt failed.
     pub fn all_kept(&self, rt: &impl Wait) -> bool {
-        self.first_failing(rt).is_none()
-    }
-
-    /// The number of the first opening of whose room the last attempt failed.
-    fn first_failing(&self, rt: &impl Wait) -> Option<u64> {
-        for room in &self.rooms {
-            if room.state(rt).is_err() {
-                return Some(room.opening().number());
-            }
-        }
-        None
+        !self.places.iter().any(|place| place.is_failing(rt))
     }
 
     /// Counts what an attempt changed.
     fn count(&self, change: &Option<Change>) {
         match change {
-            Some(Change::Fails(_)) => {
+            Some(Change::Fails { .. }) => {
                 self.failing.fetch_add(1, Ordering::SeqCst);
             }
-            Some(Change::KeptAgain) => {
+            Some(Change::KeptAgain { .. }) => {
                 self.failing.fetch_sub(1, Ordering::SeqCst);
             }
-            None => {}
+            Some(Change::Opened(_) | Change::Closed { .. }) | None => {}
         }
     }
 
     /// Keeps what the record of the room at this place has.
-    fn keep_at(
+    pub(crate) fn keep_at(
         &self,
         rt: &impl Wait,
         alloc: Global,
         rooms: &Rooms<P>,
         place: usize,
     ) -> Option<Change> {
-        let outcome = self.rooms.get(place)?.keep(rt, alloc, rooms)?;
+        let outcome = self.places.get(place)?.keep(rt, alloc, rooms)?;
         self.count(&outcome.change);
         if outcome.is_ordered {
-            self.orders.add(rt, place);
+            self.orders.add(rt, Order::Keep(place));
         }
         outcome.change
     }
+
+    /// What is known of this prefix of a room's record, and the receipt if the room was closed a short
+    /// time ago. A room is opened and closed under the lock of the doors, so it is looked for once more
+    /// under that.
+    fn receipt_elsewhere(
+        &self,
+        rt: &impl Wait,
+        told: &Prefix<P>,
+    ) -> Result<Option<Kept<P>>, KeepFault>
+        ensures { IfOk result (λ found. IfSome found (λ kept. IsKeptIn kept told.now)) }
+    {
+        let doors = self.doors.lock(rt);
+        if let Some(kept) = doors.receipt(told) {
+            return Ok(Some(kept));
+        }
+        match self.places.get(told.place()) {
+            Some(place) => self.take_standing(rt, told, place.standing(rt, told)?),
+            None => Err(KeepFault::NotKept),
+        }
+    }
+
+    /// The receipt, if the prefix is known to be kept. Orders an attempt if one is needed.
+    fn take_standing(
+        &self,
+        rt: &impl Wait,
+        told: &Prefix<P>,
+        standing: Standing<P>,
+    ) -> Result<Option<Kept<P>>, KeepFault>
+        requires { IfKept (λ kept. IsKeptIn kept told.now) standing }
+        ensures { IfOk result (λ found. IfSome found (λ kept. IsKeptIn kept told.now)) }
+    {
+        match standing {
+            Standing::Kept(kept) => Ok(Some(kept)),
+            Standing::Ordered => Ok(None),
+            Standing::New => {
+                self.orders.add(rt, Order::Keep(told.place()));
+                Ok(None)
+            }
+            Standing::Absent => Err(KeepFault::NotKept),
+        }
+    }
+
+    /// The proof that the file of the room of this opening is clean, if it is.
+    fn clean(&self, rt: &impl Wait, opening: &Opening<P>) -> Option<Clean>
+        ensures { IfSome result (λ clean. clean ≡ opening.now.number) }
+    {
+        let clean = self.places.get(opening.place())?.state(rt)?.ok()?;
+        if clean.number() == opening.number() {
+            Some(clean)
+        } else {
+            None
+        }
+    }
 }
 
-impl<P: RoomHistories, J: Journal + Drop> Keeper<P> for Keeping<P, J> {
+/// A place for each room that may be open. The rooms that are open from the start are there.
+fn places_of<P: RoomHistories, J: Journal + Drop>(
+    rt: &impl Wait,
+    alloc: Global,
+    rooms: &Rooms<P>,
+    files: Vec<RoomFile<P, J>>,
+) -> Result<Vec<Place<P, J>>, NoMemory> {
+    let count = rooms.count_places();
+    let mut places = Vec::with_capacity(alloc, count)?;
+    for _ in 0..count {
+        places.push(Place::new())?;
+    }
+    for (index, file) in files.into_iter().enumerate() {
+        if let (Some(place), Some(name)) = (places.get(index), rooms.name_at(index)) {
+            place.put(rt, name.copy(alloc)?, file);
+        }
+    }
+    Ok(places)
+}
+
+impl<P: RoomHistories, J: Journal + Drop, F: RoomFiles<J> + Drop> Keeper<P> for Keeping<P, J, F> {
     ghost use Rattle.keeping.specs.Kept.{IsKeptIn};
     ghost use Rattle.std.specs.Prelude.{◌≡◌};
 
@@ -106,64 +209,98 @@ impl<P: RoomHistories, J: Journal + Drop> Keeper<P> for Keeping<P, J> {
     ghost denies = { λ number. Unit {0} };
 
     fn receipt(&self, rt: &impl Wait, told: &Prefix<P>) -> Result<Option<Kept<P>>, KeepFault> {
-        let place = told.place();
-        let Some(room) = self.rooms.get(place) else {
+        let Some(place) = self.places.get(told.place()) else {
             return Err(KeepFault::NotKept);
         };
-        match room.standing(rt, told)? {
-            Standing::Kept(kept) => Ok(Some(kept)),
-            Standing::Ordered => Ok(None),
-            Standing::New => {
-                self.orders.add(rt, place);
-                Ok(None)
+        match place.standing(rt, told)? {
+            Standing::Absent => self.receipt_elsewhere(rt, told),
+            standing => self.take_standing(rt, told, standing),
+        }
+    }
+
+    /// A thread opens the room, unless it was found a short time ago that it cannot be opened.
+    fn open(
+        &self,
+        rt: &impl Wait,
+        alloc: Global,
+        rooms: &Rooms<P>,
+        name: &RoomName,
+    ) -> Result<Access<P>, NoMemory> {
+        let mut doors = self.doors.lock(rt);
+        match doors.hold(name) {
+            Some(Hold::Moving) => return Ok(Access::Later(self.waiting_place(name))),
+            Some(Hold::Failed(reason)) => return Ok(Access::NotServed(reason)),
+            None => {}
+        }
+        if let Lookup::Open(opening) = rooms.opening_of(rt, name) {
+            return Ok(Access::Known(opening));
+        }
+        if doors.is_full() {
+            return Ok(Access::NotServed(Reason::Full));
+        }
+        doors.begin_move(name.copy(alloc)?)?;
+        if !self.order_open(rt, alloc, name) {
+            doors.end_move(name);
+            return Err(NoMemory);
+        }
+        Ok(Access::Later(self.waiting_place(name)))
+    }
+
+    fn permit(&self, rt: &impl Wait, opening: &Opening<P>) -> Option<Clean> {
+        if let Some(clean) = self.clean(rt, opening) {
+            return Some(clean);
+        }
+        let _doors = self.doors.lock(rt);
+        self.clean(rt, opening)
+    }
+
+    fn failing(&self, rt: &impl Wait, alloc: Global) -> Option<Failing> {
+        if self.failing.load(Ordering::SeqCst) == 0 {
+            return None;
+        }
+        self.places
+            .iter()
+            .find_map(|place| place.failing(rt, alloc))
+    }
+
+    fn count_threads(&self) -> usize {
+        self.places.len().min(MAX_THREADS)
+    }
+
+    fn count_waiting_places(&self) -> usize {
+        if self.places.len() > self.first {
+            WAITING_PLACES
+        } else {
+            0
+        }
+    }
+
+    fn keep_next(&self, rt: &impl Wait, alloc: Global, rooms: &Rooms<P>) -> Option<Attempt> {
+        match self.orders.next(rt)? {
+            Order::Keep(place) => Some(Attempt {
+                news: [Some(place), None],
+                change: self.keep_at(rt, alloc, rooms, place),
+            }),
+            Order::Open(name) => {
+                let attempt = self.open_room(rt, alloc, rooms, name);
+                self.orders.end_move(rt);
+                Some(attempt)
+            }
+            Order::Close(place) => {
+                let ticks = self.close_after;
+                let attempt = self.close_room(rt, alloc, rooms, Idle { place, ticks });
+                self.orders.end_move(rt);
+                Some(attempt)
             }
         }
     }
 
-    /// No room is kept on demand.
-    fn open(
-        &self,
-        _rt: &impl Wait,
-        _alloc: Global,
-        _rooms: &Rooms<P>,
-        _name: &RoomName,
-    ) -> Result<Opened<P>, NoMemory> {
-        Ok(Opened::Full)
-    }
-
-    fn permit(&self, rt: &impl Wait, opening: &Opening<P>) -> Option<Clean> {
-        let clean = self.rooms.get(opening.place())?.state(rt).ok()?;
-        if clean.number() == opening.number() {
-            Some(clean)
-        } else {
-            None
-        }
-    }
-
-    fn failing(&self, rt: &impl Wait) -> Option<u64> {
-        if self.failing.load(Ordering::SeqCst) == 0 {
-            return None;
-        }
-        self.first_failing(rt)
-    }
-
-    fn count_threads(&self) -> usize {
-        self.rooms.len().min(MAX_THREADS)
-    }
-
-    fn keep_next(&self, rt: &impl Wait, alloc: Global, rooms: &Rooms<P>) -> Option<Attempt> {
-        let place = self.orders.next(rt)?;
-        let change = self.keep_at(rt, alloc, rooms, place);
-        Some(Attempt { place, change })
-    }
-
-    fn retry(&self, rt: &impl Wait) {
-        if self.failing.load(Ordering::SeqCst) == 0 {
-            return;
-        }
-        for (place, room) in self.rooms.iter().enumerate() {
-            if room.is_to_retry(rt) {
-                self.orders.add(rt, place);
+    fn tick(&self, rt: &impl Wait, rooms: &Rooms<P>) {
+        self.retry(rt);
+        self.doors.lock(rt).tick();
+        for (place, desk) in self.places.iter().enumerate().skip(self.first) {
+            if desk.is_to_close(rt, rooms, self.close_after) {
+                self.orders.add(rt, Order::Close(place));
             }
         }
     }
@@ -173,4 +310,41 @@ impl<P: RoomHistories, J: Journal + Drop> Keeper<P> for Keeping<P, J> {
         self.retry(rt);
         self.orders.end(rt);
     }
+
+    fn close(&self, rt: &impl Wait, alloc: Global, rooms: &Rooms<P>) {
+        for place in self.first..self.places.len() {
+            self.close_room(rt, alloc, rooms, Idle { place, ticks: 0 });
+        }
+    }
+}
+
+impl<P: RoomHistories, J: Journal + Drop, F: RoomFiles<J> + Drop> Keeping<P, J, F> {
+    /// Has each record of which the last attempt failed kept next. Linear in the number of rooms if
+    /// there is one, otherwise constant time.
+    fn retry(&self, rt: &impl Wait) {
+        if self.failing.load(Ordering::SeqCst) == 0 {
+            return;
+        }
+        for (place, desk) in self.places.iter().enumerate() {
+            if desk.is_to_retry(rt) {
+                self.orders.add(rt, Order::Keep(place));
+            }
+        }
+    }
+
+    /// The place at which there is news of the room of this name: one of a few behind those of the
+    /// rooms, by a hash of the name.
+    pub(crate) fn waiting_place(&self, name: &RoomName) -> usize {
+        let hash = fnv_1a(name.text().as_bytes()) as usize;
+        self.places.len().saturating_add(hash % WAITING_PLACES)
+    }
+}
+
+/// The 32-bit hash FNV-1a.
+fn fnv_1a(bytes: &[u8]) -> u32 {
+    let mut hash: u32 = 0x811c_9dc5;
+    for byte in bytes {
+        hash = (hash ^ u32::from(*byte)).wrapping_mul(0x0100_0193);
+    }
+    hash
 }

@@ -1,11 +1,15 @@
 //! Rooms whose records are kept in files: what each file keeps, and how threads wait for more.
 #![tactic(auto)]
 
+mod desk;
+mod doors;
 mod file;
+mod files;
 mod keeping;
 pub mod laws;
+mod moving;
 mod orders;
-mod room;
 
 pub use file::{Clean, Kept, RoomFile};
-pub use keeping::Keeping;
+pub use files::{FileFound, RoomFiles};
+pub use keeping::{Keeping, OnDemand};

@@ -1,40 +1,85 @@
-//! The rooms whose records are to be kept next.
+//! What threads are to do next.
 
-use base_types::NoMemory;
+use base_types::{NoMemory, RoomName};
 use crossbeam_utils::Backoff;
 use std::alloc::Global;
 use std::collections::VecDeque;
 use std::sync::atomic::{AtomicBool, AtomicUsize, Ordering};
 use std::sync::{Condvar, Mutex, Wait};
 
-/// The places of rooms, in the order in which they came.
+/// What a thread is to do next.
+#[derive(Drop)]
+pub(crate) enum Order {
+    /// To keep the record of the room at this place.
+    Keep(usize),
+    /// To open the room of this name.
+    Open(RoomName),
+    /// To close the room at this place.
+    Close(usize),
+}
+
+/// The orders, in the order in which they came. Records are kept first.
 #[derive(Drop)]
 struct Queue {
-    places: VecDeque<usize>,
+    /// The places of rooms whose records are to be kept.
+    keeps: VecDeque<usize>,
+    /// The rooms that are to be opened or closed.
+    moves: VecDeque<Order>,
+    /// How many threads may open and close rooms now.
+    spare: usize,
     /// No more will come but from who takes them out.
     is_over: bool,
 }
 
-/// How often a thread looks for the next room before it sleeps: about a tenth of a millisecond.
+impl Queue {
+    /// Appends an order. Returns false if an allocation failed.
+    fn push(&mut self, order: Order) -> bool {
+        match order {
+            Order::Keep(place) => self.keeps.push_back(place).is_ok(),
+            Order::Open(_) | Order::Close(_) => self.moves.push_back(order).is_ok(),
+        }
+    }
+
+    /// Takes the next order out.
+    fn pop(&mut self) -> Option<Order> {
+        if let Some(place) = self.keeps.pop_front() {
+            return Some(Order::Keep(place));
+        }
+        let spare = self.spare.checked_sub(1)?;
+        let order = self.moves.pop_front()?;
+        self.spare = spare;
+        Some(order)
+    }
+
+    /// The number of orders.
+    fn len(&self) -> usize {
+        self.keeps.len().saturating_add(self.moves.len())
+    }
+}
+
+/// How often a thread looks for the next order before it sleeps: about a tenth of a millisecond.
 const LOOKS: u32 = 40;
 
-/// The rooms whose records are to be kept next, which threads share.
+/// What is to be done next, which threads share.
 #[derive(Drop)]
 pub(crate) struct Orders {
     queue: Mutex<Queue>,
     came: Condvar,
-    /// The number of rooms in the queue.
+    /// The number of orders in the queue.
     count: AtomicUsize,
-    /// A thread looks for the next room.
+    /// A thread looks for the next order.
     is_looking: AtomicBool,
 }
 
 impl Orders {
-    /// No rooms, with space for this many. `NoMemory` if an allocation failed.
-    pub(crate) fn new(alloc: Global, rooms: usize) -> Result<Orders, NoMemory> {
+    /// No orders, with space to keep so many rooms. At most `movers` threads open and close rooms at a
+    /// time. `NoMemory` if an allocation failed.
+    pub(crate) fn new(alloc: Global, rooms: usize, movers: usize) -> Result<Orders, NoMemory> {
         Ok(Orders {
             queue: Mutex::new(Queue {
-                places: VecDeque::with_capacity(alloc, rooms)?,
+                keeps: VecDeque::with_capacity(alloc, rooms)?,
+                moves: VecDeque::new(alloc),
+                spare: movers,
                 is_over: false,
             }),
             came: Condvar::new(),
@@ -43,12 +88,11 @@ impl Orders {
         })
     }
 
-    /// Adds the room at a place, and wakes a thread that waits if none looks. False if an allocation
-    /// failed.
-    pub(crate) fn add(&self, rt: &impl Wait, place: usize) -> bool {
+    /// Adds an order, and wakes a thread that waits if none looks. False if an allocation failed.
+    pub(crate) fn add(&self, rt: &impl Wait, order: Order) -> bool {
         let mut queue = self.queue.lock(rt);
-        let is_added = queue.places.push_back(place).is_ok();
-        self.count.store(queue.places.len(), Ordering::SeqCst);
+        let is_added = queue.push(order);
+        self.count.store(queue.len(), Ordering::SeqCst);
         drop(queue);
         if !self.is_looking.load(Ordering::SeqCst) {
             self.came.notify_one();
@@ -56,7 +100,7 @@ impl Orders {
         is_added
     }
 
-    /// Looks for the next room for a while, unless another thread does. A thread that sleeps is woken
+    /// Looks for the next order for a while, unless another thread does. A thread that sleeps is woken
     /// late.
     fn look(&self) {
         if self.is_looking.swap(true, Ordering::SeqCst) {
@@ -72,20 +116,20 @@ impl Orders {
         self.is_looking.store(false, Ordering::SeqCst);
     }
 
-    /// Waits for the next room, and takes it out. If more are left, wakes another thread. `None` once
-    /// all is over and no room is left.
-    pub(crate) fn next(&self, rt: &impl Wait) -> Option<usize> {
+    /// Waits for the next order, and takes it out. If more are left, wakes another thread. `None` once
+    /// all is over and no order is left for this thread.
+    pub(crate) fn next(&self, rt: &impl Wait) -> Option<Order> {
         self.look();
         let mut queue = self.queue.lock(rt);
         for _ in rt.forever() {
-            if let Some(place) = queue.places.pop_front() {
-                let left = queue.places.len();
+            if let Some(order) = queue.pop() {
+                let left = queue.len();
                 self.count.store(left, Ordering::SeqCst);
                 drop(queue);
                 if left > 0 {
                     self.came.notify_one();
                 }
-                return Some(place);
+                return Some(order);
             }
             if queue.is_over {
                 return None;
@@ -95,9 +139,23 @@ impl Orders {
         unreachable!()
     }
 
-    /// No more will come but from who takes them out.
+    /// A thread has opened or closed a room, as it was ordered to.
+    pub(crate) fn end_move(&self, rt: &impl Wait) {
+        let mut queue = self.queue.lock(rt);
+        queue.spare = queue.spare.saturating_add(1);
+        let is_wanted = !queue.moves.is_empty();
+        drop(queue);
+        if is_wanted {
+            self.came.notify_one();
+        }
+    }
+
+    /// No more will come but from who takes them out. No room is opened or closed any more.
     pub(crate) fn end(&self, rt: &impl Wait) {
-        self.queue.lock(rt).is_over = true;
+        let mut queue = self.queue.lock(rt);
+        queue.is_over = true;
+        queue.moves.clear();
+        drop(queue);
         self.came.notify_all();
     }
 }

@@ -327,7 +327,7 @@ impl<S, D: Drop, C: Drop> EventLoop<S, D, C> {
             let Some(line) = self.lines.get_mut(key) else {
                 continue;
             };
-            let before = line.session_parked_at();
+            let before = line.session_parked_at(shared.service);
             line.parked_at = None;
             let next = line.look(shared, &mut self.bench.scratch, true, self.now);
             self.follow(shared, key, next);

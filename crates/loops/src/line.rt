@@ -177,12 +177,15 @@ impl<S, D: Drop> Line<S, D> {
         }
     }
 
-    /// The place at which it is parked, if its session has begun.
-    pub(crate) fn session_parked_at(&self) -> Option<usize> {
-        if self.is_opening() {
-            None
-        } else {
-            self.parked_at
+    /// The place at which it is parked, if that is of the room that its session was in: not where the
+    /// client waits to be let in, nor where a held message blocks, since it may wait elsewhere.
+    pub(crate) fn session_parked_at<V: Service<Session = S, Told = D>>(
+        &self,
+        service: &V,
+    ) -> Option<usize> {
+        match &self.stage {
+            Stage::Open(served) if !served.connection.is_blocked(service) => self.parked_at,
+            Stage::Open(_) | Stage::Opening(_) | Stage::Leaving { .. } => None,
         }
     }
 

@@ -13,6 +13,12 @@ pub enum FolderFault<'a> {
     /// Another process holds it.
     #[error("kept by another: {0}")]
     KeptByAnother(&'a str),
+    /// Another process has the room's file.
+    #[error("kept by another: {dir}/{room}.record")]
+    RoomKeptByAnother {
+        dir: &'a str,
+        room: &'a str,
+    },
     /// This line of the room's file is no entry that may come next. Nothing was changed.
     #[error("bad record: {dir}/{room}.record line {line}; after a loss of power all that clients were told stands before it: keep a copy, and then the lines before {line} alone")]
     BadRecord {

@@ -1,7 +1,7 @@
-//! Opening and closing the file of one room while a server runs. Several processes may share a
-//! folder: each room's file has a lock of its own.
+//! Opening the files of rooms with their locks, at the start and while a server runs, and closing
+//! them. Several processes may share a folder: each room's file has a lock of its own.
 
-ghost use Rattle.std.specs.Prelude.{◌≡◌, IfOk};
+ghost use Rattle.std.specs.Prelude.{◌≡◌, All, IfOk, map};
 ghost use Rattle.rules.specs.Limits.{full_limits};
 ghost use Rattle.room_folder.specs.steps.Opened.{IfHere};
 
@@ -68,7 +68,84 @@ impl<'a> Folder<'a> {
         ensures file { IfOk result (IfHere (λ state file.
             file ≡ record { name = name.now; entries = state.room.entries })) }
     {
-        let path = path_of(alloc, self.dir, name.text())?;
+        let found = self.open_named(rt, alloc, name.text())?;
+        if let RoomFound::Bad(line) = &found {
+            error!(rt; "{}/{}.record: bad record line {line}", self.dir, name.text());
+        }
+        Ok(found)
+    }
+
+    /// Opens the files of these rooms as `open_room` does, in order. Returns the rooms with the
+    /// records that their files have, under full limits, and the files, both in the order of the
+    /// names. Its cost is that of `open_room` for each.
+    ///
+    /// # Errors
+    /// `RoomKeptByAnother` if another open file has the lock of a room's file.
+    /// `BadRecord` if the whole lines of a file are no legal record.
+    /// `CannotKeep` if a file can't be used. The log says why.
+    /// `NoMemory` if an allocation failed.
+    ///
+    /// The files of the rooms before may have been created, or cut to their whole lines.
+    pub fn open_rooms<R: Files<File = File> + Log + Wait>(
+        &self,
+        rt: &R,
+        alloc: Global,
+        names: &[&'a str],
+    ) -> Result<(Vec<RoomState>, Vec<RestoredFile<Synced<File>>>), FolderFault<'a>>
+        // There is a file for each name in order, and the room with the record of the file:
+        ensures names { IfOk result (λ found.
+            map (λ file. file.name) found.1.items ≡ map (λ name. name.now) names.now) }
+        ensures records { IfOk result (λ found. map (λ state. state.room.entries) found.0.items
+            ≡ map (λ file. file.entries) found.1.items) }
+        ensures limits { IfOk result (λ found.
+            All (λ state. state.room.limits ≡ full_limits) found.0.items) }
+    {
+        let mut states = Vec::with_capacity(alloc, names.len())?;
+        let mut files = Vec::with_capacity(alloc, names.len())?;
+        for name in names {
+            let (state, file) = self.open_at_start(rt, alloc, name)?;
+            states.push(state)?;
+            files.push(file)?;
+        }
+        Ok((states, files))
+    }
+
+    /// Opens the file of one room. Fails unless the room is here.
+    fn open_at_start<R: Files<File = File> + Log + Wait>(
+        &self,
+        rt: &R,
+        alloc: Global,
+        name: &'a str,
+    ) -> Result<(RoomState, RestoredFile<Synced<File>>), FolderFault<'a>>
+        ensures limits { IfOk result (λ found. found.0.room.limits ≡ full_limits) }
+        ensures found { IfOk result (λ found.
+            found.1 ≡ record { name = name.now; entries = found.0.room.entries }) }
+    {
+        let dir = self.dir;
+        match self.open_named(rt, alloc, name)? {
+            RoomFound::Here(state, file) => Ok((state, file)),
+            RoomFound::Elsewhere => Err(FolderFault::RoomKeptByAnother { dir, room: name }),
+            RoomFound::Bad(line) => Err(FolderFault::BadRecord {
+                dir,
+                room: name,
+                line,
+            }),
+            RoomFound::Unusable => Err(FolderFault::CannotKeep(dir)),
+        }
+    }
+
+    /// Opens the file of the room of this name, as `open_room` does, but does not log a bad line.
+    fn open_named<R: Files<File = File> + Log + Wait>(
+        &self,
+        rt: &R,
+        alloc: Global,
+        name: &str,
+    ) -> Result<RoomFound, NoMemory>
+        ensures limits { IfOk result (IfHere (λ state file. state.room.limits ≡ full_limits)) }
+        ensures file { IfOk result (IfHere (λ state file.
+            file ≡ record { name = name.now; entries = state.room.entries })) }
+    {
+        let path = path_of(alloc, self.dir, name)?;
         match lock_or_create(rt, path.as_str()) {
             Ok(LockedFile::Here(file)) => self.restore_locked(rt, alloc, name, path.as_str(), file),
             Ok(LockedFile::Elsewhere) => Ok(RoomFound::Elsewhere),
@@ -82,7 +159,7 @@ impl<'a> Folder<'a> {
         &self,
         rt: &R,
         alloc: Global,
-        name: &RoomName,
+        name: &str,
         path: &str,
         file: File,
     ) -> Result<RoomFound, NoMemory>
@@ -90,15 +167,12 @@ impl<'a> Folder<'a> {
         ensures file { IfOk result (IfHere (λ state file.
             file ≡ record { name = name.now; entries = state.room.entries })) }
     {
-        match restore_room(rt, alloc, name.text(), Some(file)) {
+        match restore_room(rt, alloc, name, Some(file)) {
             Ok((room, found)) => {
                 log_entries(rt, path, &room);
                 self.found_here(rt, alloc, room, found)
             }
-            Err(RestoreFault::BadLine(line)) => {
-                error!(rt; "{path}: bad record line {line}");
-                Ok(RoomFound::Bad(line))
-            }
+            Err(RestoreFault::BadLine(line)) => Ok(RoomFound::Bad(line)),
             Err(RestoreFault::Unreadable) => Ok(unusable(rt, path, &UNREADABLE)),
             Err(RestoreFault::NoMemory) => Err(NoMemory),
         }

@@ -1,11 +1,14 @@
 -- Rooms that were opened in the order of their names.
-use Rattle.std.proofs.Common.{◌≡◌, ℕ, zero, suc, ◌+◌, List, [], ◌∷◌, ◌++◌, Some, length, map, ap, sym, ◌∙◌, arith, length-append, slice_get, subst}
+use Rattle.std.proofs.Common.{◌≡◌, ℕ, zero, suc, ◌+◌, ◌-◌, Bool, List, [], ◌∷◌, ◌++◌, Option, None, Some, length, map, get_or, set, ap, sym, ◌∙◌, arith, length-append, slice_get, subst}
 use Rattle.std.specs.Prelude.{Contains, bytes_eq, option_map, position}
-use Rattle.std.specs.List.{range_with_len}
+use Rattle.std.specs.List.{range_with_len, swap_remove}
+use Rattle.std.specs.Option.{option_map_or}
 use Rattle.std.specs.Map.{keys_of}
 use Rattle.std.proofs.lemmas.List.{length-map, map-append}
+use Rattle.std.proofs.lemmas.List.Elements.{All-set, All-take}
 use Rattle.std.proofs.lemmas.List.FromFn.{get_or-range_with_len, length-range_with_len}
 use Rattle.std.proofs.lemmas.Option.{get_or_from_slice_get, slice_get-map, slice_get_within}
+use Rattle.indexmap.specs.IndexMap.{swap_remove_entry}
 use Rattle.crossbeam_utils.specs.Padded.{padded_value}
 use Rattle.crossbeam_utils.specs.declared.cache_padded.CachePadded.{CachePadded}
 use Rattle.base_types.specs.Texts.{Bytes}
@@ -71,6 +74,18 @@ named_at openings all place name opening is =
     let within = slice_get_within openings place (name, opening) is in
     let P : Bytes × OpeningView → Type 0 = λ named. name_of named.1 ≡ named.0 in
     subst P (get_or_from_slice_get openings place (name, opening) (name, opening) is) (all place (name, opening) within)
+
+-- without the room that stands first under a name
+pub named_without : (test : Bytes → Bool) (openings : List (Bytes × OpeningView)) → AreNamed openings → AreNamed (swap_remove_entry test openings)
+named_without test [] all = all
+named_without test (e ∷ es) all = at (position test (keys_of (e ∷ es)))
+  where
+    at : (place : Option ℕ) → AreNamed (option_map_or (λ i. swap_remove (e ∷ es) i e) place (e ∷ es))
+    at None = all
+    at (Some i) =
+        let P : Bytes × OpeningView → Type 0 = λ named. name_of named.1 ≡ named.0 in
+        let last = get_or (e ∷ es) (length (e ∷ es) - 1) e in
+        All-take P (length (e ∷ es) - 1) (set (e ∷ es) i last) (All-set P (e ∷ es) i last (all (length (e ∷ es) - 1) e (omega arith)) all)
 
 -- with a room more, which was opened behind them
 pub more_in_order : (names : List Bytes) (openings : List OpeningView) (name : Bytes) (opening : OpeningView) → AreInOrder names openings

@@ -76,8 +76,7 @@ fn close_stage<P: RoomHistories>(
     }
 }
 
-/// Appends the records of the rooms that are open on demand, in the order of their slots. `Missing`
-/// if a slot has no room, or one of another opening.
+/// Appends the records of the rooms that are open on demand. `Missing` if one is not in its slot.
 pub(crate) fn close_others<P: RoomHistories>(
     alloc: Global,
     others: Others<P>,
@@ -91,24 +90,30 @@ pub(crate) fn close_others<P: RoomHistories>(
         OnOk result (All (λ one. IsClosed P.limits
         (map arc_value one.entries.items) one.parts.items) records.new.items) }
 {
-    let (openings, mut slots) = others.into_parts();
-    let mut index: usize = 0;
+    let (openings, mut slots, first) = others.into_parts();
+    let most = slots.len();
+    let mut count: usize = 0;
     for (name, opening) in openings {
-        let Some(slot) = slots.get_mut(index) else {
+        if count >= most {
             return Err(CloseFault::Missing { room: name });
-        };
-        let stage = take_stage(slot, &opening);
+        }
+        let index = opening.place().saturating_sub(first);
+        let stage = take_stage(slots.as_mut_slice(), index, &opening);
         push_record(records, close_stage(alloc, stage, name)?)?;
-        index += 1;
+        count += 1;
     }
     Ok(())
 }
 
-/// Takes the room of this opening out of its slot. `Free` if it is not there.
+/// Takes the room of this opening out of its slot, which has this index. `Free` if it is not there.
 fn take_stage<P: RoomHistories>(
-    slot: &mut CachePadded<Mutex<Stage<P>>>,
+    slots: &mut [CachePadded<Mutex<Stage<P>>>],
+    index: usize,
     opening: &Opening<P>,
 ) -> Stage<P> {
+    let Some(slot) = slots.get_mut(index) else {
+        return Stage::Free;
+    };
     let stage = std::mem::replace(slot.get_mut(), Stage::Free);
     if stage.is_open_as(opening) {
         stage

@@ -1,12 +1,17 @@
-//! Rooms that are opened on demand.
+//! Rooms that are opened on demand. Each is in a slot of its own while it is open. A directory owns
+//! the openings by name, the indices of the slots that are free, and the register. Between calls
+//! each opening stands under the name of its room. Rooms are opened and closed under the lock of the
+//! directory, which is taken before that of a slot.
 
-ghost use Rattle.std.specs.Prelude.{◌≡◌, ◌↔◌, ◌∷◌, ◌++◌, [], IfOk, IfSome, IsNone, None, OnErr};
-ghost use Rattle.std.specs.Prelude.{OnOk, bytes_eq, length, vec_len};
+ghost use Rattle.std.specs.Prelude.{◌≡◌, ◌↔◌, ◌∷◌, ◌++◌, ◌<◌, [], IfOk, IfSome, IsNone, None};
+ghost use Rattle.std.specs.Prelude.{OnErr, OnOk, Some, bytes_eq, false, true, vec_len};
 ghost use Rattle.std.specs.Map.{lookup};
 ghost use Rattle.std.specs.Sync.Mutex.{mutex_guard_value};
+ghost use Rattle.indexmap.specs.IndexMap.{swap_remove_entry};
 ghost use Rattle.room_lock.specs.InOrder.{name_of};
 ghost use Rattle.room_lock.specs.Lookups.{IfKnown, IfNew};
-ghost use Rattle.room_lock.specs.steps.Stages.{IsOpenAs};
+ghost use Rattle.room_lock.specs.declared.slot.Stage.TheVariants as stages;
+ghost use Rattle.room_lock.specs.steps.Stages.{IsIdleAs, IsOpenAs};
 
 use crate::lookup::Opened;
 use crate::making::insert_new;
@@ -23,12 +28,16 @@ use std::alloc::Global;
 use std::marker::Model;
 use std::sync::{Mutex, MutexGuard, Wait};
 
-/// The openings of the rooms that are open on demand, by name, and the register. The order is that of
-/// their slots. Contracts see the openings with their names.
+/// The openings of the rooms that are open on demand, by name, the slots that are free, and the
+/// register. Contracts see the openings with their names.
 #[derive(Drop)]
 pub(crate) struct Directory<P: RoomHistories> {
     register: Register<P>,
     openings: IndexMap<RoomName, Opening<P>>,
+    /// The slots of rooms that were closed.
+    free: Vec<usize>,
+    /// The number of slots that were used so far.
+    used: usize,
 }
 
 impl<P: RoomHistories> Model for Directory<P> {
@@ -52,14 +61,9 @@ impl<P: RoomHistories> Directory<P> {
         Directory {
             register,
             openings: IndexMap::new(alloc),
+            free: Vec::new(alloc),
+            used: 0,
         }
-    }
-
-    /// The number of rooms that are open on demand.
-    fn count(&self) -> usize
-        ensures { result ≡ length self.now }
-    {
-        self.openings.len()
     }
 
     /// The opening of the room of this name, if it is open on demand.
@@ -71,6 +75,67 @@ impl<P: RoomHistories> Directory<P> {
             Some((_index, _name, opening)) => Some(opening.copy()),
             None => None,
         }
+    }
+
+    /// A slot that is free, if one of so many is.
+    fn free_slot(&self, most: usize) -> Option<usize>
+        ensures { IfSome result (λ index. index < most) }
+    {
+        let index = self.free.last().copied().unwrap_or(self.used);
+        if index < most { Some(index) } else { None }
+    }
+
+    /// The slot that `free_slot` gave is in use from now on.
+    fn use_slot(&mut self)
+        ensures { self.new ≡ self.old }
+    {
+        if self.free.pop().is_none() {
+            self.used = self.used.saturating_add(1);
+        }
+    }
+
+    /// The slot is free again. It is not used again if an allocation failed.
+    fn free_up(&mut self, index: usize)
+        ensures { self.new ≡ self.old }
+    {
+        let _ = self.free.push(index);
+    }
+
+    /// Takes this opening out, if the room of this name is open as it. Returns whether it was.
+    fn end(&mut self, name: &RoomName, opening: &Opening<P>) -> bool
+        ensures open { (result ≡ true)
+            ↔ (lookup (bytes_eq name.now) self.old ≡ Some opening.now) }
+        ensures name { result ≡ true → name_of opening.now ≡ name.now }
+        ensures ended { result ≡ true →
+            self.new ≡ swap_remove_entry (bytes_eq name.now) self.old }
+        ensures unchanged { result ≡ false → self.new ≡ self.old }
+    {
+        let Some((_index, _name, found)) = self.openings.get_full(name) else {
+            return false;
+        };
+        if !found.is_same(opening) {
+            return false;
+        }
+        self.openings.swap_remove(name);
+        true
+    }
+
+    /// Closes the room of a slot, if it is open under this name, no session is in it, and its record
+    /// is the prefix. Returns whether it is closed.
+    fn close_idle(&mut self, stage: &mut Stage<P>, name: &RoomName, whole: &Prefix<P>) -> bool
+        ensures closed { (result ≡ true) ↔ (IsIdleAs whole.now stage.old
+            × (lookup (bytes_eq name.now) self.old ≡ Some whole.now.opening)) }
+        ensures name { result ≡ true → name_of whole.now.opening ≡ name.now }
+        ensures free { result ≡ true → stage.new ≡ stages.Free }
+        ensures ended { result ≡ true →
+            self.new ≡ swap_remove_entry (bytes_eq name.now) self.old }
+        ensures unchanged { result ≡ false → (stage.new ≡ stage.old) × (self.new ≡ self.old) }
+    {
+        if !stage.is_idle(whole) || !self.end(name, whole.opening()) {
+            return false;
+        }
+        *stage = Stage::Free;
+        true
     }
 
     /// Opens a room, behind those that are open.
@@ -189,35 +254,75 @@ impl<P: RoomHistories> Others<P> {
         if let Some(opening) = directory.opening_of(&name) {
             return Ok(Opened::Known(opening));
         }
-        let index = directory.count();
-        let Some(slot) = self.slots.get(index) else {
+        let Some(index) = directory.free_slot(self.slots.len()) else {
             return Ok(Opened::Full);
         };
         let place = self.first.saturating_add(index);
         let room = directory.begin(rt, alloc, NewRoom { place, name, state })?;
+        directory.use_slot();
         let begun = room.prefix();
-        *lock_of(rt, slot) = Stage::Open(room);
+        *lock_of(rt, &self.slots[index]) = Stage::Open(room);
         Ok(Opened::New(begun))
     }
 
-    /// The openings of the rooms that are open, by name, and the slots in the same order.
+    /// Returns whether as many rooms are open as may be. Waits for the lock of the directory.
+    pub(crate) fn is_full(&self, rt: &impl Wait) -> bool
+        ensures { self.now ≡ 0 → result ≡ true }
+    {
+        lock_of(rt, &self.directory)
+            .free_slot(self.slots.len())
+            .is_none()
+    }
+
+    /// Returns whether the room of this prefix is open, no session is in it, and its record is the
+    /// prefix. Waits for the lock of the slot.
+    pub(crate) fn is_idle(&self, rt: &impl Wait, whole: &Prefix<P>) -> bool
+        ensures { self.now ≡ 0 → result ≡ false }
+    {
+        match self.lock(rt, whole.opening()) {
+            Some(stage) => stage.is_idle(whole),
+            None => false,
+        }
+    }
+
+    /// Closes the room of this name and prefix, if no session is in it, and its record is the
+    /// prefix. Returns whether it is closed. Waits for the locks of the directory and of the slot.
+    pub(crate) fn close_idle(&self, rt: &impl Wait, name: &RoomName, whole: &Prefix<P>) -> bool
+        ensures none { self.now ≡ 0 → result ≡ false }
+        ensures name { result ≡ true → name_of whole.now.opening ≡ name.now }
+    {
+        let mut directory = lock_of(rt, &self.directory);
+        let Some(mut stage) = self.lock(rt, whole.opening()) else {
+            return false;
+        };
+        let is_closed = directory.close_idle(&mut stage, name, whole);
+        if is_closed {
+            directory.free_up(whole.place().saturating_sub(self.first));
+        }
+        is_closed
+    }
+
+    /// The openings of the rooms that are open, by name, the slots, and the place of the first.
     pub(crate) fn into_parts(
         self,
     ) -> (
         IndexMap<RoomName, Opening<P>>,
         Vec<CachePadded<Mutex<Stage<P>>>>,
+        usize,
     )
         ensures { vec_len result.1 ≡ self }
     {
         let Others {
             directory,
             slots,
-            first: _,
+            first,
         } = self;
         let Directory {
             register: _,
             openings,
+            free: _,
+            used: _,
         } = directory.into_inner();
-        (openings, slots)
+        (openings, slots, first)
     }
 }

@@ -2,7 +2,7 @@
 
 ghost use Rattle.std.specs.Prelude.{◌≡◌, ◌≢◌, ◌⊎◌, ◌++◌, ◌∷◌, [], ◌+◌, ◌<◌, ◌≤◌, ◌↔◌, Err, None};
 ghost use Rattle.std.specs.Prelude.{Ok, Some, IfErr, IfOk, OnOk, OnErr, false, true, slice_get};
-ghost use Rattle.std.specs.Prelude.{IsNone, length, map, option_map};
+ghost use Rattle.std.specs.Prelude.{Contains, IsNone, length, map, option_map};
 ghost use Rattle.std.specs.Arc.{arc_value};
 ghost use mathlib.Core.List.{IsPrefix};
 ghost use Rattle.rules.specs.Records.{IsLegal};
@@ -28,7 +28,7 @@ use crate::part::Part;
 use crate::pass::Pass;
 use crate::prefix::Prefix;
 use crate::restoring::fill_shelf;
-use crate::shelf::{all_parts, is_away, put_part, take_part};
+use crate::shelf::{all_parts, is_any_away, is_away, put_part, take_part};
 use base_types::{NoMemory, RoomName};
 use openings::{NewOpening, Opening, Register, RoomHistories};
 use room_core::RoomState;
@@ -141,6 +141,17 @@ impl<P: RoomHistories> Room<P> {
         ensures { result ≡ is_away self.now.shelf site }
     {
         is_away(self.shelf.as_slice(), site)
+    }
+
+    /// Returns whether no session is in the room and its record is this prefix. Linear in the number
+    /// of sites.
+    pub(crate) fn is_idle(&self, whole: &Prefix<P>) -> bool
+        requires { whole.now.opening ≡ self.now.opening }
+        ensures idle { (result ≡ true) ↔ ((whole.now.entries ≡ self.now.entries)
+            × ¬ (Contains self.now.shelf None)) }
+    {
+        let record = self.prefix();
+        whole.begins(&record) && record.begins(whole) && !is_any_away(self.shelf.as_slice())
     }
 
     /// Lets the next site in if the limits allow it, and gives its pass.

@@ -81,6 +81,13 @@ impl<P: RoomHistories> Rooms<P> {
         }
     }
 
+    /// Returns whether this is the opening of a room that is open from the start.
+    fn is_first(&self, opening: &Opening<P>) -> bool
+        ensures { (result ≡ true) ↔ (opening.now.number < length self.now.names) }
+    {
+        opening.number() < self.rooms.len() as u64
+    }
+
     /// The limits of the rooms.
     pub fn limits(&self) -> Limits
         ensures { result ≡ P.limits }
@@ -144,6 +151,36 @@ impl<P: RoomHistories> Rooms<P> {
         ensures known { IfOk result (IfKnown (IsOpeningFor self.now name)) }
     {
         self.others.open(rt, alloc, name, state)
+    }
+
+    /// Returns whether as many rooms are open on demand as may be. Waits for the lock of the
+    /// directory. Constant time.
+    pub fn is_full(&self, rt: &impl Wait) -> bool
+        ensures none { self.now.others ≡ 0 → result ≡ true }
+    {
+        self.others.is_full(rt)
+    }
+
+    /// Returns whether the room of this prefix is open on demand, no session is in it, and its
+    /// record is the prefix. Waits for the room's lock. Linear in the number of its sites.
+    pub fn is_idle(&self, rt: &impl Wait, whole: &Prefix<P>) -> bool
+        ensures first { whole.now.opening.number < length self.now.names → result ≡ false }
+        ensures none { ¬ (MayBeOf self.now whole.now.opening) → result ≡ false }
+    {
+        !self.is_first(whole.opening()) && self.others.is_idle(rt, whole)
+    }
+
+    /// Closes the room of this name and prefix, if it is open on demand, no session is in it, and
+    /// its record is the prefix. Returns whether it is closed. Its name is then free for another
+    /// opening, and its place too, unless an allocation failed. Waits for the locks of the directory
+    /// and of the room. Linear in the number of its sites. That a room with more entries, or with a
+    /// session in it, stays open is a clause of the room under its lock.
+    pub fn close_idle(&self, rt: &impl Wait, name: &RoomName, whole: &Prefix<P>) -> bool
+        ensures name { result ≡ true → whole.now.opening.room.name ≡ name.now }
+        ensures first { whole.now.opening.number < length self.now.names → result ≡ false }
+        ensures none { ¬ (MayBeOf self.now whole.now.opening) → result ≡ false }
+    {
+        !self.is_first(whole.opening()) && self.others.close_idle(rt, name, whole)
     }
 
     /// The number of entries in the record of the pass's room, or `None` if the pass belongs to

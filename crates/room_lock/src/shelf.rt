@@ -1,7 +1,7 @@
 //! The shelf of a room: the parts of the sites that no session is in as. It has a place for each
 //! site, from site 1 on.
 
-ghost use Rattle.std.specs.Prelude.{◌≡◌, None, Some, true, false, IfErr, IfOk, OnErr, OnOk};
+ghost use Rattle.std.specs.Prelude.{◌≡◌, ◌↔◌, None, Some, true, false, IfErr, IfOk, OnErr, OnOk};
 ghost use Rattle.std.specs.Prelude.{MatchOption, Contains, map, vec_capacity};
 ghost use Rattle.room_lock.specs.Shelves.{is_away, part_of, with_at};
 
@@ -18,6 +18,13 @@ pub(crate) fn is_away<P: RoomHistories>(shelf: &[Option<Part<P>>], site: u32) ->
         Some(place) => matches!(shelf.get(place), Some(None)),
         None => false,
     }
+}
+
+/// Returns whether a session is in as any site: a place is empty. Linear in the number of sites.
+pub(crate) fn is_any_away<P: RoomHistories>(shelf: &[Option<Part<P>>]) -> bool
+    ensures { (result ≡ true) ↔ Contains shelf.now None }
+{
+    shelf.iter().any(|place| place.is_none())
 }
 
 /// Takes a site's part off the shelf, if it is there.

@@ -2,8 +2,9 @@
 
 ghost use Rattle.std.specs.Prelude.{◌≡◌, ◌↔◌, true};
 ghost use Rattle.std.specs.Sync.Mutex.{mutex_guard_value};
-ghost use Rattle.room_lock.specs.steps.Stages.{IsOpenAs};
+ghost use Rattle.room_lock.specs.steps.Stages.{IsIdleAs, IsOpenAs};
 
+use crate::prefix::Prefix;
 use crate::room::Room;
 use crossbeam_utils::Backoff;
 use openings::{Opening, RoomHistories};
@@ -31,6 +32,17 @@ impl<P: RoomHistories> Stage<P> {
             Stage::Free => false,
             Stage::Open(room) => room.opening().is_same(opening),
         }
+    }
+
+    /// Returns whether the room of this prefix is open, no session is in it, and its record is the
+    /// prefix.
+    pub(crate) fn is_idle(&self, whole: &Prefix<P>) -> bool
+        ensures { (result ≡ true) ↔ IsIdleAs whole.now self.now }
+    {
+        let Stage::Open(room) = self else {
+            return false;
+        };
+        room.opening().is_same(whole.opening()) && room.is_idle(whole)
     }
 }
 

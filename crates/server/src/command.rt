@@ -37,6 +37,7 @@ fn service_of<'a, 'w, R, W>(
     let idle = words.get_one("idle")?;
     let report = words.get_one("report")?;
     let clients = words.get_one("clients")?;
+    let close_after = words.get_one("close-after")?;
     Some(Service {
         rt,
         alloc,
@@ -49,6 +50,7 @@ fn service_of<'a, 'w, R, W>(
         dir: words.get_str("keep"),
         is_confining: words.get_flag("by-path"),
         on_demand: words.get_one("rooms").unwrap_or(0),
+        close_after,
         ends_with_input: words.get_flag("until-input-ends"),
         output,
     })

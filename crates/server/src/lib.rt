@@ -5,6 +5,7 @@ mod accept;
 mod command;
 mod departure;
 mod early_end;
+mod folder_files;
 mod meters;
 mod platform;
 mod serve;

@@ -5,6 +5,7 @@ use crate::tally::EntrySums;
 use base_types::NoMemory;
 use command_line::VERSION;
 use crossbeam_utils::CachePadded;
+use keeper::Reason;
 use metrics::{Family, Kind, Label, Number, Sample, Suffix, write_families};
 use rules::{MAX_REFUSAL_CODE, Refusal};
 use sessions::Cause;
@@ -25,6 +26,14 @@ const CAUSES: [Cause; 6] = [
     Cause::NotKept,
 ];
 
+/// Why rooms are not served, in the order of their counters.
+const REASONS: [Reason; 4] = [
+    Reason::Full,
+    Reason::Elsewhere,
+    Reason::File,
+    Reason::NoMemory,
+];
+
 /// Counters that begin at 0 with the server.
 #[derive(Drop)]
 pub(crate) struct Meters {
@@ -35,10 +44,8 @@ pub(crate) struct Meters {
     /// In the order of `CAUSES`.
     ended: Vec<AtomicU64>,
     turned_away: AtomicU64,
-    /// Joins, backs and handshakes for which no further room could be opened.
-    not_served: AtomicU64,
-    /// What the rooms began with.
-    first: EntrySums,
+    /// Joins, backs and handshakes whose room was not opened, in the order of `REASONS`.
+    not_served: Vec<AtomicU64>,
 }
 
 /// What a server says of its sessions and rooms at one time.
@@ -67,11 +74,11 @@ fn count(counter: &AtomicU64) {
 }
 
 impl Meters {
-    /// Counters of a server whose rooms begin so.
+    /// Counters at 0.
     ///
     /// # Errors
     /// `AllocError` if an allocation failed.
-    pub(crate) fn new(alloc: Global, rooms: &Tallies<'_>) -> Result<Meters, AllocError> {
+    pub(crate) fn new(alloc: Global) -> Result<Meters, AllocError> {
         let mut replies = Vec::with_capacity(alloc, REPLY_COUNTERS)?;
         for _ in 0..REPLY_COUNTERS {
             replies.push(CachePadded::new(AtomicU64::new(0)))?;
@@ -82,8 +89,7 @@ impl Meters {
             refusals: counters(alloc, MAX_REFUSAL_CODE as usize + 1)?,
             ended: counters(alloc, CAUSES.len())?,
             turned_away: AtomicU64::new(0),
-            not_served: AtomicU64::new(0),
-            first: rooms.sums(),
+            not_served: counters(alloc, REASONS.len())?,
         })
     }
 
@@ -114,16 +120,26 @@ impl Meters {
         count(&self.turned_away);
     }
 
-    /// A room was not opened, since no further room may be open.
-    pub(crate) fn add_not_served(&self) {
-        count(&self.not_served);
+    /// A room was not opened for this reason.
+    pub(crate) fn add_not_served(&self, reason: Reason) {
+        let place = REASONS.iter().position(|known| *known == reason);
+        if let Some(place) = place
+            && let Some(counter) = self.not_served.get(place)
+        {
+            count(counter);
+        }
     }
 
-    /// The text of all metrics. Linear in the number of rooms.
+    /// The text of all metrics, where the rooms have added so much.
     ///
     /// # Errors
     /// `NoMemory` if an allocation failed.
-    pub(crate) fn text(&self, standing: Standing, rooms: &Tallies<'_>) -> Result<String, NoMemory> {
+    pub(crate) fn text(
+        &self,
+        standing: Standing,
+        rooms: &Tallies<'_>,
+        added: EntrySums,
+    ) -> Result<String, NoMemory> {
         let alloc = self.alloc;
         let mut families = Vec::new(alloc);
         add_sessions(alloc, &mut families, standing)?;
@@ -136,8 +152,8 @@ impl Meters {
             turned_away,
         )?)?;
         add_rooms(alloc, &mut families, rooms)?;
-        families.push(not_served(alloc, load(&self.not_served))?)?;
-        families.push(entries(alloc, rooms.sums().since(self.first))?)?;
+        families.push(self.not_served()?)?;
+        families.push(entries(alloc, added)?)?;
         families.push(counter(
             alloc,
             "grace_replies_total",
@@ -168,6 +184,18 @@ impl Meters {
         }
         let help = "Sessions that have ended.";
         Ok(Family::new("grace_sessions_ended_total", help, Kind::Counter, samples))
+    }
+
+    /// The family of joins, backs and handshakes whose room was not opened, by the reason.
+    fn not_served(&self) -> Result<Family, NoMemory> {
+        let mut samples = Vec::with_capacity(self.alloc, REASONS.len())?;
+        for (reason, counter) in REASONS.iter().zip(&self.not_served) {
+            let word = format!(in self.alloc; "{reason}")?;
+            let labels = vec![in self.alloc; Label::new("reason", word)]?;
+            samples.push(Sample::new(Suffix::Plain, labels, Number::Whole(load(counter))))?;
+        }
+        let help = "Joins, backs and handshakes whose room was not opened.";
+        Ok(Family::new("grace_rooms_not_served_total", help, Kind::Counter, samples))
     }
 
     /// The family of refusals, by their code and word.
@@ -271,19 +299,13 @@ fn add_rooms(
         "Rooms opened on demand.",
         rooms.count_opened(),
     )?)?;
+    families.push(counter(
+        alloc,
+        "grace_rooms_closed_total",
+        "Rooms closed, since nobody was in them.",
+        rooms.count_closed(),
+    )?)?;
     Ok(())
-}
-
-/// The family of joins, backs and handshakes whose room was not opened, by the reason.
-fn not_served(alloc: Global, number: u64) -> Result<Family, NoMemory> {
-    let sample = labelled(alloc, "reason", "full", number)?;
-    let help = "Joins, backs and handshakes whose room was not opened.";
-    Ok(Family::new(
-        "grace_rooms_not_served_total",
-        help,
-        Kind::Counter,
-        vec![in alloc; sample]?,
-    ))
 }
 
 /// A sample with one label.

@@ -10,7 +10,7 @@ use std::thread::Threads;
 use std::time::Clock;
 
 /// What the program runs on: files, threads, a clock, a log, randomness, and sockets of the system.
-pub trait Platform: Files<File = File>
+pub trait Platform: Files<File = File, Dir: Send>
     + Threads
     + Wait
     + Clock
@@ -21,7 +21,7 @@ pub trait Platform: Files<File = File>
 
 impl<H> Platform for H
 where
-    H: Files<File = File>
+    H: Files<File = File, Dir: Send>
         + Threads
         + Wait
         + Clock

@@ -1,6 +1,7 @@
 //! `grace serve`: serves sessions over WebSocket.
 
-ghost use Rattle.std.specs.Prelude.{◌≡◌, map};
+ghost use Rattle.std.specs.Prelude.{◌≡◌, All, IfOk, map};
+ghost use Rattle.rules.specs.Limits.{full_limits};
 ghost use Rattle.std.specs.Thread.{IsSend};
 ghost use Rattle.room_lock.specs.steps.Planned.{IsPlanOf};
 ghost use Rattle.server.specs.steps.Faults.{of_serving};
@@ -8,6 +9,7 @@ ghost use Rattle.server.specs.steps.Faults.{of_serving};
 use crate::accept::Accepted;
 use crate::departure::{Departure, Parts};
 use crate::early_end::EarlyEnd;
+use crate::folder_files::FolderFiles;
 use crate::meters::Meters;
 use crate::platform::Platform;
 use crate::server_observer::{ServerObserver, SessionLimits};
@@ -18,11 +20,12 @@ use commands::{fault_of_rooms, room_names};
 use crossbeam_channel::{Receiver, Sender};
 use journal::Synced;
 use keeper::{Forgets, Keeper};
-use keeping::{Keeping, RoomFile};
+use keeping::{Keeping, OnDemand, RoomFile};
 use log::warn;
 use loops::{Bell, MAX_LOOPS, Settings};
 use mio::{Poll, Waker};
 use restore::RestoredFile;
+use room_core::RoomState;
 use room_folder::Folder;
 use room_lock::{NewRooms, RoomHistories, Rooms};
 use rules::Limits;
@@ -72,6 +75,8 @@ pub(crate) struct Service<'a, 'w, R, W> {
     pub(crate) is_confining: bool,
     /// The number of rooms that may be opened on demand, 1 to 100,000; 0 for none.
     pub(crate) on_demand: u32,
+    /// After how many seconds a room is closed that nobody is in and that is kept, from 1.
+    pub(crate) close_after: u32,
     /// The server goes away when standard input ends.
     pub(crate) ends_with_input: bool,
     /// Where it reports that it listens, and writes the records.
@@ -120,7 +125,7 @@ impl<R: Platform, W: Write> Service<'_, '_, R, W> {
             sessions: self.sessions,
             clients: self.clients,
         };
-        let meters = Meters::new(self.alloc, tallies)?;
+        let meters = Meters::new(self.alloc)?;
         let observer = ServerObserver::new(self.rt, tallies, meters, self.dir, limits);
         observer.begin();
         let line = listening_line(self.alloc, self.address, &listener)?;
@@ -180,13 +185,13 @@ struct Options {
     report: Option<Duration>,
 }
 
-/// The bell of the loops for so many rooms, and the polls of the loops.
+/// The bell of the loops for so many places, and the polls of the loops.
 fn open_loops(
     rt: &impl Net,
     options: Options,
-    rooms: usize,
+    places: usize,
 ) -> Result<(Bell, Vec<Poll>), ServeFault> {
-    Ok(Bell::new(rt, options.alloc, options.loops, rooms)?)
+    Ok(Bell::new(rt, options.alloc, options.loops, places)?)
 }
 
 /// Serves what the listener accepts.
@@ -216,7 +221,10 @@ where
         is_told: false,
         failed: &failed,
     };
-    let (bell, polls) = match open_loops(rt, options, rooms.count_places()) {
+    let places = rooms
+        .count_places()
+        .saturating_add(keeper.count_waiting_places());
+    let (bell, polls) = match open_loops(rt, options, places) {
         Ok(opened) => opened,
         Err(fault) => return Err(fault_of(fault)),
     };
@@ -378,26 +386,38 @@ where
     service.serve_rooms(rooms, tallies, &Forgets)
 }
 
-/// Serves in rooms that are kept in these files, one for each room in order. Each room begins with
-/// the record of its file.
+/// The files of the rooms that are open from the start, and the folder for those on demand.
+#[derive(Drop)]
+struct KeptIn<'a, 'w> {
+    files: Vec<RestoredFile<Synced<File>>>,
+    folder: &'a Folder<'w>,
+}
+
+/// Serves in rooms that are kept in these files, one for each room in order, and in rooms on demand.
+/// Each room begins with the record of its file.
 fn serve_in_files<'a, P, R, W>(
     service: Service<'_, 'a, R, W>,
     planned: NewRooms,
     tallies: &Tallies<'_>,
-    files: Vec<RestoredFile<Synced<File>>>,
+    kept: KeptIn<'_, '_>,
 ) -> Result<(), EarlyEnd<'a>>
 where
     P: RoomHistories + Send + Sync,
     R: Platform,
     W: Write,
     requires histories { IsPlanOf planned P.limits P.register }
-    requires names { map (λ file. file.name) files.items ≡ planned.names }
-    requires records { map (λ file. file.entries) files.items ≡ planned.records }
+    requires names { map (λ file. file.name) kept.files.items ≡ planned.names }
+    requires records { map (λ file. file.entries) kept.files.items ≡ planned.records }
 {
     let (rt, alloc) = (service.rt, service.alloc);
+    let KeptIn { files, folder } = kept;
     let (rooms, begun) = Rooms::<P>::new(rt, alloc, planned)?;
     let files = RoomFile::open_all(alloc, &begun, files)?;
-    let keeping = Keeping::new(alloc, files)?;
+    let on_demand = OnDemand {
+        files: FolderFiles { rt, folder },
+        close_after: service.close_after,
+    };
+    let keeping = Keeping::new(rt, alloc, &rooms, files, on_demand)?;
     service.serve_rooms(rooms, tallies, &keeping)?;
     if keeping.all_kept(rt) {
         Ok(())
@@ -420,21 +440,58 @@ impl<'w, R: Platform, W: Write> Service<'_, 'w, R, W> {
         }
     }
 
-    /// Serves in rooms of these names with full limits, which this folder keeps.
+    /// Serves in rooms of these names, and in rooms on demand, with full limits, which this folder keeps.
     fn serve_kept(self, dir: &'w str, names: &[&'w str]) -> Result<(), EarlyEnd<'w>> {
-        let (rt, alloc) = (self.rt, self.alloc);
+        let alloc = self.alloc;
         let rooms = room_names(alloc, names)?;
         if repeated_name(&rooms).is_some() {
             return Err(EarlyEnd::Fault(Fault::RoomNamedTwice));
         }
-        let folder = Folder::open(rt, dir)?;
-        let (states, found) = folder.read(rt, alloc, names)?;
-        let tallies = Tallies::of_rooms(alloc, names, &states)?;
-        let files = folder.settle(rt, alloc, found)?;
+        let folder = self.open_folder(dir)?;
+        let (states, files) = self.open_files(&folder, names)?;
+        let tallies = Tallies::of_rooms(alloc, names, &states, self.on_demand)?;
         match NewRooms::with_records(rooms, Limits::full(), states) {
-            Ok(planned) => serve_in_files::<Brand, R, W>(self, planned, &tallies, files),
+            Ok(planned) => {
+                let planned = planned.and_on_demand(self.on_demand);
+                let kept = KeptIn {
+                    files,
+                    folder: &folder,
+                };
+                serve_in_files::<Brand, R, W>(self, planned, &tallies, kept)
+            }
             Err(fault) => Err(EarlyEnd::Fault(fault_of_rooms(fault))),
         }
+    }
+
+    /// Opens the folder, together with other processes if rooms are opened on demand.
+    fn open_folder(&self, dir: &'w str) -> Result<Folder<'w>, EarlyEnd<'w>> {
+        if self.on_demand > 0 {
+            Ok(Folder::open_shared(self.rt, dir)?)
+        } else {
+            Ok(Folder::open(self.rt, dir)?)
+        }
+    }
+
+    /// Reads and settles the files of these rooms. If other processes may have the folder, each is locked.
+    fn open_files(
+        &self,
+        folder: &Folder<'w>,
+        names: &[&'w str],
+    ) -> Result<(Vec<RoomState>, Vec<RestoredFile<Synced<File>>>), EarlyEnd<'w>>
+        ensures names { IfOk result (λ opened.
+            map (λ file. file.name) opened.1.items ≡ map (λ name. name.now) names.now) }
+        ensures records { IfOk result (λ opened. map (λ state. state.room.entries) opened.0.items
+            ≡ map (λ file. file.entries) opened.1.items) }
+        ensures limits { IfOk result (λ opened.
+            All (λ state. state.room.limits ≡ full_limits) opened.0.items) }
+    {
+        let (rt, alloc) = (self.rt, self.alloc);
+        if self.on_demand > 0 {
+            return Ok(folder.open_rooms(rt, alloc, names)?);
+        }
+        let (states, found) = folder.read(rt, alloc, names)?;
+        let files = folder.settle(rt, alloc, found)?;
+        Ok((states, files))
     }
 
     /// Serves in rooms of these names, and in rooms on demand, with full limits. Returns the exit

@@ -7,7 +7,7 @@ use crate::tallies::Tallies;
 use crate::turnstile::Turnstile;
 use base_types::RoomName;
 use crossbeam_channel::Receiver;
-use keeper::Change;
+use keeper::{Change, Reason};
 use log::{Log, error, info, warn};
 use loops::Client;
 use sessions::{Cause, Observer};
@@ -161,23 +161,26 @@ impl<R: Wait + Log> Observer for ServerObserver<'_, R> {
         self.rooms.add_opening();
     }
 
-    /// Warns once that all rooms are open. They stay open to the end.
-    fn not_served(&self) {
-        self.meters.add_not_served();
-        if !self.is_told_of_rooms.swap(true, Ordering::SeqCst) {
+    /// Warns once that all rooms are open.
+    fn not_served(&self, reason: Reason) {
+        self.meters.add_not_served(reason);
+        if reason == Reason::Full && !self.is_told_of_rooms.swap(true, Ordering::SeqCst) {
             let most = self.rooms.most_open();
             warn!(self.rt; "all {most} rooms are open");
         }
     }
 
-    /// Logs once why a room is not kept, and once that it is kept again.
-    fn keeping_changed(&self, place: usize, change: &Change) {
-        let (Some(dir), Some(name)) = (self.dir, self.rooms.name_at(place)) else {
-            return;
-        };
+    /// Logs once why a room is not kept, and once that it is kept again. Counts the rooms that are
+    /// opened and closed.
+    fn after_change(&self, change: &Change) {
+        let dir = self.dir.unwrap_or("");
         match change {
-            Change::Fails(reason) => error!(self.rt; "{dir}/{name}.record is not kept: {reason}"),
-            Change::KeptAgain => info!(self.rt; "{dir}/{name}.record is kept again"),
+            Change::Fails { room, why } => {
+                error!(self.rt; "{dir}/{room}.record is not kept: {why}");
+            }
+            Change::KeptAgain { room } => info!(self.rt; "{dir}/{room}.record is kept again"),
+            Change::Opened(beginning) => self.rooms.begin_room(self.rt, beginning),
+            Change::Closed { place: _ } => self.rooms.add_closing(),
         }
     }
 
@@ -224,6 +227,7 @@ impl<R: Wait + Log> Observer for ServerObserver<'_, R> {
             ended: self.ended.load(Ordering::SeqCst),
             clients: self.limits.clients,
         };
-        self.meters.text(standing, self.rooms).ok()
+        let added = self.rooms.added(self.rt);
+        self.meters.text(standing, self.rooms, added).ok()
     }
 }

@@ -3,21 +3,36 @@
 ghost use Rattle.std.specs.Prelude.{◌≡◌, ◌+◌, ◌<◌, ◌^◌, IfOk, length, slice_get, vec_len};
 
 use crate::tally::{EntrySums, Tally};
+use keeper::Beginning;
 use log::{Log, info};
 use room_core::RoomState;
 use std::alloc::{AllocError, Global};
 use std::sync::atomic::{AtomicU64, Ordering};
+use std::sync::{Mutex, Wait};
 use wire::EntryKind;
 
+/// What the tallies do not tell of the entries that rooms have added.
+#[derive(Clone, Copy, Debug)]
+struct Past {
+    /// What all rooms began with.
+    begun: EntrySums,
+    /// What rooms had that others have replaced at their places.
+    gone: EntrySums,
+}
+
 /// The tallies of the rooms by their places: first the rooms that are open from the start, then
-/// those that may be opened on demand.
+/// those that may be opened on demand. The tally of a room that was closed stays until another is
+/// opened at its place.
 #[derive(Drop)]
 pub(crate) struct Tallies<'a> {
     /// The names of the rooms that are open from the start.
     names: Vec<&'a str>,
     rooms: Vec<Tally>,
+    past: Mutex<Past>,
     /// The number of rooms that were opened on demand.
     opened: AtomicU64,
+    /// The number of rooms that were closed.
+    closed: AtomicU64,
 }
 
 impl<'a> Tallies<'a> {
@@ -39,7 +54,8 @@ impl<'a> Tallies<'a> {
         Ok(Tallies::new(Vec::from_slice(alloc, names)?, rooms))
     }
 
-    /// The tallies of rooms of these names that begin with these records, in the same order.
+    /// The tallies of rooms of these names that begin with these records, in the same order, and of so
+    /// many on demand.
     ///
     /// # Errors
     /// `AllocError` if an allocation failed.
@@ -47,11 +63,15 @@ impl<'a> Tallies<'a> {
         alloc: Global,
         names: &[&'a str],
         records: &[RoomState],
+        on_demand: u32,
     ) -> Result<Tallies<'a>, AllocError>
         ensures names { IfOk result (λ tallies. tallies.names.items ≡ names.now) }
-        ensures rooms { IfOk result (λ tallies. vec_len tallies.rooms ≡ length records.now) }
+        ensures rooms { IfOk result (λ tallies.
+            vec_len tallies.rooms ≡ length records.now + on_demand) }
     {
-        let rooms = records.iter().map(Tally::of_room).collect(alloc)?;
+        let mut rooms: Vec<Tally> = records.iter().map(Tally::of_room).collect(alloc)?;
+        let mut others: Vec<Tally> = (0..on_demand).map(|_| Tally::empty()).collect(alloc)?;
+        rooms.append(&mut others)?;
         Ok(Tallies::new(Vec::from_slice(alloc, names)?, rooms))
     }
 
@@ -59,18 +79,17 @@ impl<'a> Tallies<'a> {
         ensures names { result.names ≡ names.entry }
         ensures rooms { result.rooms ≡ rooms }
     {
+        let past = Past {
+            begun: EntrySums::of(&rooms),
+            gone: EntrySums::NONE,
+        };
         Tallies {
             names,
             rooms,
+            past: Mutex::new(past),
             opened: AtomicU64::new(0),
+            closed: AtomicU64::new(0),
         }
-    }
-
-    /// The name of the room at this place, or `None` if the room is opened on demand.
-    pub(crate) fn name_at(&self, place: usize) -> Option<&'a str>
-        ensures { result ≡ slice_get self.now.names.items place }
-    {
-        self.names.get(place).copied()
     }
 
     /// The room of this name at this place has added an entry of this kind.
@@ -78,6 +97,28 @@ impl<'a> Tallies<'a> {
         if let Some(room) = self.rooms.get(place) {
             room.add(rt, name, kind);
         }
+    }
+
+    /// A room was opened on demand with a record. Warns if it begins nearly full.
+    pub(crate) fn begin_room<R: Wait + Log>(&self, rt: &R, beginning: &Beginning) {
+        self.add_opening();
+        if let Some(room) = self.rooms.get(beginning.place) {
+            let mut past = self.past.lock(rt);
+            past.gone = past.gone.and(room.begin_anew(beginning));
+            past.begun = past.begun.and(EntrySums::of_beginning(beginning));
+            drop(past);
+            room.begin(rt, &beginning.room);
+        }
+    }
+
+    /// A room was closed.
+    pub(crate) fn add_closing(&self) {
+        self.closed.fetch_add(1, Ordering::SeqCst);
+    }
+
+    /// The number of rooms that were closed.
+    pub(crate) fn count_closed(&self) -> u64 {
+        self.closed.load(Ordering::SeqCst)
     }
 
     /// A room was opened on demand.
@@ -92,7 +133,8 @@ impl<'a> Tallies<'a> {
 
     /// The number of open rooms.
     pub(crate) fn count_open(&self) -> u64 {
-        self.count_opened().saturating_add(self.names.len() as u64)
+        let on_demand = self.count_opened().saturating_sub(self.count_closed());
+        on_demand.saturating_add(self.names.len() as u64)
     }
 
     /// The most rooms that are open at a time.
@@ -102,9 +144,10 @@ impl<'a> Tallies<'a> {
         self.rooms.len() as u64
     }
 
-    /// What the rooms have. Linear in their number.
-    pub(crate) fn sums(&self) -> EntrySums {
-        EntrySums::of(&self.rooms)
+    /// What the rooms have added. Linear in the number of rooms that may be open.
+    pub(crate) fn added(&self, rt: &impl Wait) -> EntrySums {
+        let past = self.past.lock(rt);
+        EntrySums::of(&self.rooms).and(past.gone).since(past.begun)
     }
 
     /// Warns of rooms that begin nearly full.

@@ -2,6 +2,7 @@
 
 ghost use Rattle.std.specs.Prelude.{◌≡◌, ◌≤◌, ◌<◌, ◌+◌, ◌-◌, ◌*◌};
 
+use keeper::Beginning;
 use log::{Log, info, warn};
 use room_core::RoomState;
 use rules::Limits;
@@ -48,6 +49,19 @@ impl Tally {
         }
     }
 
+    /// The room at this place begins anew, with this record. Returns what the room before it had.
+    pub(crate) fn begin_anew(&self, beginning: &Beginning) -> EntrySums {
+        let sites = u64::from(beginning.sites);
+        let joins = self.joins.swap(sites, Ordering::SeqCst);
+        let entries = self
+            .entries
+            .swap(beginning.entries as u64, Ordering::SeqCst);
+        let objects = self
+            .objects
+            .swap(u64::from(beginning.objects), Ordering::SeqCst);
+        EntrySums::of_counts(joins, entries, objects)
+    }
+
     /// Counts an entry of this kind of the room of this name. Warns when the joins, the objects or
     /// the entries reach nine tenths of their limit.
     pub(crate) fn add<R: Log>(&self, rt: &R, name: &str, kind: EntryKind) {
@@ -88,17 +102,9 @@ impl Tally {
         }
     }
 
-    /// Adds what the room has.
-    pub(crate) fn add_to(&self, sums: &mut EntrySums) {
-        let (joins, entries, objects) = (
-            load(&self.joins),
-            load(&self.entries),
-            load(&self.objects),
-        );
-        let changes = entries.saturating_sub(joins).saturating_sub(objects);
-        sums.joins = sums.joins.saturating_add(joins);
-        sums.creations = sums.creations.saturating_add(objects);
-        sums.changes = sums.changes.saturating_add(changes);
+    /// What the room has.
+    pub(crate) fn sums(&self) -> EntrySums {
+        EntrySums::of_counts(load(&self.joins), load(&self.entries), load(&self.objects))
     }
 
     /// Reports what the room of this name has.
@@ -138,17 +144,51 @@ pub(crate) struct EntrySums {
 }
 
 impl EntrySums {
+    /// No entries.
+    pub(crate) const NONE: EntrySums = EntrySums {
+        joins: 0,
+        creations: 0,
+        changes: 0,
+    };
+
+    /// What a room has of which these are the numbers of joins, entries and objects.
+    pub(crate) fn of_counts(joins: u64, entries: u64, objects: u64) -> EntrySums
+        ensures joins { result.joins ≡ joins }
+        ensures creations { result.creations ≡ objects }
+        ensures changes { result.changes ≡ entries - joins - objects }
+    {
+        EntrySums {
+            joins,
+            creations: objects,
+            changes: entries.saturating_sub(joins).saturating_sub(objects),
+        }
+    }
+
+    /// What a room has that begins so.
+    pub(crate) fn of_beginning(beginning: &Beginning) -> EntrySums {
+        EntrySums::of_counts(
+            u64::from(beginning.sites),
+            beginning.entries as u64,
+            u64::from(beginning.objects),
+        )
+    }
+
     /// What these rooms have. Linear in their number.
     pub(crate) fn of(rooms: &[Tally]) -> EntrySums {
-        let mut sums = EntrySums {
-            joins: 0,
-            creations: 0,
-            changes: 0,
-        };
+        let mut sums = EntrySums::NONE;
         for room in rooms {
-            room.add_to(&mut sums);
+            sums = sums.and(room.sums());
         }
         sums
+    }
+
+    /// Both together.
+    pub(crate) fn and(self, more: EntrySums) -> EntrySums {
+        EntrySums {
+            joins: self.joins.saturating_add(more.joins),
+            creations: self.creations.saturating_add(more.creations),
+            changes: self.changes.saturating_add(more.changes),
+        }
     }
 
     /// What is more than `before`.

@@ -4,6 +4,7 @@ mod faults;
 mod kept;
 mod line;
 mod locks;
+mod opened;
 mod served;
 mod watched;
 

@@ -168,9 +168,22 @@ abbrev pub IsWaitInRoom : Option PassView → Request → Type 0
 IsWaitInRoom (Some pass) (Pull from true) = Unit {0}
 IsWaitInRoom _ _ = ⊥
 
--- the message of a session that is in a room asks to wait for an entry
-abbrev pub IsWait : SessionView → Bytes → Type 0
-IsWait session bytes = MatchOption (request_read bytes) ⊥ (IsWaitInRoom session.pass)
+-- the request asks to enter a room that is opened on demand, which the scope allows
+abbrev pub AsksToOpen : RoomsView → Scope → Request → Type 0
+AsksToOpen rooms scope (Join name) = (allows scope name ≡ true) × IsOnDemand rooms name
+AsksToOpen rooms scope (Back name site) = (allows scope name ≡ true) × IsOnDemand rooms name
+AsksToOpen rooms scope _ = ⊥
+
+-- The request may be held: a session that is in a room asks to wait for an entry, or one that is in
+-- no room asks for one that is opened on demand.
+abbrev pub IsWaitOf : RoomsView → SessionView → Request → Type 0
+IsWaitOf rooms session request =
+    IsWaitInRoom session.pass request
+    ⊎ ((session.pass ≡ None) × AsksToOpen rooms session.scope request)
+
+-- the message may be held
+abbrev pub IsWait : RoomsView → SessionView → Bytes → Type 0
+IsWait rooms session bytes = MatchOption (request_read bytes) ⊥ (IsWaitOf rooms session)
 
 -- the message changed nothing, or it was answered, but the reply was lost
 abbrev pub MayStand : LimitValues → RoomsView → (ℕ → Type 0) → (ℕ → Type 0) → SessionView

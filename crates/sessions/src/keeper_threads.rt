@@ -8,11 +8,11 @@ use room_lock::RoomHistories;
 use std::sync::Wait;
 use std::time::{Clock, Duration};
 
-/// How often what could not be kept is tried again, in seconds.
-const RETRY_SECONDS: u64 = 1;
+/// The period of the ticks of a keeper, in seconds.
+const TICK_SECONDS: u64 = 1;
 
-/// Keeps what is to be kept, until the keeper is ended. Tells the observer what changes, and wakes
-/// the loops in which answers wait.
+/// Does what is to be done for the keeper, until that is ended. Tells the observer what changes,
+/// and wakes the loops in which answers wait.
 pub(crate) fn keep_rooms<P, R, O, K>(host: &Host<'_, P, R, O, K>)
 where
     P: RoomHistories,
@@ -25,22 +25,30 @@ where
             return;
         };
         if let Some(change) = &attempt.change {
-            host.observer.keeping_changed(attempt.place, change);
+            host.observer.after_change(change);
         }
-        host.bell.ring(host.rt, attempt.place);
+        ring(host, &attempt.news);
     }
 }
 
-/// Has what could not be kept tried again, until the other end of the channel is dropped.
-pub(crate) fn retry_failing<P, R, O, K>(host: &Host<'_, P, R, O, K>, stop: &Receiver<()>)
+/// Wakes the loops in which something waits at these places.
+fn ring<P: RoomHistories, R: Wait, O, K>(host: &Host<'_, P, R, O, K>, places: &[Option<usize>]) {
+    for place in places.iter().flatten() {
+        host.bell.ring(host.rt, *place);
+    }
+}
+
+/// Lets the keeper hear each second that one has passed, until the other end of the channel is
+/// dropped.
+pub(crate) fn tick_keeper<P, R, O, K>(host: &Host<'_, P, R, O, K>, stop: &Receiver<()>)
 where
     P: RoomHistories,
     R: Wait + Clock,
     K: Keeper<P>,
 {
     for _ in host.rt.forever() {
-        match stop.recv_timeout(host.rt, Duration::from_secs(RETRY_SECONDS)) {
-            Err(fault) if fault.is_timeout() => host.keeper.retry(host.rt),
+        match stop.recv_timeout(host.rt, Duration::from_secs(TICK_SECONDS)) {
+            Err(fault) if fault.is_timeout() => host.keeper.tick(host.rt, host.rooms),
             _ => return,
         }
     }

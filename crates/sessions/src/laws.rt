@@ -79,8 +79,8 @@ pub fn a_room_that_is_not_denied_is_served<P: RoomHistories, K: Keeper<P>>()
         ⊎ IsTurnedAway (IsRefusalOver limits) scope rooms name new told reply }
 {}
 
-/// Two sessions that are let into rooms of one name, which is open from the start, are in one room. By `Prefix::begins`, of what
-/// they have seen the shorter then begins the longer.
+/// Two sessions that are let into rooms of one name, which is open from the start, are in one
+/// room. By `Prefix::begins`, of what they have seen the shorter then begins the longer.
 pub fn one_name_is_one_room()
     ensures { (rooms : RoomsView) (one other : PassView) → Contains rooms.names one.room →
         IsOpeningFor rooms one.room one.part.opening →

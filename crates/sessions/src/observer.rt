@@ -2,7 +2,7 @@
 
 use crate::cause::Cause;
 use base_types::RoomName;
-use keeper::Change;
+use keeper::{Change, Reason};
 use loops::Client;
 use wire::{EntryKind, Refusal};
 
@@ -16,15 +16,14 @@ pub trait Observer {
     /// The room of this name, at this place from 0, has added an entry of this kind.
     fn after_entry(&self, _room: &RoomName, _place: usize, _kind: EntryKind) {}
 
-    /// A room was opened on demand, at this place from 0.
+    /// A room was opened on demand by a session, at this place from 0. It begins empty.
     fn after_opening(&self, _place: usize) {}
 
     /// A room could not be opened on demand.
-    fn not_served(&self) {}
+    fn not_served(&self, _reason: Reason) {}
 
-    /// The last attempt to keep the record of the room at this place failed, and the one before had
-    /// not. Or it succeeded, and the one before had not.
-    fn keeping_changed(&self, _place: usize, _change: &Change) {}
+    /// A thread of the keeper changed this.
+    fn after_change(&self, _change: &Change) {}
 
     /// A connection is no probe: a session begins.
     fn before_session(&self) {}

@@ -3,10 +3,10 @@
 use crate::cause::Cause;
 use crate::host::Host;
 use crate::observer::Observer;
-use crate::session::{Session, open_room};
-use keeper::Keeper;
+use crate::session::{Session, access_to};
+use keeper::{Access, Keeper};
 use loops::{Admission, Client, Ending, Service};
-use room_lock::{Lookup, Pass, RoomHistories};
+use room_lock::{Lookup, RoomHistories};
 use scope::Scope;
 use std::sync::Wait;
 use wire_reader::Scratch;
@@ -23,15 +23,15 @@ impl<P: RoomHistories, R: Wait, O: Observer, K: Keeper<P>> Service for Host<'_, 
         Some(Session::new(scope))
     }
 
-    /// A client that is confined to a room waits for nobody: where the room cannot be opened now, it is
-    /// not let in, so that a proxy can ask another server.
+    /// A client that is confined to a room waits until the room is open. Where the room cannot be
+    /// opened now, the client is not let in, so that a proxy can ask another server.
     fn admission(&self, target: &[u8]) -> Admission {
         if self.is_confining
             && let Ok(Scope::Only(name)) = Scope::of_target(self.alloc, target)
             && let Lookup::Closed = self.rooms.opening_of(self.rt, &name)
-            && let Ok(Lookup::Closed) = open_room(self, &name)
+            && let Ok(access) = access_to(self, &name)
         {
-            Admission::NotServed
+            self.admission_by(&access)
         } else {
             Admission::Now
         }
@@ -46,7 +46,7 @@ impl<P: RoomHistories, R: Wait, O: Observer, K: Keeper<P>> Service for Host<'_, 
     }
 
     fn place(&self, session: &Session<P>) -> Option<usize> {
-        session.pass().map(Pass::place)
+        session.place()
     }
 
     fn before_session(&self) {
@@ -73,13 +73,24 @@ impl<P: RoomHistories, R: Wait, O: Observer, K: Keeper<P>> Service for Host<'_, 
     }
 
     fn failing_room(&self) -> Option<String> {
-        let number = self.keeper.failing(self.rt)?;
-        let name = self.rooms.name_at(number as usize)?;
-        let copied = String::from_str(self.alloc, name.text());
-        Some(copied.unwrap_or(String::new(self.alloc)))
+        Some(self.keeper.failing(self.rt, self.alloc)?.room)
     }
 
     fn metrics(&self) -> Option<String> {
         self.observer.metrics()
+    }
+}
+
+impl<P: RoomHistories, R, O: Observer, K> Host<'_, P, R, O, K> {
+    /// When a client is let in that has this access to the room of its path.
+    fn admission_by(&self, access: &Access<P>) -> Admission {
+        match access {
+            Access::New(_) | Access::Known(_) => Admission::Now,
+            Access::Later(place) => Admission::Later(*place),
+            Access::NotServed(reason) => {
+                self.observer.not_served(*reason);
+                Admission::NotServed
+            }
+        }
     }
 }

@@ -1,7 +1,7 @@
 //! A session: the messages of one client, one after the other.
 
-ghost use Rattle.std.specs.Prelude.{◌≡◌, ◌≢◌, ◌⊎◌, Err, IfErr, IfOk, IfSome, IsNone, IsTrue, OnErr, None, Ok};
-ghost use Rattle.std.specs.Prelude.{Some, false, true};
+ghost use Rattle.std.specs.Prelude.{◌≡◌, ◌≢◌, ◌⊎◌, ◌↔◌, Err, IfErr, IfOk, IfSome, IsNone, IsTrue};
+ghost use Rattle.std.specs.Prelude.{OnErr, None, Ok, Some, false, true};
 ghost use Rattle.std.specs.Prelude.{MatchOption, option_map, string_bytes};
 ghost use Rattle.wire.specs.declared.request.Request.TheVariants.{Join, Back, Leave};
 ghost use Rattle.sessions.specs.declared.cause.MessageFault.TheVariants as message_fault;
@@ -13,18 +13,19 @@ ghost use Rattle.room_lock.specs.Rooms.{IsOnDemand};
 ghost use Rattle.room_lock.specs.declared.lookup.Lookup.TheVariants as lookup;
 ghost use Rattle.room_lock.specs.steps.Entrances.{IfEntered};
 ghost use Rattle.room_lock.specs.Lookups.{IfOpen};
+ghost use Rattle.keeper.specs.Accesses.{IfKnown, IfNew};
 ghost use Rattle.scope.specs.Scopes.{allows};
 ghost use Rattle.sessions.specs.Turns.{IsAnswer, IsCallBy, IsPermitted, IsTextOfTurn, IsTurn, IsWait};
-ghost use Rattle.sessions.specs.Turns.{IsWaitInRoom, MayEnter, MayStand};
+ghost use Rattle.sessions.specs.Turns.{AsksToOpen, IsWaitInRoom, MayEnter, MayStand};
 
 use crate::cause::MessageFault;
 use crate::host::Host;
 use crate::observer::Observer;
 use crate::session_reply::SessionReply;
-use base_types::RoomName;
+use base_types::{NoMemory, RoomName};
 use connection::Answer;
-use keeper::Keeper;
-use room_lock::{Entrance, Lookup, Opened, Pass, Prefix, RoomHistories};
+use keeper::{Access, Keeper};
+use room_lock::{Entrance, Lookup, Pass, Prefix, RoomHistories};
 use scope::Scope;
 use std::marker::Model;
 use std::sync::Wait;
@@ -53,6 +54,8 @@ impl<P: RoomHistories> Model for Inside<P> {
 pub struct Session<P: RoomHistories> {
     scope: Scope,
     inside: Option<Inside<P>>,
+    /// The place at which there will be news of the room that its held message asks for.
+    awaited: Option<usize>,
 }
 
 impl<P: RoomHistories> Model for Session<P> {
@@ -71,7 +74,24 @@ impl<P: RoomHistories> Session<P> {
         Session {
             scope,
             inside: None,
+            awaited: None,
         }
+    }
+
+    /// The place at which there is news for the session: that of its room, or else the one at
+    /// which it waits for a room to be opened.
+    pub fn place(&self) -> Option<usize> {
+        match &self.inside {
+            Some(inside) => Some(inside.pass.place()),
+            None => self.awaited,
+        }
+    }
+
+    /// Returns whether the session is in no room.
+    pub fn is_outside(&self) -> bool
+        ensures { (result ≡ true) ↔ (self.now.pass ≡ None) }
+    {
+        self.inside.is_none()
     }
 
     /// The pass, if the session is in a room.
@@ -97,7 +117,11 @@ impl<P: RoomHistories> Session<P> {
 
     /// Ends the session, and frees its site for a coming back.
     pub fn end<R: Wait, O, K>(self, host: &Host<'_, P, R, O, K>) {
-        let Session { scope: _, inside } = self;
+        let Session {
+            scope: _,
+            inside,
+            awaited: _,
+        } = self;
         if let Some(Inside { room: _, pass }) = inside
             && let Err(stray) = host.rooms.hand_back(host.rt, pass)
         {
@@ -108,12 +132,13 @@ impl<P: RoomHistories> Session<P> {
     /// Answers one message, and returns the text of the reply with what it reports of a room. Or
     /// holds the message: then it is `None`, and nothing has changed.
     /// The session itself refuses five things. These are bytes that are no request, `join` and
-    /// `back` in a room, other requests in no room, rooms that do not exist or are not in its scope,
-    /// and rooms that cannot be opened now, or for which the keeper has no permit. Every other request is one call of
-    /// the rooms: `join` and `back` may give a pass, `leave` hands it back, and the rest call the room
-    /// by it.
+    /// `back` in a room, other requests in no room, rooms that do not exist or are not in its
+    /// scope, and rooms that cannot be opened now, or for which the keeper has no permit. Every
+    /// other request is one call of the rooms: `join` and `back` may give a pass, `leave` hands it
+    /// back, and the rest call the room by it.
     /// With `may_hold` it holds a `wait` in a room whose record has exactly the number of entries
-    /// that the request names. Without, a `wait` is a pull.
+    /// that the request names. It also holds a `join` or `back` of a room that is being opened.
+    /// Without, a `wait` is a pull, and such a room is not served.
     /// The text may be sent once what it reports is kept. The session's own refusals report
     /// nothing.
     /// The scratch is memory for reading; nothing of an earlier message counts. Keep one between
@@ -134,12 +159,13 @@ impl<P: RoomHistories> Session<P> {
             host.now.rooms.now (IsPermitted K.permits) K.denies self.old self.new bytes.now
             answer.told (string_bytes answer.text))) }
         ensures held { result ≡ Ok None → (may_hold ≡ true) × (self.new ≡ self.old)
-            × IsWait self.old bytes.now }
+            × IsWait host.now.rooms.now self.old bytes.now }
         ensures err { OnErr result
             (MayStand P.limits host.now.rooms.now (IsPermitted K.permits) K.denies self.old self.new
             bytes.now) }
         ensures torn { result ≡ Err message_fault.Torn → self.new ≡ self.old }
     {
+        self.awaited = None;
         match self.reply_to(host, scratch, bytes, may_hold)? {
             Some(reply) => Ok(Some(reply.into_answer(host, self.room())?)),
             None => Ok(None),
@@ -158,12 +184,12 @@ impl<P: RoomHistories> Session<P> {
             host.now.rooms.now (IsPermitted K.permits) K.denies self.old self.new bytes.now
             answer.told answer.reply)) }
         ensures held { result ≡ Ok None → (may_hold ≡ true) × (self.new ≡ self.old)
-            × IsWait self.old bytes.now }
+            × IsWait host.now.rooms.now self.old bytes.now }
         ensures err { OnErr result (self.new ≡ self.old) }
     {
         match read_request(host.alloc, scratch, bytes) {
             Ok(request) => {
-                if may_hold && self.waits(host, &request) {
+                if may_hold && (self.waits(host, &request) || self.awaits(host, &request)?) {
                     return Ok(None);
                 }
                 Ok(Some(self.ask(host, request)?))
@@ -181,6 +207,30 @@ impl<P: RoomHistories> Session<P> {
             return false;
         };
         host.rooms.count_entries(host.rt, &inside.pass) == Some(*from as usize)
+    }
+
+    /// Returns whether the request asks for a room that is being opened. The session then waits for
+    /// news at its place.
+    fn awaits<R: Wait, O: Observer, K: Keeper<P>>(
+        &mut self,
+        host: &Host<'_, P, R, O, K>,
+        request: &Request,
+    ) -> Result<bool, MessageFault>
+        ensures yes { result ≡ Ok true → (self.old.pass ≡ None)
+            × AsksToOpen host.now.rooms.now self.old.scope request.now }
+        ensures same { self.new ≡ self.old }
+    {
+        let (Request::Join { room } | Request::Back { room, site: _ }) = request else {
+            return Ok(false);
+        };
+        if self.inside.is_some() || !self.scope.allows(room) {
+            return Ok(false);
+        }
+        self.awaited = match host.rooms.opening_of(host.rt, room) {
+            Lookup::Closed => place_to_wait(host, room)?,
+            Lookup::Open(_) | Lookup::NoRoom => None,
+        };
+        Ok(self.awaited.is_some())
     }
 
     /// The answer to a request. On `Err` nothing has changed.
@@ -203,8 +253,8 @@ impl<P: RoomHistories> Session<P> {
         }
     }
 
-    /// Looks up the room of this name if the session may enter it, and has it opened if it is not open.
-    /// `Closed` if it cannot be opened now. The scope is asked before the rooms are.
+    /// Looks up the room of this name if the session may enter it, and has it opened if it is not
+    /// open. `Closed` if it cannot be opened now. The scope is asked before the rooms are.
     fn look_up<R: Wait, O: Observer, K: Keeper<P>>(
         &self,
         host: &Host<'_, P, R, O, K>,
@@ -366,8 +416,43 @@ impl<P: RoomHistories> Session<P> {
     }
 }
 
+/// Asks the keeper for the room of this name, which is opened on demand. The observer hears of it
+/// if this call opens the room.
+///
+/// # Errors
+/// `NoMemory` if an allocation failed.
+pub(crate) fn access_to<P: RoomHistories, R: Wait, O: Observer, K: Keeper<P>>(
+    host: &Host<'_, P, R, O, K>,
+    name: &RoomName,
+) -> Result<Access<P>, NoMemory>
+    requires { IsOnDemand host.now.rooms.now name.now }
+    ensures new { IfOk result (IfNew (λ begun.
+        IsOpeningFor host.now.rooms.now name.now begun.opening)) }
+    ensures known { IfOk result (IfKnown (IsOpeningFor host.now.rooms.now name.now)) }
+{
+    let access = host.keeper.open(host.rt, host.alloc, host.rooms, name)?;
+    if let Access::New(begun) = &access {
+        host.observer.after_opening(begun.place());
+    }
+    Ok(access)
+}
+
+/// The place at which there will be news of the room of this name, which is opened on demand.
+/// `None` if it is open by now, or cannot be opened now.
+fn place_to_wait<P: RoomHistories, R: Wait, O: Observer, K: Keeper<P>>(
+    host: &Host<'_, P, R, O, K>,
+    name: &RoomName,
+) -> Result<Option<usize>, NoMemory>
+    requires { IsOnDemand host.now.rooms.now name.now }
+{
+    match access_to(host, name)? {
+        Access::Later(place) => Ok(Some(place)),
+        Access::New(_) | Access::Known(_) | Access::NotServed(_) => Ok(None),
+    }
+}
+
 /// Has the room of this name opened on demand. `Closed` if it cannot be opened now.
-pub(crate) fn open_room<P: RoomHistories, R: Wait, O: Observer, K: Keeper<P>>(
+fn open_room<P: RoomHistories, R: Wait, O: Observer, K: Keeper<P>>(
     host: &Host<'_, P, R, O, K>,
     name: &RoomName,
 ) -> Result<Lookup<P>, MessageFault>
@@ -376,14 +461,12 @@ pub(crate) fn open_room<P: RoomHistories, R: Wait, O: Observer, K: Keeper<P>>(
     ensures some { result ≢ Ok lookup.NoRoom }
     ensures cause { IfErr result (λ why. why ≡ message_fault.NoMemory) }
 {
-    match host.keeper.open(host.rt, host.alloc, host.rooms, name)? {
-        Opened::New(begun) => {
-            host.observer.after_opening(begun.place());
-            Ok(Lookup::Open(begun.opening().copy()))
-        }
-        Opened::Known(opening) => Ok(Lookup::Open(opening)),
-        Opened::Full => {
-            host.observer.not_served();
+    match access_to(host, name)? {
+        Access::New(begun) => Ok(Lookup::Open(begun.opening().copy())),
+        Access::Known(opening) => Ok(Lookup::Open(opening)),
+        Access::Later(_) => Ok(Lookup::Closed),
+        Access::NotServed(reason) => {
+            host.observer.not_served(reason);
             Ok(Lookup::Closed)
         }
     }

@@ -14,6 +14,7 @@ use wire_reader::Scratch;
 
 impl<P: RoomHistories, R: Wait, O: Observer, K: Keeper<P>> Talk for Host<'_, P, R, O, K> {
     ghost use Rattle.sessions.specs.steps.Faults.{IsMessageFault, IsNotKept};
+    ghost use Rattle.std.specs.Prelude.{◌≡◌, None};
     ghost use Rattle.sessions.specs.Turns.{IsPermitted, IsTextOfTurn, IsWait};
 
     type Session = Session<P>;
@@ -28,9 +29,9 @@ impl<P: RoomHistories, R: Wait, O: Observer, K: Keeper<P>> Talk for Host<'_, P, 
         IsTextOfTurn P.limits host.rooms.now (IsPermitted K.permits) K.denies old new bytes told
         text };
 
-    ghost waits = { λ _ session bytes. IsWait session bytes };
+    ghost waits = { λ host session bytes. IsWait host.rooms.now session bytes };
 
-    ghost blocks = { λ _ _. ⊥ };
+    ghost blocks = { λ _ session. session.pass ≡ None };
 
     ghost fails = { λ host old new bytes end.
         IsMessageFault P.limits host.rooms.now (IsPermitted K.permits) K.denies old new bytes end };
@@ -52,8 +53,9 @@ impl<P: RoomHistories, R: Wait, O: Observer, K: Keeper<P>> Talk for Host<'_, P, 
         }
     }
 
-    fn is_blocked(&self, _session: &Session<P>) -> bool {
-        false
+    /// A message that is held outside asks to enter a room, and what follows may rest on that.
+    fn is_blocked(&self, session: &Session<P>) -> bool {
+        session.is_outside()
     }
 
     fn receipt(&self, told: &Prefix<P>) -> Result<Option<K::Receipt>, End> {

@@ -3,7 +3,7 @@
 use crate::cause::Cause;
 use crate::observer::Observer;
 use base_types::RoomName;
-use keeper::Change;
+use keeper::{Change, Reason};
 use log::{Log, warn};
 use loops::Client;
 use wire::{EntryKind, Refusal};
@@ -29,12 +29,12 @@ impl<R: Log, O: Observer> Observer for WarningObserver<'_, R, O> {
         self.observer.after_opening(place);
     }
 
-    fn not_served(&self) {
-        self.observer.not_served();
+    fn not_served(&self, reason: Reason) {
+        self.observer.not_served(reason);
     }
 
-    fn keeping_changed(&self, place: usize, change: &Change) {
-        self.observer.keeping_changed(place, change);
+    fn after_change(&self, change: &Change) {
+        self.observer.after_change(change);
     }
 
     fn before_session(&self) {

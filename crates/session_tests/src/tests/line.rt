@@ -13,6 +13,9 @@ use wire_reader::Scratch;
 /// The most bytes of a read.
 const CHUNK: usize = 4096;
 
+/// How often a message that blocks is heard again, before more is read.
+pub(super) const MOST_NEWS: u64 = 4;
+
 /// A server's close of 1011.
 const CLOSE_FOR_FAULT: &[u8] = b"\x88\x02\x03\xf3";
 
@@ -135,7 +138,7 @@ impl<S: Read + Write> Line<S> {
         let mut scratch = Scratch::new(host.alloc);
         let mut bytes = rest;
         for _ in 0..usize::MAX {
-            let served = connection.receive(host, &mut scratch, &bytes);
+            let served = receive(host, connection, &mut scratch, &bytes);
             if let Err(End::NoMemory | End::Stray) = served {
                 let _ = connection.close(Closing::Fault);
             }
@@ -173,4 +176,29 @@ impl<S: Read + Write> Line<S> {
         }
         Ok(())
     }
+}
+
+/// Serves the bytes that came. Has a message that is held and blocks heard again, as if there were
+/// news, and serves what came behind it once it is answered.
+fn receive<P, R, O, K>(
+    host: &Host<'_, P, R, O, K>,
+    connection: &mut Connection<Session<P>, Prefix<P>>,
+    scratch: &mut Scratch,
+    bytes: &[u8],
+) -> Result<(), End>
+where
+    P: RoomHistories,
+    R: Wait,
+    O: Observer,
+    K: Keeper<P>,
+{
+    connection.receive(host, scratch, bytes)?;
+    for _ in 0..MOST_NEWS {
+        if !connection.is_blocked(host) {
+            break;
+        }
+        connection.answer_held(host, scratch, true)?;
+        connection.receive(host, scratch, &[])?;
+    }
+    Ok(())
 }

@@ -6,10 +6,10 @@ use super::faults::{Calls, Expecting, Parts};
 use super::line::serve_one;
 use super::{CLOSE, CLOSED, add_part, add_reply, add_request, bytewise, plan_rooms};
 use base_types::{NoMemory, RoomName};
-use keeper::{Attempt, KeepFault, Keeper};
+use keeper::{Access, Attempt, Failing, KeepFault, Keeper, Reason};
 use log::Log;
 use loops::{Bell, Client, Settings};
-use room_lock::{NewRooms, Opened, Opening, Prefix, RoomHistories, Rooms};
+use room_lock::{NewRooms, Opening, Prefix, RoomHistories, Rooms};
 use sessions::{Cause, Host, Observer, ServeFault, Served, serve_streams};
 use std::alloc::Global;
 use std::io::{Read, Write};
@@ -24,7 +24,7 @@ use tungstenite::Duplex;
 use wire::EntryKind;
 
 /// The head of a request that asks for a WebSocket, with the key of RFC 6455, section 1.3.
-const HEAD: &str =
+pub(super) const HEAD: &str =
     "GET / HTTP/1.1\r\nHost: localhost\r\nUpgrade: websocket\r\nConnection: Upgrade\r\nSec-WebSocket-Key: dGhlIHNhbXBsZSBub25jZQ==\r\nSec-WebSocket-Version: 13\r\n\r\n";
 
 /// The head of the server's answer to it. RFC 6455, section 4.2.2, has the value of the last field.
@@ -256,8 +256,8 @@ impl<P: RoomHistories> Keeper<P> for Told {
         _alloc: Global,
         _rooms: &Rooms<P>,
         _name: &RoomName,
-    ) -> Result<Opened<P>, NoMemory> {
-        Ok(Opened::Full)
+    ) -> Result<Access<P>, NoMemory> {
+        Ok(Access::NotServed(Reason::Full))
     }
 
     fn permit(&self, _rt: &impl Wait, opening: &Opening<P>) -> Option<()> {
@@ -268,7 +268,7 @@ impl<P: RoomHistories> Keeper<P> for Told {
         }
     }
 
-    fn failing(&self, _rt: &impl Wait) -> Option<u64> {
+    fn failing(&self, _rt: &impl Wait, _alloc: Global) -> Option<Failing> {
         None
     }
 
@@ -276,13 +276,19 @@ impl<P: RoomHistories> Keeper<P> for Told {
         0
     }
 
+    fn count_waiting_places(&self) -> usize {
+        0
+    }
+
     fn keep_next(&self, _rt: &impl Wait, _alloc: Global, _rooms: &Rooms<P>) -> Option<Attempt> {
         None
     }
 
-    fn retry(&self, _rt: &impl Wait) {}
+    fn tick(&self, _rt: &impl Wait, _rooms: &Rooms<P>) {}
 
     fn end(&self, _rt: &impl Wait) {}
+
+    fn close(&self, _rt: &impl Wait, _alloc: Global, _rooms: &Rooms<P>) {}
 }
 
 /// What a session sends: the head of its request, then a frame for each line, then a close.

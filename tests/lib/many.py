@@ -1,0 +1,210 @@
+"""Several processes that serve rooms on demand over one folder, behind nginx."""
+
+import collections
+import contextlib
+import json
+import pathlib
+import signal
+import tempfile
+import threading
+import time
+from functools import partial
+
+from keep.test_kills import Person
+from lib.crowd import Crowd
+from lib.keeping import KeepingServer, expect_kept, room_folder
+from lib.nginx import lines_of_document, replace_once, running_nginx
+from lib.serving import CheckFailed, Client, expect_equal, free_address
+from lib.websocket_client import Connection, Ended
+
+ROOMS = [f"room-{number}" for number in range(6)]
+PROCESSES, PEOPLE_A_ROOM = 3, 2
+# In seconds: how long people draw between two events, the pause of a person after an operation, how long a process
+# stands still, and how soon everybody has to be back after a kill.
+BETWEEN, PAUSE, STILL, BACK = 1.5, 0.03, 3, 5
+# A line of nginx's log: the path, with who asks behind it, and the processes that it asked with their answers.
+LOG = "log_format asked '{\"path\":\"$request_uri\",\"asked\":\"$upstream_addr\",\"answers\":\"$upstream_status\"}';"
+
+
+def configure(folder, port, servers):
+    """Returns the document's lines for several processes, without TLS, with this test's port and processes."""
+    lines = lines_of_document("With nginx, behind one address:")
+    for number, server in enumerate(servers):
+        lines = replace_once(lines, f"127.0.0.1:{7000 + number} ", f"{server.name} ")
+    lines = replace_once(lines, "listen 443 ssl;", f"listen 127.0.0.1:{port}; access_log {folder}/asked asked;")
+    is_ours = lines_of_document("in the `http` part:").splitlines()[0]
+    return "\n".join([LOG, is_ours, lines])
+
+
+class Walker(Person):
+    """A person who draws in a room through nginx, and connects again when the connection ends."""
+
+    def __init__(self, number, room, address):
+        super().__init__(number, room)
+        self.number, self.address = number, address
+        self.clients = []
+        # The longest time between the end of a connection and the next entrance, in seconds.
+        self.away = 0
+
+    def connect(self):
+        """Returns a client that connects through nginx by the room's path. What stands behind the path says whose
+        connection it is."""
+        client = Client(self.address, self.number)
+        client.open = partial(Connection.open, client, f"/{self.room}?{self.number}-{len(self.clients)}")
+        self.clients.append(client)
+        return client
+
+    def stay(self, over):
+        """Draws until that is over, and leaves."""
+        ended = None
+        while not over.is_set():
+            client = self.connect()
+            try:
+                self.enter(client)
+                if ended is not None:
+                    self.away = max(self.away, time.monotonic() - ended)
+                self.draw_on(client, over)
+                client.ask(["leave"])
+                client.close()
+            except (Ended, ConnectionError):
+                ended = time.monotonic()
+                client.hang_up()
+
+    def draw_on(self, client, over):
+        """Draws in the room until that is over."""
+        while not over.is_set():
+            self.drawer.submit(self.drawer.next_operation(8))
+            time.sleep(self.drawer.source.uniform(0, PAUSE))
+
+
+class Many:
+    """The processes, the people and nginx's log."""
+
+    def __init__(self, folder):
+        self.folder = folder
+        self.servers = [self.start() for _ in range(PROCESSES)]
+        self.people = []
+        self.crowd, self.over = Crowd(), threading.Event()
+
+    def start(self, port=0):
+        """Starts a process at this port, or a free one."""
+        server = KeepingServer(self.folder, (), 0, 2, on_demand=100, by_path=True, close_after=1)
+        server.port = port
+        return server.__enter__()
+
+    def admit(self, address):
+        """Has one more person draw in each room."""
+        for room in ROOMS:
+            self.people.append(Walker(len(self.people), room, address))
+            self.crowd.start(self.people[-1].stay, self.over)
+
+    def busiest(self):
+        """Returns the process that has most rooms."""
+        return max(self.servers, key=lambda server: len(rooms_in(server)))
+
+    def end(self):
+        """Has everybody leave, and ends the processes. The files have all that was told."""
+        self.over.set()
+        self.crowd.end()
+        transcripts = [client.transcript for person in self.people for client in person.clients]
+        for server in self.servers:
+            server.__exit__()
+        expect_kept(self.folder, ROOMS, transcripts)
+        away = max(person.away for person in self.people)
+        if away > BACK:
+            raise CheckFailed(f"somebody was back after {away:.1f} seconds only")
+        return sum(len(client.transcript.lines) for person in self.people for client in person.clients), away
+
+
+def rooms_in(server):
+    """Returns the rooms that a process has open."""
+    return {name.removesuffix(".record") for name in server.open_files()}
+
+
+def rows_of_log(file):
+    """Returns what nginx asked for each connection, by room, person and attempt: the processes with their answers."""
+    rows = {}
+    for line in file.read_text().splitlines():
+        row = json.loads(line)
+        room, _, who = row["path"][1:].partition("?")
+        person, attempt = map(int, who.split("-"))
+        rows[room, person, attempt] = list(zip(row["asked"].split(", "), map(int, row["answers"].split(", "))))
+    return rows
+
+
+def kind_of(row, attempt, gone):
+    """Returns how a connection reached its room, by what nginx asked for it."""
+    if len(row) == 1 and attempt == 0:
+        return "at once"
+    if len(row) > 1 and row[0] == (gone, 502) and attempt > 0:
+        return "behind the killed"
+    if len(row) > 1 and row[0] == (gone, 503) and attempt == 0:
+        return "behind the returned"
+    raise CheckFailed(f"attempt {attempt} to reach a room asked {row}")
+
+
+def expect_rows(rows, gone, moved):
+    """Expects of nginx's log that each connection reached its room, and that a room was in one process before the kill
+    and in one after it. Returns how often each way was taken."""
+    counts, holders = collections.Counter(), collections.defaultdict(set)
+    for (room, _, attempt), row in rows.items():
+        expect_equal("the last answer", row[-1][1], 101)
+        counts[kind_of(row, attempt, gone)] += 1
+        holders[room].add(row[-1][0])
+    numbers = {room: len(found) for room, found in holders.items()}
+    expect_equal("the processes of each room", numbers, {room: 2 if room in moved else 1 for room in ROOMS})
+    return dict(counts)
+
+
+@contextlib.contextmanager
+def many_behind_nginx():
+    """Runs the processes and nginx, and lets people in. Yields them, nginx's address and its log."""
+    with room_folder() as folder, tempfile.TemporaryDirectory() as name:
+        many, address = Many(folder), free_address()
+        place = pathlib.Path(name)
+        with running_nginx(place, configure(place, address[1], many.servers)):
+            for _ in range(PEOPLE_A_ROOM):
+                many.admit(address)
+            time.sleep(BETWEEN)
+            yield many, address, place / "asked"
+
+
+def check_kill():
+    """A process is killed and started again, and one more person comes into each room."""
+    with many_behind_nginx() as (many, address, log):
+        killed = many.busiest()
+        moved = rooms_in(killed)
+        killed.kill(signal.SIGKILL)
+        time.sleep(BETWEEN)
+        many.servers[many.servers.index(killed)] = many.start(killed.address[1])
+        many.admit(address)
+        time.sleep(BETWEEN)
+        replies, away = many.end()
+        killed.__exit__()
+        counts = expect_rows(rows_of_log(log), killed.name, moved)
+    print(f"a kill: {len(ROOMS)} rooms with {replies} replies hold, of which {len(moved)} moved")
+    print(f"all were back after {away:.2f} s; connections: {counts}")
+
+
+def check_stop():
+    """A process stands still. Nobody loses a connection, and no room moves."""
+    with many_behind_nginx() as (many, address, log):
+        stopped = many.busiest()
+        rooms = rooms_in(stopped)
+        stopped.process.send_signal(signal.SIGSTOP)
+        many.admit(address)
+        time.sleep(STILL)
+        stopped.process.send_signal(signal.SIGCONT)
+        time.sleep(BETWEEN)
+        expect_equal("the rooms of the process", rooms_in(stopped), rooms)
+        replies, _ = many.end()
+        rows = rows_of_log(log)
+        expect_equal("the connections", len(rows), len(many.people))
+        expect_equal("those that nginx asked for twice", [row for row in rows.values() if len(row) > 1], [])
+    print(f"a stop: {len(ROOMS)} rooms with {replies} replies hold")
+
+
+def check_many():
+    """Checks both."""
+    check_kill()
+    check_stop()

@@ -1,4 +1,4 @@
-"""Several processes that serve rooms on demand over one folder, behind nginx."""
+"""Several processes that serve rooms on demand over one folder, behind a proxy."""
 
 import collections
 import contextlib
@@ -13,6 +13,7 @@ from functools import partial
 from keep.test_kills import Person
 from lib.crowd import Crowd
 from lib.keeping import KeepingServer, expect_kept, room_folder
+from lib.haproxy import running_haproxy
 from lib.nginx import lines_of_document, replace_once, running_nginx
 from lib.serving import CheckFailed, Client, expect_equal, free_address
 from lib.websocket_client import Connection, Ended
@@ -22,26 +23,38 @@ PROCESSES, PEOPLE_A_ROOM = 3, 2
 # In seconds: how long people draw between two events, the pause of a person after an operation, how long a process
 # stands still, and how soon everybody has to be back after a kill.
 BETWEEN, PAUSE, STILL, BACK = 1.5, 0.03, 3, 5
+# A crowd: its rooms, its people in each room, the pause of a person and the time between two events, in seconds.
+CROWD_ROOMS, CROWD_A_ROOM, CROWD_PAUSE, CROWD_BETWEEN = [f"room-{number}" for number in range(200)], 5, 8, 10
 # A line of nginx's log: the path, with who asks behind it, and the processes that it asked with their answers.
 LOG = "log_format asked '{\"path\":\"$request_uri\",\"asked\":\"$upstream_addr\",\"answers\":\"$upstream_status\"}';"
 
 
-def configure(folder, port, servers):
-    """Returns the document's lines for several processes, without TLS, with this test's port and processes."""
+def behind_nginx(folder, port, servers):
+    """Runs nginx at this port before these processes, by the document's lines without TLS. Its log is in the file
+    `asked` of this folder."""
     lines = lines_of_document("With nginx, behind one address:")
     for number, server in enumerate(servers):
         lines = replace_once(lines, f"127.0.0.1:{7000 + number} ", f"{server.name} ")
     lines = replace_once(lines, "listen 443 ssl;", f"listen 127.0.0.1:{port}; access_log {folder}/asked asked;")
     is_ours = lines_of_document("in the `http` part:").splitlines()[0]
-    return "\n".join([LOG, is_ours, lines])
+    return running_nginx(folder, "\n".join([LOG, is_ours, lines]))
+
+
+def behind_haproxy(folder, port, servers):
+    """Runs HAProxy at this port before these processes, by the document's lines without TLS."""
+    lines = lines_of_document("With HAProxy:")
+    for number, server in enumerate(servers):
+        lines = replace_once(lines, f"127.0.0.1:{7000 + number}\n", f"{server.name}\n")
+    lines = replace_once(lines, "bind :443 ssl crt /etc/haproxy/draw.pem", f"bind 127.0.0.1:{port}")
+    return running_haproxy(folder, port, lines)
 
 
 class Walker(Person):
     """A person who draws in a room through nginx, and connects again when the connection ends."""
 
-    def __init__(self, number, room, address):
+    def __init__(self, number, room, address, pause):
         super().__init__(number, room)
-        self.number, self.address = number, address
+        self.number, self.address, self.pause = number, address, pause
         self.clients = []
         # The longest time between the end of a connection and the next entrance, in seconds.
         self.away = 0
@@ -74,42 +87,49 @@ class Walker(Person):
         """Draws in the room until that is over."""
         while not over.is_set():
             self.drawer.submit(self.drawer.next_operation(8))
-            time.sleep(self.drawer.source.uniform(0, PAUSE))
+            time.sleep(self.drawer.source.uniform(0, self.pause))
 
 
 class Many:
     """The processes, the people and nginx's log."""
 
-    def __init__(self, folder):
-        self.folder = folder
+    def __init__(self, folder, rooms, pause):
+        self.folder, self.rooms, self.pause = folder, rooms, pause
         self.servers = [self.start() for _ in range(PROCESSES)]
-        self.people = []
+        self.people, self.killed = [], []
         self.crowd, self.over = Crowd(), threading.Event()
 
     def start(self, port=0):
         """Starts a process at this port, or a free one."""
-        server = KeepingServer(self.folder, (), 0, 2, on_demand=100, by_path=True, close_after=1)
+        server = KeepingServer(self.folder, (), 0, 2, on_demand=len(self.rooms), by_path=True, close_after=1)
         server.port = port
         return server.__enter__()
 
     def admit(self, address):
         """Has one more person draw in each room."""
-        for room in ROOMS:
-            self.people.append(Walker(len(self.people), room, address))
+        for room in self.rooms:
+            self.people.append(Walker(len(self.people), room, address, self.pause))
             self.crowd.start(self.people[-1].stay, self.over)
 
     def busiest(self):
         """Returns the process that has most rooms."""
         return max(self.servers, key=lambda server: len(rooms_in(server)))
 
+    def restart(self, server, pause):
+        """Kills a process, and starts it again at its address after so many seconds."""
+        server.kill(signal.SIGKILL)
+        time.sleep(pause)
+        self.servers[self.servers.index(server)] = self.start(server.address[1])
+        self.killed.append(server)
+
     def end(self):
         """Has everybody leave, and ends the processes. The files have all that was told."""
         self.over.set()
         self.crowd.end()
         transcripts = [client.transcript for person in self.people for client in person.clients]
-        for server in self.servers:
+        for server in [*self.killed, *self.servers]:
             server.__exit__()
-        expect_kept(self.folder, ROOMS, transcripts)
+        expect_kept(self.folder, self.rooms, transcripts)
         away = max(person.away for person in self.people)
         if away > BACK:
             raise CheckFailed(f"somebody was back after {away:.1f} seconds only")
@@ -157,38 +177,37 @@ def expect_rows(rows, gone, moved):
 
 
 @contextlib.contextmanager
-def many_behind_nginx():
-    """Runs the processes and nginx, and lets people in. Yields them, nginx's address and its log."""
+def many_behind(proxy, rooms=ROOMS, people=PEOPLE_A_ROOM, pause=PAUSE):
+    """Runs the processes and a proxy, and lets so many people into each room. Yields them, the proxy's address and its
+    folder."""
     with room_folder() as folder, tempfile.TemporaryDirectory() as name:
-        many, address = Many(folder), free_address()
+        many, address = Many(folder, rooms, pause), free_address()
         place = pathlib.Path(name)
-        with running_nginx(place, configure(place, address[1], many.servers)):
-            for _ in range(PEOPLE_A_ROOM):
+        with proxy(place, address[1], many.servers):
+            for _ in range(people):
                 many.admit(address)
             time.sleep(BETWEEN)
-            yield many, address, place / "asked"
+            yield many, address, place
 
 
-def check_kill():
+def check_kill(proxy):
     """A process is killed and started again, and one more person comes into each room."""
-    with many_behind_nginx() as (many, address, log):
+    with many_behind(proxy) as (many, address, place):
         killed = many.busiest()
         moved = rooms_in(killed)
-        killed.kill(signal.SIGKILL)
-        time.sleep(BETWEEN)
-        many.servers[many.servers.index(killed)] = many.start(killed.address[1])
+        many.restart(killed, BETWEEN)
         many.admit(address)
         time.sleep(BETWEEN)
         replies, away = many.end()
-        killed.__exit__()
-        counts = expect_rows(rows_of_log(log), killed.name, moved)
+        if proxy is behind_nginx:
+            print("connections:", expect_rows(rows_of_log(place / "asked"), killed.name, moved))
     print(f"a kill: {len(ROOMS)} rooms with {replies} replies hold, of which {len(moved)} moved")
-    print(f"all were back after {away:.2f} s; connections: {counts}")
+    print(f"all were back after {away:.2f} s")
 
 
-def check_stop():
+def check_stop(proxy):
     """A process stands still. Nobody loses a connection, and no room moves."""
-    with many_behind_nginx() as (many, address, log):
+    with many_behind(proxy) as (many, address, place):
         stopped = many.busiest()
         rooms = rooms_in(stopped)
         stopped.process.send_signal(signal.SIGSTOP)
@@ -198,13 +217,28 @@ def check_stop():
         time.sleep(BETWEEN)
         expect_equal("the rooms of the process", rooms_in(stopped), rooms)
         replies, _ = many.end()
-        rows = rows_of_log(log)
-        expect_equal("the connections", len(rows), len(many.people))
-        expect_equal("those that nginx asked for twice", [row for row in rows.values() if len(row) > 1], [])
+        connections = sum(len(person.clients) for person in many.people)
+        expect_equal("the connections", connections, len(many.people))
+        if proxy is behind_nginx:
+            rows = rows_of_log(place / "asked")
+            expect_equal("those that nginx asked for twice", [row for row in rows.values() if len(row) > 1], [])
     print(f"a stop: {len(ROOMS)} rooms with {replies} replies hold")
 
 
-def check_many():
-    """Checks both."""
-    check_kill()
-    check_stop()
+def check_crowd(proxy):
+    """A thousand people draw in 200 rooms while each process is killed once and started again."""
+    with many_behind(proxy, CROWD_ROOMS, CROWD_A_ROOM, CROWD_PAUSE) as (many, _, _):
+        for server in list(many.servers):
+            time.sleep(CROWD_BETWEEN)
+            many.restart(server, CROWD_BETWEEN / 2)
+        time.sleep(CROWD_BETWEEN)
+        replies, away = many.end()
+        expect_equal("those who never came in", [person for person in many.people if person.drawer.site is None], [])
+    print(f"a crowd: {len(many.people)} people in {len(many.rooms)} rooms with {replies} replies hold")
+    print(f"all were back after {away:.2f} s")
+
+
+def check_many(proxy):
+    """Checks a kill and a stop."""
+    check_kill(proxy)
+    check_stop(proxy)

@@ -13,7 +13,8 @@ MAIN = """
 daemon off;
 pid {folder}/pid;
 error_log {folder}/errors;
-events {{}}
+worker_rlimit_nofile 20000;
+events {{ worker_connections 8192; }}
 http {{
     include /etc/nginx/mime.types;
     access_log off;

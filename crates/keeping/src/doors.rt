@@ -54,8 +54,14 @@ impl<P: RoomHistories> Doors<P> {
         if self.moving.contains(name) {
             return Some(Hold::Moving);
         }
-        let failed = self.failed.get(name).or(self.failed_before.get(name));
-        failed.map(|reason| Hold::Failed(*reason))
+        if let Some(reason) = self.failed.get(name) {
+            return Some(Hold::Failed(*reason));
+        }
+        match self.failed_before.get(name) {
+            // The other process may have ended meanwhile, and a look at its lock costs little.
+            Some(Reason::Elsewhere) | None => None,
+            Some(reason) => Some(Hold::Failed(*reason)),
+        }
     }
 
     /// Returns whether no more names can wait.
@@ -79,7 +85,8 @@ impl<P: RoomHistories> Doors<P> {
         self.moving.swap_remove(name);
     }
 
-    /// The room of this name could not be opened, which is remembered for a second.
+    /// The room of this name could not be opened, which is remembered for one to two seconds; that
+    /// somebody else has its file, for one at most.
     pub(crate) fn fail(&mut self, name: RoomName, reason: Reason) {
         self.end_move(&name);
         if self.failed.len() < MAX_NAMES {

@@ -39,7 +39,7 @@ pub struct Keeping<P: RoomHistories, J: Journal, F> {
     pub(crate) doors: Mutex<Doors<P>>,
     /// The files of rooms on demand.
     pub(crate) files: F,
-    /// After how many ticks a room is closed that nobody is in.
+    /// After how many ticks a room is closed that nobody is in. The first may come at once.
     close_after: u32,
 }
 
@@ -48,7 +48,7 @@ pub struct Keeping<P: RoomHistories, J: Journal, F> {
 pub struct OnDemand<F> {
     /// The files.
     pub files: F,
-    /// After how many ticks a room is closed that nobody is in, from 1.
+    /// After how many seconds a room is closed that nobody is in. One more may pass.
     pub close_after: u32,
 }
 
@@ -80,7 +80,7 @@ impl<P: RoomHistories, J: Journal + Drop, F: RoomFiles<J> + Drop> Keeping<P, J, 
             failing: AtomicUsize::new(0),
             doors: Mutex::new(Doors::new(alloc)),
             files: others,
-            close_after,
+            close_after: close_after.saturating_add(1),
         })
     }
 

@@ -186,7 +186,7 @@ impl<S, D: Drop, C: Drop> EventLoop<S, D, C> {
         let Some(line) = self.lines.get_mut(key) else {
             return;
         };
-        let before = line.place(shared.service);
+        let before = line.room_place(shared.service);
         if !line.turn(shared, &mut self.bench, self.now) {
             self.end_line(shared, key);
             return;
@@ -294,13 +294,19 @@ impl<S, D: Drop, C: Drop> EventLoop<S, D, C> {
         }
         if watched != Some(place) {
             shared.bell.watch(self.number, place);
-            let before = if line.is_opening() { None } else { Some(place) };
+            let awaits_room = line.awaits_room(shared.service);
+            let before = if awaits_room { None } else { Some(place) };
             let next = line.look(shared, &mut self.bench.scratch, true, self.now);
             if next != Next::Rests {
                 self.follow(shared, key, next);
                 return;
             }
-            if line.place_to_wait(shared.service, before) != Some(place) {
+            let waits_at = line.place_to_wait(shared.service, before);
+            if waits_at != Some(place) {
+                // It has entered a room meanwhile, and may wait there.
+                if waits_at.is_some() {
+                    self.follow(shared, key, Next::Again);
+                }
                 return;
             }
         }
@@ -327,7 +333,7 @@ impl<S, D: Drop, C: Drop> EventLoop<S, D, C> {
             let Some(line) = self.lines.get_mut(key) else {
                 continue;
             };
-            let before = line.session_parked_at(shared.service);
+            let before = line.room_parked_at(shared.service);
             line.parked_at = None;
             let next = line.look(shared, &mut self.bench.scratch, true, self.now);
             self.follow(shared, key, next);

@@ -169,23 +169,45 @@ impl<S, D: Drop> Line<S, D> {
         is_overdue(self.phase(), self.times, has_output, patience, now)
     }
 
-    /// The place of the room that the session is in.
-    pub(crate) fn place<V: Service<Session = S, Told = D>>(&self, service: &V) -> Option<usize> {
+    /// The place at which there is news for the session.
+    fn place<V: Service<Session = S, Told = D>>(&self, service: &V) -> Option<usize> {
         match &self.stage {
             Stage::Open(served) => service.place(served.connection.session()),
             Stage::Opening(_) | Stage::Leaving { .. } => None,
         }
     }
 
-    /// The place at which it is parked, if that is of the room that its session was in: not where the
-    /// client waits to be let in, nor where a held message blocks, since it may wait elsewhere.
-    pub(crate) fn session_parked_at<V: Service<Session = S, Told = D>>(
+    /// Returns whether it waits for a room that its session is not in: before it is let in, or with a
+    /// held message that blocks.
+    pub(crate) fn awaits_room<V: Service<Session = S, Told = D>>(&self, service: &V) -> bool {
+        match &self.stage {
+            Stage::Opening(_) => true,
+            Stage::Open(served) => served.connection.is_blocked(service),
+            Stage::Leaving { .. } => false,
+        }
+    }
+
+    /// The place of the room that the session is in. `None` while it waits for another.
+    pub(crate) fn room_place<V: Service<Session = S, Told = D>>(
         &self,
         service: &V,
     ) -> Option<usize> {
-        match &self.stage {
-            Stage::Open(served) if !served.connection.is_blocked(service) => self.parked_at,
-            Stage::Open(_) | Stage::Opening(_) | Stage::Leaving { .. } => None,
+        if self.awaits_room(service) {
+            None
+        } else {
+            self.place(service)
+        }
+    }
+
+    /// The place at which it is parked, if that is of a room that its session was in.
+    pub(crate) fn room_parked_at<V: Service<Session = S, Told = D>>(
+        &self,
+        service: &V,
+    ) -> Option<usize> {
+        if self.awaits_room(service) {
+            None
+        } else {
+            self.parked_at
         }
     }
 

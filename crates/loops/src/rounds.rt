@@ -43,8 +43,8 @@ impl<S, D: Drop, C: Drop> EventLoop<S, D, C> {
                 continue;
             };
             let before = line
-                .session_parked_at(shared.service)
-                .or(line.place(shared.service));
+                .room_parked_at(shared.service)
+                .or(line.room_place(shared.service));
             if line.go_away(self.now) {
                 self.deliver(shared, key, before);
             } else {
@@ -133,7 +133,7 @@ impl<S, D: Drop, C: Drop> EventLoop<S, D, C> {
             if line.is_overdue(self.now, patience) {
                 self.end_line(shared, key);
             } else if line.is_held_long(self.now) || line.has_waiting() || line.is_awaiting() {
-                let before = line.session_parked_at(shared.service);
+                let before = line.room_parked_at(shared.service);
                 let may_hold = !line.is_held_long(self.now);
                 let next = line.look(shared, &mut self.bench.scratch, may_hold, self.now);
                 self.follow(shared, key, next);

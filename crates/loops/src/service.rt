@@ -39,7 +39,8 @@ pub trait Service: Talk {
     /// Memory that a loop lends to each message that is heard.
     fn new_scratch(&self) -> Self::Scratch;
 
-    /// The place of the room that the session is in, from 0.
+    /// The place at which there is news for the session, from 0: that of the room that it is in, or
+    /// else the one at which its held message waits.
     fn place(&self, session: &Self::Session) -> Option<usize>;
 
     /// A connection is no probe: a session begins.

@@ -137,3 +137,14 @@ export function asId(version) {
   if (Array.isArray(id) && id.every(isName)) return idOf(id.map(codeOf))
   throw new TypeError("the version must be a Version or its identifier")
 }
+
+/**
+ * Checks a state vector.
+ * @param {unknown} seen
+ * @returns {[number, number][]}
+ * @throws {TypeError}
+ */
+export function asSeen(seen) {
+  if (Array.isArray(seen) && seen.every(isName)) return seen.map((pair) => [...pair])
+  throw new TypeError("seen must be a state vector such as room.seen")
+}

@@ -8,21 +8,31 @@ import { codeOf, idOf } from "./forms.js"
 /** A change that this client made: a creation, a put or a drop. */
 export class Change {
   #operation
+  #object
+  #kind
   #version = null
 
-  constructor(operation) {
-    this.#operation = operation
+  /**
+   * Internal: only `Room` creates changes.
+   * @param {Operation} operation
+   * @param {string} kind of the object
+   * @param {number} [made]
+   */
+  constructor(operation, kind, made = performance.now()) {
+    this.#kind = kind
+    this.become(operation, null)
     /** Whether the client has sent it. After a reconnect the client sends it again if the record lacks it. */
     this.isSent = false
     /** When the change was made, in milliseconds of `performance.now()`. */
-    this.made = performance.now()
+    this.made = made
     /**
      * Resolves when the server has accepted the change. You may ignore this promise: the event `refusal` reports the
      * same, and a rejection is never unhandled. The promise rejects with `Refused`:
      * - with the server's word if the server refused the change;
      * - `withdrawn` if the server refused an earlier pending change of the same object;
      * - `closed` if the room was closed first;
-     * - `another-room` if the server now has a different room of this name.
+     * - `another-room` if the server now has a different room of this name;
+     * - `renewed` if the drawing went on in another room without this change.
      * @type {Promise<void>}
      */
     this.done = new Promise((resolve, reject) => Object.assign(this, { resolve, reject }))
@@ -46,14 +56,25 @@ export class Change {
   }
 
   /**
-   * The object that the change creates or modifies.
+   * The object that the change creates or modifies. When the room is renewed, it becomes that object's new name.
    * @type {Name}
    */
   get object() {
-    return this.#operation.object
+    return this.#object
   }
 
-  /** The version that contains this change, as it was directly after it. A new object has one version. */
+  /**
+   * The kind of that object.
+   * @type {string}
+   */
+  get kind() {
+    return this.#kind
+  }
+
+  /**
+   * The version that contains this change, as it was directly after it. A new object has one version. When the room is
+   * renewed, it becomes the version of the new room that contains this change.
+   */
   get version() {
     return this.#version
   }
@@ -61,7 +82,50 @@ export class Change {
   /** Internal: only `Room` calls it. */
   become(operation, version) {
     this.#operation = operation
+    this.moveTo(operation.object, version)
+  }
+
+  /** Internal: only `Room` calls it. */
+  moveTo(object, version) {
+    this.#object = object
     this.#version = version
+  }
+}
+
+/**
+ * The latest name of an operation.
+ * @param {Name} name
+ * @param {Map<number, Name>} laterNames the later names of operations of earlier sites, by the code of the first name
+ * @returns {Name}
+ */
+export function latestName(name, laterNames) {
+  const later = laterNames.get(codeOf(name))
+  return later === undefined ? name : latestName(later, laterNames)
+}
+
+/** The changes that a program still holds. */
+export class HeldChanges {
+  #references = new Set()
+  #known = new WeakSet()
+
+  /** @param {Change} change */
+  add(change) {
+    if (this.#known.has(change)) return
+    this.#known.add(change)
+    this.#references.add(new WeakRef(change))
+  }
+
+  /** @returns {Change[]} */
+  all() {
+    const held = [...this.#references].map((reference) => [reference, reference.deref()])
+    for (const [reference, change] of held) if (change === undefined) this.#references.delete(reference)
+    return held.map(([, change]) => change).filter((change) => change !== undefined)
+  }
+
+  /** Forgets all changes. */
+  clear() {
+    this.#references.clear()
+    this.#known = new WeakSet()
   }
 }
 
@@ -82,4 +146,19 @@ export function renameOperation(operation, names, site, taken) {
   const seen = [...counts].filter(([, count]) => count > 0).sort(([one], [other]) => one - other)
   const version = operation.version && idOf(operation.version.map((old) => codeOf(newName(old))))
   return { ...operation, name, seen, object: newName(operation.object), version }
+}
+
+/**
+ * Joins state vectors: for each site the largest count, of operations that the drawing has. An operation that got a new
+ * name is not there any more.
+ * @param {import("./drawing.js").Drawing} drawing
+ * @param {[number, number][][]} vectors
+ * @returns {[number, number][]} sorted by site
+ */
+export function joinSeen(drawing, vectors) {
+  const counts = new Map()
+  for (const [site, count] of vectors.flat()) {
+    counts.set(site, Math.max(counts.get(site) ?? 0, Math.min(count, drawing.count(site))))
+  }
+  return [...counts].filter(([, count]) => count > 0).sort(([one], [other]) => one - other)
 }

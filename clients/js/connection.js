@@ -103,6 +103,11 @@ export class Connection {
     return Math.max(0, ...this.#outstanding.map(({ owedFrom }) => now - owedFrom))
   }
 
+  /** Whether the connection has ended. */
+  get hasEnded() {
+    return this.#hasEnded
+  }
+
   /** Closes the connection with close code 1000. Outstanding requests fail with `Lost`. */
   close() {
     this.#end("The connection was closed.")

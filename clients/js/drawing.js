@@ -12,6 +12,19 @@ import { BitSet } from "./bit_set.js"
 /** @typedef {import("./forms.js").Value} Value */
 /** @typedef {import("./forms.js").Operation} Operation */
 
+// By a version: its `DrawnObject`.
+const OWNERS = new WeakMap()
+
+/**
+ * Internal: the drawing and the object of a version.
+ * @param {unknown} version
+ * @returns {{ drawing: Drawing, name: Name } | undefined} undefined if it is not a `Version`
+ */
+export function ownerOf(version) {
+  const owner = OWNERS.get(version)
+  return owner && { drawing: owner.drawing, name: owner.creation.name }
+}
+
 /** One version of an object, as it was when you read it. It is immutable. */
 export class Version {
   #codes
@@ -71,9 +84,10 @@ class DrawnObject {
   #groups = [new BitSet()]
   #versions = null
 
-  /** @param {Operation} creation */
-  constructor(creation) {
+  /** @param {Operation} creation @param {Drawing} drawing */
+  constructor(creation, drawing) {
     this.creation = creation
+    this.drawing = drawing
     /**
      * In the order of arrival.
      * @type {Operation[]}
@@ -198,7 +212,9 @@ class DrawnObject {
     const id = idOf(codes(indexes.filter((index) => this.#disputed.has(index))))
     const isGone = group.intersects(this.#drops)
     const outlived = isGone ? [] : this.#drops.values().filter((drop) => this.#outlives(group, drop))
-    return new Version(id, isGone ? null : this.#attributes(indexes), codes(indexes), codes(outlived))
+    const version = new Version(id, isGone ? null : this.#attributes(indexes), codes(indexes), codes(outlived))
+    OWNERS.set(version, this)
+    return version
   }
 
   /** Whether a version survives a drop: the drop's base contains all of the group that the drop's author had seen. */
@@ -262,7 +278,7 @@ export class Drawing {
   add(operation) {
     const [site, number] = operation.name
     this.#admit(operation, site, number)
-    if (operation.word === "new") this.#objects.set(codeOf(operation.name), new DrawnObject(operation))
+    if (operation.word === "new") this.#objects.set(codeOf(operation.name), new DrawnObject(operation, this))
     else this.#find(operation.object).add(operation)
     this.#counts.set(site, number)
   }
@@ -298,6 +314,11 @@ export class Drawing {
     }
     if (first > 1) this.#counts.set(site, first - 1)
     else this.#counts.delete(site)
+  }
+
+  /** How many objects there are. @type {number} */
+  get size() {
+    return this.#objects.size
   }
 
   /** @returns {Name[]} the objects, in the order in which they were added */
@@ -342,7 +363,7 @@ export class Drawing {
 }
 
 function rebuild(object, isRemoved) {
-  const rebuilt = new DrawnObject(object.creation)
+  const rebuilt = new DrawnObject(object.creation, object.drawing)
   for (const change of object.changes) if (!isRemoved(change)) rebuilt.add(change)
   return rebuilt
 }

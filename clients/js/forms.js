@@ -14,7 +14,7 @@ import { writeText } from "./json_text.js"
 
 /** The largest number or size of each, as the server enforces it. */
 export const LIMITS = Object.freeze({
-  sites: 256, entries: 16384, objects: 512, changes: 1024, keys: 64, versions: 32, attributes: 16, messageBytes: 16384,
+  sites: 256, entries: 16384, objects: 8192, changes: 1024, keys: 64, versions: 32, attributes: 16, messageBytes: 16384,
   textBytes: 256, wordBytes: 32, roomBytes: 64,
 })
 
@@ -43,12 +43,13 @@ const WORDS = {
   "no-such-site": "The room does not know your site.",
   "site-in-use": "Another connection is using your site.",
   "not-served": "The server cannot serve this room now.",
+  "renewed": "This drawing has ended and goes on in another room.",
   "closed": "The room was closed before the server accepted the change.",
   "withdrawn": "The server refused an earlier change to this object.",
   "another-room": "The room was started again without this change.",
   "too-long": "The change is too long for one message.",
 }
-const CODES = Object.keys(WORDS).slice(0, 21)
+const CODES = Object.keys(WORDS).slice(0, 22)
 
 /**
  * The server or this library refused a change or a join, which then has no effect. `message` is a sentence for people.
@@ -60,8 +61,19 @@ export class Refused extends Error {
     this.name = "Refused"
     /** The word of the refusal, as the parameter. */
     this.word = word
-    /** The server's code, from 1 to 21; 0 for the library's own words. */
+    /** The server's code, from 1 to 22; 0 for the library's own words. */
     this.code = CODES.indexOf(word) + 1
+  }
+}
+
+/** The reply to a join or a back of a room that goes on in another one. */
+export class RenewedAs extends Error {
+  name = "RenewedAs"
+
+  /** @param {string} room the newest room of the drawing */
+  constructor(room) {
+    super(`The drawing goes on in ${room}.`)
+    this.room = room
   }
 }
 
@@ -138,12 +150,12 @@ export const idOf = (codes) => [...codes].sort((one, other) => one - other).map(
 /**
  * Reads the operation from an entry of a record. The old word `set`, for one attribute, gives a put.
  * @param {any[]} entry
- * @returns {Operation | null} null if the entry is a join
+ * @returns {Operation | null} null if the entry is a join or the end of the record
  * @throws {ProtocolFault} the entry is malformed
  */
 export function operationOf(entry) {
   const [word, name, seen] = entry
-  if (word === "join" && entry.length === 2) return null
+  if ((word === "join" || word === "next") && entry.length === 2) return null
   if (word === "new" && entry.length === 5) {
     return { word, name, seen, kind: entry[3], attributes: entry[4], object: name }
   }

@@ -56,6 +56,7 @@ export type Entry =
   | ["put", Name, Seen, Name, VersionId, Attribute[]]
   | ["drop", Name, Seen, Name, VersionId]
   | ["set", Name, Seen, Name, VersionId, string, Value]
+  | ["next", number]
 
 /** A value that `readText` returns and `writeText` accepts. All messages have this form. */
 export type Json = Value | Json[]
@@ -64,7 +65,7 @@ export type Json = Value | Json[]
 export const LIMITS: {
   readonly sites: 256
   readonly entries: 16384
-  readonly objects: 512
+  readonly objects: 8192
   readonly changes: 1024
   readonly keys: 64
   readonly versions: 32
@@ -80,7 +81,7 @@ export type ServerWord =
   | "bad-message" | "not-joined" | "already-joined" | "no-such-room" | "room-full" | "record-full" | "wrong-seq"
   | "own-count" | "ahead" | "not-closed" | "no-such-object" | "no-such-version" | "object-full" | "too-many-keys"
   | "too-many-versions" | "too-many-objects" | "too-far" | "gone" | "no-such-site" | "site-in-use"
-  | "not-served"
+  | "not-served" | "renewed"
 /** The library's own words for refusals. */
 export type OwnWord = "closed" | "withdrawn" | "another-room" | "too-long"
 
@@ -91,7 +92,7 @@ export class Refused extends Error {
   constructor(word: ServerWord | OwnWord)
   readonly name: "Refused"
   readonly word: ServerWord | OwnWord
-  /** The server's code, from 1 to 21; 0 for the library's own words. */
+  /** The server's code, from 1 to 22; 0 for the library's own words. */
   readonly code: number
 }
 
@@ -150,6 +151,8 @@ export class Drawing {
   check(change: Put | Drop): void
   /** Removes the operations of a site from this number on. No other site's operation may count them. */
   remove(site: number, first: number): void
+  /** How many objects there are. */
+  get size(): number
   names(): Name[]
   has(name: Name): boolean
   /** @throws {Refused} `no-such-object` */
@@ -169,9 +172,11 @@ export class Change {
   /** The operation that was sent or will be sent. */
   get operation(): Operation
   get name(): Name
-  /** The object that the change creates or modifies. */
+  /** The object that the change creates or modifies. When the room is renewed, it becomes that object's new name. */
   get object(): Name
-  /** The version that contains this change, as it was directly after it. */
+  /** The kind of that object. */
+  get kind(): string
+  /** The version that contains this change, as it was directly after it, or as the new room shows it. */
   get version(): Version
   readonly isSent: boolean
   /** When the change was made, in milliseconds of `performance.now()`. */
@@ -239,7 +244,8 @@ export interface Options {
 /** What the listeners of each event receive. */
 export interface RoomEvents {
   /**
-   * These objects were created, changed or deleted. `renamed` lists own operations and objects that have a new name.
+   * These objects were created, changed or deleted. `renamed` lists objects and own operations that have a new name. An
+   * old name may be the new one of another object.
    */
   change: { objects: Name[]; renamed: [old: Name, now: Name][] }
   /**
@@ -251,7 +257,19 @@ export interface RoomEvents {
   /** A change failed, and its effect was removed. */
   refusal: { refusal: Refused; change: Change }
   /** The server now has a different room of this name. `text` has the entries of the old one, one a line. */
-  renewed: { words: string; text: string }
+  reset: { words: string; text: string }
+  /**
+   * The room `oldRoom` has ended, and the client is in `newRoom`, which draws the same. The `change` before it has the
+   * new names of objects. `copies` lists versions of this client that became objects of their own. `text` has the old
+   * record and the pending changes if they could not be taken along.
+   */
+  renewed: {
+    oldRoom: string
+    newRoom: string
+    words: string
+    copies: [object: Name, copy: Name][]
+    text: string | null
+  }
 }
 
 /** A client in a room. */
@@ -267,6 +285,10 @@ export class Room {
   get words(): string
   /** The error that closed the room; null while it is not closed, and after `close`. */
   get fault(): Error | null
+  /** The name of the room. When the room is renewed, it becomes that of the new one. */
+  get name(): string
+  /** Whether the room has ended. The client then goes on in the next one, as soon as there is no hold. */
+  get hasEnded(): boolean
   /** The number of this client's site, from 1 to 256; null before the client has joined. */
   get site(): number | null
   /** The entries that were pulled so far. */
@@ -302,9 +324,10 @@ export class Room {
   /** @throws {Refused | TypeError | RangeError} nothing has changed */
   create(kind: string, attributes?: Attributes): Change
   /**
-   * Sets 1 to 16 attributes of a version in one change. @throws {Refused | TypeError | RangeError} nothing has changed
+   * Sets 1 to 16 attributes of a version in one change. `seen` is an earlier value of `seen`, with a version of then:
+   * what others have changed since is concurrent. @throws {Refused | TypeError | RangeError} nothing has changed
    */
-  put(object: Name, version: VersionId | Version, attributes: Attributes): Change
+  put(object: Name, version: VersionId | Version, attributes: Attributes, seen?: Seen): Change
   /**
    * Sets one attribute of a version.
    * @throws {Refused | TypeError | RangeError} nothing has changed

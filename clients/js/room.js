@@ -1,18 +1,21 @@
 /** A room: its objects and versions, the changes of this client, and the session with the server. */
 
-import { asAttributes, asId, asKind, asName, asPairs, asRoomName } from "./arguments.js"
-import { Change, renameOperation } from "./change.js"
+import { asAttributes, asId, asKind, asName, asPairs, asRoomName, asSeen } from "./arguments.js"
+import { Change, HeldChanges, joinSeen, latestName, renameOperation } from "./change.js"
 import { Connection, Lost } from "./connection.js"
 import { ConnectionState } from "./connection_state.js"
-import { Drawing } from "./drawing.js"
-import { Entrance } from "./entrance.js"
+import { Drawing, ownerOf } from "./drawing.js"
+import { Entrance, nobodyIn } from "./entrance.js"
+import { Events } from "./events.js"
 import {
-  Denied, LIMITS, ProtocolFault, Refused, codeOf, entryOf, idOf, nameOf, operationOf, requestOf,
+  Denied, LIMITS, ProtocolFault, Refused, RenewedAs, codeOf, entryOf, nameOf, operationOf, requestOf,
 } from "./forms.js"
 import { writeText } from "./json_text.js"
 import { NO_WEB_SOCKET, addressOf, storageOf, withDefaults } from "./options.js"
+import { Passage, takeAlong } from "./passage.js"
 import { Backoff } from "./pause.js"
 import { SavedState } from "./storage.js"
+import { Transfer, drawSame, drawingOf } from "./transfer.js"
 import { Waits } from "./waits.js"
 
 /** @typedef {import("./forms.js").Name} Name */
@@ -25,28 +28,35 @@ import { Waits } from "./waits.js"
 
 const OTHER_ROOM = "The room was started again, and your old drawing is not in it. You can save a copy of it."
 const SHORTER_RECORD = "The room was started again."
+const GOES_ON = "This drawing goes on in another room."
+const LEFT_BEHIND = "This drawing went on in another room without your last changes. You can save a copy of them."
 
 /**
  * A client in a room. It shows a prefix of the record, and its own changes as soon as they are made.
  *
  * Events, for `on`:
- * - `change` with `{ objects, renamed }`: these objects were created, changed or deleted. `renamed` lists the objects
- *   and operations of this client that have a new name, each as `[old, new]`.
+ * - `change` with `{ objects, renamed }`: these objects were created, changed or deleted. `renamed` lists the objects,
+ *   and the operations of this client, that have a new name, each as `[old, new]`. An old name may be the new one of
+ *   another object.
  * - `state` with `{ state, words, milliseconds }`: the connection state changed. While the state is `saving`, the event
  *   repeats about once a second. `milliseconds` is then how long the oldest change has been pending; otherwise 0.
  * - `progress` with `{ have, of, isLoaded }`: entries of the room that are loaded. The last event has `isLoaded` true.
  * - `refusal` with `{ refusal, change }`: a change failed, and its effect was removed.
- * - `renewed` with `{ words, text }`: the server now has a different room of this name, so the old objects are gone.
+ * - `reset` with `{ words, text }`: the server now has a different room of this name, so the old objects are gone.
  *   `text` has the entries of the old record, then the pending changes, one entry a line.
+ * - `renewed` with `{ oldRoom, newRoom, words, copies, text }`: the room `oldRoom` has ended, and the client is in
+ *   `newRoom`, which draws the same. The `change` before it has the new names of all objects. `copies` lists versions
+ *   with pending changes that could not go on in their object: each as `[object, copy]`, where `copy` is an object of
+ *   its own. If the pending changes could not be taken along, `text` has the old record and them, as for `reset`;
+ *   otherwise it is null.
  */
 export class Room {
   #address
   #options
+  #firstName
   #entrance
   #saved
-  #listeners = {
-    change: new Set(), state: new Set(), progress: new Set(), refusal: new Set(), renewed: new Set(),
-  }
+  #events = new Events("change", "state", "progress", "refusal", "reset", "renewed")
   #connectionState
   #waits
   #site = null
@@ -58,12 +68,17 @@ export class Room {
   #isLoaded = false
   // Whether the client is joining or rejoining. It shows nothing new until its site is certain.
   #isEntering = false
+  // Whether the session is in the room.
+  #isIn = false
   #creationPlaces = new Map()
   #pending = []
   // Own changes that the server has accepted, but that no pull has returned yet.
   #acceptedUnpulled = []
   // The later names of operations of this client's earlier sites, by the code of the first name.
   #laterNames = new Map()
+  // What objects and versions of the room before have become, or null.
+  #passage = null
+  #held = new HeldChanges()
   #holds = 0
   #isClosing = false
   #fault = null
@@ -84,6 +99,7 @@ export class Room {
     if (options.connect === undefined && globalThis.WebSocket === undefined) throw new TypeError(NO_WEB_SOCKET)
     this.#options = withDefaults(options)
     this.#address = addressOf(address, name, this.#options)
+    this.#firstName = name
     this.#entrance = new Entrance(name, this.#options.backMilliseconds, {
       request: (request, kind) => this.#request(request, kind),
       wait: (words, milliseconds) => this.#waitOutside(words, milliseconds),
@@ -91,14 +107,14 @@ export class Room {
     this.#saved = new SavedState(storageOf(this.#options.storage), address, name)
     this.#waits = new Waits(this.#options)
     this.#connectionState = new ConnectionState(
-      (news) => this.#emit("state", news),
+      (news) => this.#events.emit("state", news),
       () => (this.#pending.length > 0 ? performance.now() - this.#pending[0].made : null),
       () => this.#connection?.silentMilliseconds ?? 0,
     )
     this.#restore()
     // In a later turn, so that the caller can set listeners first.
     Promise.resolve().then(() => {
-      if (this.#drawing.names().length > 0) this.#emitChange(this.#drawing.names().map(codeOf))
+      if (this.#drawing.size > 0) this.#emitChange(this.#drawing.names().map(codeOf))
       this.#runSession()
     })
   }
@@ -130,8 +146,24 @@ export class Room {
   }
 
   /**
+   * The name of the room. When the room is renewed, it becomes that of the new one.
+   * @type {string}
+   */
+  get name() {
+    return this.#entrance.name
+  }
+
+  /**
+   * Whether the room has ended. The client then goes on in the next one, as soon as there is no hold.
+   * @type {boolean}
+   */
+  get hasEnded() {
+    return this.#record.at(-1)?.[0] === "next"
+  }
+
+  /**
    * The number of this client's site, from 1 to 256; null before the client has joined. It changes only if the client
-   * cannot rejoin as its old site.
+   * cannot rejoin as its old site, or the room is renewed.
    * @type {number | null}
    */
   get site() {
@@ -214,30 +246,30 @@ export class Room {
   /**
    * The current versions that contain all changes of an earlier version. There are several if later changes conflict
    * with each other but not with that version. If that version was deleted, one of them is gone. The list is empty if
-   * the server has a different room now.
+   * the room was reset, or renewed twice since.
    * @param {Name} object
    * @param {Version} version any version that this room returned
    * @returns {Version[]}
    */
   successors(object, version) {
+    if (ownerOf(version).drawing !== this.#drawing) {
+      const found = this.#continuations(version).flatMap((one) => this.successors(one.object, one.version))
+      return [...new Set(found)]
+    }
     if (!this.#drawing.has(object)) return []
-    const members = version.members.map((name) => this.#currentName(name))
+    const members = version.members.map((name) => latestName(name, this.#laterNames))
     return this.versions(object).filter((later) => members.every((name) => later.has(name)))
   }
 
   /**
    * Adds a listener.
-   * @param {"change" | "state" | "progress" | "refusal" | "renewed"} event
+   * @param {"change" | "state" | "progress" | "refusal" | "reset" | "renewed"} event
    * @param {(news: any) => void} listener
    * @returns {() => void} removes the listener
    * @throws {TypeError} there is no such event
    */
   on(event, listener) {
-    if (!Object.hasOwn(this.#listeners, event)) {
-      throw new TypeError(`there is no event ${event}; the events are ${Object.keys(this.#listeners).join(", ")}`)
-    }
-    this.#listeners[event].add(listener)
-    return () => this.#listeners[event].delete(listener)
+    return this.#events.on(event, listener)
   }
 
   // ---- changing
@@ -252,7 +284,7 @@ export class Room {
    */
   create(kind, attributes = {}) {
     const rest = { kind: asKind(kind), attributes: asAttributes(attributes) }
-    if (this.#drawing.names().length >= LIMITS.objects) throw new Refused("too-many-objects")
+    if (this.#drawing.size >= LIMITS.objects) throw new Refused("too-many-objects")
     return this.#change(this.#next("new", rest))
   }
 
@@ -262,13 +294,17 @@ export class Room {
    * @param {Name} object
    * @param {VersionId | Version} version the base: one of the versions that are shown now
    * @param {Record<string, Value> | Iterable<[string, Value]>} attributes 1 to 16
+   * @param {[number, number][]} [seen] what the author saw: an earlier value of `seen`, with a version of then. What
+   *   others have changed since is concurrent with this change, but for what an own change since counts. Without it the
+   *   author saw all that is shown
    * @returns {Change}
    * @throws {Refused} `not-joined`, `closed`, `record-full`, `no-such-object`, `no-such-version`, `gone`,
    *   `object-full`, `too-many-keys`, `too-long`. Nothing has changed.
    * @throws {TypeError | RangeError} an argument is invalid. Nothing has changed.
    */
-  put(object, version, attributes) {
-    return this.#changeVersion("put", object, version, { attributes: asPairs(attributes) })
+  put(object, version, attributes, seen = undefined) {
+    const rest = { attributes: asPairs(attributes) }
+    return this.#changeVersion("put", object, version, rest, seen === undefined ? null : asSeen(seen))
   }
 
   /**
@@ -298,7 +334,7 @@ export class Room {
   /**
    * Stops showing other people's changes until you release the hold. Use it while a person drags or chooses. A change
    * then counts as seen only what the person saw. The client keeps loading, and shows the new entries when the last
-   * hold is released.
+   * hold is released. From a room that has ended it goes on in the next one only then.
    * @returns {() => void} releases the hold; a second call does nothing
    */
   hold() {
@@ -309,6 +345,7 @@ export class Room {
       isHeld = false
       this.#holds -= 1
       this.#show()
+      if (this.hasEnded) this.#wake()
     }
   }
 
@@ -329,9 +366,31 @@ export class Room {
     this.#end("The room was closed.")
   }
 
-  #currentName(name) {
-    const later = this.#laterNames.get(codeOf(name))
-    return later === undefined ? name : this.#currentName(later)
+  /** What a version of the room before has become. */
+  #continuations(version) {
+    return this.#passage?.continuations(version) ?? []
+  }
+
+  /**
+   * What a change builds on: the object, and the identifier of the version. A version of the room before stands for the
+   * one that it became. Then an author who had seen that version has seen what the client took along.
+   */
+  #baseOf(object, version, seen) {
+    const owner = ownerOf(version)
+    if (owner === undefined || owner.drawing === this.#drawing) {
+      return { object: asName(object), version: asId(version), seen }
+    }
+    const found = this.#passage?.find(version, seen !== null) ?? null
+    if (found === null) throw new Refused("no-such-version")
+    return { object: found.object, version: found.version.id, seen: seen && this.#passage.seen }
+  }
+
+  /** What a change counts whose author saw this: all own changes too, and what the last of them counts. */
+  #seenBy(seen) {
+    const isOwn = ([, name]) => name[0] === this.#site
+    const last = this.#unrecordedEntries().findLast(isOwn) ?? this.#record.findLast(isOwn)
+    const own = [[this.#site, this.#drawing.count(this.#site)]]
+    return joinSeen(this.#drawing, [seen, last?.[2] ?? [], own])
   }
 
   /** The next operation of this client. */
@@ -346,10 +405,12 @@ export class Room {
   /**
    * Makes a put or a drop if the server would accept it. The checks have the server's order, so the word is the same.
    */
-  #changeVersion(word, object, version, rest) {
-    const operation = this.#next(word, { object: asName(object), version: asId(version), ...rest })
+  #changeVersion(word, object, version, rest, seen = null) {
+    const base = this.#baseOf(object, version, seen)
+    const operation = this.#next(word, { object: base.object, version: base.version, ...rest })
+    if (base.seen !== null) operation.seen = this.#seenBy(base.seen)
     this.#drawing.check(operation)
-    const { changes, keys } = this.#drawing.used(object)
+    const { changes, keys } = this.#drawing.used(operation.object)
     if (changes >= LIMITS.changes) throw new Refused("object-full")
     const newKeys = (operation.attributes ?? []).map(([key]) => key)
     if (newKeys.length > 0 && new Set([...keys, ...newKeys]).size > LIMITS.keys) throw new Refused("too-many-keys")
@@ -358,7 +419,8 @@ export class Room {
 
   #change(operation) {
     requestOf(operation)
-    const change = new Change(operation)
+    const change = new Change(operation, operation.kind ?? this.#drawing.kind(operation.object))
+    this.#held.add(change)
     this.#draw(change, operation)
     this.#pending.push(change)
     this.#saveChanges()
@@ -379,23 +441,12 @@ export class Room {
 
   // ---- events
 
-  #emit(event, news) {
-    for (const listener of [...this.#listeners[event]]) {
-      try {
-        listener(news)
-      } catch (fault) {
-        // A listener's error becomes an uncaught error of the page. The connection stays open.
-        queueMicrotask(() => { throw fault })
-      }
-    }
-  }
-
   #emitChange(codes, renamed = []) {
-    this.#emit("change", { objects: [...new Set(codes)].map(nameOf), renamed })
+    this.#events.emit("change", { objects: [...new Set(codes)].map(nameOf), renamed })
   }
 
   #emitProgress() {
-    this.#emit("progress", { ...this.progress, isLoaded: this.#isLoaded })
+    this.#events.emit("progress", { ...this.progress, isLoaded: this.#isLoaded })
   }
 
   #resolveSettled() {
@@ -407,7 +458,7 @@ export class Room {
   #reject(changes, refusal) {
     for (const change of changes) {
       change.reject(refusal)
-      this.#emit("refusal", { refusal, change })
+      this.#events.emit("refusal", { refusal, change })
     }
   }
 
@@ -444,8 +495,16 @@ export class Room {
     if (this.#isClosing) throw new Lost("The room was closed.")
     this.#connection = new Connection(this.#options.connect(this.#address), this.#options.replyMilliseconds)
     await this.#connection.opened()
+    this.#isIn = false
     this.#isEntering = true
-    if (!(await this.#rejoin())) await this.#join()
+    // All that a room has which has ended is in its record.
+    if (!this.hasEnded && !(await this.#rejoin())) await this.#join()
+    await this.#finishEntering()
+  }
+
+  /** Goes on in the next room while this one has ended. Then shows what was loaded. */
+  async #finishEntering() {
+    while (this.hasEnded) await this.#goOn()
     this.#isEntering = false
     const isFirst = !this.#isLoaded
     this.#isLoaded = true
@@ -458,18 +517,29 @@ export class Room {
   async #rejoin() {
     const back = this.#site === null ? null : await this.#requestBack()
     if (back === null) return false
+    this.#isIn = true
     const [, at, , made] = back
     this.#length = at
     const hasRecord = this.#record.length > 0
-    if (await this.#isOtherRecord(at)) this.#discardRoom()
+    if (await this.#isOtherRecord(at)) this.#startAnew()
     else {
       await this.#load()
       const next = this.#pending[0]?.name[1] ?? this.#drawing.count(this.#site) + 1
       // Otherwise another client was in the room as this site, and made operations that this one has not seen.
       if (!hasRecord || next === made + 1) return true
+      if (this.hasEnded) {
+        this.#becomeSite(nobodyIn(this.#record))
+        return true
+      }
     }
-    await this.#request(["leave"], "left")
+    await this.#leave()
     return false
+  }
+
+  async #leave() {
+    if (!this.#isIn) return
+    await this.#request(["leave"], "left")
+    this.#isIn = false
   }
 
   /** The reply to `back`, or null if the client cannot rejoin as its old site. */
@@ -477,19 +547,167 @@ export class Room {
     try {
       return await this.#entrance.back(this.#site)
     } catch (fault) {
-      if (fault.word !== "no-such-site") throw fault
-      this.#discardRoom()
+      if (fault instanceof RenewedAs) this.#leaveBehind(fault.room)
+      else if (this.#isNoLongerThere(fault)) this.#startAnew()
+      else throw fault
       return null
     }
   }
 
+  /** Whether a refusal says that the server lost the room. It may have lost all rooms after the first one. */
+  #isNoLongerThere({ word }) {
+    return word === "no-such-site" || (word === "no-such-room" && this.#entrance.name !== this.#firstName)
+  }
+
+  /** Discards the room's state. The client asks for the first room again. */
+  #startAnew() {
+    this.#discardRoom()
+    this.#entrance.name = this.#firstName
+  }
+
   /** Joins as a new site. */
   async #join() {
-    const [, at, site] = await this.#entrance.join(this.#site !== null)
+    const joined = await this.#requestJoin()
+    if (joined === null) return
+    this.#isIn = true
+    const [, at, site] = joined
     if (await this.#isOtherRecord(at)) this.#discardRoom()
     this.#length = Math.max(this.#length, at + 1)
     await this.#load()
     this.#becomeSite(site)
+  }
+
+  /**
+   * The reply to `join`. It is null if the room has ended while the server has the client's previous connection. The
+   * client has then read it to its end, as a site that it never had.
+   */
+  async #requestJoin() {
+    if (this.#record.length === 0) return this.#entrance.joinNewest(this.#site !== null)
+    try {
+      return await this.#entrance.join(this.#site !== null)
+    } catch (fault) {
+      if (!(fault instanceof RenewedAs)) throw fault
+    }
+    try {
+      const [, at] = await this.#entrance.backAsAny(this.#entrance.name)
+      this.#isIn = true
+      await this.#loadEnd(at)
+      this.#becomeSite(nobodyIn(this.#record))
+      return null
+    } catch (fault) {
+      if (!(fault instanceof RenewedAs)) throw fault
+      this.#leaveBehind(fault.room)
+      return this.#entrance.joinNewest(false)
+    }
+  }
+
+  /** Loads a record that has ended. */
+  async #loadEnd(at) {
+    this.#length = Math.max(this.#length, at)
+    await this.#load()
+    if (!this.hasEnded) throw new ProtocolFault("The server ended a room whose record has no end.")
+  }
+
+  /** Goes on in the room's successor. */
+  async #goOn() {
+    this.#connectionState.connect(GOES_ON)
+    await this.#leave()
+    await this.#untilReleased()
+    const next = await this.#enterSuccessor()
+    if (next === null) return this.#join()
+    await this.#untilReleased()
+    this.#showAll()
+    const [, count] = this.#record.at(-1)
+    const [old, drawing] = [drawingOf(this.#record), drawingOf(next.record.slice(0, count))]
+    if (drawSame(old, drawing)) return this.#switchTo(next, old, drawing, count)
+    this.#leaveBehind(next.name)
+    await this.#leave()
+    await this.#join()
+  }
+
+  /** Enters the room's successor. The result is null if the client could not take its pending changes along. */
+  async #enterSuccessor() {
+    try {
+      // The replies count the entries of the next room.
+      const next = await this.#entrance.enterSuccessor().finally(() => (this.#length = this.#record.length))
+      this.#isIn = next.isIn
+      return next
+    } catch (fault) {
+      if (fault instanceof RenewedAs) this.#leaveBehind(fault.room)
+      else if (fault.word === "no-such-room") this.#startAnew()
+      else throw fault
+      return null
+    }
+  }
+
+  /** Waits until there is no hold. */
+  async #untilReleased() {
+    while (this.#holds > 0 && !this.#isClosing && !this.#connection.hasEnded) {
+      await this.#sleep(Infinity, this.#connection.ended)
+    }
+    if (this.#isClosing || this.#connection.hasEnded) throw new Lost("The connection ended.")
+  }
+
+  /** Makes the room's successor the client's room. It begins with `count` entries, which draw what the old one does. */
+  #switchTo({ name, site, record }, old, drawing, count) {
+    const [oldRoom, all, pending] = [this.#entrance.name, this.#drawing, this.#pending]
+    const transfer = new Transfer(old, all, pending.map((change) => change.name), drawing, site)
+    this.#passage = new Passage(transfer, all, this.#laterNames, drawing.seen())
+    this.#entrance.name = name
+    this.#takeRecord(site, record, drawing, count)
+    this.#pending = takeAlong(pending, transfer, drawing)
+    this.#moveHeld()
+    this.#saveAll()
+    this.#emitChange([...all.names(), ...drawing.names()].map(codeOf), transfer.renamed)
+    this.#events.emit("renewed", { oldRoom, newRoom: name, words: GOES_ON, copies: transfer.copies, text: null })
+    this.#resolveSettled()
+  }
+
+  /** Takes another record, of which the drawing shows the first entries. */
+  #takeRecord(site, record, drawing, count) {
+    this.#site = site
+    this.#record = record
+    this.#drawing = drawing
+    this.#shownCount = count
+    this.#length = record.length
+    this.#waits.hurry()
+    this.#acceptedUnpulled = []
+    this.#laterNames = new Map()
+    this.#creationPlaces.clear()
+    record.slice(0, count).forEach(([word, object], place) => {
+      if (word === "new") this.#creationPlaces.set(codeOf(object), place)
+    })
+  }
+
+  /** All changes but those that are sent again become changes of the objects and versions that correspond. */
+  #moveHeld() {
+    this.#pending.forEach((change) => this.#held.add(change))
+    const isPending = new Set(this.#pending)
+    for (const change of this.#held.all()) {
+      const [found] = isPending.has(change) ? [] : this.#continuations(change.version)
+      if (found !== undefined) change.moveTo(found.object, found.version)
+    }
+  }
+
+  /** Saves the state of another room in place of the old one's. */
+  #saveAll() {
+    this.#saved.clear()
+    this.#saved.saveSite(this.#site, this.#entrance.name)
+    this.#saved.saveRecord(this.#record, 0)
+    this.#saveChanges()
+  }
+
+  /** Goes on in the newest room of the drawing, where the old room can no longer be read. */
+  #leaveBehind(room) {
+    const [oldRoom, pending, text] = [this.#entrance.name, this.#pending, this.#text()]
+    const gone = this.#reset()
+    this.#entrance.name = room
+    this.#emitChange(gone)
+    const isLost = pending.length > 0
+    const words = isLost ? LEFT_BEHIND : GOES_ON
+    this.#events.emit("renewed", { oldRoom, newRoom: room, words, copies: [], text: isLost ? text : null })
+    this.#reject(pending, new Refused("renewed"))
+    this.#resolveSettled()
   }
 
   /** Says why the client is not in the room yet, and waits this long, unless the connection ends. */
@@ -510,6 +728,11 @@ export class Room {
   async #serve() {
     let wait = null
     while (!this.#isClosing) {
+      if (this.hasEnded) {
+        wait = null
+        this.#isEntering = true
+        await this.#finishEntering()
+      }
       if (wait === null && this.#isWaitDue()) wait = this.#waits.send(this.#connection, this.#record.length)
       if (this.#pending.length === 0) await this.#sleepUntilWork(wait)
       const [change] = this.#pending
@@ -552,8 +775,9 @@ export class Room {
 
   /** Checks that a reply is of this kind. */
   #checked(reply, kind) {
-    const [word, at, , refusal] = reply
+    const [word, at, room, refusal] = reply
     if (word === "no" && typeof refusal === "string") throw new Refused(refusal)
+    if (word === "renewed" && typeof room === "string") throw new RenewedAs(room)
     if (word !== kind || typeof at !== "number") throw new ProtocolFault(`The server replied ${word}, not ${kind}.`)
     this.#length = Math.max(this.#length, at)
     return reply
@@ -574,8 +798,10 @@ export class Room {
   /** Processes the reply to a change. */
   async #finishChange(change, reply) {
     const { operation } = change
+    const answer = await reply
+    if (answer[0] === "no" && answer[3] === "renewed") return this.#loadEnd(answer[1])
     try {
-      const [, at] = this.#checked(await reply, operation.word === "new" ? "made" : "taken")
+      const [, at] = this.#checked(answer, operation.word === "new" ? "made" : "taken")
       this.#length = Math.max(this.#length, at + 1)
       if (at === this.#record.length) this.#append([entryOf(operation)])
       else if (!this.#isClosing) {
@@ -624,26 +850,33 @@ export class Room {
   async #isOtherRecord(at) {
     if (at < this.#record.length) return true
     if (this.#record.length === 0) return false
-    const last = Math.max(0, this.#record.findLastIndex(([word]) => word !== "join"))
+    const last = Math.max(0, this.#record.findLastIndex(([word]) => word !== "join" && word !== "next"))
     const pulled = this.#record.slice(last)
     const page = await this.#page(last)
     return page.some((entry, place) => place < pulled.length && writeText(entry) !== writeText(pulled[place]))
   }
 
-  /** Discards the old room's state, and reports it with `renewed`. */
+  /** Discards the old room's state, and reports it with `reset`. */
   #discardRoom() {
-    const entries = [...this.#record, ...this.#unrecordedEntries()]
-    const pending = this.#pending
+    const [pending, text] = [this.#pending, this.#text()]
     const gone = this.#reset()
     this.#emitChange(gone)
-    this.#emit("renewed", { words: OTHER_ROOM, text: entries.map((entry) => `${writeText(entry)}\n`).join("") })
+    this.#events.emit("reset", { words: OTHER_ROOM, text })
     this.#reject(pending, new Refused("another-room"))
     this.#resolveSettled()
+  }
+
+  /** The entries of the record without its end, then the changes that it lacks, one entry a line. */
+  #text() {
+    const entries = [...this.#record, ...this.#unrecordedEntries()].filter(([word]) => word !== "next")
+    return entries.map((entry) => `${writeText(entry)}\n`).join("")
   }
 
   /** Discards all state of the room, saved state included. Returns the codes of the objects that were shown. */
   #reset() {
     const gone = this.#drawing.names().map(codeOf)
+    this.#passage = null
+    this.#held.clear()
     this.#site = null
     this.#record = []
     this.#pending = []
@@ -663,6 +896,7 @@ export class Room {
     try {
       const saved = this.#saved.read()
       if (saved === null) return this.#saved.clear()
+      this.#entrance.name = saved.room
       this.#site = saved.site
       this.#record = saved.record
       this.#show()
@@ -671,7 +905,8 @@ export class Room {
         if (site !== this.#site) throw new ProtocolFault("a saved change belongs to another site")
         // The record got the change after the changes were saved.
         if (number <= this.#drawing.count(site)) continue
-        const change = new Change(operation)
+        const change = new Change(operation, operation.kind ?? this.#drawing.kind(operation.object))
+        this.#held.add(change)
         this.#draw(change, operation)
         change.isSent = true
         this.#pending.push(change)
@@ -679,6 +914,7 @@ export class Room {
     } catch {
       // The saved state is damaged: start without it.
       this.#reset()
+      this.#entrance.name = this.#firstName
     }
   }
 
@@ -727,7 +963,11 @@ export class Room {
 
   /** Shows all pulled entries, unless there is a hold. */
   #show() {
-    if (this.#isEntering || this.#holds > 0 || !this.hasNews) return
+    if (!this.#isEntering && this.#holds === 0) this.#showAll()
+  }
+
+  /** Shows all pulled entries. */
+  #showAll() {
     const changed = []
     for (; this.#shownCount < this.#record.length; this.#shownCount++) {
       const operation = operationOf(this.#record[this.#shownCount])
@@ -746,7 +986,7 @@ export class Room {
     const [first] = this.#pending
     const old = this.#site
     this.#site = site
-    this.#saved.saveSite(site)
+    this.#saved.saveSite(site, this.#entrance.name)
     if (first !== undefined) this.#rename(old, first.name[1], this.#pending)
   }
 

@@ -1,10 +1,11 @@
 /**
- * What a client saves so that a reloaded page can continue: its site, the record, and its pending changes. They are
- * saved as texts in a storage, under keys made of the server's address and the room's name.
+ * What a client saves so that a reloaded page can continue: the room, its site, the record, and its pending changes.
+ * They are saved as texts in a storage, under keys made of the server's address and the first room's name.
  */
 
 import { LIMITS } from "./forms.js"
 import { readText, writeText } from "./json_text.js"
+import { isAfter } from "./room_names.js"
 
 /**
  * @typedef {{ getItem(key: string): string | null, setItem(key: string, text: string): void, removeItem(key: string):
@@ -17,24 +18,26 @@ const PIECE = 64
 /** The saved state of one client in one room. If the storage is full, only the site stays saved. */
 export class SavedState {
   #storage
+  #name
   #prefix
   #isFull
 
   /**
    * @param {Storage | null} storage null saves nothing
    * @param {string} address of the server
-   * @param {string} name of the room
+   * @param {string} name of the first room
    */
   constructor(storage, address, name) {
     this.#storage = storage
+    this.#name = name
     this.#prefix = `grace ${address} ${name}`
     this.#isFull = storage === null
   }
 
   /**
    * Reads the saved state.
-   * @returns {{ site: number, record: any[][], changes: any[][] } | null} `changes` as entries; null if nothing is
-   *   saved
+   * @returns {{ room: string, site: number, record: any[][], changes: any[][] } | null} `changes` as entries; null if
+   *   nothing is saved
    * @throws {SyntaxError} the saved state is damaged
    */
   read() {
@@ -42,16 +45,21 @@ export class SavedState {
     const record = []
     for (let piece = 0; this.#has(`record ${piece}`); piece++) record.push(...this.#get(`record ${piece}`))
     const site = this.#get("site")
-    if (!Number.isInteger(site) || site < 1 || site > LIMITS.sites) throw new SyntaxError("the saved site is invalid")
-    return { site, record, changes: this.#has("changes") ? this.#get("changes") : [] }
+    // One more than there are: a client may read a room that has ended as a site that it never had.
+    const isSite = Number.isInteger(site) && site >= 1 && site <= LIMITS.sites + 1
+    if (!isSite) throw new SyntaxError("the saved site is invalid")
+    return { room: this.#room(), site, record, changes: this.#has("changes") ? this.#get("changes") : [] }
   }
 
   /**
-   * Saves the site.
+   * Saves the site, and the room that it belongs to.
    * @param {number} site
+   * @param {string} room
    */
-  saveSite(site) {
-    if (this.#storage !== null) this.#set("site", site)
+  saveSite(site, room) {
+    if (this.#storage === null) return
+    this.#set("site", site)
+    if (room !== this.#name) this.#set("room", room)
   }
 
   /**
@@ -78,7 +86,15 @@ export class SavedState {
     if (this.#storage === null) return
     this.#clearRecord()
     this.#remove("site")
+    this.#remove("room")
     this.#isFull = false
+  }
+
+  #room() {
+    if (!this.#has("room")) return this.#name
+    const room = this.#get("room")
+    if (!isAfter(room, this.#name)) throw new SyntaxError("the saved room is invalid")
+    return room
   }
 
   #clearRecord() {

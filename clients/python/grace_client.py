@@ -14,9 +14,10 @@ the last show printed them. Other people's changes count as seen only after the 
 reads as one, otherwise a string.
 
 With --site the client rejoins as that site, otherwise it joins as a new one. While the site is in use it keeps trying,
-for 90 seconds or those of --back-seconds. It reports a lost connection on standard error, and reconnects. At the end of
-its input it closes the session. The exit status is 1 if the server, the room or the site is not available, or does not
-let the client in. Programs can use the module `grace` beside it. It needs only Python's standard library."""
+for 90 seconds or those of --back-seconds. It reports a lost connection on standard error, and reconnects. When the room
+is renewed it says so, and goes on in the new one; OBJECT and VERSION then need another show. At the end of its input it
+closes the session. The exit status is 1 if the server, the room or the site is not available, or does not let the
+client in. Programs can use the module `grace` beside it. It needs only Python's standard library."""
 
 import argparse
 import queue
@@ -42,14 +43,32 @@ class Terminal:
     def __init__(self, room):
         self.room = room
         self.objects = []
+        # Whether the room was renewed since the last look.
+        self.is_old = False
         self.release = room.hold()
+        room.on("state", lambda news: self.let_go())
+        room.on("renewed", lambda news: self.expire())
+        self.let_go()
+
+    def let_go(self):
+        """A room that has ended goes on in the next one when nothing holds it."""
+        if self.room.has_ended:
+            self.release()
+
+    def expire(self):
+        """The numbers of the last look name nothing any more."""
+        self.is_old = True
 
     def look(self):
         """Loads all objects. The record's entries so far then count as seen, and the view stays as it is until the next
         look."""
         self.room.refresh()
         self.release()
+        while self.room.has_ended and self.room.state != "closed":
+            self.room.refresh()
+        self.is_old = False
         self.release = self.room.hold()
+        self.let_go()
         self.objects = [(name, self.room.kind(name), self.room.versions(name)) for name in self.room.objects()]
 
     def show(self):
@@ -74,6 +93,8 @@ class Terminal:
 
     def change(self, number, place, make):
         """Changes a version, waits for the reply, and stores the new version for the next command."""
+        if self.is_old:
+            raise Mistake("the drawing goes on in another room: show it again")
         name, _, versions = member(self.objects, number, "object")
         change = make(name, member(versions, place, "version"))
         change.done.result()
@@ -136,6 +157,12 @@ def words_of(refusal):
     return f"refused: {refusal.code} {refusal.word}{words}"
 
 
+def words_of_renewal(news):
+    """The line that reports a renewal."""
+    copies = len(news.copies)
+    return f"{news.words} {copies} of your versions became objects of their own." if copies else news.words
+
+
 def draw(terminal):
     """Executes the commands from standard input."""
     for line in filter(str.strip, sys.stdin):
@@ -187,7 +214,8 @@ def run(address, name, **options):
                 report(news.words)
 
         room.on("state", report_once)
-        room.on("renewed", lambda news: report(news.words))
+        room.on("reset", lambda news: report(news.words))
+        room.on("renewed", lambda news: report(words_of_renewal(news)))
         draw(Terminal(room))
         return None
 
@@ -202,7 +230,8 @@ def address_of(word):
 
 def main():
     parser = argparse.ArgumentParser(description="Draws in a room from a terminal. Reads commands from standard input.")
-    parser.add_argument("address", metavar="ADDRESS", type=address_of, help="address of the server, such as 127.0.0.1:7000")
+    parser.add_argument("address", metavar="ADDRESS", type=address_of,
+                        help="address of the server, such as 127.0.0.1:7000")
     parser.add_argument("room", metavar="ROOM", help="the name of the room")
     parser.add_argument("--site", type=int, help="the site to rejoin as, from 1 to 256 (default: a new site)")
     parser.add_argument("--back-seconds", metavar="SECONDS", type=float, default=90,

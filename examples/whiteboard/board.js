@@ -12,9 +12,13 @@ export class Board {
   #keptSurvivors = new Map()
   // By object: the versions that were shown before the last event.
   #shownBefore = new Map()
+  // All objects, and those that are shown, until the next event.
+  #all = null
   #objects = null
-  // By version: its shape. Versions are immutable.
-  #shapes = new WeakMap()
+  // By the room's list of an object's versions, which stays the same until the object changes.
+  #drawn = new WeakMap()
+  // The last result of `drawn`, with the objects and the drag that it is of.
+  #list = { objects: null, preview: null, drawn: [] }
 
   /** @param {import("../../clients/js/grace.js").Room} room */
   constructor(room) {
@@ -27,13 +31,31 @@ export class Board {
 
   /** The versions of an object that are shown: those that are not gone. */
   shown(name) {
-    return this.room.has(name) ? this.room.versions(name).filter(isThere) : []
+    return this.room.has(name) ? this.#drawnOf(name).versions : []
+  }
+
+  /** All objects, also deleted ones, in the order of the record. */
+  all() {
+    this.#all ??= this.room.objects()
+    return this.#all
   }
 
   /** The objects with at least one shown version, in the order of the record. */
   objects() {
-    this.#objects ??= this.room.objects().filter((name) => this.shown(name).length > 0)
+    this.#objects ??= this.all().filter((name) => this.shown(name).length > 0)
     return this.#objects
+  }
+
+  /**
+   * These objects, each with its shapes. What is drawn in each frame goes over this list, so it is the same list until
+   * the next event or the next step of a drag.
+   */
+  drawn() {
+    const [objects, { preview }] = [this.objects(), this]
+    if (this.#list.objects !== objects || this.#list.preview !== preview) {
+      this.#list = { objects, preview, drawn: objects.map((name) => ({ name, shapes: this.shapes(name) })) }
+    }
+    return this.#list.drawn
   }
 
   /** The version that edits apply to: the only one, or the picked one. Null if the user must pick one first. */
@@ -53,9 +75,15 @@ export class Board {
     return this.selected !== null && keyOf(this.selected) === keyOf(name)
   }
 
-  /** The shapes of an object's shown versions, with a drag in progress applied. */
+  /**
+   * The shapes of an object's shown versions, with a drag in progress applied. Without one it is the same list until
+   * the object changes.
+   */
   shapes(name) {
-    return this.shown(name).map((version) => this.#previewOf(name, version) ?? this.#shapeOf(name, version))
+    if (!this.room.has(name)) return []
+    const { versions, shapes } = this.#drawnOf(name)
+    if (this.preview === null || keyOf(this.preview.name) !== keyOf(name)) return shapes
+    return shapes.map((shape, place) => this.#previewOf(name, versions[place]) ?? shape)
   }
 
   /** The versions that survived a deletion, except those that the user keeps. */
@@ -78,33 +106,44 @@ export class Board {
 
   /**
    * Updates picks and names after a change in the room.
-   * @returns {{ name: any, versions: any[] }[]} the objects that are no longer shown, with the versions they had
+   * @returns {{ name: any, versions: any[], picked: any, isWhole: boolean }[]} the objects of which versions were
+   *   deleted: these versions, the picked one of them or null, and whether the object is no longer shown
    */
   update({ objects, renamed }) {
+    this.#all = null
     this.#objects = null
-    for (const [old, name] of renamed) this.#rename(keyOf(old), name)
+    if (renamed.length > 0) this.#rename(new Map(renamed.map(([old, name]) => [keyOf(old), name])))
+    const lost = objects.map((name) => this.#lost(name)).filter((one) => one !== null)
     for (const name of objects) this.#follow(name)
     if (this.selected !== null && this.shown(this.selected).length === 0) this.selected = null
-    return objects.map((name) => this.#lost(name)).filter((lost) => lost !== null)
+    return lost
   }
 
   #previewOf(name, version) {
     const { preview } = this
-    if (preview === null || preview.version !== version || keyOf(preview.name) !== keyOf(name)) return null
+    if (preview.version !== version) return null
     return shapeOf(this.room.kind(name), new Map([...version.attributes, ...Object.entries(preview.attributes)]))
   }
 
-  #shapeOf(name, version) {
-    const shape = this.#shapes.get(version) ?? shapeOf(this.room.kind(name), version.attributes)
-    this.#shapes.set(version, shape)
-    return shape
+  /** The shown versions of an object, and their shapes. */
+  #drawnOf(name) {
+    const all = this.room.versions(name)
+    const known = this.#drawn.get(all)
+    if (known !== undefined) return known
+    const versions = all.filter(isThere)
+    const kind = this.room.kind(name)
+    const drawn = { versions, shapes: versions.map(({ attributes }) => shapeOf(kind, attributes)) }
+    this.#drawn.set(all, drawn)
+    return drawn
   }
 
-  #rename(key, name) {
-    if (this.selected !== null && keyOf(this.selected) === key) this.selected = name
+  /** Gives objects other names, all at once: the old name of one may be the new name of another. */
+  #rename(names) {
+    if (this.selected !== null) this.selected = names.get(keyOf(this.selected)) ?? this.selected
     for (const byKey of [this.#picks, this.#keptSurvivors, this.#shownBefore]) {
-      if (byKey.has(key)) byKey.set(keyOf(name), byKey.get(key))
-      byKey.delete(key)
+      const moved = [...byKey].filter(([key]) => names.has(key))
+      for (const [key] of moved) byKey.delete(key)
+      for (const [key, value] of moved) byKey.set(keyOf(names.get(key)), value)
     }
   }
 
@@ -117,11 +156,22 @@ export class Board {
     else this.#picks.delete(keyOf(name))
   }
 
-  /** The versions that were shown of an object that is no longer shown, otherwise null. */
+  /** The versions that were shown of an object and are deleted now; null if there are none. */
   #lost(name) {
-    const [before, versions] = [this.#shownBefore.get(keyOf(name)) ?? [], this.shown(name)]
-    this.#shownBefore.set(keyOf(name), versions)
-    return before.length > 0 && versions.length === 0 ? { name, versions: before } : null
+    const [before, shown] = [this.#shownBefore.get(keyOf(name)) ?? [], this.shown(name)]
+    this.#shownBefore.set(keyOf(name), shown)
+    if (before === shown) return null
+    const versions = before.filter((version) => this.#isDeleted(name, version))
+    if (versions.length === 0) return null
+    const pick = this.#picks.get(keyOf(name))
+    const picked = versions.find(({ id }) => pick !== undefined && isSameId(id, pick.id)) ?? null
+    return { name, versions, picked, isWhole: shown.length === 0 }
+  }
+
+  /** Whether nothing of a version is left but what is gone. A version whose change was refused is in none. */
+  #isDeleted(name, version) {
+    const later = this.room.successors(name, version)
+    return later.length > 0 && !later.some(isThere)
   }
 }
 

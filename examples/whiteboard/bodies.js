@@ -23,7 +23,7 @@ export function bodyOf(shape, name = "body") {
   }
   const box = boundsOf(shape)
   if (kind === "pen") {
-    return svg("path", { class: `${name} stroke`, d: pathOf(pointsIn(shape, box)), style: `stroke: ${fill}` })
+    return svg("path", { class: `${name} stroke`, d: pathOf(strokesIn(shape, box)), style: `stroke: ${fill}` })
   }
   if (kind === "ellipse") {
     const [rx, ry] = [box.width / 2, box.height / 2]
@@ -42,12 +42,12 @@ export function outlineOf(shape, name) {
 /** Whether a shape is only a line, which is hard to hit with the pointer. */
 export const isThin = ({ kind }) => kind === "line" || kind === "pen"
 
-/** The points of a pen stroke on the drawing, scaled to fill its box. */
-function pointsIn({ points }, { x, y, width, height }) {
-  if (points.length === 0) return [[x, y]]
-  const most = (side) => points.reduce((largest, point) => Math.max(largest, point[side]), 0)
+/** The strokes of the pen on the drawing, scaled to fill their box. */
+function strokesIn({ strokes }, { x, y, width, height }) {
+  if (strokes.length === 0) return [[[x, y]]]
+  const most = (side) => strokes.flat().reduce((largest, point) => Math.max(largest, point[side]), 0)
   const [wide, high] = [most(0) && width / most(0), most(1) && height / most(1)]
-  return points.map((point) => [x + point[0] * wide, y + point[1] * high])
+  return strokes.map((stroke) => stroke.map((point) => [x + point[0] * wide, y + point[1] * high]))
 }
 
 /** The text on a shape: broken to its width, in the largest size that fits its height. */

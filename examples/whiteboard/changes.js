@@ -1,14 +1,19 @@
 /**
  * What the user does to objects. Each call is one step, which the user can undo. Undoing a put sets the old values
  * again, and undoing a creation drops the object. Nothing can continue a version that is gone, so undoing a drop
- * creates a new object. A change that other people have built on cannot be undone, and the page says so.
+ * creates a new object. A change that other people have built on cannot be undone, and the page says so. A step that
+ * the room refuses to reverse stays.
  */
 
 import { LIMITS, Refused } from "../../clients/js/grace.js"
 import { keyOf } from "./board.js"
 import { Entries } from "./entries.js"
 import { USUAL } from "./shapes.js"
-import { Undo } from "./undo.js"
+import { Space, entriesOfNew } from "./space.js"
+import { REFUSED, Undo } from "./undo.js"
+import { FINAL_DELETION, separateWords } from "./words.js"
+
+const NOT_IN_THIS_ROOM = "the drawing went on in another room without it."
 
 /** A step that cannot be undone or redone, with the reason. */
 class Irreversible extends Error {}
@@ -20,14 +25,34 @@ export class Changes {
   #acts = null
   // All sites that this page has been.
   #sites = new Set()
+  // The deletions that the user made.
+  #drops = []
   // By deleted object: the creation that brought it back.
   #restored = new Map()
+  // By a change that reverses an action: "undone" or "redone".
+  #reversals = new WeakMap()
+  // The actions in a room that was renewed since, and those of them that did not come along.
+  #earlier = new WeakSet()
+  #leftBehind = new WeakSet()
 
   /** @param {import("./whiteboard.js").Page} page */
   constructor(page) {
     this.page = page
     this.entries = new Entries(page.room)
-    page.room.on("renewed", () => this.#undo.clear())
+    this.space = new Space(page.board)
+    page.room.on("reset", () => this.#undo.clear())
+    page.room.on("renewed", () => this.#goOn())
+    page.room.on("refusal", ({ refusal, change }) => this.#refused(refusal, change))
+  }
+
+  /** Whether the user made an operation. */
+  isOwn([site]) {
+    return this.#sites.has(site) || site === this.page.room.site
+  }
+
+  /** Whether the user has deleted versions since the page was opened, by this operation. */
+  hasDropped(name) {
+    return this.#drops.some((change) => keyOf(change.name) === keyOf(name))
   }
 
   get canUndo() {
@@ -57,7 +82,9 @@ export class Changes {
    * attributes
    */
   create(kind, attributes) {
-    return this.step(() => this.#note(this.#create(kind, attributes)))?.change ?? null
+    const pairs = Symbol.iterator in attributes ? [...attributes] : Object.entries(attributes)
+    const form = { kind, attributes: new Map(pairs), isNew: true }
+    return this.step(() => this.#act(() => this.#create(kind, pairs), form))?.change ?? null
   }
 
   /** Creates an object and selects it. */
@@ -69,14 +96,24 @@ export class Changes {
     this.page.view.reach(change.object)
   }
 
-  /** Sets attributes of a version in one change, and picks the new version. */
-  put(name, version, attributes) {
-    this.step(() => this.#note(this.#put(name, version, attributes)))
+  /**
+   * Sets attributes of a version in one change, and picks the new version. Returns the change, or null. With `isKept`
+   * the caller keeps what the room refuses. `seen` is the room's state vector of when the user began.
+   */
+  put(name, version, attributes, { isKept = false, seen } = {}) {
+    const form = isKept ? null : this.#formOf(name, version, attributes)
+    const change = this.step(() => this.#act(() => this.#put(name, version, attributes, seen), form))?.change ?? null
+    if (isKept && change !== null) this.page.refusedChanges.leave(change)
+    return change
   }
 
-  /** Deletes versions in turn, and stops at a refusal. The other versions keep their identifiers. */
+  /**
+   * Deletes versions in turn, and stops at a refusal. The other versions keep their identifiers. If that could not be
+   * undone, the page asks first.
+   */
   drop(name, versions) {
-    this.step(() => versions.every((version) => this.#note(this.#drop(name, version)) !== null))
+    const drop = (version) => this.#act(() => this.#drop(name, version), null) !== null
+    this.#deleting(versions, () => this.step(() => versions.every(drop)))
   }
 
   /** Sets attributes of the picked version, if they differ from the present ones. */
@@ -91,123 +128,216 @@ export class Changes {
 
   undo() {
     this.page.nudges.end()
-    this.#undo.undo((act) => this.#reverse(act, "can't be undone"))
-    this.page.view.change([])
+    this.#turn("undone", () => this.#undo.lastDone, (reverse) => this.#undo.undo(reverse))
   }
 
   redo() {
     this.page.nudges.end()
-    this.#undo.redo((act) => this.#reverse(act, "can't be redone"))
-    this.page.view.change([])
+    this.#turn("redone", () => this.#undo.lastUndone, (reverse) => this.#undo.redo(reverse))
+  }
+
+  /** Reverses the last step. Reversing a creation is a deletion. */
+  #turn(word, last, turn) {
+    const step = last()
+    const created = step.filter((act) => act.word === "create").map(({ change }) => change.version)
+    this.#deleting(created, () => {
+      // The user may have done more before the answer.
+      if (last() !== step) return
+      const restored = []
+      turn((act) => {
+        const reverse = this.#reverse(act, step, word)
+        if (act.word === "drop" && reverse?.word === "create") restored.push(act)
+        return reverse
+      })
+      this.#tellOfSeparate(restored)
+      this.page.view.change([])
+    })
+  }
+
+  /** Says that versions came back as objects of their own, while their object has other versions. */
+  #tellOfSeparate(restored) {
+    const { board, say } = this.page
+    const separate = restored.filter(({ change }) => board.shown(change.object).length > 0)
+    if (separate.length === 0) return
+    const [shape] = board.shapes(separate[0].change.object)
+    say(separateWords(separate.length, shape))
+  }
+
+  /**
+   * The drawing goes on in another room, where operations have other names. What the user did before can be undone
+   * there as long as its values are the same.
+   */
+  #goOn() {
+    const { board, room } = this.page
+    this.#sites.clear()
+    this.#drops = this.#drops.filter((change) => room.pending.includes(change))
+    for (const act of [...this.#undo.acts, ...this.#restored.values()]) {
+      this.#earlier.add(act)
+      const { object, version } = act.change
+      if (board.successors(object, version).length === 0) this.#leftBehind.add(act)
+    }
+  }
+
+  /** Does what deletes these versions, at once or after a question. */
+  #deleting(versions, act) {
+    const isFinal = versions.length > 0 && this.space.makesFinal(versions)
+    if (isFinal) this.page.say(FINAL_DELETION, { words: "Delete for good", act })
+    else act()
   }
 
   // ---- actions: each takes effect at once, and returns how to reverse it
 
-  /** Makes a change. If it is refused, tells the user and returns null. */
-  #attempt(call) {
-    this.isActing = true
+  /** The object that a change of a version would make, or null if there is no such object. */
+  #formOf(name, version, attributes) {
+    const { room } = this.page
+    if (!room.has(name)) return null
+    return { kind: room.kind(name), attributes: new Map([...version.attributes, ...Object.entries(attributes)]) }
+  }
+
+  /**
+   * Does an action of the current step. If the room refuses it, tells the user, keeps what would be lost, and returns
+   * null.
+   */
+  #act(call, lost) {
     try {
-      const change = call()
-      this.#sites.add(this.page.room.site)
-      change.done.catch(() => this.#undo.forget((act) => act.change === change))
-      return change
+      const act = call()
+      this.#acts.push(act)
+      return act
     } catch (fault) {
-      if (!(fault instanceof Refused || fault instanceof RangeError)) throw fault
-      this.page.say(fault.message)
+      if (!isRefusal(fault)) throw fault
+      this.page.refusedChanges.refuse(fault, lost)
       return null
-    } finally {
-      this.isActing = false
     }
   }
 
-  #note(act) {
-    if (act !== null) this.#acts.push(act)
-    return act
+  /** Makes a change. @throws {Refused | RangeError} */
+  #make(call) {
+    this.isActing = true
+    try {
+      return call()
+    } finally {
+      this.isActing = false
+      this.#sites.add(this.page.room.site)
+    }
+  }
+
+  /** The server refused a change that the page had shown. */
+  #refused(refusal, change) {
+    this.#undo.refuse(change)
+    const word = this.#reversals.get(change)
+    const words = word === undefined ? refusal.message : `This can't be ${word}: ${refusal.message}`
+    this.page.refusedChanges.withdraw(refusal, change, words)
+    this.page.view.change([])
   }
 
   /** A creation takes a limited number of attributes. Puts add the rest. */
-  #create(kind, attributes) {
+  #create(kind, pairs) {
     const { room } = this.page
-    const pairs = Symbol.iterator in attributes ? [...attributes] : Object.entries(attributes)
-    const change = this.#attempt(() => room.create(kind, pairs.slice(0, LIMITS.attributes)))
-    let version = change?.version
-    for (let from = LIMITS.attributes; change !== null && from < pairs.length; from += LIMITS.attributes) {
+    if (this.space.entries < entriesOfNew(pairs.length)) throw new Refused("record-full")
+    const change = this.#make(() => room.create(kind, pairs.slice(0, LIMITS.attributes)))
+    let { version } = change
+    for (let from = LIMITS.attributes; from < pairs.length; from += LIMITS.attributes) {
       const more = pairs.slice(from, from + LIMITS.attributes)
-      version = this.#attempt(() => room.put(change.object, version, more))?.version ?? version
+      version = this.#make(() => room.put(change.object, version, more)).version
     }
-    return change && { word: "create", change }
+    return { word: "create", change, after: new Map(pairs) }
   }
 
-  #put(name, version, attributes) {
+  #put(name, version, attributes, seen) {
     const { board, room, view } = this.page
-    const change = this.#attempt(() => room.put(name, version, attributes))
-    if (change === null) return null
+    const change = this.#make(() => room.put(name, version, attributes, seen))
     board.pick(name, change.version)
     view.change([name])
     const before = Object.keys(attributes).map((key) => [key, version.attributes.get(key) ?? USUAL[key] ?? ""])
-    return { word: "put", change, before: Object.fromEntries(before) }
+    return { word: "put", change, before: Object.fromEntries(before), after: new Map(Object.entries(attributes)) }
   }
 
   #drop(name, version) {
     const { room } = this.page
-    const kind = room.kind(name)
-    const change = this.#attempt(() => room.drop(name, version))
-    return change && { word: "drop", change, kind, attributes: version.attributes }
+    const change = this.#make(() => room.drop(name, version))
+    this.#drops.push(change)
+    return { word: "drop", change, kind: room.kind(name), attributes: version.attributes }
   }
 
   // ---- reversing an action
 
-  /** Reverses an action. Returns the reverse action, or null if it is impossible, and tells the user why. */
-  #reverse(act, words) {
+  /**
+   * Reverses an action of a step. Returns the reverse action, null if that is impossible, or `REFUSED`. In these cases
+   * it tells the user why.
+   */
+  #reverse(act, step, word) {
     try {
-      const reversed = act.word === "drop" ? this.#restore(act) : this.#reversePut(act)
-      if (reversed !== null && reversed.word !== "drop") {
-        this.page.select(reversed.change.object)
-        this.page.view.reach(reversed.change.object)
+      const reverse = act.word === "drop" ? this.#restore(act) : this.#reversePut(act)
+      this.#reversals.set(reverse.change, word)
+      this.page.refusedChanges.leave(reverse.change)
+      if (reverse.word !== "drop") {
+        this.page.select(reverse.change.object)
+        this.page.view.reach(reverse.change.object)
       }
-      return reversed
+      return reverse
     } catch (fault) {
-      if (!(fault instanceof Irreversible)) throw fault
-      this.page.say(`This ${words}: ${fault.message}`)
-      return null
+      const words = `This can't be ${word}: ${fault.message}`
+      if (fault instanceof Irreversible) {
+        this.page.say(words)
+        return null
+      }
+      if (!isRefusal(fault)) throw fault
+      this.page.say(`${words} `, { words: "Skip this step", act: () => this.#skip(step) })
+      return REFUSED
     }
   }
 
+  /** Leaves out a step, so that the one before it can be reversed. */
+  #skip(step) {
+    this.#undo.skip(step)
+    this.page.view.change([])
+  }
+
   #restore({ change, kind, attributes }) {
-    const act = this.#create(kind, attributes)
-    if (act !== null) this.#restored.set(keyOf(change.object), act.change)
+    const act = this.#create(kind, [...attributes])
+    this.#restored.set(keyOf(change.object), act)
     return act
   }
 
   #reversePut(act) {
-    const { name, version } = this.#latestVersion(act.change)
+    const { name, version } = this.#latestVersion(act)
     return act.word === "create" ? this.#drop(name, version) : this.#put(name, version, act.before)
   }
 
   /**
-   * The version that a change made, if nobody else has built on it. For an object that came back, the new object's
+   * The version that an action made, if nobody else has built on it. For an object that came back, the new object's
    * version.
    */
-  #latestVersion(change) {
-    const { board } = this.page
-    const found = board.successors(change.object, change.version)
+  #latestVersion(act) {
+    const { change } = act
+    const found = this.page.board.successors(change.object, change.version)
     if (found.length === 0) {
       const again = this.#restored.get(keyOf(change.object))
-      if (again === undefined) throw new Irreversible("somebody deleted it.")
-      return this.#latestVersion(again)
+      if (again !== undefined) return this.#latestVersion(again)
+      throw new Irreversible(this.#leftBehind.has(act) ? NOT_IN_THIS_ROOM : "somebody deleted it.")
     }
     if (found.length > 1) throw new Irreversible("others changed it at the same time, so it has several versions.")
     const [version] = found
-    if (this.#isBuiltOn(version, change.name)) throw new Irreversible("somebody has changed it since.")
+    const isChanged = this.#earlier.has(act) ? !hasValuesOf(version, act) : this.#isBuiltOn(version, change.name)
+    if (isChanged) throw new Irreversible("somebody has changed it since.")
     return { name: change.object, version }
   }
 
   /** Whether somebody else has seen a change and then changed the same version. */
   #isBuiltOn(version, name) {
-    const others = version.members.filter(([site]) => !this.#sites.has(site))
+    const others = version.members.filter((member) => !this.isOwn(member))
     return others.some((other) => {
       const operation = this.entries.find(other)
       return operation !== null && this.entries.hadSeen(operation, name)
     })
   }
 }
+
+/** Whether a version still has the values of an action. One that was created has no others. */
+function hasValuesOf({ attributes }, { word, after }) {
+  const keys = word === "create" ? attributes.keys() : after.keys()
+  return [...keys].every((key) => attributes.get(key) === (after.get(key) ?? USUAL[key] ?? ""))
+}
+
+/** Whether the room, or its library, refused a change. */
+const isRefusal = (fault) => fault instanceof Refused || fault instanceof RangeError

@@ -24,18 +24,23 @@ export class Clipboard {
 
   /** Copies the picked version of the selected object. Returns whether there is one. */
   copy() {
-    const { board, room, view } = this.page
+    const { board, room } = this.page
     const version = board.selected === null ? null : board.picked(board.selected)
     if (version === null) return false
-    this.#copy = { text: writeText([room.kind(board.selected), [...version.attributes]]) }
+    this.keep({ kind: room.kind(board.selected), attributes: version.attributes })
+    return true
+  }
+
+  /** Makes an object of this kind, with these attributes, the copy. */
+  keep({ kind, attributes }) {
+    this.#copy = { text: writeText([kind, [...attributes]]) }
     this.#pastes = 0
     try {
       localStorage.setItem(KEY, this.#copy.text)
     } catch {
       // The browser stores nothing, so only this window has the copy.
     }
-    view.change([])
-    return true
+    this.page.view.change([])
   }
 
   /** Creates an object from the copy: next to the last one, or in the centre if that place is not visible. */

@@ -10,8 +10,8 @@ export class DeletedObjects {
 
   /** The objects whose versions are all gone, the latest first. */
   objects() {
-    const { room } = this.page
-    return room.objects().filter((name) => room.versions(name).every(({ isGone }) => isGone)).toReversed()
+    const { board } = this.page
+    return board.all().filter((name) => board.shown(name).length === 0).toReversed()
   }
 
   /** Kind and attributes of each deleted version, without duplicates. */

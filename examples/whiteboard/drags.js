@@ -2,13 +2,11 @@
 
 import { bodyOf } from "./bodies.js"
 import { boundsOf } from "./boxes.js"
-import { simplify, strokesOf } from "./pen.js"
+import { boxOf } from "./pen.js"
 import { LEAST, attributesOf, moveAttributes, shapeOf, resizeAttributes } from "./shapes.js"
 
 // A movement of fewer pixels counts as a click.
 const CLICK_PIXELS = 2
-// How far, in pixels, a simplify stroke may be from the pointer's path.
-const SIMPLIFY_PIXELS = 0.3
 
 /** Moves the view. A click on empty paper clears the selection. */
 export class Pan {
@@ -140,10 +138,11 @@ export class Sketch {
   }
 }
 
-/** Draws a pen stroke, which becomes one or more objects. */
+/** Draws a stroke of the pen. */
 export class Stroke {
   constructor(page, event) {
     this.page = page
+    this.began = performance.now()
     this.points = [page.camera.placeOf(event)]
   }
 
@@ -155,19 +154,14 @@ export class Stroke {
   }
 
   end(isWhole) {
-    const { camera, changes, view, tools } = this.page
+    const { handwriting, view } = this.page
     view.sheet.sketch(null)
-    if (!isWhole) return
-    const strokes = strokesOf(simplify(this.points, SIMPLIFY_PIXELS / camera.scale))
-    const parts = strokes.map(({ texts, ...box }) => ({ ...box, fill: tools.colour, ...texts }))
-    changes.step(() => parts.forEach((attributes) => changes.create("pen", attributes)))
+    if (isWhole) handwriting.draw(this.points, this.began)
   }
 }
 
 /** The shape of an unfinished stroke. */
 function unfinishedStroke(points, fill) {
-  const [x, y] = [0, 1].map((side) => points.reduce((least, point) => Math.min(least, point[side]), Infinity))
-  const own = points.map((point) => [point[0] - x, point[1] - y])
-  const [width, height] = [0, 1].map((side) => own.reduce((most, point) => Math.max(most, point[side]), 0))
-  return { kind: "pen", x, y, width, height, fill, points: own }
+  const box = boxOf(points)
+  return { kind: "pen", ...box, fill, strokes: [points.map(([x, y]) => [x - box.x, y - box.y])] }
 }

@@ -28,44 +28,47 @@ export class Edges {
   }
 
   draw() {
-    const outside = { left: [], right: [], above: [], below: [] }
-    for (const name of this.board.objects()) this.#sort(name, outside)
+    const outside = { left: nothing(), right: nothing(), above: nothing(), below: nothing() }
+    for (const object of this.board.drawn()) this.#sort(object, outside)
     for (const side of Object.keys(SIDES)) this.#tell(side, outside[side])
   }
 
-  /** Sorts the versions of an object that are outside the window by side. */
-  #sort(name, outside) {
-    for (const shape of this.board.shapes(name)) {
+  /** Counts an object at each side where some version is outside the window, and notes the nearest version. */
+  #sort({ name, shapes }, outside) {
+    for (const shape of shapes) {
       const box = this.camera.boxOf(boundsOf(shape))
       if (meet(box, this.camera.window)) continue
       const { side, distance } = this.#sideOf(box)
-      outside[side].push({ name, shape, distance, middle: middleOf(box) })
+      const found = outside[side]
+      if (found.last !== name) found.count += 1
+      found.last = name
+      if (distance < found.distance) Object.assign(found, { distance, shape, middle: middleOf(box) })
     }
   }
 
   /** The side on which a box is farthest outside. */
   #sideOf({ x, y, width, height }) {
-    const distances = {
-      left: -x - width, right: x - this.camera.width, above: -y - height, below: y - this.camera.height,
-    }
-    const [[side, distance]] = Object.entries(distances).sort(([, one], [, other]) => other - one)
+    const [left, right, above, below] = [-x - width, x - this.camera.width, -y - height, y - this.camera.height]
+    const distance = Math.max(left, right, above, below)
+    const side = distance === left ? "left" : distance === right ? "right" : distance === above ? "above" : "below"
     return { side, distance }
   }
 
-  #tell(side, found) {
+  #tell(side, { count, shape, middle }) {
     const element = this.#buttons[side]
-    element.hidden = found.length === 0
-    if (found.length === 0) return
-    const [nearest] = [...found].sort((one, other) => one.distance - other.distance)
-    this.#nearest[side] = boundsOf(nearest.shape)
-    const count = new Set(found.map(({ name }) => name)).size
+    element.hidden = count === 0
+    if (count === 0) return
+    this.#nearest[side] = boundsOf(shape)
     const { arrow, words } = SIDES[side]
     element.textContent = `${arrow} ${count}`
     element.title = `${countOf(count, "object")} ${words}: show the nearest`
     element.setAttribute("aria-label", element.title)
     const isUpright = side === "left" || side === "right"
-    const [x, y] = nearest.middle
+    const [x, y] = middle
     element.style.left = isUpright ? "" : `${between(MARGIN, x, this.camera.width - MARGIN)}px`
     element.style.top = isUpright ? `${between(MARGIN, y, this.camera.height - MARGIN)}px` : ""
   }
 }
+
+/** A side at which no object was found yet. */
+const nothing = () => ({ count: 0, last: null, distance: Infinity, shape: null, middle: null })

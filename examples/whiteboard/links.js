@@ -2,31 +2,31 @@
 
 const USUAL_ROOM = "drawing"
 
-/** The server of a room if the page's address names none. */
-const usualServer = (roomName) =>
-  location.protocol === "https:" ? `wss://${location.host}/${roomName}` : `ws://${location.hostname}:7000/`
+/** The server of the rooms if the page's address names none. */
+const usualServer = () =>
+  location.protocol === "https:" ? `wss://${location.host}/` : `ws://${location.hostname}:7000/`
 
-/** The room and the server that the page's address names. */
+/** The room and the server that the page's address names. The connection's path is the server's and the room's name. */
 export function placeOfPage() {
   const query = new URLSearchParams(location.search)
   const roomName = query.get("room") ?? USUAL_ROOM
-  return { roomName, server: query.get("server") ?? usualServer(roomName) }
+  const server = query.get("server")
+  return { roomName, server: server === null ? usualServer() : withoutRoom(server, roomName) }
 }
 
 /** The link to another room, or this one, on the server of the page. */
 export function linkTo(roomName) {
   const link = new URL(location.pathname, location.origin)
-  const server = new URLSearchParams(location.search).get("server")
-  if (server !== null) link.searchParams.set("server", serverOf(server, placeOfPage().roomName, roomName))
+  const isNamed = new URLSearchParams(location.search).has("server")
+  if (isNamed) link.searchParams.set("server", placeOfPage().server)
   link.searchParams.set("room", roomName)
   return link.href
 }
 
-/** The server's address for another room: a path that ends with the room's name ends with the other's. */
-function serverOf(server, own, other) {
+/** The server's address without the room's name, if its path ends with it. */
+function withoutRoom(server, roomName) {
   const url = new URL(server)
-  if (!url.pathname.endsWith(`/${own}`)) return server
-  url.pathname = url.pathname.slice(0, -own.length) + other
+  if (url.pathname.endsWith(`/${roomName}`)) url.pathname = url.pathname.slice(0, -roomName.length)
   return url.href
 }
 

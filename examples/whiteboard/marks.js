@@ -1,10 +1,9 @@
 /**
- * The layer above all objects, in pixels of the window: rings, tags, the resize handle and pending marks. Shapes that
- * are too small to see get a speck.
+ * The layer above all objects, in pixels of the window: rings, tags, the resize handle and pending marks.
  */
 
 import { isSameId } from "../../clients/js/grace.js"
-import { keyOf } from "./board.js"
+import { keyOf, nameOf } from "./board.js"
 import { boundsOf, boundsOfAll, cornerOf, grown, meet, middleOf } from "./boxes.js"
 import { svg } from "./elements.js"
 import { atOnePlace, stripeOf } from "./sheet.js"
@@ -14,7 +13,6 @@ import { letterOf } from "./words.js"
 const GAP = 5
 const STRIPE_GAP = -1
 const HANDLE = 14
-const SPECK = 7
 // With more tags than these, each unselected object has a single tag with its number of versions.
 const MANY_TAGS = 80
 // An object with more versions than these has its tags in rows above it. Only the picked version and the one under the
@@ -54,17 +52,26 @@ export class Marks {
   }
 
   draw() {
-    const { board, camera } = this
-    const objects = board.objects().map((name) => this.#objectOf(name)).filter(({ isSeen }) => isSeen)
+    const { camera } = this
+    const pending = this.pending.keys()
+    const objects = this.#marked(pending).map((name) => this.#objectOf(name)).filter(({ isSeen }) => isSeen)
     const several = objects.filter(({ shapes }) => shapes.length > 1)
     const rings = objects.flatMap((object) => this.#ringsOf(object))
     const selected = objects.filter(({ isSelected, picked }) => isSelected && picked >= 0)
-    const pendingMarks = objects.filter(({ name }) => this.pending.has(name)).map(pendingMarkOf)
+    const pendingMarks = objects.filter(({ name }) => pending.has(keyOf(name))).map(pendingMarkOf)
     const handles = selected.map((object) => this.#handle(object))
     this.links.replaceChildren(...several.flatMap(linksOf))
-    const specks = objects.flatMap(specksOf)
-    this.layer.replaceChildren(...rings, ...specks, ...pendingMarks, ...this.#tags(several), ...handles)
+    this.layer.replaceChildren(...rings, ...pendingMarks, ...this.#tags(several), ...handles)
     this.layer.parentNode.style.setProperty("--scale", camera.scale)
+  }
+
+  /** The objects that have marks: those with several versions, and the others that are selected, focused or pending. */
+  #marked(pending) {
+    const { board, sheet } = this
+    const several = board.drawn().filter(({ shapes }) => shapes.length > 1).map(({ name }) => name)
+    const named = [board.selected, sheet.focused?.name ?? null].filter((name) => name !== null).map(keyOf)
+    const others = [...new Set([...named, ...pending])].map(nameOf)
+    return [...several, ...others.filter((name) => board.shown(name).length === 1)]
   }
 
   /** Collects what the marks need of an object: its shapes, their boxes in the window, and the picked version. */
@@ -158,16 +165,6 @@ function linksOf({ boxes, shapes }) {
   const near = atOnePlace(shapes, 0)
   const [[x1, y1], ...others] = boxes.filter((_, place) => place === 0 || !near.includes(place)).map(middleOf)
   return others.map(([x2, y2]) => svg("line", { class: "link", x1, y1, x2, y2 }))
-}
-
-/** Dots for shapes that are too small to see. */
-function specksOf({ name, shapes, boxes }) {
-  return boxes.flatMap((box, place) => {
-    if (Math.max(box.width, box.height) >= SPECK) return []
-    const [cx, cy] = middleOf(box)
-    const own = { "data-object": keyOf(name), "data-letter": letterOf(place) }
-    return [svg("circle", { class: "speck", cx, cy, r: SPECK / 2, fill: shapes[place].fill, ...own })]
-  })
 }
 
 /** The mark of an object that has a pending change. */

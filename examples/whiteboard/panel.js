@@ -5,15 +5,20 @@ import { cardsOf, pictureOf } from "./cards.js"
 import { button, html } from "./elements.js"
 import { shapeOfForm } from "./deleted_objects.js"
 import { truncate } from "./shapes.js"
-import { letterOf, versionWords, wordsOf } from "./words.js"
+import { TextEdit } from "./text_edit.js"
+import { letterOf, numberOf, versionWords, wordsOf } from "./words.js"
 
 const HELP =
   "Drag it to move it. Drag its corner to resize it. Double-click it to write on it. " +
   "The arrow keys move it, or resize it with Shift. The Delete key deletes it."
 
+// The list has at most this many objects, the newest.
+const LISTED = 300
+
 export class Panel {
-  // Release the holds: while the user types in the panel, and while a button is pressed.
-  #release = null
+  // What the user is writing in the panel, or null.
+  #edit = null
+  // Releases the hold while a button is pressed.
   #pressed = null
   #isDeletedListOpen = false
   // The scroll position. Reading it from the element would force a layout of the page.
@@ -48,7 +53,7 @@ export class Panel {
 
   /** Draws the panel again, unless the user is typing or pressing in it. */
   draw() {
-    if (this.#release !== null || this.#pressed !== null) return
+    if (this.#edit !== null || this.#pressed !== null) return
     const focused = document.activeElement?.dataset?.focus
     const { selected } = this.board
     const shown = String(selected)
@@ -69,14 +74,19 @@ export class Panel {
   #objects() {
     const names = this.board.objects()
     const gone = this.#deletedObjects()
-    if (names.length > 0) {
-      const list = html("ul", { className: "list" }, ...names.map((name) => html("li", {}, this.#item(name))))
-      return [html("h2", { textContent: `Objects (${names.length})` }), list, ...gone]
-    }
+    if (names.length > 0) return [...this.#list(names), ...gone]
     const { isLoaded, state } = this.page.room
     if (!isLoaded) return [html("h2", { textContent: state === "closed" ? "No drawing" : "Loading" })]
     const help = "Choose a tool above, then drag on the paper."
     return [html("h2", { textContent: "Nothing is drawn yet" }), html("p", { textContent: help }), ...gone]
+  }
+
+  #list(names) {
+    const heading = html("h2", { textContent: `Objects (${numberOf(names.length)})` })
+    const items = names.slice(-LISTED).map((name) => html("li", {}, this.#item(name)))
+    const list = html("ul", { className: "list" }, ...items)
+    const words = `These are the newest ${LISTED}. Choose the others in the drawing.`
+    return [heading, ...(names.length > LISTED ? [html("p", { textContent: words })] : []), list]
   }
 
   #item(name) {
@@ -152,8 +162,8 @@ export class Panel {
 
   /** The buttons that move an object to the front or to the back. */
   #order(name, picked) {
-    const others = this.board.objects().filter((other) => keyOf(other) !== keyOf(name))
-    const places = others.flatMap((other) => this.board.shapes(other)).map(({ z }) => z)
+    const others = this.board.drawn().filter((other) => keyOf(other.name) !== keyOf(name))
+    const places = others.flatMap(({ shapes }) => shapes).map(({ z }) => z)
     const most = places.reduce((one, z) => Math.max(one, z), 0)
     const least = places.reduce((one, z) => Math.min(one, z), 0)
     const { z: own } = this.board.shapes(name)[this.board.shown(name).indexOf(picked)]
@@ -180,27 +190,30 @@ export class Panel {
     return isOneOfSeveral ? [keep, drop] : [drop]
   }
 
-  /** The text field. Leaving it commits the text. Other people's changes are shown after that. */
+  /** The text field. Leaving it commits the text. The panel stays as it is meanwhile. */
   #textField(name, picked) {
     const before = String(picked?.attributes.get("name") ?? "")
     const input = html("input", { type: "text", value: before, disabled: picked === null, dataset: { focus: "text" } })
-    const end = (isWhole) => {
-      if (this.#release === null) return
-      const release = this.#release
-      this.#release = null
-      if (isWhole && input.value !== before) this.page.changes.put(name, picked, { name: input.value })
-      release()
-      this.page.view.change([name])
-    }
+    const { seen } = this.page.room
     input.addEventListener("input", () => {
       input.value = truncate(input.value)
-      this.#release ??= this.page.room.hold()
+      this.#edit ??= new TextEdit(this.page, name, picked, seen)
     })
-    input.addEventListener("blur", () => end(true))
+    input.addEventListener("blur", () => this.#endEdit(input.value))
     input.addEventListener("keydown", ({ key }) => {
-      if (key === "Enter" || key === "Escape") end(key === "Enter")
+      if (key === "Enter") this.#endEdit(input.value)
+      else if (key === "Escape") this.#endEdit()
     })
     return html("label", {}, html("span", { textContent: "Text" }), input)
+  }
+
+  /** Ends the writing with this text, or without one. */
+  #endEdit(text) {
+    const edit = this.#edit
+    if (edit === null) return
+    this.#edit = null
+    edit.end(text)
+    this.page.view.change([edit.name])
   }
 
   #versions(name, versions, picked) {

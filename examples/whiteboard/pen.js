@@ -1,7 +1,8 @@
 /**
- * Pen strokes. The points of a stroke are stored as strings such as `0,12 5,20`: integers relative to the stroke's
- * upper left corner. A string has at most 256 bytes, and a new object at most 16 attributes. So a stroke uses at most
- * eight such strings, and a longer stroke becomes several objects.
+ * Strokes of the pen. An object has one or more strokes. Their points are stored as strings such as `0,12 5,20 / 9,0`:
+ * integers relative to the upper left corner of all, with `/` where the pen was lifted. A string has at most 256 bytes,
+ * and a new object at most 16 attributes. So an object has at most eight such strings, and a longer stroke becomes
+ * several objects.
  */
 
 import { boundsOfAll } from "./boxes.js"
@@ -9,36 +10,63 @@ import { boundsOfAll } from "./boxes.js"
 const TEXT_BYTES = 256
 const TEXTS = 8
 const MOST = 99999
-export const POINT_KEYS = Array.from({ length: TEXTS }, (_, place) => `points-${place}`)
+const LIFTED = "/"
+const keyOfText = (place) => `points-${place}`
+export const POINT_KEYS = Array.from({ length: TEXTS }, (_, place) => keyOfText(place))
+
+/** @typedef {[number, number][]} Stroke its points, on the drawing or relative to the corner of an object */
+/** @typedef {{ x: number, y: number, width: number, height: number }} Box */
 
 /**
- * Reads the points from attributes, and ignores malformed ones.
+ * Reads the strokes from attributes, and ignores malformed points.
  * @param {Map<string, unknown>} attributes
+ * @returns {Stroke[]} without empty ones
  */
-export function pointsOf(attributes) {
+export function strokesIn(attributes) {
   const texts = POINT_KEYS.map((key) => attributes.get(key)).filter((text) => typeof text === "string")
-  const words = texts.flatMap((text) => text.split(" ")).filter((word) => /^\d{1,5},\d{1,5}$/.test(word))
-  return words.map((word) => word.split(",").map(Number))
+  const strokes = [[]]
+  for (const word of texts.flatMap((text) => text.split(" "))) {
+    if (word === LIFTED) strokes.push([])
+    else if (/^\d{1,5},\d{1,5}$/.test(word)) strokes.at(-1).push(word.split(",").map(Number))
+  }
+  return strokes.filter((stroke) => stroke.length > 0)
 }
 
 /**
- * Splits a stroke into one or more objects, with position, size and strings. Each starts where the one before ends.
- * @param {[number, number][]} points
- * @returns {{ x: number, y: number, width: number, height: number, texts: Record<string, string> }[]}
+ * Splits a stroke into one or more parts, each for an object. Each starts where the one before ends.
+ * @param {Stroke} points on the drawing
+ * @returns {(Box & { texts: Record<string, string> })[]}
  */
-export function strokesOf(points) {
-  const whole = points.map(([x, y]) => [Math.round(x), Math.round(y)])
+export function partsOf(points) {
+  const whole = rounded(points)
   const { x, y } = boxOf(whole)
   // Relative to the corner of a part the numbers are no larger than relative to the whole stroke's corner.
   const words = whole.map((point) => wordOf(point, x, y))
-  const strokes = []
+  const parts = []
   let first = 0
   do {
     const end = endOfPart(words, first)
-    strokes.push(strokeOf(whole.slice(first, end)))
+    parts.push(partOf([whole.slice(first, end)]))
     first = end - 1
   } while (first < words.length - 1)
-  return strokes
+  return parts
+}
+
+/**
+ * The attributes that a further stroke changes in an object; null if it does not fit. Position and size are set whole
+ * or not at all, so no version combines those of two changes.
+ * @param {Map<string, any>} attributes of the object, in the size in which it was drawn
+ * @param {Stroke} points on the drawing
+ * @returns {Record<string, any> | null}
+ */
+export function withStroke(attributes, points) {
+  const [left, top] = [attributes.get("x"), attributes.get("y")]
+  const before = strokesIn(attributes).map((stroke) => stroke.map(([x, y]) => [left + x, top + y]))
+  const { texts, x, y, width, height } = partOf([...before, rounded(points)])
+  if (Object.keys(texts).length > TEXTS || Math.max(width, height) > MOST) return null
+  const groups = [{ x, y }, { width, height }, ...Object.entries(texts).map(([key, text]) => ({ [key]: text }))]
+  const isOther = (group) => Object.entries(group).some(([key, value]) => attributes.get(key) !== value)
+  return Object.assign({}, ...groups.filter(isOther))
 }
 
 /** Simplifies a line: each removed point is within this distance of the result. */
@@ -55,21 +83,30 @@ export function simplify(points, distance) {
   return points.filter((_, place) => kept.has(place))
 }
 
-/** The SVG path through these points. A single point gives a dot. */
-export function pathOf(points) {
-  const [first, ...rest] = points
+/**
+ * The SVG path of strokes. A single point gives a dot.
+ * @param {Stroke[]} strokes
+ */
+export const pathOf = (strokes) => strokes.map(pathOfStroke).join(" ")
+
+function pathOfStroke([first, ...rest]) {
   const ways = rest.length === 0 ? [first] : rest
   return [`M ${first.join(" ")}`, ...ways.map((point) => `L ${point.join(" ")}`)].join(" ")
 }
 
+/** The bounding box of points. */
+export const boxOf = (points) => boundsOfAll(points.map(([x, y]) => ({ x, y, width: 0, height: 0 })))
+
+const rounded = (points) => points.map(([x, y]) => [Math.round(x), Math.round(y)])
+
 const wordOf = ([x, y], left, top) => `${Math.min(MOST, x - left)},${Math.min(MOST, y - top)}`
 
-const boxOf = (points) => boundsOfAll(points.map(([x, y]) => ({ x, y, width: 0, height: 0 })))
-
-function strokeOf(points) {
-  const box = boxOf(points)
-  const texts = textsOf(points.map((point) => wordOf(point, box.x, box.y)))
-  return { ...box, texts: Object.fromEntries(texts.map((text, place) => [POINT_KEYS[place], text])) }
+/** Position, size and strings of an object with these strokes. */
+function partOf(strokes) {
+  const box = boxOf(strokes.flat())
+  const wordsOf = (stroke) => stroke.map((point) => wordOf(point, box.x, box.y))
+  const words = strokes.flatMap((stroke, place) => (place === 0 ? wordsOf(stroke) : [LIFTED, ...wordsOf(stroke)]))
+  return { ...box, texts: Object.fromEntries(textsOf(words).map((text, place) => [keyOfText(place), text])) }
 }
 
 /** The end of the part that starts at this index: as many points as fit into one object. */

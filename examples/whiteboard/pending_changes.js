@@ -15,9 +15,10 @@ export class PendingChanges {
     this.changed = changed
   }
 
-  /** Whether a change of this object is pending. */
-  has(name) {
-    return this.room.pending.some((change) => this.#shown.has(change) && keyOf(change.object) === keyOf(name))
+  /** The keys of the objects with such a change. */
+  keys() {
+    const shown = this.room.pending.filter((change) => this.#shown.has(change))
+    return new Set(shown.map(({ object }) => keyOf(object)))
   }
 
   /** Starts to watch new changes. */

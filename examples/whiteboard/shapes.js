@@ -5,7 +5,7 @@
  */
 
 import { boundsOf } from "./boxes.js"
-import { pointsOf } from "./pen.js"
+import { strokesIn } from "./pen.js"
 
 const FAR = 100000
 const PLAIN = "#c9d1d9"
@@ -61,7 +61,7 @@ export function shapeOf(kind, attributes) {
     kind, x: whole("x"), y: whole("y"), width: whole("width"), height: whole("height"), z: whole("z"),
     fill: isColour(fill) ? fill : PLAIN,
     text: String(attributes.get("name") ?? ""),
-    points: kind === "pen" ? pointsOf(attributes) : [],
+    strokes: kind === "pen" ? strokesIn(attributes) : [],
   }
 }
 

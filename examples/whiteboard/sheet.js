@@ -80,17 +80,17 @@ export class Sheet {
   /** Moves the focus to the successor of a version, or to the whole drawing if the version is gone. */
   #focus({ name, version }) {
     const [next] = this.board.successors(name, version)
-    const element = next && this.find(name, next)
-    const focused = element ?? this.element
+    // The object may have another name.
+    const entry = [...this.#entries.values()].flat().find(({ element }) => this.#drawn.get(element).version === next)
+    const focused = entry?.element ?? this.element
     focused.focus({ preventScroll: true })
   }
 
   /** Sorts the elements from back to front: by `z`, then in the order of the record. The picked version comes last. */
   #order() {
-    const places = new Map(this.board.objects().map((name, place) => [keyOf(name), place]))
-    const placed = ([key, own]) => own.map((entry) => ({ ...entry, place: places.get(key) }))
-    const entries = [...this.#entries].flatMap(placed)
-    entries.sort((one, other) => one.z - other.z || one.place - other.place || one.isPicked - other.isPicked)
+    const entries = this.board.objects().flatMap((name) => this.#entries.get(keyOf(name)) ?? [])
+    // Entries of one `z` keep their order.
+    entries.sort((one, other) => one.z - other.z)
     let next = this.layer.firstChild
     for (const { element } of entries) {
       if (element === next) next = next.nextSibling
@@ -103,7 +103,7 @@ export class Sheet {
     const shapes = this.board.shapes(name)
     const picked = this.board.picked(name)
     const hasPicked = picked !== null && versions.length > 1
-    return shapes.map((shape, place) => {
+    const entries = shapes.map((shape, place) => {
       const isPicked = picked !== null && isSameId(picked.id, versions[place].id)
       const isMarked = isPicked && (hasPicked || this.board.isSelected(name))
       const element = this.#version(name, shapes, place, isMarked)
@@ -111,6 +111,7 @@ export class Sheet {
       this.#drawn.set(element, { name, version: versions[place] })
       return { element, z: shape.z, isPicked }
     })
+    return entries.sort((one, other) => one.isPicked - other.isPicked)
   }
 
   #version(name, shapes, place, isMarked) {

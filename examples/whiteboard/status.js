@@ -4,14 +4,17 @@ import { LIMITS } from "../../clients/js/grace.js"
 import { button, html, part } from "./elements.js"
 import { countOf, numberOf } from "./words.js"
 
-const NO_SUCH_ROOM = "There is no drawing under this link: the server has only the rooms that it was started with."
+const NO_SUCH_ROOM = "There is no drawing under this link, and this server begins no new ones."
 
 const WORDS_MILLISECONDS = 10000
 const ACTION_MILLISECONDS = 20000
 
-/** Shows a message for some seconds, once, with a button if the user can do something about it. */
+/**
+ * Shows a message for some seconds, once, with a button if the user can do something about it. An action of the same
+ * `about` replaces the one before it. One that `isLasting` stays until the user closes it.
+ */
 export function say(words, action = null) {
-  const kind = action === null ? words : "action"
+  const kind = action === null ? words : `action ${action.about ?? ""}`
   const line = html("p", { dataset: { kind } }, words)
   for (const old of [...part("refusals").children]) if (old.dataset.kind === kind) old.remove()
   if (action !== null) {
@@ -22,11 +25,15 @@ export function say(words, action = null) {
     line.append(button(action.words, "act", act))
   }
   part("refusals").append(line)
+  if (action?.isLasting) return line.append(button("Close", "close", () => line.remove()))
   setTimeout(() => line.remove(), action === null ? WORDS_MILLISECONDS : ACTION_MILLISECONDS)
 }
 
-/** Says that the room was started again, and offers the old drawing as a file, until the user closes the message. */
-export function showRenewed(roomName, { words, text }) {
+/**
+ * Says that the room was reset, or that the drawing went on without the user's last changes. Offers the old drawing as
+ * a file, until the user closes the message.
+ */
+export function showOldDrawing(roomName, { words, text }) {
   const href = URL.createObjectURL(new Blob([text], { type: "text/plain" }))
   const keep = html("a", { href, download: `${roomName}.record`, textContent: "Save the old drawing" })
   const notice = html("section", { className: "notice" }, html("p", { textContent: words }))
@@ -35,7 +42,7 @@ export function showRenewed(roomName, { words, text }) {
     URL.revokeObjectURL(href)
   }
   notice.append(html("div", { className: "actions" }, keep, button("Close", "close", close)))
-  part("renewed").append(notice)
+  part("reset").append(notice)
 }
 
 /** How far the drawing is loaded, or why it never will be. */
@@ -52,8 +59,9 @@ export function showProgress(room) {
 function loadingWords(room) {
   const { have, of } = room.progress
   if (room.fault?.word === "no-such-room") return NO_SUCH_ROOM
-  if (room.state === "closed") return room.words
-  return of === 0 ? "Waiting for the drawing." : `Loading the drawing: ${numberOf(have)} of ${numberOf(of)}.`
+  // Before the page is in the room, they say why it is not.
+  if (room.state === "closed" || of === 0) return room.words
+  return `Loading the drawing: ${numberOf(have)} of ${numberOf(of)}.`
 }
 
 /** The connection state, and a summary of the drawing. */
@@ -88,15 +96,31 @@ export class StateLine {
     if (room.state === "saving") words.push(`Saving ${changes} for ${Math.round(this.#milliseconds / 1000)} s.`)
     else if (room.state === "open") words.push(...this.#several())
     else if (waiting > 0) words.push(`${changes} ${waiting > 1 ? "are" : "is"} not saved yet.`)
-    // Deleted objects count too.
-    if (room.objects().length >= LIMITS.objects) words.push("The drawing is full: no more objects fit.")
-    return words.join(" ")
+    return [...words, ...this.#full()].join(" ")
   }
 
   #several() {
-    const objects = this.board.objects()
-    const several = objects.filter((name) => this.board.shown(name).length > 1).length
+    const objects = this.board.drawn()
+    const several = objects.filter(({ shapes }) => shapes.length > 1).length
     if (several === 0) return []
-    return [`${several} of ${objects.length} objects ${several > 1 ? "have" : "has"} several versions.`]
+    const have = several > 1 ? "have" : "has"
+    return [`${numberOf(several)} of ${countOf(objects.length, "object")} ${have} several versions.`]
+  }
+
+  /** Whether the drawing is full, or nearly. Deleted objects count too. */
+  #full() {
+    const { room } = this.board
+    const entries = room.record.length + room.pending.length
+    const objects = this.board.all().length
+    if (entries >= LIMITS.entries) return ["The drawing is full: nothing can be changed any more."]
+    if (objects >= LIMITS.objects) return ["The drawing is full: no more objects fit."]
+    if (isNearly(objects, LIMITS.objects)) return [nearlyFull(objects, LIMITS.objects, "objects")]
+    return isNearly(entries, LIMITS.entries) ? [nearlyFull(entries, LIMITS.entries, "entries")] : []
   }
 }
+
+/** Whether a count is at least nine tenths of a limit. The server's log warns at the same counts. */
+const isNearly = (count, limit) => count * 10 >= limit * 9
+
+const nearlyFull = (count, limit, noun) =>
+  `The drawing is nearly full: it has ${numberOf(count)} of ${numberOf(limit)} ${noun}.`

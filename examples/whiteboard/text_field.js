@@ -1,13 +1,15 @@
-/** The text field on a shape. A hold keeps other people's changes back while it is open. */
+/** The text field on a shape. It follows the shape, which others may move while it is open. */
 
 import { boundsOf, middleOf } from "./boxes.js"
 import { html, part } from "./elements.js"
 import { truncate, shapeOf } from "./shapes.js"
+import { TextEdit } from "./text_edit.js"
 
 const LEAST_WIDTH = 180
 
 export class TextField {
-  #end = null
+  // The open field and what it edits, or null.
+  #open = null
 
   /** @param {import("./whiteboard.js").Page} page */
   constructor(page) {
@@ -16,48 +18,51 @@ export class TextField {
 
   /** Commits the open text field, if there is one. */
   end() {
-    this.#end?.(true)
+    this.#close(true)
   }
 
   /** Opens the field on a version. Enter or a press elsewhere commits the text, Escape cancels. */
   open(name, version) {
     this.end()
-    const { page } = this
-    const release = page.room.hold()
-    page.select(name, version)
-    const shape = shapeOf(page.room.kind(name), version.attributes)
-    const field = html("input", { type: "text", id: "writing", value: shape.text, autocomplete: "off" })
+    this.page.select(name, version)
+    const edit = new TextEdit(this.page, name, version)
+    const field = html("input", { type: "text", id: "writing", value: edit.before, autocomplete: "off" })
     field.setAttribute("aria-label", "Text on the shape")
-    this.#place(field, shape)
-    this.#end = (isWhole) => {
-      this.#end = null
-      const text = truncate(field.value)
-      field.remove()
-      this.#put(isWhole && text !== shape.text, text)
-      release()
-      page.view.change([name])
-      page.view.now()
-      page.view.sheet.find(name, page.board.picked(name))?.focus({ preventScroll: true })
-    }
+    this.#open = { field, edit }
+    this.draw()
     this.#listen(field)
     part("window").append(field)
     field.focus()
     field.select()
   }
 
+  /** Draws the open field at its shape, or where it was if the shape is deleted. */
+  draw() {
+    if (this.#open === null) return
+    const { field, edit } = this.#open
+    const { version } = edit
+    if (version !== null) this.#place(field, shapeOf(this.page.room.kind(edit.name), version.attributes))
+  }
+
   #listen(field) {
     field.addEventListener("input", () => (field.value = truncate(field.value)))
-    field.addEventListener("blur", () => this.#end?.(true))
+    field.addEventListener("blur", () => this.end())
     field.addEventListener("keydown", ({ key }) => {
-      if (key === "Enter" || key === "Escape") this.#end?.(key === "Enter")
+      if (key === "Enter" || key === "Escape") this.#close(key === "Enter")
     })
   }
 
-  /** The selection and the pick follow the version, even if its object was renamed meanwhile. */
-  #put(isOther, text) {
-    const { board, changes } = this.page
-    const version = board.selected === null ? null : board.picked(board.selected)
-    if (isOther && version !== null) changes.put(board.selected, version, { name: text })
+  #close(isWhole) {
+    if (this.#open === null) return
+    const { board, view } = this.page
+    const { field, edit } = this.#open
+    this.#open = null
+    const text = truncate(field.value)
+    field.remove()
+    edit.end(isWhole ? text : edit.before)
+    view.change([edit.name])
+    view.now()
+    view.sheet.find(edit.name, board.picked(edit.name))?.focus({ preventScroll: true })
   }
 
   #place(field, shape) {

@@ -1,7 +1,13 @@
-/** The steps that can be undone, and those that can be redone. A step is a list of actions. */
+/** The steps that can be undone, and those that can be redone. A step is a list of actions, each with its change. */
+
+/** What reversing an action gives if the room refuses it: the action stays. */
+export const REFUSED = Symbol("refused")
+
 export class Undo {
   #done = []
   #undone = []
+  // By a change that reverses an action: that action, its step, and the steps that it was in.
+  #origins = new WeakMap()
 
   get hasDone() {
     return this.#done.length > 0
@@ -9,6 +15,21 @@ export class Undo {
 
   get hasUndone() {
     return this.#undone.length > 0
+  }
+
+  /** The actions of the step that `undo` would undo. */
+  get lastDone() {
+    return this.#done.at(-1) ?? []
+  }
+
+  /** The actions of the step that `redo` would redo. */
+  get lastUndone() {
+    return this.#undone.at(-1) ?? []
+  }
+
+  /** The actions of all steps. */
+  get acts() {
+    return [...this.#done, ...this.#undone].flat()
   }
 
   /**
@@ -22,24 +43,33 @@ export class Undo {
   }
 
   /**
-   * Undoes the last step, starting with its last action.
-   * @param {(act: any) => any} turn reverses an action, and returns the reverse action or null
+   * Undoes the last step, starting with its last action. It stops at an action that the room refuses to reverse. That
+   * one and those before it stay.
+   * @param {(act: any) => any} turn reverses an action, and returns the reverse action, `REFUSED`, or null if it never
+   *   can
    */
   undo(turn) {
-    turnLast(this.#done, this.#undone, turn)
+    this.#turnLast(this.#done, this.#undone, turn)
   }
 
-  /** Redoes the step that was undone last. */
+  /** Redoes the step that was undone last, in the same way. */
   redo(turn) {
-    turnLast(this.#undone, this.#done, turn)
+    this.#turnLast(this.#undone, this.#done, turn)
   }
 
-  /** Removes an action that the room has refused. */
-  forget(isIt) {
-    for (const steps of [this.#done, this.#undone]) {
-      const left = steps.map((acts) => acts.filter((act) => !isIt(act))).filter((acts) => acts.length > 0)
-      steps.splice(0, steps.length, ...left)
-    }
+  /** Removes the action of a change that the room has refused. What that action reversed can be reversed again. */
+  refuse(change) {
+    for (const steps of [this.#done, this.#undone]) keepSteps(steps, (act) => act.change !== change)
+    const origin = this.#origins.get(change)
+    if (origin === undefined) return
+    this.#origins.delete(change)
+    origin.step.push(origin.act)
+    if (!origin.steps.includes(origin.step)) origin.steps.push(origin.step)
+  }
+
+  /** Removes a step, so that the one before it comes next. */
+  skip(step) {
+    for (const steps of [this.#done, this.#undone]) keepSteps(steps, (act) => !step.includes(act))
   }
 
   /** Removes all steps. */
@@ -47,10 +77,26 @@ export class Undo {
     this.#done = []
     this.#undone = []
   }
+
+  #turnLast(from, to, turn) {
+    const step = from.pop() ?? []
+    const turned = []
+    while (step.length > 0) {
+      const act = step.at(-1)
+      const reverse = turn(act)
+      if (reverse === REFUSED) break
+      step.pop()
+      if (reverse === null) continue
+      turned.push(reverse)
+      this.#origins.set(reverse.change, { act, step, steps: from })
+    }
+    if (step.length > 0) from.push(step)
+    if (turned.length > 0) to.push(turned)
+  }
 }
 
-function turnLast(from, to, turn) {
-  const acts = from.pop() ?? []
-  const turned = acts.toReversed().map(turn).filter((act) => act !== null)
-  if (turned.length > 0) to.push(turned)
+/** Removes all actions but these, and the steps that have none then. */
+function keepSteps(steps, isKept) {
+  for (const acts of steps) acts.splice(0, acts.length, ...acts.filter(isKept))
+  steps.splice(0, steps.length, ...steps.filter((acts) => acts.length > 0))
 }

@@ -9,6 +9,7 @@ import { Frames } from "./frames.js"
 import { Marks } from "./marks.js"
 import { PendingChanges } from "./pending_changes.js"
 import { Sheet } from "./sheet.js"
+import { Specks } from "./specks.js"
 
 export class View {
   #changed = new Map()
@@ -24,6 +25,7 @@ export class View {
     this.camera = new Camera(part("board"), look)
     this.sheet = new Sheet(board, part("board"), this.layer)
     this.pending = new PendingChanges(board.room, look)
+    this.specks = new Specks(this, part("specks"))
     this.marks = new Marks(this, part("marks"), part("links"))
     this.edges = new Edges(this, part("edges"))
     for (const event of ["focusin", "focusout"]) part("board").addEventListener(event, look)
@@ -95,6 +97,7 @@ export class View {
     this.#changed.clear()
     if (names.length > 0) this.sheet.draw(names)
     this.layer.setAttribute("transform", `translate(${x} ${y}) scale(${scale})`)
+    this.specks.draw()
     this.marks.draw()
     this.edges.draw()
     part("scale").textContent = `${Math.round(scale * 100) || (scale * 100).toFixed(1)} %`

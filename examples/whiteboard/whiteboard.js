@@ -1,8 +1,9 @@
 /**
  * A shared whiteboard on a GRACE room. The page's address names the server and the room:
- * `?server=ws://localhost:7000/&room=drawing`. Without `server` the page uses its own host: with TLS the path that is
- * the room's name, as behind a proxy, otherwise port 7000. So `?room=drawing` alone is a link to a drawing. A reloaded
- * page continues as the same site.
+ * `?server=ws://localhost:7000/&room=drawing`. Without `server` the page uses its own host: with TLS at the page's
+ * port, as behind a proxy, otherwise at port 7000. So `?room=drawing` alone is a link to a drawing. The path of the
+ * connection ends with the room's name, so a proxy and a server with `--by-path` can tell rooms apart. A reloaded page
+ * continues as the same site. When the room is renewed, the page goes on in the new one under the same address.
  */
 
 import { Room } from "../../clients/js/grace.js"
@@ -10,20 +11,22 @@ import { Board } from "./board.js"
 import { Changes } from "./changes.js"
 import { Clipboard } from "./clipboard.js"
 import { DeletedObjects } from "./deleted_objects.js"
+import { DeletionMessages } from "./deletion_messages.js"
 import { part } from "./elements.js"
 import { Frames } from "./frames.js"
 import { Gestures } from "./gestures.js"
+import { Handwriting } from "./handwriting.js"
 import { Keys } from "./keys.js"
 import { placeOfPage } from "./links.js"
 import { Nudges } from "./nudges.js"
 import { Panel } from "./panel.js"
-import { shapeOf } from "./shapes.js"
+import { RefusedChanges } from "./refused_changes.js"
 import { Sharing } from "./sharing.js"
-import { StateLine, say, showProgress, showRenewed } from "./status.js"
+import { StateLine, say, showOldDrawing, showProgress } from "./status.js"
 import { TextField } from "./text_field.js"
 import { Toolbar } from "./toolbar.js"
 import { View } from "./view.js"
-import { wordsOf } from "./words.js"
+import { renewedWords } from "./words.js"
 
 /** The page and its parts. */
 export class Page {
@@ -31,13 +34,16 @@ export class Page {
   #progress = new Frames(() => showProgress(this.room))
 
   constructor(address, roomName) {
-    this.room = new Room(address, roomName, { storage: true })
+    this.room = new Room(address, roomName, { storage: true, roomInPath: true })
     this.board = new Board(this.room)
     this.view = new View(this.board)
     this.camera = this.view.camera
+    this.refusedChanges = new RefusedChanges(this)
     this.changes = new Changes(this)
     this.deletedObjects = new DeletedObjects(this)
+    this.deletionMessages = new DeletionMessages(this)
     this.clipboard = new Clipboard(this)
+    this.handwriting = new Handwriting(this)
     this.tools = new Toolbar(this)
     this.nudges = new Nudges(this)
     this.textField = new TextField(this)
@@ -54,6 +60,7 @@ export class Page {
   /** Draws the parts around the drawing. */
   draw() {
     this.panel.draw()
+    this.textField.draw()
     this.tools.draw()
     this.state.draw()
   }
@@ -76,19 +83,19 @@ export class Page {
     const { room, view } = this
     room.on("change", (news) => this.#take(news))
     room.on("state", ({ state }) => this.#showState(state))
-    room.on("refusal", ({ refusal }) => say(refusal.message))
-    room.on("renewed", (news) => showRenewed(roomName, news))
+    room.on("reset", (news) => showOldDrawing(roomName, news))
+    room.on("renewed", (news) => this.#goOn(roomName, news))
     room.on("progress", () => this.#load())
-    addEventListener("beforeunload", (event) => room.pending.length > 0 && event.preventDefault())
+    const isUnsaved = () => room.pending.length > 0 || this.refusedChanges.isKeeping
+    addEventListener("beforeunload", (event) => isUnsaved() && event.preventDefault())
     addEventListener("pagehide", () => room.close())
     showProgress(room)
   }
 
   #showState(state) {
     this.view.pending.look()
-    if (state !== "closed") return
-    this.#progress.ask()
-    this.view.change([])
+    if (!this.room.isLoaded) this.#progress.ask()
+    if (state === "closed") this.view.change([])
   }
 
   #take(news) {
@@ -97,17 +104,14 @@ export class Page {
     this.view.pending.look()
     this.view.change(news.objects)
     // The user's own deletion needs no message.
-    const others = lost.filter(({ name }) => !this.changes.isActing && String(name) === String(selected))
-    for (const one of others) this.#offerRestore(one)
+    if (!this.changes.isActing) this.deletionMessages.tell(lost, news.objects, selected)
   }
 
-  /** Says that others deleted the selected object, and offers to bring it back. */
-  #offerRestore({ name, versions }) {
-    if (!this.room.has(name)) return
-    const kind = this.room.kind(name)
-    const forms = versions.map(({ attributes }) => ({ kind, attributes }))
-    const act = () => forms.forEach((form) => this.deletedObjects.bringBack(form))
-    say(`${wordsOf(shapeOf(kind, versions[0].attributes))} was deleted by others. `, { words: "Bring it back", act })
+  /** The drawing goes on in another room. The link to it stays the same. */
+  #goOn(roomName, news) {
+    this.deletionMessages.forget()
+    if (news.text !== null) showOldDrawing(roomName, news)
+    else this.say(renewedWords(news.copies.length))
   }
 
   #load() {

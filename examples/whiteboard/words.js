@@ -4,6 +4,7 @@ import { COLOURS } from "./shapes.js"
 import { POINT_KEYS } from "./pen.js"
 
 const KINDS = { rect: "Rectangle", ellipse: "Ellipse", line: "Line", pen: "Stroke" }
+const SEVERAL_STROKES = "Strokes"
 const LONGEST = 40
 
 // The lines that describe a version: label, keys, and the separator of their values.
@@ -26,11 +27,31 @@ export const numberOf = (count) => String(count).replace(/\B(?=(\d{3})+$)/g, ","
 export const countOf = (count, one, several = `${one}s`) => `${numberOf(count)} ${count === 1 ? one : several}`
 
 /** A short description of a shape. */
-export function wordsOf({ kind, text }) {
-  const word = KINDS[kind] ?? kind
+export function wordsOf({ kind, text, strokes }) {
+  const word = strokes.length > 1 ? SEVERAL_STROKES : KINDS[kind] ?? kind
   if (text === "") return word
   const letters = [...text]
   return `${word} “${letters.length > LONGEST ? `${letters.slice(0, LONGEST).join("")}…` : text}”`
+}
+
+/** That the room refused a new object, or a change of one. */
+export const refusedWords = (shape, reason, isNew = false) =>
+  `${isNew ? "" : "Your change of "}${wordsOf(shape)} could not be added. ${reason}`
+
+/** What the page says before it deletes what could not be brought back. */
+export const FINAL_DELETION = "Nothing new fits into this drawing, so this deletion can't be undone. "
+
+/** That deleted versions of a shape came back, but not as its versions. */
+export const separateWords = (count, shape) =>
+  `${countOf(count, "version")} of ${wordsOf(shape)} came back as ${count > 1 ? "new objects" : "a new object"}. ` +
+  "Nothing can go on from a deleted version."
+
+/** That the drawing goes on in another room, where so many versions became objects of their own. */
+export function renewedWords(copies) {
+  const words = "This drawing goes on in a new room, under the same link."
+  if (copies === 0) return words
+  if (copies === 1) return `${words} One of your changes met one of somebody else's, and is a new object there.`
+  return `${words} ${numberOf(copies)} of your changes met those of others, and are new objects there.`
 }
 
 /** Versions by their letters. */

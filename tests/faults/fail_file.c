@@ -1,8 +1,9 @@
 /* Makes calls on rooms' files fail, for tests: a library for LD_PRELOAD. It counts writes, truncations and syncs of files
    whose names end in `.record`, and syncs of folders. The variable FAILED is the number of the call that fails, from 1.
-   FAILURE is its error number. With LASTS all later calls fail too. With SHORT a failing write first writes half of its
-   bytes. With the error 0 a write writes only the first half and reports that. The library prints the line `failed` on
-   standard error when it reaches the call. Each sync of the file that SLOW names takes SLOW_MILLIS longer. */
+   FAILURE is its error number. With LASTS all later calls fail too. With SHORT a failing write first writes
+   half of its bytes. With the error 0 a write writes only the first half and reports that. The library prints the line
+   `failed` on standard error when it reaches the call. Each sync of the file that SLOW names takes SLOW_MILLIS longer, and
+   waits while the file HELD exists. */
 
 #include <errno.h>
 #include <stdatomic.h>
@@ -17,17 +18,18 @@
 static atomic_long calls;
 static long failed;
 static int failure, lasts, is_short;
-static const char *slow;
+static const char *slow, *held;
 static long slow_millis;
 
 __attribute__((constructor)) static void begin(void) {
-    const char *number = getenv("FAILED"), *error = getenv("FAILURE");
+    const char *number = getenv("FAILED"), *error = getenv("FAILURE"), *millis = getenv("SLOW_MILLIS");
     failed = number ? atol(number) : 0;
     failure = error ? atoi(error) : EIO;
     lasts = getenv("LASTS") != NULL;
     is_short = getenv("SHORT") != NULL;
     slow = getenv("SLOW");
-    slow_millis = slow ? atol(getenv("SLOW_MILLIS")) : 0;
+    slow_millis = millis ? atol(millis) : 0;
+    held = getenv("HELD");
 }
 
 static int ends_in(int file, const char *end) {
@@ -43,9 +45,12 @@ static int is_kept(int file) {
 }
 
 static void pause_if_slow(int file) {
-    struct timespec time = {slow_millis / 1000, slow_millis % 1000 * 1000000};
-    if (slow && ends_in(file, slow))
-        nanosleep(&time, NULL);
+    struct timespec time = {slow_millis / 1000, slow_millis % 1000 * 1000000}, moment = {0, 1000000};
+    if (!slow || !ends_in(file, slow))
+        return;
+    nanosleep(&time, NULL);
+    while (held && !access(held, F_OK))
+        nanosleep(&moment, NULL);
 }
 
 static int fails(int file) {

@@ -5,10 +5,10 @@ import http.client
 import os
 import pathlib
 import subprocess
-import time
 
 from lib import serving
 from lib.keeping import FileLibrary, KeepingServer, room_folder, expect_not_kept, mounted, expect_kept, path_of, whole_lines
+from lib.observing import wait_until
 from lib.records import compact
 from lib.running import cases
 from lib.serving import CheckFailed, expect_equal
@@ -39,12 +39,8 @@ def health_of(server):
 
 
 def wait_until_kept(server):
-    """Waits until a probe hears that all rooms are kept, at most five seconds."""
-    bound = time.monotonic() + 5
-    while health_of(server) != (200, b"ok\n"):
-        if time.monotonic() > bound:
-            raise CheckFailed("the rooms are not kept after five seconds")
-        time.sleep(0.05)
+    """Waits until a probe hears that all rooms are kept."""
+    wait_until("all rooms are kept", lambda: health_of(server) == (200, b"ok\n"))
 
 
 def test_full_disk():

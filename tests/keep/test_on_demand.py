@@ -232,6 +232,47 @@ def test_the_idle_one_gives_place():
         ])
 
 
+def test_the_one_left_before_it_is_kept():
+    """Where N rooms are open, one that its last session has left gives place as soon as its file has all of it."""
+    library = FileLibrary()
+    variables = library.variables(SLOW="/a.record")
+    with room_folder() as folder, OnDemandServer(folder, 2, variables=variables) as server:
+        staying, client = server.client(), server.client()
+        staying.expect_reply(["join", "c"], '["joined",0,1]')
+        client.expect_reply(["join", "a"], '["joined",0,1]')
+        requests = {new(1): '["made",1,[1,1]]', '["leave"]': '["left",2]', '["join","b"]': '["joined",0,1]'}
+        with library.held():
+            client.send(b"".join(client.frame_of(request) for request in requests))
+            wait_until("the session has left", lambda: samples(server)["grace_replies_total"] >= 4)
+        for request, reply in requests.items():
+            expect_equal(f"the reply to {request}", client.read_reply(), reply)
+        expect_equal("the refusals", refusals_of(server), {})
+        server.finish()
+
+
+def test_the_one_entered_again_before_it_is_kept():
+    """Where N rooms are open, one that is entered again before its file has all of it gives no place. Who waited for that
+    is refused by 21."""
+    library = FileLibrary()
+    variables = library.variables(SLOW="/a.record")
+    with room_folder() as folder, OnDemandServer(folder, 1, variables=variables) as server:
+        leaving, coming, waiting = server.client(), server.client(), server.client()
+        leaving.expect_reply(["join", "a"], '["joined",0,1]')
+        requests = {new(1): '["made",1,[1,1]]', '["leave"]': '["left",2]'}
+        with library.held():
+            leaving.send(b"".join(leaving.frame_of(request) for request in requests))
+            wait_until("the session has left", lambda: samples(server)["grace_replies_total"] >= 3)
+            waiting.send_request(["join", "b"])
+            coming.send_request(["back", "a", 1])
+            wait_until("another has come", lambda: samples(server)["grace_replies_total"] >= 4)
+        for request, reply in requests.items():
+            expect_equal(f"the reply to {request}", leaving.read_reply(), reply)
+        expect_equal("the reply to the back", coming.read_reply(), '["back",2,1,1]')
+        expect_equal("the reply to the join", waiting.read_reply(), NOT_SERVED)
+        expect_equal("the refusals", refusals_of(server), {"full": 1})
+        server.finish()
+
+
 def test_the_one_idle_longest():
     """The room that gives place is the one that nobody has been in for longest."""
     with room_folder() as folder, OnDemandServer(folder, 3) as server:

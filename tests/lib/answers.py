@@ -15,16 +15,16 @@ WORDS = dict(enumerate((
     "bad-message", "not-joined", "already-joined", "no-such-room", "room-full", "record-full", "wrong-seq",
     "own-count", "ahead", "not-closed", "no-such-object", "no-such-version", "object-full", "too-many-keys",
     "too-many-versions", "too-many-objects", "too-far", "gone", "no-such-site", "site-in-use",
-    "not-served",
+    "not-served", "renewed",
 ), start=1))
 # By word: the refusals by a session, which asks no room, and those of a back alone.
 BY_SESSION = {"bad-message", "not-joined", "already-joined", "no-such-room", "not-served"}
 OF_BACK = {"no-such-site", "site-in-use"}
 INSIDE = {
-    "join": {3}, "back": {3}, "new": {6, 7, 8, 9, 10, 16}, "put": {*range(6, 16), 18}, "drop": {*range(6, 14), 15, 18},
-    "set": {*range(6, 16), 18}, "show": {11}, "list": {17}, "pull": {17}, "wait": {17}, "leave": set(),
+    "join": {3}, "back": {3}, "new": {6, 7, 8, 9, 10, 16, 22}, "put": {*range(6, 16), 18, 22},
+    "drop": {*range(6, 14), 15, 18, 22}, "set": {*range(6, 16), 18, 22}, "show": {11}, "list": {17}, "pull": {17}, "wait": {17}, "leave": set(),
 }
-OUTSIDE = {"join": {4, 5, 6, 21}, "back": {4, 19, 20, 21}}
+OUTSIDE = {"join": {4, 5, 6, 21, 22}, "back": {4, 19, 20, 21}}
 
 
 class NoAnswer(Exception):

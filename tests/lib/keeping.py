@@ -81,12 +81,23 @@ class FileLibrary:
             raise Skipped("there is no C compiler")
         self.folder = tempfile.TemporaryDirectory()
         self.path = f"{self.folder.name}/fail_file.so"
+        self.hold = pathlib.Path(self.folder.name) / "held"
         source = ROOT / "tests/faults/fail_file.c"
         subprocess.run(["cc", "-O2", "-shared", "-fPIC", "-o", self.path, source], check=True)
 
     def variables(self, **settings):
         """Returns the environment with the library and these settings."""
+        settings = {"HELD": self.hold, **settings}
         return {"LD_PRELOAD": self.path, **{name: str(value) for name, value in settings.items()}}
+
+    @contextlib.contextmanager
+    def held(self):
+        """Has each sync of the file that SLOW names wait until this is left."""
+        self.hold.touch()
+        try:
+            yield
+        finally:
+            self.hold.unlink()
 
 
 def path_of(folder, room):

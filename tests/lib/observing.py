@@ -15,7 +15,9 @@ HEAD = re.compile(
 TURNED_AWAY = (
     b"HTTP/1.1 503 Service Unavailable\r\nRetry-After: 5\r\nContent-Length: 0\r\nConnection: close\r\n\r\n"
 )
-SAMPLE = re.compile(r'(grace_[a-z_]+)(\{[a-z]+="[^"]*"(?:,[a-z]+="[^"]*")*\})? (\d+)')
+SAMPLE = re.compile(r'(grace_[a-z_]+)(\{[a-z]+="[^"]*"(?:,[a-z]+="[^"]*")*\})? (\d+(?:\.\d{6})?)')
+# What may follow the name of a family, by its type.
+SUFFIXES = {"counter": [""], "gauge": [""], "histogram": ["_bucket", "_sum", "_count"]}
 
 
 def wait_until(what, is_so):
@@ -49,16 +51,17 @@ def samples(server):
         raise CheckFailed(f"the answer {answer!r:.300}")
     body = answer[head.end():].decode()
     expect_equal("the length of the body", len(body), int(head[1]))
-    found, family = {}, None
+    found, family, names = {}, None, []
     for line in body.splitlines():
         if line.startswith("# HELP "):
             family = line.split()[2]
         elif line.startswith("# TYPE "):
             expect_equal("the family", line.split()[2], family)
+            names = [family + suffix for suffix in SUFFIXES[line.split()[3]]]
         else:
             name, labels, number = SAMPLE.fullmatch(line).groups()
-            expect_equal("the family", name, family)
-            found[name + (labels or "")] = int(number)
+            expect_equal("whether the sample is of its family", name in names, True)
+            found[name + (labels or "")] = float(number) if "." in number else int(number)
     return found
 
 
@@ -67,7 +70,7 @@ def report_of(server, clients, begun, rooms):
     of_all = f"/{server.sessions}" if server.sessions else ""
     lines = [f"report: server clients {clients}/{server.places} begun {begun}{of_all}"]
     for room, (joins, entries, objects) in rooms.items():
-        lines.append(f"report: room {room} joins {joins}/256 entries {entries}/16384 objects {objects}/512")
+        lines.append(f"report: room {room} joins {joins}/256 entries {entries}/16384 objects {objects}/8192")
     return [("INFO", line) for line in lines]
 
 

@@ -20,7 +20,7 @@ TESTS = pathlib.Path(__file__).resolve().parent.parent
 SECONDS = 300
 
 # The command-line options, with their defaults.
-OPTIONS = argparse.Namespace(seed=None, connections=10_000, back=100, times=10, crowd=1)
+OPTIONS = argparse.Namespace(seed=None, connections=10_000, back=100, times=10, crowd=1, turns=3)
 
 
 class TooLong(Exception):
@@ -147,10 +147,11 @@ def outcome_of(test, seconds):
 
 
 class Run:
-    """A run of tests: how many passed, failed and were skipped."""
+    """A run of tests: how many passed, failed and were skipped, and the lines of those that failed."""
 
     def __init__(self):
         self.count = {"passed": 0, "failed": 0, "skipped": 0}
+        self.failed_lines = []
         signal.signal(signal.SIGALRM, give_up)
         signal.signal(signal.SIGINT, signal.default_int_handler)
 
@@ -159,7 +160,10 @@ class Run:
         start = time.monotonic()
         outcome, why = outcome_of(test, seconds)
         self.count[outcome] += 1
-        print(f"{outcome}: {name}{why and ': '}{why} ({time.monotonic() - start:.1f} s)", flush=True)
+        line = f"{outcome}: {name}{why and ': '}{why} ({time.monotonic() - start:.1f} s)"
+        print(line, flush=True)
+        if outcome == "failed":
+            self.failed_lines.append(line)
 
     def steps(self, group, tests):
         """Runs the steps of a class."""
@@ -183,10 +187,13 @@ class Run:
                 self.steps(test.group, [other for other in tests if other.group is test.group])
 
     def end(self):
-        """Prints the counts. Returns the exit status: 0 if some passed and none failed."""
+        """Prints the failed tests once more, and the counts. Returns the exit status: 0 if some passed and none
+        failed."""
         skipped = self.count["skipped"]
         if skipped:
             print(f"{skipped} skipped, each with its reason above")
+        for line in self.failed_lines:
+            print(line)
         print(f"{self.count['passed']} passed, {self.count['failed']} failed")
         return 0 if self.count["passed"] and not self.count["failed"] else 1
 

@@ -14,6 +14,20 @@ HEAD = (
 )
 
 
+def read_key(client):
+    """Reads a client's head from its socket. Returns its key."""
+    data = b""
+    while not data.endswith(b"\r\n\r\n"):
+        part = client.recv(65536)
+        if not part:
+            raise CheckFailed(f"the client's head ends early: {data!r:.200}")
+        data += part
+    found = re.search(rb"(?i)\r\nsec-websocket-key: *(\S+)", data)
+    if not found:
+        raise CheckFailed(f"the client's head has no key: {data!r:.200}")
+    return found[1].decode()
+
+
 class ScriptedServer:
     """Accepts one client in a thread of its own. Answers each of its messages by the next of the replies, and a close
     by a close. With `most` it sends at most this many bytes and then hangs up, and with `piece` it sends them in pieces
@@ -64,25 +78,12 @@ class ScriptedServer:
     def answer_all(self):
         """Answers the handshake and each message, until the client ends the connection, the session is closed or no
         bytes are left."""
-        has_more = self.send(HEAD.format(accepted(self.read_key())).encode())
+        has_more = self.send(HEAD.format(accepted(read_key(self.client))).encode())
         reader = FrameReader()
         while has_more and reader.end is None and (data := self.client.recv(65536)):
             for opcode, payload in reader.feed(data):
                 answer = self.answer_to(opcode, payload)
                 has_more = has_more and (bool(answer) or not self.hangs_up) and self.send(answer, self.piece)
-
-    def read_key(self):
-        """Reads the client's head. Returns its key."""
-        data = b""
-        while not data.endswith(b"\r\n\r\n"):
-            part = self.client.recv(65536)
-            if not part:
-                raise CheckFailed(f"the client's head ends early: {data!r:.200}")
-            data += part
-        found = re.search(rb"(?i)\r\nsec-websocket-key: *(\S+)", data)
-        if not found:
-            raise CheckFailed(f"the client's head has no key: {data!r:.200}")
-        return found[1].decode()
 
     def answer_to(self, opcode, payload):
         """Returns the frame that answers this message or close, or nothing when no reply is left."""

@@ -24,7 +24,7 @@ CONSTANTS = [
 SOURCE_NAMES = {
     "sites": "MAX_JOINS", "entries": "MAX_ENTRIES", "objects": "MAX_OBJECTS", "changes": "MAX_CHANGES",
     "keys": "MAX_KEYS", "versions": "MAX_VERSIONS", "messageBytes": "MAX_REQUEST_LEN", "textBytes": "MAX_VALUE_LEN",
-    "wordBytes": "Key", "roomBytes": "RoomName",
+    "wordBytes": "Key", "roomBytes": "MAX_ROOM_LEN",
 }
 
 
@@ -81,8 +81,8 @@ def python_limits():
 @cases([("in JavaScript", javascript_limits), ("in Python", python_limits)])
 def test_client(limits):
     """A client's limits agree with the sources, and its limit of attributes with the table."""
-    known = {name: constant(name) for name in [*(name for name, *_ in CONSTANTS), "MAX_VALUE_LEN"]}
-    known |= {name: longest(name) for name in ("Key", "Kind", "RoomName")}
+    known = {name: constant(name) for name in [*(name for name, *_ in CONSTANTS), "MAX_VALUE_LEN", "MAX_ROOM_LEN"]}
+    known |= {name: longest(name) for name in ("Key", "Kind")}
     expect_equal("the longest kind", known["Kind"], known["Key"])
     expected = {name: known[source] for name, source in SOURCE_NAMES.items()}
     expected["attributes"] = row_with("attributes", "page")
@@ -119,7 +119,7 @@ def test_statuses():
     filled = {"dir": "DIR", "room": "ROOM", "line": "N"}
     fill = lambda text: re.sub(r"\{(\w+)\}", lambda it: filled.get(it[1], "{0}"), text)
     shorten = lambda line: re.sub(r"^((?:cannot|kept) [a-z ]+): [A-Z]+$", r"\1: {0}", line)
-    expect_same_rows("the lines", sorted((shorten(line), status) for line, status in documented.items()),
+    expect_same_rows("the lines", sorted({(shorten(line), status) for line, status in documented.items()}),
                      sorted((fill(text), status) for text, status in expected.items()))
 
 

@@ -271,9 +271,9 @@ def test_many_keys():
 
 def test_many_objects():
     """The most objects of a room and the most changes of an object, and one more of each."""
-    creations = [own_request("new", seq, '"rect",[]') for seq in range(1, 514)]
-    changes = [own_request("put", 512 + number, '[1,1],[],[["x",1]]') for number in range(1, 1026)]
-    expect_holds([*joins(1), *creations, *changes], 513 * [0] + [16] + 1024 * [0] + [13])
+    creations = [own_request("new", seq, '"rect",[]') for seq in range(1, 8194)]
+    changes = [own_request("put", 8192 + number, '[1,1],[],[["x",1]]') for number in range(1, 1026)]
+    expect_holds([*joins(1), *creations, *changes], 8193 * [0] + [16] + 1024 * [0] + [13])
 
 
 def test_many_entries():

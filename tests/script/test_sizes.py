@@ -133,14 +133,14 @@ def test_most_keys():
 
 
 def test_full_room():
-    """A room takes at most 16,384 entries. It then shows them and its 512 objects, 64 a page, also to a client that
-    comes back."""
+    """A room takes at most 8,192 objects and 16,384 entries. It then shows them, 64 a page, also to a client that comes
+    back."""
     lines = ['1 ["join","r"]', '1 ["new",1,[],"rect",[]]']
-    lines += [f'1 ["new",{seq},[[1,{seq - 1}]],"rect",[]]' for seq in range(2, 514)]
-    lines += [f'1 ["put",{seq},[[1,{seq - 1}]],[1,{seq % 512 + 1}],[],[["x",{seq}]]]' for seq in range(513, 16384)]
+    lines += [f'1 ["new",{seq},[[1,{seq - 1}]],"rect",[]]' for seq in range(2, 8194)]
+    lines += [f'1 ["put",{seq},[[1,{seq - 1}]],[1,{seq % 8192 + 1}],[],[["x",{seq}]]]' for seq in range(8193, 16384)]
     requests = [
         '2 ["join","r"]', '1 ["new",16384,[[1,16383]],"rect",[]]', '1 ["put",16384,[[1,16383]],[1,1],[],[["x",1]]]',
-        '1 ["show",[1,1]]', '1 ["list",511]', '1 ["pull",16384]', '1 ["list",100]', '1 ["pull",16000]',
+        '1 ["show",[1,8192]]', '1 ["list",8191]', '1 ["pull",16384]', '1 ["list",100]', '1 ["pull",16000]',
     ]
     backs = ['2 ["back","r",2]', '2 ["back","r",1]', '1 ["leave"]', '2 ["back","r",1]', '2 ["pull",16384]']
     replies = replies_to([*lines, *requests, *backs])
@@ -149,10 +149,11 @@ def test_full_room():
         ["back", 16384, 1, 16383], ["entries", 16384, 16384, []],
     ])
     del replies[-5:]
-    expect_equal("the 513th creation", replies[513], ["no", 513, 16, "too-many-objects"])
+    expect_equal("the last object", replies[8192], ["made", 8192, [1, 8192]])
+    expect_equal("one more", replies[8193], ["no", 8193, 16, "too-many-objects"])
     full = ["no", 16384, 6, "record-full"]
     expect_equal("the last replies", replies[-8:-2], [
-        full, full, full, ["versions", 16384, [1, 1], "rect", [[[], [["x", 15872]]]]],
-        ["objects", 16384, 511, 512, [[[1, 512], "rect"]]], ["entries", 16384, 16384, []],
+        full, full, full, ["versions", 16384, [1, 8192], "rect", [[[], [["x", 16383]]]]],
+        ["objects", 16384, 8191, 8192, [[[1, 8192], "rect"]]], ["entries", 16384, 16384, []],
     ])
     expect_equal("the pages", [len(replies[-2][4]), len(replies[-1][3])], [64, 64])

@@ -89,6 +89,9 @@ def files(folder):
     ("the record of a check", "check", 2, 1),
     ("the transcript of a check", "check", 0, 2),
     ("the record of a migration", "migrate", 2),
+    ("the record of a renewal", "renew", 2),
+    ("the old record of a comparison", "renewed", 2, 0),
+    ("the new record of a comparison", "renewed", 0, 2),
 ])
 def test_file_fails(command, *places):
     """A folder can be opened, but not read. The program reports that and exits with 3."""
@@ -98,7 +101,8 @@ def test_file_fails(command, *places):
     expect_equal("the end", result, (3, "", "grace: input failed\n"))
 
 
-@cases([("a verdict", "check", 0, 1), ("a migrated record", "migrate", 0)])
+@cases([("a verdict", "check", 0, 1), ("a migrated record", "migrate", 0), ("a renewed record", "renew", 0),
+        ("a comparison", "renewed", 0, 0)])
 def test_full_output(command, *places):
     """If the program cannot write its output, it reports that and exits with 3."""
     with tempfile.TemporaryDirectory() as name, open("/dev/full", "wb") as full:

@@ -11,6 +11,7 @@ MISTAKES = [
     (["script"], "error: the following required arguments were not provided:"),
     (["script", "r", "--x"], "error: unexpected argument '--x' found"),
     (["script", "R"], "grace: bad room name"),
+    (["script", "r.2"], "grace: bad room name"),
     (["script", "r", "r"], "grace: room named twice"),
     (["script", "r", "r", ""], "grace: bad room name"),
     (["serve"], "error: the following required arguments were not provided:"),
@@ -37,9 +38,12 @@ MISTAKES = [
     (["serve", "--rooms", "1", "127.0.0.1:0", "1", "1", "R"], "grace: bad room name"),
     (["serve", "--rooms", "1", "127.0.0.1:0", "1", "1", "r", "r"], "grace: room named twice"),
     (["serve", "127.0.0.1:0", "1", "1", "R"], "grace: bad room name"),
+    (["serve", "127.0.0.1:0", "1", "1", "r.2"], "grace: bad room name"),
     (["serve", "127.0.0.1:0", "1", "1", "r", "r"], "grace: room named twice"),
     (["check", "record"], "error: the following required arguments were not provided:"),
     (["migrate"], "error: the following required arguments were not provided:"),
+    (["renew"], "error: the following required arguments were not provided:"),
+    (["renewed", "record"], "error: the following required arguments were not provided:"),
     (["watch", "127.0.0.1:0"], "error: the following required arguments were not provided:"),
     (["watch", "127.0.0.1:1", "R"], "grace: bad room name"),
 ]
@@ -59,6 +63,13 @@ OUTPUTS = [
     (["migrate", "--help"],
      "Prints a room's record in today's forms\n\nUsage: grace migrate <RECORD>\n\nArguments:\n"
      "  <RECORD>  A file of the record's entries, one a line\n"),
+    (["renew", "--help"],
+     "Prints a short record that draws what a room's record draws\n\nUsage: grace renew <RECORD>\n\nArguments:\n"
+     "  <RECORD>  A file of the record's entries, one a line\n"),
+    (["renewed", "--help"],
+     "Checks that a new record draws what an old one draws\n\nUsage: grace renewed <OLD> <NEW>\n\nArguments:\n"
+     "  <OLD>  A file of the old record's entries, one a line\n"
+     "  <NEW>  A file of the new record's entries, one a line\n"),
     (["--version"], "grace 0.4.0\n"),
 ]
 

@@ -17,7 +17,7 @@ CLIENTS = 64
 # Every fourth time that a client comes back, it sends an operation and hangs up.
 EACH = 4
 # The limits of a room, and the number of objects in a full record.
-SITES, ENTRIES, OBJECTS = 256, 16_384, 512
+SITES, ENTRIES, OBJECTS = 256, 16_384, 8_192
 
 
 # ---- the end of a session

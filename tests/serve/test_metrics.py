@@ -2,6 +2,7 @@
 
 import time
 
+from lib.answers import WORDS
 from lib.observing import samples
 from lib.serving import CheckFailed, Server, expect_equal
 from lib.websocket_client import SECONDS
@@ -9,7 +10,7 @@ from lib.websocket_client import SECONDS
 CAUSES = [
     "closed", "handshake failed", "stream fault", "out of memory", "torn from its room", "record not kept",
 ]
-REASONS = ["full", "elsewhere", "file", "memory"]
+REASONS = ["full", "elsewhere", "file", "memory", "late"]
 
 
 def samples_once(server, sessions):
@@ -23,7 +24,8 @@ def samples_once(server, sessions):
 
 
 def test_metrics():
-    """Sessions, replies, refusals by their code, and entries by their kind are counted. A probe is no session."""
+    """Sessions, replies, refusals by their code, and entries by their kind are counted. A probe is no session. Nothing
+    is synced without a folder."""
     with Server(5, 2, rooms=("r", "s"), clients=7) as server:
         closed, open_client = server.client(), server.client()
         for request in ('["join","t"]', '["join","r"]', '["new",1,[],"rect",[["x",0]]]', '["leave"]', "hello"):
@@ -43,7 +45,10 @@ def test_metrics():
             'grace_entries_total{kind="join"}': 2, 'grace_entries_total{kind="creation"}': 1,
             'grace_entries_total{kind="change"}': 1,
         }
-        counts = {name: number for name, number in found.items() if not name.startswith("grace_refusals")}
+        syncs = {name: number for name, number in found.items() if name.startswith(("grace_sync", "grace_file"))}
+        expect_equal("the syncs", syncs, dict.fromkeys(syncs, 0))
+        others = ("grace_refusals", *syncs)
+        counts = {name: number for name, number in found.items() if not name.startswith(others)}
         version = [name for name in counts if name.startswith("grace_build_info")]
         expect_equal("the samples that tell the version", [counts.pop(name) for name in version], [1])
         expect_equal("the samples", counts, expected)
@@ -53,6 +58,6 @@ def test_metrics():
             'grace_refusals_total{code="4",word="no-such-room"}': 1,
             'grace_refusals_total{code="7",word="wrong-seq"}': 1,
         })
-        expect_equal("the refusals that are told", sum(name.startswith("grace_refusals") for name in found), 21)
+        expect_equal("the refusals that are told", sum(name.startswith("grace_refusals") for name in found), len(WORDS))
         server.client()
         server.finish({4: "stream fault"})

@@ -12,7 +12,8 @@ NO_SUCH_ROOM = '["no",0,4,"no-such-room"]'
 NO_SUCH_SITE = '["no",0,19,"no-such-site"]'
 NOT_SERVED = '["no",0,21,"not-served"]'
 LONGEST = 64 * "z"
-NO_NAMES = ["", "R", "a.b", "a/b", "a b", "é", 65 * "a"]
+NO_NAMES = ["", "R", "a.b", "a/b", "a b", "é", 65 * "a", "a.", ".2", "a.1", "a.02", "a.1000000", "a.2.3", 63 * "a" + ".2"]
+NUMBERED = ["a.2", "a.999999", 62 * "a" + ".2"]
 CROWD, NAMES, FEW = 8, 200, 5
 
 
@@ -102,6 +103,17 @@ def test_illegal_names():
         server.finish()
 
 
+def test_names_with_numbers():
+    """A room that would go on where another ended is not opened, since none has ended. It uses up no room."""
+    with Server(1, 1, rooms=(), on_demand=1) as server:
+        client = server.client()
+        for room in NUMBERED:
+            for request in (["join", room], ["back", room, 1]):
+                client.expect_reply(request, NOT_SERVED)
+        client.expect_reply(["join", "a"], '["joined",0,1]')
+        expect_equal("the rooms", list(server.finish()), ["a"])
+
+
 def test_without_rooms_on_demand():
     """Without the option a name that is not on the command line is refused by 4."""
     with Server(1, 1) as server:
@@ -113,15 +125,16 @@ def test_without_rooms_on_demand():
 
 def test_by_path():
     """A handshake over /NAME opens NAME, and is answered by 503 where no further room may be open. Its session may
-    enter NAME alone, over another path no room. What it may not enter is refused by 4, and uses up no room."""
+    enter rooms of the chain NAME alone, over another path no room. What it may not enter is refused by 4, and uses up no room."""
     with Server(4, 1, rooms=("r",), on_demand=2, by_path=True) as server:
         nowhere, first, second = (opened(server, target) for target in ("/", "/a", "/b"))
         for target in ("/c", "/d?x"):
             expect_turned_away(server, target)
         for request in (["join", "a"], ["join", "r"], ["back", "a", 1]):
             nowhere.expect_reply(request, NO_SUCH_ROOM)
-        for room in ("b", "c", "r"):
+        for room in ("b", "c", "r", "b.2"):
             first.expect_reply(["join", room], NO_SUCH_ROOM)
+        first.expect_reply(["join", "a.2"], NOT_SERVED)
         first.expect_reply(["join", "a"], '["joined",0,1]')
         second.expect_reply(["join", "b"], '["joined",0,1]')
         expect_turned_away(server, "/c")
@@ -158,6 +171,7 @@ def test_metrics_and_reports():
             "grace_rooms_open": 3, "grace_rooms_max": 3, "grace_rooms_opened_total": 2, "grace_rooms_closed_total": 0,
             'grace_rooms_not_served_total{reason="full"}': 2, 'grace_rooms_not_served_total{reason="elsewhere"}': 0,
             'grace_rooms_not_served_total{reason="file"}': 0, 'grace_rooms_not_served_total{reason="memory"}': 0,
+            'grace_rooms_not_served_total{reason="late"}': 0,
             'grace_entries_total{kind="join"}': 2, 'grace_entries_total{kind="creation"}': 2,
             'grace_entries_total{kind="change"}': 1,
         })

@@ -101,15 +101,31 @@ def test_joins():
         server.finish()
 
 
-def record_of(entries):
-    """Yields the entries of a record: a join, creations of 32 objects, and puts on them in turn."""
+def record_of(entries, objects):
+    """Yields the entries of a record: a join, creations of this many objects, and puts on them in turn."""
     yield ["join", 1]
     for seq in range(1, entries):
         seen = [[1, seq - 1]] if seq > 1 else []
-        if seq <= 32:
+        if seq <= objects:
             yield ["new", [1, seq], seen, "rect", []]
         else:
-            yield ["put", [1, seq], seen, [1, 1 + seq % 32], [], [["x", seq]]]
+            yield ["put", [1, seq], seen, [1, 1 + seq % objects], [], [["x", seq]]]
+
+
+def warnings_over(record, reports, add):
+    """Returns the warnings of a server that starts over this record, reports these numbers, and has a client add
+    entries."""
+    with tempfile.TemporaryDirectory() as folder:
+        file = pathlib.Path(folder) / "r.record"
+        file.write_text("".join(f"{compact(entry)}\n" for entry in record))
+        with Server(1, 2, keep=folder, report=1) as server:
+            await_report(server, report_of(server, 0, 0, {"r": reports}))
+            client = server.client()
+            client.expect_reply('["back","r",1]', f'["back",{len(record)},1,{len(record) - 1}]')
+            add(client)
+            client.close()
+            server.output()
+            return [notice for notice in server.notices() if notice[0] == "WARN"]
 
 
 @cases([
@@ -119,20 +135,28 @@ def record_of(entries):
 def test_entries(start, added, count):
     """The server warns once when a room has 14,746 entries, the first count past nine tenths, or at the start if it
     begins with more."""
-    with tempfile.TemporaryDirectory() as folder:
-        file = pathlib.Path(folder) / "r.record"
-        file.write_text("".join(f"{compact(entry)}\n" for entry in record_of(start)))
-        with Server(1, 2, keep=folder, report=1) as server:
-            await_report(server, report_of(server, 0, 0, {"r": (1, start, 32)}))
-            client = server.client()
-            client.expect_reply('["back","r",1]', f'["back",{start},1,{start - 1}]')
-            for seq in range(start, start + added):
-                reply = client.ask(["put", seq, [[1, seq - 1]], [1, 1], [], [["x", seq]]])
-                expect_equal("the reply", reply, f'["taken",{seq},[[]]]')
-            client.close()
-            server.output()
-            notices = [notice for notice in server.notices() if notice[0] == "WARN"]
+    def add(client):
+        for seq in range(start, start + added):
+            reply = client.ask(["put", seq, [[1, seq - 1]], [1, 1], [], [["x", seq]]])
+            expect_equal("the reply", reply, f'["taken",{seq},[[]]]')
+
+    notices = warnings_over(list(record_of(start, 32)), (1, start, 32), add)
     expect_equal("the notices", notices, [("WARN", f"room r has {count} of 16384 entries")])
+
+
+@cases([
+    ("one line when nine tenths are passed", 7_372, 3, 7_373),
+    ("one line at the start if they are passed", 7_375, 2, 7_375),
+])
+def test_objects(start, added, count):
+    """The server warns once when a room has 7,373 objects, the first count past nine tenths, or at the start if it
+    begins with more."""
+    def add(client):
+        for seq in range(start + 1, start + added + 1):
+            expect_equal("the reply", client.ask(["new", seq, [[1, seq - 1]], "rect", []]), f'["made",{seq},[1,{seq}]]')
+
+    notices = warnings_over(list(record_of(start + 1, start)), (1, start + 1, start), add)
+    expect_equal("the notices", notices, [("WARN", f"room r has {count} of 8192 objects")])
 
 
 def test_places():

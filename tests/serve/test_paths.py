@@ -9,7 +9,7 @@ OF_ROOM = ["/r", "/r?", "/r?token=a/b?c", "/r?/s"]
 # Targets that name none of the rooms r and s.
 OF_NONE = [
     "/", "//r", "/r/", "/./r", "/a/../r", "/%72", "/R", "/r%3f", "/r;s", "/r,s", "/?r", "?/r", "r", "*", "/t",
-    "/" + 65 * "a", "http://localhost/r", "/r.record",
+    "/" + 65 * "a", "http://localhost/r", "/r.record", "/r.2",
 ]
 
 

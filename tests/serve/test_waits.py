@@ -1,10 +1,11 @@
 """Waits for the record: held until an entry is added, another message comes or time is over."""
 
+import queue
 import threading
 import time
 
 from lib.crowd import Crowd
-from lib.running import cases
+from lib.running import OPTIONS, cases, time_limit
 from lib.serving import CheckFailed, Server, expect_equal
 from lib.websocket_client import CLOSE, PING, PONG, SECONDS, TEXT, closing, frame
 
@@ -13,6 +14,9 @@ JOIN = '["join","r"]'
 PATIENCE = 0.3
 HELD_SECONDS = 25
 WRITERS, READERS, ROUNDS = 4, 16, 200
+# Of the turns of two writers: how many a room has, and within how many seconds each reader has to get the entry.
+TURNS = 1000
+SOON = 1
 
 
 def two_in_room(server):
@@ -177,3 +181,49 @@ def test_no_wake_is_lost():
         if seconds > HELD_SECONDS - 5:
             raise CheckFailed(f"the readers took {seconds:.1f} seconds")
         server.finish()
+
+
+def report_news(client, have, last, news):
+    """Waits for one entry after another up to the last, and reports each number of entries."""
+    while have < last:
+        have += len(client.reply_to(["wait", have])[3])
+        news.put(have)
+
+
+def expect_news(news, count):
+    """Expects that a reader has so many entries soon."""
+    try:
+        expect_equal("the entries of a reader", news.get(timeout=SOON), count)
+    except queue.Empty:
+        raise CheckFailed(f"a wait was not answered within {SOON} s of entry {count}") from None
+
+
+def add_in_turn(writers, start, readers):
+    """The writers add entries in turn, each once all readers have the one before. Their next waits come meanwhile."""
+    for turn in range(TURNS):
+        writer, seq = writers[turn % len(writers)], turn // len(writers) + 1
+        site = writer.transcript.site
+        seen = [[site, seq - 1]] if seq > 1 else []
+        rest = ["rect", []] if seq == 1 else [[site, 1], [], [["x", seq]]]
+        writer.ask(["new" if seq == 1 else "put", seq, seen, *rest])
+        for news in readers:
+            expect_news(news, start + turn + 1)
+
+
+@time_limit(lambda: 10 * OPTIONS.turns + 2 * SECONDS)
+def test_each_wake_in_time():
+    """Two loops add entries in turn while readers in both wait. Each wait is answered soon after its entry. A lost wake
+    would take 25 seconds, and no further entry hides it."""
+    end = time.monotonic() + OPTIONS.turns
+    while time.monotonic() < end:
+        with Server(6, 2) as server:
+            clients = [server.client() for _ in range(6)]
+            for place, client in enumerate(clients):
+                client.expect_reply(JOIN, f'["joined",{place},{place + 1}]')
+            writers, readers = clients[:2], {client: queue.Queue() for client in clients[2:]}
+            crowd = Crowd()
+            for client, news in readers.items():
+                crowd.start(report_news, client, len(clients), len(clients) + TURNS, news)
+            add_in_turn(writers, len(clients), readers.values())
+            crowd.end()
+            server.finish()

@@ -172,16 +172,17 @@ async function notServedBack() {
   const options = { connect: scripted(requests, joined, back), backMilliseconds: 1000, retryMilliseconds: [10, 60000] }
   const room = new Room("ws://localhost/", "r", options)
   const words = []
-  const renewals = []
+  const resets = []
   room.on("state", () => words.push(room.words))
-  room.on("renewed", (news) => renewals.push(news))
+  room.on("reset", (news) => resets.push(news))
   try {
     await waitUntil("the client is back", () => requests.length > 3 && room.state === "open")
     expectEqual("the requests", requests.slice(2, 7), [
       '["wait",1]', ...Array(3).fill('["back","r",1]'), '["pull",0]',
     ])
-    expectEqual("what it is", [room.site, renewals], [1, []])
-    expect("it says so", words.includes("The server cannot serve this room now. Trying again."))
+    expectEqual("what it is", [room.site, resets], [1, []])
+    const wanted = "The server cannot open this room now: it may have no place for one more. Trying again."
+    expect("it says so", words.includes(wanted))
   } finally {
     room.close()
   }

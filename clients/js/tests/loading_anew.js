@@ -5,41 +5,7 @@ import { agree, enter, versionsOf, withServer } from "./rooms.js"
 import { expect, expectEqual, numbersFrom, waitUntil } from "./checks.js"
 import { CUT_AFTER, CUT_BEFORE, CUT_LATE, PASS } from "./proxy.js"
 import { operations, sitesOf, withProxy } from "./reconnecting.js"
-
-/** The part of a browser's storage that the library uses. */
-class Storage {
-  /** @param {Storage} [other] one to begin with a copy of */
-  constructor(other) {
-    this.texts = new Map(other?.texts)
-  }
-
-  getItem(key) {
-    return this.texts.get(key) ?? null
-  }
-
-  setItem(key, text) {
-    this.texts.set(key, text)
-  }
-
-  removeItem(key) {
-    this.texts.delete(key)
-  }
-
-  /** Returns a copy, as for a client at another address of the same server. */
-  copyFor(address) {
-    const copy = new Storage()
-    for (const [key, text] of this.texts) copy.setItem(key.replace(/[0-9.]+:[0-9]+/, address), text)
-    return copy
-  }
-}
-
-/** A storage that rejects long texts. */
-class SmallStorage extends Storage {
-  setItem(key, text) {
-    if (text.length > 1000) throw new Error("QuotaExceededError")
-    super.setItem(key, text)
-  }
-}
+import { SmallStorage, Storage } from "./storage.js"
 
 /** A reloaded client keeps its site, shows all objects at once, and continues its numbers. */
 async function keepsAll(client) {
@@ -146,7 +112,7 @@ async function anotherWasIn(proxy, room, other, server) {
 }
 
 /** A room that started again while the page was closed is reported, with the text of the stored record. */
-async function renewed(client, server) {
+async function reset(client, server) {
   const storage = new Storage()
   const first = await client({ storage })
   await first.create("rect").done
@@ -154,16 +120,16 @@ async function renewed(client, server) {
   first.close()
   await server.end()
   await server.listen(10)
-  const renewals = []
+  const resets = []
   const again = await client({ storage, connecting: (room) => {
     expectEqual("what is shown", room.objects(), [[1, 1]])
-    room.on("renewed", ({ text }) => renewals.push([text, room.objects()]))
+    room.on("reset", ({ text }) => resets.push([text, room.objects()]))
   } })
-  expectEqual("the news", renewals, [['["join",1]\n["new",[1,1],[],"rect",[]]\n', []]])
+  expectEqual("the news", resets, [['["join",1]\n["new",[1,1],[],"rect",[]]\n', []]])
   expectEqual("what it has", [again.site, again.record], [1, [["join", 1]]])
   again.close()
   const last = await client({ storage })
-  expectEqual("what is kept then", [last.site, last.record, renewals.length], [1, [["join", 1]], 1])
+  expectEqual("what is kept then", [last.site, last.record, resets.length], [1, [["join", 1]], 1])
 }
 
 /** If the storage is full, the site stays stored, and the client pulls the record again. */
@@ -248,7 +214,7 @@ export const TESTS = [
   ["reloaded with a change on its way that arrives late", withProxy(onItsWay(CUT_LATE))],
   ["a site in use", withServer(siteInUse)],
   ["a site that another client used", withProxy(anotherWasIn)],
-  ["reloaded in a room that started again", withServer(renewed)],
+  ["reloaded in a room that started again", withServer(reset)],
   ["reloaded with a full storage", withServer(storageFull)],
   ["reloaded with a damaged storage", withServer(damaged)],
   ["reloaded at random", withProxy(byChance)],

@@ -6,10 +6,12 @@ import { TESTS as numbers } from "./numbers.js"
 import { TESTS as rows } from "./rows.js"
 import { TESTS as types } from "./types.js"
 import { TESTS as histories } from "./random_histories.js"
+import { TESTS as transfers } from "./transfers.js"
 import { TESTS as rooms } from "./rooms.js"
 import { TESTS as standing } from "./standing.js"
 import { TESTS as reconnecting } from "./reconnecting.js"
 import { TESTS as loading } from "./loading_anew.js"
+import { TESTS as renewals } from "./renewals.js"
 import { TESTS as handshakes } from "./handshakes.js"
 
 // The time limit of a test. The histories have none: a slow program needs long for them.
@@ -30,7 +32,7 @@ build()
 const words = process.argv.slice(2)
 let passed = 0
 let failed = 0
-const groups = [rows, numbers, types, histories, rooms, standing, reconnecting, loading, handshakes]
+const groups = [rows, numbers, types, histories, transfers, rooms, standing, reconnecting, loading, renewals, handshakes]
 for (const [name, test] of groups.flat()) {
   if (words.length > 0 && !words.some((word) => name.includes(word))) continue
   const start = performance.now()

@@ -6,6 +6,7 @@ import { createServer } from "node:net"
 import { tmpdir } from "node:os"
 import { join, resolve } from "node:path"
 import { fileURLToPath } from "node:url"
+import { readText, writeText } from "../grace.js"
 
 const ROOT = fileURLToPath(new URL("../../..", import.meta.url))
 const PROGRAM = process.env.GRACE ? resolve(process.env.GRACE) : resolve(ROOT, "grace")
@@ -44,22 +45,32 @@ export function script(rooms, lines) {
   })
 }
 
-/** Returns the verdict of `grace check` on a record's text. */
-export function verdictOf(record) {
+/** Runs a command of the program on a record's text. */
+function runOn(record, word, ...rest) {
   const folder = mkdtempSync(join(tmpdir(), "record-"))
   try {
     const file = join(folder, "record")
     writeFileSync(file, record)
-    return spawnSync(PROGRAM, ["check", file, "/dev/null"], { encoding: "utf8" }).stdout.trim()
+    return spawnSync(PROGRAM, [word, file, ...rest], { encoding: "utf8" })
   } finally {
     rmSync(folder, { recursive: true })
   }
 }
 
-/** `grace serve` on a free port, with the room `r`. `end` kills it. */
+/** Returns the verdict of `grace check` on a record's text. */
+export const verdictOf = (record) => runOn(record, "check", "/dev/null").stdout.trim()
+
+/** Returns the entries of the renewal of a record by `grace renew`, or null if it finds none. */
+export function renewalOf(entries) {
+  const { status, stdout } = runOn(entries.map((entry) => `${writeText(entry)}\n`).join(""), "renew")
+  return status === 0 ? stdout.split("\n").slice(0, -1).map(readText) : null
+}
+
+/** `grace serve` on a free port, with the room `r` and further options. `end` kills it. */
 export class Server {
-  static async start(sessions = 1000) {
+  static async start(sessions = 1000, ...options) {
     const server = new Server()
+    server.options = options
     server.port = await freePort()
     await server.listen(sessions)
     return server
@@ -68,7 +79,7 @@ export class Server {
   /** Starts the program on the port. */
   listen(sessions) {
     this.address = `127.0.0.1:${this.port}`
-    const words = ["serve", this.address, `${sessions}`, "64", "r"]
+    const words = ["serve", ...this.options, this.address, `${sessions}`, "64", "r"]
     this.program = spawn(PROGRAM, words, { stdio: ["ignore", "pipe", "ignore"] })
     this.closed = new Promise((tell) => this.program.on("close", tell))
     return new Promise((tell, fail) => {

@@ -119,7 +119,8 @@ const isReady = (drawing, { name: [author, number], seen }) =>
 const shown = (drawing, object) => drawing.versions(object).map((version) =>
   [...shownVersion(version), version.members.map(writeText).sort()])
 
-function historyOf(room, draw) {
+/** Returns a random history. Its record is the joins of its sites, then its operations. */
+export function historyOf(room, draw) {
   const history = new History(room, draw)
   const steps = 4 + draw(24)
   for (let step = 0; step < steps && !history.isNearLimit(); step++) history.step()

@@ -156,9 +156,9 @@ async function byChance(proxy, room, other, server) {
 
 /** A restarted server has a new room. The client drops the state of the old one and reports it with its text. */
 async function anotherRoom(proxy, room, other, server) {
-  const renewals = []
+  const resets = []
   const loaded = []
-  room.on("renewed", (news) => renewals.push(news))
+  room.on("reset", (news) => resets.push(news))
   room.on("progress", (news) => loaded.push(news))
   const made = room.create("rect")
   await agree(room, other)
@@ -174,12 +174,12 @@ async function anotherRoom(proxy, room, other, server) {
   const lines = [
     '["join",1]', '["join",2]', '["new",[1,1],[],"rect",[]]', '["put",[1,2],[[1,1]],[1,1],[],[["x",1]]]', "",
   ]
-  expectEqual("the renewed texts", renewals.map(({ text }) => text), [lines.join("\n")])
+  expectEqual("the texts of the resets", resets.map(({ text }) => text), [lines.join("\n")])
   expectEqual("how the new one is loaded", loaded, [
     { have: 0, of: 1, isLoaded: false }, { have: 1, of: 1, isLoaded: true },
   ])
-  expectEqual("the verdict on it", verdictOf(renewals[0].text), "holds")
-  expect("the words of the news", renewals[0].words.startsWith("The room was started again"))
+  expectEqual("the verdict on it", verdictOf(resets[0].text), "holds")
+  expect("the words of the news", resets[0].words.startsWith("The room was started again"))
   expectEqual("what is left", [room.objects(), room.record, room.has(made.name)], [[], [["join", 1]], false])
   const anew = room.create("line")
   await anew.done
@@ -188,8 +188,8 @@ async function anotherRoom(proxy, room, other, server) {
 
 /** The old site may be another client's in the new room. */
 async function anothersSite(proxy, room, other, server) {
-  const renewals = []
-  room.on("renewed", ({ text }) => renewals.push(text))
+  const resets = []
+  room.on("reset", ({ text }) => resets.push(text))
   await room.create("rect").done
   await waitUntil("the record", () => room.record.length === 3)
   proxy.whatToDo = () => CUT_BEFORE
@@ -200,9 +200,9 @@ async function anothersSite(proxy, room, other, server) {
   for (const kind of ["line", "line", "line"]) await first.create(kind).done
   first.close()
   proxy.whatToDo = () => PASS
-  await waitUntil("the news", () => renewals.length > 0)
+  await waitUntil("the news", () => resets.length > 0)
   await waitUntil("the connection is back", () => room.state === "open")
-  expectEqual("the renewed texts", renewals, ['["join",1]\n["join",2]\n["new",[1,1],[],"rect",[]]\n'])
+  expectEqual("the texts of the resets", resets, ['["join",1]\n["join",2]\n["new",[1,1],[],"rect",[]]\n'])
   expectEqual("the site", room.site, 2)
   const kinds = room.objects().map((name) => [name, room.kind(name)])
   expectEqual("the objects", kinds, [1, 2, 3].map((seq) => [[1, seq], "line"]))

@@ -80,6 +80,26 @@ async function twoVersions(client) {
   expectEqual("what both show then", [versionsOf(first, made.name), versionsOf(second, made.name)], [after, after])
 }
 
+/** A put that counts what its author saw earlier conflicts with what others have changed since, though it is shown. */
+async function seenEarlier(client) {
+  const [first, second] = [await client(), await client()]
+  const made = first.create("rect", { x: 0 })
+  await agree(first, second)
+  const { seen } = second
+  first.put(made.name, [], { x: 5, y: 7 })
+  await agree(first, second)
+  const change = second.put(made.name, [], { x: 9 }, seen)
+  expectEqual("the version that it made", [...change.version.attributes], [["x", 9]])
+  await agree(first, second)
+  expectEqual("the vector", second.record.at(-1), ["put", [2, 1], [[1, 1]], [1, 1], [], [["x", 9]]])
+  const two = [[[[1, 2]], [["x", 5], ["y", 7]]], [[[2, 1]], [["x", 9]]]]
+  expectEqual("what both show", [versionsOf(first, made.name), versionsOf(second, made.name)], [two, two])
+  second.put(made.name, [], { z: 1 }, seen)
+  await agree(first, second)
+  expectEqual("the vector of the next one", second.record.at(-1)[2], [[1, 1], [2, 1]])
+  expectError("no vector", () => second.put(made.name, [], { x: 1 }, 5), "TypeError")
+}
+
 /** Many changes without waiting for replies arrive in order, each once. */
 async function inOneGo(client) {
   const [first, second] = [await client(), await client()]
@@ -131,7 +151,7 @@ async function refusedHere(client) {
   expectError("a key twice", () => room.put(name, [], [["x", 1], ["x", 2]]), "TypeError")
   expectError("no kind", () => room.create("a b"), "TypeError")
   const { message } = expectError("no event", () => room.on("news", () => {}), "TypeError")
-  expectEqual("its words", message, "there is no event news; the events are change, state, progress, refusal, renewed")
+  expectEqual("its words", message, "there is no event news; the events are change, state, progress, refusal, reset, renewed")
   for (let key = 0; key < LIMITS.keys; key++) room.set(name, [], `k${key}`, key)
   const refusal = expectError("the 65th key", () => room.put(name, [], { k0: 1, k64: 1 }), "Refused", "too-many-keys")
   expectEqual("its words", refusal.message, "This object has reached its limit of attributes.")
@@ -220,7 +240,8 @@ async function notServed() {
   await waitUntil("the entry", () => room.state === "open")
   room.close()
   expectEqual("the requests", requests.slice(0, 3), ['["join","r"]', '["join","r"]', '["pull",0]'])
-  expectEqual("whether it says so", words.includes("The server cannot serve this room now. Trying again."), true)
+  const wanted = "The server cannot open this room now: it may have no place for one more. Trying again."
+  expectEqual("whether it says so", words.includes(wanted), true)
 }
 
 /** The first program of the README prints the expected output. */
@@ -256,6 +277,7 @@ function noWebSocket() {
 
 export const TESTS = [
   ["two clients make two versions", withServer(twoVersions)],
+  ["a put by an earlier state vector", withServer(seenEarlier)],
   ["many changes in one go", withServer(inOneGo)],
   ["listeners", withServer(listening)],
   ["refused before it is sent", withServer(refusedHere)],

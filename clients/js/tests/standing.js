@@ -255,10 +255,10 @@ async function tooFar() {
   const room = new Room("ws://127.0.0.1:1/", "r", { connect, retryMilliseconds: [10] })
   try {
     const news = recordNews(room)
-    const renewals = []
-    room.on("renewed", ({ text }) => renewals.push(text))
-    await waitUntil("the room again", () => renewals.length === 1 && room.state === "open")
-    expectEqual("the old room", renewals, ['["join",1]\n'])
+    const resets = []
+    room.on("reset", ({ text }) => resets.push(text))
+    await waitUntil("the room again", () => resets.length === 1 && room.state === "open")
+    expectEqual("the old room", resets, ['["join",1]\n'])
     expectEqual("the states", news.map(({ state }) => state), ["connecting", "open", "waiting", "connecting", "open"])
   } finally {
     room.close()

@@ -10,6 +10,8 @@ import { CheckFailed, Skipped, expectEqual } from "./checks.js"
 const WORDS = [
   "--noEmit", "--strict", "--noUnusedLocals", "--target", "es2020", "--module", "es2020", "--moduleResolution", "node",
 ]
+// Methods that only the library calls.
+const INTERNAL = ["become", "moveTo"]
 const fileOf = (name) => fileURLToPath(new URL(name, import.meta.url))
 
 function check(...words) {
@@ -34,7 +36,7 @@ function allNamed() {
   for (const [, name, body] of text.matchAll(/^export class (\w+) [^\n]*\{\n(.*?)^\}/gms)) {
     const methods = new Set(namesIn(body, /^ {2}(?:get )?(\w+)(?:<.*>)?\(/gm))
     methods.delete("private")
-    const own = Object.getOwnPropertyNames(grace[name].prototype).filter((method) => method !== "become")
+    const own = Object.getOwnPropertyNames(grace[name].prototype).filter((method) => !INTERNAL.includes(method))
     expectEqual(`the methods of ${name}`, [...methods.add("constructor")].sort(), own.sort())
   }
   const options = namesIn(blockOf(text, "interface Options"), /^ {2}(\w+)\?:/gm)

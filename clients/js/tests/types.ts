@@ -32,7 +32,11 @@ const endChange: () => void = room.on("change", ({ objects, renamed }) => {
 room.on("state", ({ state, words, milliseconds }) => states[state] + words + milliseconds.toFixed())
 room.on("progress", ({ have, of, isLoaded }) => isLoaded || have / of)
 room.on("refusal", ({ refusal, change }) => refusal.message + refusal.word + refusal.code + change.name[0])
-room.on("renewed", ({ words, text }) => words + text)
+room.on("reset", ({ words, text }) => words + text)
+room.on("renewed", ({ oldRoom, newRoom, words, copies, text }) => {
+  const names: Name[] = copies.flat()
+  void (oldRoom + newRoom + words + (text ?? "") + names.length + room.name + room.hasEnded)
+})
 const tell = (news: RoomEvents["progress"]): boolean => news.isLoaded
 room.on("progress", tell)
 endChange()
@@ -83,7 +87,7 @@ if (fault instanceof Denied) void (fault.status === 401 && fault.reason)
 if (fault instanceof Lost) void fault.pauseMilliseconds.toFixed()
 if (fault instanceof Lost || fault instanceof ProtocolFault) void fault.message
 const most: 256 = LIMITS.sites
-void [done, site, end, looked, changes, keys, most, made.isSent, made.made, made.operation.word]
+void [done, site, end, looked, changes, keys, most, made.isSent, made.made, made.kind, made.operation.word]
 void drawing.versions([1, 1])
 room.close()
 

@@ -8,35 +8,59 @@ from dataclasses import dataclass, replace
 class Change:
     """A change that this client made: a creation, a put or a drop.
 
-    `operation` is what was sent or will be sent. Its name changes if the client has to join as a new site. `version` is
-    the version that contains this change, as it was directly after it.
+    `operation` is what was sent or will be sent. Its name changes if the client has to join as a new site. `object` is
+    the name of the object that the change creates or modifies, and `kind` its kind. `version` is the version that
+    contains this change, as it was directly after it. When the room is renewed, object and version become those of the
+    new room.
 
     `done` is a `concurrent.futures.Future`. Its `result()` waits until the server has accepted the change, and raises
     `Refused` if the change failed. The word is the server's, or:
     - `withdrawn` if the server refused an earlier pending change of the same object;
     - `closed` if the room was closed first;
-    - `another-room` if the server now has a different room of this name.
+    - `another-room` if the server now has a different room of this name;
+    - `renewed` if the drawing went on in another room without this change.
 
     A listener must not wait for `done`, because listeners run in the thread that receives the replies."""
 
-    def __init__(self, operation):
-        self.operation = operation
-        self.version = None
+    def __init__(self, operation, kind, made=None):
+        self.kind = kind
+        self.become(operation, None)
         self.done = Future()
         # So that nobody can cancel it.
         self.done.set_running_or_notify_cancel()
         # When the change was made, in seconds of `time.monotonic()`.
-        self.made = time.monotonic()
+        self.made = time.monotonic() if made is None else made
 
     @property
     def name(self):
         """The name of the operation. For a creation it is also the object's name."""
         return self.operation.name
 
-    @property
-    def object(self):
-        """The name of the object that the change creates or modifies."""
-        return self.operation.object
+    def become(self, operation, version):
+        """For the module alone: gives the change another operation."""
+        self.operation = operation
+        self.move_to(operation.object, version)
+
+    def move_to(self, target, version):
+        """For the module alone: the change is now one of this object and version."""
+        self.object, self.version = target, version
+
+    def settle_with(self, others):
+        """For the module alone: the change settles when these have."""
+
+        def settle(_):
+            faults = [it.done.exception() for it in others if it.done.done() and it.done.exception()]
+            if self.done.done():
+                return
+            if faults:
+                self.done.set_exception(faults[0])
+            elif all(it.done.done() for it in others):
+                self.done.set_result(None)
+
+        for other in others:
+            other.done.add_done_callback(settle)
+        if not others:
+            self.done.set_result(None)
 
 
 def rename_operation(operation, names, site, taken):
@@ -59,8 +83,9 @@ def rename_operation(operation, names, site, taken):
 
 @dataclass(frozen=True)
 class Changed:
-    """News of the event `change`: these objects were created, changed or deleted. `renamed` lists the objects and
-    operations of this client that have a new name, each as a pair of old and new."""
+    """News of the event `change`: these objects were created, changed or deleted. `renamed` lists the objects, and the
+    operations of this client, that have a new name, each as a pair of old and new. An old name may be the new one of
+    another object."""
 
     objects: list
     renamed: list
@@ -95,9 +120,23 @@ class Refusal:
 
 
 @dataclass(frozen=True)
-class Renewed:
-    """News of the event `renewed`: the server now has a different room of this name, so the old objects are gone.
+class Reset:
+    """News of the event `reset`: the server now has a different room of this name, so the old objects are gone.
     `text` has the entries of the old record, then the pending changes, one entry a line."""
 
     words: str
     text: str
+
+
+@dataclass(frozen=True)
+class Renewed:
+    """News of the event `renewed`: the room `old_room` has ended, and the client is in `new_room`, which draws the
+    same. The news `Changed` before it has the new names of objects. `copies` lists versions with pending changes that
+    could not go on in their object: each as a pair of the object and the copy, an object of its own. If the pending
+    changes could not be taken along, `text` has the old record and them, as for a reset; otherwise it is None."""
+
+    old_room: str
+    new_room: str
+    words: str
+    copies: list
+    text: str | None

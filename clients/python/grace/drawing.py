@@ -13,16 +13,19 @@ class Version:
 
     `id` is the identifier that a put or a drop names as its base. `is_gone` tells whether a drop deleted the version.
     `attributes` is sorted by key, and empty if the version is gone. `members` are the names of all changes in the
-    version. `outlived` are the drops that the version survived: others changed it concurrently."""
+    version. `outlived` are the drops that the version survived: others changed it concurrently. `owner` is for the
+    module alone."""
 
-    __slots__ = ("id", "is_gone", "attributes", "members", "outlived")
+    __slots__ = ("id", "is_gone", "attributes", "members", "outlived", "owner")
 
-    def __init__(self, identifier, attributes, members, outlived):
+    def __init__(self, identifier, attributes, members, outlived, owner):
         self.id = identifier
         self.is_gone = attributes is None
         self.attributes = attributes or {}
         self.members = members
         self.outlived = outlived
+        # The object as the drawing has it, which knows its drawing.
+        self.owner = owner
 
     def __repr__(self):
         return f"Version(id={self.id}, {'gone' if self.is_gone else self.attributes})"
@@ -43,8 +46,8 @@ def indexes_of(members):
 class DrawnObject:
     """An object and its changes."""
 
-    def __init__(self, creation):
-        self.creation = creation
+    def __init__(self, creation, drawing):
+        self.creation, self.drawing = creation, drawing
         self.changes = []
         self.keys = set()
         self._indexes = {}
@@ -151,9 +154,9 @@ class DrawnObject:
         names = [self.changes[index].name for index in indexes_of(group)]
         identifier = tuple(sorted(self.changes[index].name for index in indexes_of(group & self._disputed)))
         if group & self._drops:
-            return Version(identifier, None, tuple(names), ())
+            return Version(identifier, None, tuple(names), (), self)
         outlived = [self.changes[drop].name for drop in indexes_of(self._drops) if self._outlives(group, drop)]
-        return Version(identifier, self._attributes(group), tuple(names), tuple(outlived))
+        return Version(identifier, self._attributes(group), tuple(names), tuple(outlived), self)
 
     def _outlives(self, group, drop):
         """Whether a version survives a drop: the drop's base contains all of the group that the drop's author had
@@ -216,7 +219,7 @@ class Drawing:
         unchanged."""
         self._admit(operation)
         if operation.word == "new":
-            self._objects[operation.name] = DrawnObject(operation)
+            self._objects[operation.name] = DrawnObject(operation, self)
         else:
             self._find(operation.object).add(operation)
         site, number = operation.name
@@ -241,6 +244,11 @@ class Drawing:
         self._counts[site] = first - 1
         if first == 1:
             del self._counts[site]
+
+    @property
+    def size(self):
+        """How many objects there are."""
+        return len(self._objects)
 
     def names(self):
         """The objects, in the order in which they were added."""
@@ -279,7 +287,7 @@ class Drawing:
 
 def rebuild(drawn, is_removed):
     """A copy of an object without some of its changes."""
-    rebuilt = DrawnObject(drawn.creation)
+    rebuilt = DrawnObject(drawn.creation, drawn.drawing)
     for change in drawn.changes:
         if not is_removed(change):
             rebuilt.add(change)

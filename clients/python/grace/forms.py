@@ -6,7 +6,7 @@ from types import SimpleNamespace
 
 # The largest number or size of each, as the server enforces it.
 LIMITS = SimpleNamespace(
-    sites=256, entries=16384, objects=512, changes=1024, keys=64, versions=32, attributes=16, message_bytes=16384,
+    sites=256, entries=16384, objects=8192, changes=1024, keys=64, versions=32, attributes=16, message_bytes=16384,
     text_bytes=256, word_bytes=32, room_bytes=64,
 )
 
@@ -33,12 +33,13 @@ WORDS = {
     "no-such-site": "The room does not know your site.",
     "site-in-use": "Another connection is using your site.",
     "not-served": "The server cannot serve this room now.",
+    "renewed": "This drawing has ended and goes on in another room.",
     "closed": "The room was closed before the server accepted the change.",
     "withdrawn": "The server refused an earlier change to this object.",
     "another-room": "The room was started again without this change.",
     "too-long": "The change is too long for one message.",
 }
-CODES = {word: code for code, word in enumerate(list(WORDS)[:21], 1)}
+CODES = {word: code for code, word in enumerate(list(WORDS)[:22], 1)}
 
 # Why the answer to a handshake ends a room, by its status.
 DENIED = {
@@ -52,12 +53,20 @@ class Refused(Exception):
     """The server or this module refused a change or a join, which then has no effect.
 
     `word` is the server's word, or `closed`, `withdrawn`, `another-room` or `too-long`. `code` is the server's code,
-    from 1 to 21, or 0 for the module's own words. `str` gives a sentence for people."""
+    from 1 to 22, or 0 for the module's own words. `str` gives a sentence for people."""
 
     def __init__(self, word):
         super().__init__(WORDS.get(word, f"The server refused the request: {word}."))
         self.word = word
         self.code = CODES.get(word, 0)
+
+
+class RenewedAs(Exception):
+    """The reply to a join or a back of a room that goes on in another one. `room` is the newest room of the drawing."""
+
+    def __init__(self, room):
+        super().__init__(f"The drawing goes on in {room}.")
+        self.room = room
 
 
 class ProtocolFault(Exception):
@@ -117,10 +126,10 @@ def write_text(value):
 
 
 def operation_of(entry):
-    """Reads the operation from an entry of a record; None if the entry is a join. The old word `set`, for one
-    attribute, gives a put. Raises `ProtocolFault` if the entry is malformed."""
+    """Reads the operation from an entry of a record; None if the entry is a join or the end of the record. The old
+    word `set`, for one attribute, gives a put. Raises `ProtocolFault` if the entry is malformed."""
     match entry:
-        case ("join", _):
+        case ("join" | "next", _):
             return None
         case ("new", name, seen, kind, attributes):
             return Operation("new", name, seen, name, kind=kind, attributes=attributes)

@@ -12,24 +12,19 @@ from collections import deque
 from dataclasses import dataclass
 
 from .connection_state import ConnectionState
-from .forms import Denied, Lost, ProtocolFault, Refused, operation_of, read_text, request_of, write_text
-from .pause import Pause, WaitTimer
+from .entrance import Entrance, nobody_in
+from .forms import Denied, Lost, ProtocolFault, Refused, RenewedAs, operation_of, read_text, request_of, write_text
+from .pause import WaitTimer
+from .room_state import GOES_ON
+from .transfer import draw_same, drawing_of
 from .websocket import WebSocket
 
-STILL_CONNECTED = "The server still has your previous connection. Trying again."
-CANNOT_JOIN = "The server still has your previous connection, and the room is too full for a new one."
-NOT_SERVED = "The server cannot serve this room now. Trying again."
 SHORTER_RECORD = "The room was started again."
 CLOSED = "The room was closed."
 
 # A connection that lasted this long resets the backoff. A connection that breaks sooner does not: otherwise the client
 # would reconnect too often.
 STEADY_SECONDS = 5
-# The first and the longest pause between attempts to rejoin as a site that the server says is in use.
-REJOIN_SECONDS = 0.1
-LONGEST_REJOIN_SECONDS = 1
-# How often to ask for a room that the server cannot serve.
-NOT_SERVED_SECONDS = 1
 # How long a server may hold the reply to a wait.
 HOLD_SECONDS = 25
 # How long to wait for the server's close frame.
@@ -49,7 +44,9 @@ class NetworkThread:
     which `lock` protects. `listeners` has the listeners of each event."""
 
     def __init__(self, address, name, options, lock, listeners):
-        self.address, self.name, self.options = address, name, options
+        self.address, self.options = address, options
+        self.first_name = name
+        self.entrance = Entrance(name, options.back_seconds, self._request, self._wait_outside)
         self.room_state = None
         self.lock = lock
         # Notified when something changes that a caller may wait for.
@@ -72,6 +69,8 @@ class NetworkThread:
         # The place from which the outstanding wait asks, or None.
         self._wait_from = None
         self._tries = 0
+        # Whether the session is in the room.
+        self._is_in = False
         self._wakes, self._waker = socket.socketpair()
         self._wakes.setblocking(False)
         self._waker.setblocking(False)
@@ -284,9 +283,17 @@ class NetworkThread:
             context = ssl.create_default_context()
         self._socket.open(self.address, context, self.options.headers)
         self._owed.popleft()
+        self._is_in = False
         self.room_state.is_entering = True
-        if not self._rejoin():
+        # All that a room has which has ended is in its record.
+        if not self.room_state.has_ended and not self._rejoin():
             self._join()
+        self._finish_entering()
+
+    def _finish_entering(self):
+        """Goes on in the next room while this one has ended. Then shows what was loaded."""
+        while self.room_state.has_ended:
+            self._go_on()
         with self._locked():
             self.options.site = None
             self.room_state.is_entering = False
@@ -304,57 +311,74 @@ class NetworkThread:
         back = self._request_back()
         if back is None:
             return False
+        self._is_in = True
         _, at, site, made = back
         with self._locked():
             self.room_state.length = at
             self.room_state.site = site
-        has_record = bool(self.room_state.record)
         if self._is_other_record(at):
-            with self._locked():
-                self.room_state.discard_room()
-        else:
-            self._load()
-            pending, drawing = self.room_state.pending, self.room_state.drawing
-            following = pending[0].name[1] if pending else drawing.count(site) + 1
-            # Otherwise another client was in the room as this site, and made operations that this one has not seen.
-            if not has_record or following == made + 1:
-                return True
-        self._request(["leave"], "left")
+            self._start_anew()
+        elif self._loads_own(site, made):
+            return True
+        self._leave()
         return False
+
+    def _loads_own(self, site, made):
+        """Loads the record. Returns false if another client was in the room as this site, and made operations that this
+        one has not seen. In a room that has ended, that does not matter: the pending changes get a site of nobody."""
+        has_record = bool(self.room_state.record)
+        self._load()
+        pending, drawing = self.room_state.pending, self.room_state.drawing
+        following = pending[0].name[1] if pending else drawing.count(site) + 1
+        if not has_record or following == made + 1:
+            return True
+        if self.room_state.has_ended:
+            self._become_nobody()
+        return self.room_state.has_ended
+
+    def _become_nobody(self):
+        with self._locked():
+            self.room_state.become_site(nobody_in(self.room_state.record))
+
+    def _start_anew(self):
+        """Discards the room's state: the server has lost it. The client asks for the first room again."""
+        with self._locked():
+            self.room_state.discard_room()
+            self.entrance.name = self.first_name
+
+    def _leave(self):
+        if self._is_in:
+            self._request(["leave"], "left")
+            self._is_in = False
 
     def _request_back(self):
-        """The reply to `back`, or None if the client cannot rejoin as its old site. While the server cannot serve the
-        room, the client asks again, and the time for which it tries to rejoin has not begun."""
-        end = time.monotonic() + self.options.back_seconds
-        pause = Pause(REJOIN_SECONDS, LONGEST_REJOIN_SECONDS)
-        while True:
-            try:
-                return self._request(["back", self.name, self.room_state.site or self.options.site], "back")
-            except Refused as refusal:
-                is_served = refusal.word != "not-served"
-                if is_served and not self._may_rejoin(refusal, end):
-                    return None
-            if is_served:
-                self._wait_outside(STILL_CONNECTED, pause.take())
-            else:
-                self._wait_outside(NOT_SERVED, NOT_SERVED_SECONDS)
-                end = time.monotonic() + self.options.back_seconds
-
-    def _may_rejoin(self, refusal, end):
-        """Whether to try again to rejoin. Raises the refusal if the client must not join as a new site."""
-        is_over = time.monotonic() >= end
-        if refusal.word == "site-in-use" and not is_over:
-            return True
-        if refusal.word not in ("site-in-use", "no-such-site") or self.options.site is not None:
-            raise refusal
-        if refusal.word == "no-such-site":
-            with self._locked():
-                self.room_state.discard_room()
-        return False
+        """The reply to `back`, or None if the client cannot rejoin as its old site."""
+        given = self.options.site
+        site = self.room_state.site or given
+        try:
+            is_first = not self.room_state.record
+            ask = lambda: self.entrance.back(site)
+            back = self.entrance.follow(ask) if is_first else ask()
+        except RenewedAs as renewed:
+            self._leave_behind(renewed.room)
+            return None
+        except Refused as refusal:
+            is_lost = refusal.word == "no-such-room" and self.entrance.name != self.first_name
+            if given is not None or refusal.word != "no-such-site" and not is_lost:
+                raise
+            self._start_anew()
+            return None
+        if back is None and given is not None:
+            raise Refused("site-in-use")
+        return back
 
     def _join(self):
         """Joins as a new site."""
-        _, at, site = self._request_join()
+        joined = self._request_join()
+        if joined is None:
+            return
+        self._is_in = True
+        _, at, site = joined
         is_other_record = self._is_other_record(at)
         with self._locked():
             if is_other_record:
@@ -365,17 +389,91 @@ class NetworkThread:
             self.room_state.become_site(site)
 
     def _request_join(self):
-        """The reply to `join`. While the server cannot serve the room, the client asks again. In a full room a client
-        that has a site keeps trying to rejoin."""
+        """The reply to `join`. It is None if the room has ended while the server has the client's previous connection.
+        The client has then read it to its end, as a site that it never had."""
+        has_site = self.room_state.site is not None
+        if not self.room_state.record:
+            return self.entrance.join_newest(has_site)
+        with contextlib.suppress(RenewedAs):
+            return self.entrance.join(has_site)
+        try:
+            _, at, *_ = self.entrance.back_as_any(self.entrance.name)
+        except RenewedAs as renewed:
+            self._leave_behind(renewed.room)
+            return self.entrance.join_newest(False)
+        self._is_in = True
+        with self._locked():
+            self.room_state.length = max(self.room_state.length, at)
+        self._load_end()
+        self._become_nobody()
+        return None
+
+    def _load_end(self):
+        """Loads a record that has ended."""
+        self._load()
+        if not self.room_state.has_ended:
+            raise ProtocolFault("The server ended a room whose record has no end.")
+
+    def _go_on(self):
+        """Goes on in the room's successor."""
+        with self._locked():
+            self.room_state.is_entering = True
+            self.connection_state.connect(GOES_ON)
+        self._leave()
+        self._until_released()
+        following = self._enter_successor()
+        if following is None:
+            self._join()
+        elif not self._go_on_in(following):
+            self._leave_behind(following.name)
+            self._leave()
+            self._join()
+
+    def _enter_successor(self):
+        """Enters the room's successor. Returns None if the client could not take its pending changes along."""
+        try:
+            following = self.entrance.enter_successor()
+        except RenewedAs as renewed:
+            self._leave_behind(renewed.room)
+            return None
+        except Refused as refusal:
+            if refusal.word != "no-such-room":
+                raise
+            self._start_anew()
+            return None
+        finally:
+            # The replies count the entries of the next room.
+            self.room_state.length = len(self.room_state.record)
+        self._is_in = following.is_in
+        return following
+
+    def _go_on_in(self, following):
+        """Makes the successor the client's room, as soon as there is no hold. Returns false if it draws something
+        else."""
+        record = self.room_state.record
+        old, drawing = drawing_of(record), drawing_of(following.record[:record[-1][1]])
+        if not draw_same(old, drawing):
+            return False
         while True:
-            try:
-                return self._request(["join", self.name], "joined")
-            except Refused as refusal:
-                if refusal.word in ("room-full", "record-full") and self.room_state.site is not None:
-                    raise Lost(CANNOT_JOIN) from None
-                if refusal.word != "not-served":
-                    raise
-            self._wait_outside(NOT_SERVED, NOT_SERVED_SECONDS)
+            self._until_released()
+            with self._locked():
+                # Another thread may hold the room again.
+                if self.room_state.holds == 0:
+                    self.room_state.go_on_in(following, self.entrance.name, old, drawing)
+                    self.entrance.name = following.name
+                    self.wait_timer.hurry()
+                    self._notify()
+                    return True
+
+    def _until_released(self):
+        """Waits until there is no hold."""
+        self._sleep(math.inf, lambda: self.room_state.holds == 0)
+
+    def _leave_behind(self, room):
+        """Goes on in the newest room of the drawing, where the old one can no longer be read."""
+        with self._locked():
+            self.room_state.leave_behind(self.entrance.name, room)
+            self.entrance.name = room
 
     def _wait_outside(self, words, seconds):
         """Says why the client is not in the room yet, and waits this long."""
@@ -404,6 +502,8 @@ class NetworkThread:
         """Sends changes and waits for news until the connection is lost. At most one wait is outstanding."""
         while True:
             self._handle_events()
+            if self.room_state.has_ended:
+                self._finish_entering()
             with self.lock:
                 change = self.room_state.pending[0] if self.room_state.pending else None
                 refreshes = self.refreshes_asked
@@ -455,8 +555,12 @@ class NetworkThread:
         reply = read_text(self._replies.popleft() if self._replies else self._socket.read())
         self._owed.popleft()
         match reply:
-            case ("no", _, _, str(word)):
+            case ("no", int(at), _, str(word)):
+                if word == "renewed":
+                    self.room_state.length = max(self.room_state.length, at)
                 raise Refused(word)
+            case ("renewed", _, str(room)):
+                raise RenewedAs(room)
             case (word, int(at), *_) if word == kind:
                 with self._locked():
                     self.room_state.length = max(self.room_state.length, at)
@@ -498,6 +602,8 @@ class NetworkThread:
                 self.room_state.accepted(change, at)
                 self._notify()
         except Refused as refusal:
+            if refusal.word == "renewed":
+                return self._load_end()
             with self._locked():
                 self.room_state.withdraw(change, refusal)
                 self._notify()

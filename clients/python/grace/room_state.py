@@ -1,10 +1,26 @@
 """A client's copy of a room, and its pending changes. Callers hold the room's lock."""
 
-from .change import Change, Changed, Progress, Refusal, Renewed, rename_operation
+import weakref
+from dataclasses import dataclass
+
+from .change import Change, Changed, Progress, Refusal, Renewed, Reset, rename_operation
+from .arguments import as_id, as_name
 from .drawing import Drawing
 from .forms import LIMITS, Operation, Refused, entry_of, operation_of, request_of, write_text
+from .transfer import Transfer
 
 OTHER_ROOM = "The room was started again, and your old drawing is not in it."
+GOES_ON = "This drawing goes on in another room."
+LEFT_BEHIND = "This drawing went on in another room without your last changes."
+
+
+@dataclass(frozen=True)
+class Passage:
+    """What became of the room before: its drawing, the transfer from it, and the later names of operations there."""
+
+    drawing: Drawing
+    transfer: Transfer
+    later_names: dict
 
 
 class RoomState:
@@ -34,6 +50,10 @@ class RoomState:
         self._creation_places = {}
         # The later names of operations of this client's earlier sites.
         self._later_names = {}
+        # What objects and versions of the room before have become, or None.
+        self._passage = None
+        # The changes that a program still holds.
+        self._held = weakref.WeakSet()
 
     # ---- reading
 
@@ -41,6 +61,11 @@ class RoomState:
     def lacks(self):
         """Whether the server is known to have more entries."""
         return len(self.record) < self.length
+
+    @property
+    def has_ended(self):
+        """Whether the record has ended."""
+        return bool(self.record) and self.record[-1][0] == "next"
 
     @property
     def has_news(self):
@@ -57,21 +82,43 @@ class RoomState:
 
     def successors(self, target, version):
         """The current versions that contain all changes of an earlier version."""
+        if version.owner.drawing is not self.drawing:
+            found = [self.successors(one.object, one.version) for one in self._continuations(version)]
+            return list(dict.fromkeys(later for some in found for later in some))
         if not self.drawing.has(target):
             return []
-        members = [self._current_name(name) for name in version.members]
+        members = [current_name(name, self._later_names) for name in version.members]
         return [later for later in self.drawing.versions(target) if all(map(later.has, members))]
 
-    def _current_name(self, name):
-        while name in self._later_names:
-            name = self._later_names[name]
-        return name
+    def _continuations(self, version):
+        """What a version of the room before has become."""
+        passage = self._passage
+        if passage is None or version.owner.drawing is not passage.drawing:
+            return []
+        target, *members = (
+            current_name(name, passage.later_names) for name in (version.owner.creation.name, *version.members)
+        )
+        return passage.transfer.continuations(target, members)
+
+    def _base_of(self, target, version):
+        """What a change builds on: the object, and the identifier of the version. A `Version` of the room before stands
+        for the one that it became."""
+        owner = getattr(version, "owner", None)
+        if owner is None or owner.drawing is self.drawing:
+            return as_name(target), as_id(version)
+        passage = self._passage
+        is_known = passage is not None and owner.drawing is passage.drawing
+        old_name = is_known and current_name(owner.creation.name, passage.later_names)
+        found = passage.transfer.find(old_name, version.id) if is_known else None
+        if found is None:
+            raise Refused("no-such-version")
+        return found.object, found.version.id
 
     # ---- changing
 
     def create(self, kind, attributes):
         """Creates an object."""
-        if len(self.drawing.names()) >= LIMITS.objects:
+        if self.drawing.size >= LIMITS.objects:
             raise Refused("too-many-objects")
         name, seen = self._next()
         return self._change(Operation("new", name, seen, name, kind=kind, attributes=attributes))
@@ -79,6 +126,7 @@ class RoomState:
     def change_version(self, word, target, version, attributes=None):
         """Makes a put or a drop if the server would accept it. The checks have the server's order, so the word is the
         same."""
+        target, version = self._base_of(target, version)
         name, seen = self._next()
         operation = Operation(word, name, seen, target, version=version, attributes=attributes)
         self.drawing.check(operation)
@@ -101,7 +149,8 @@ class RoomState:
 
     def _change(self, operation):
         request_of(operation)
-        change = Change(operation)
+        change = Change(operation, operation.kind or self.drawing.kind(operation.object))
+        self._held.add(change)
         self._draw(change, operation)
         self.pending.append(change)
         self._emit_change([operation.object])
@@ -110,9 +159,7 @@ class RoomState:
     def _draw(self, change, operation):
         """Shows a change of this client under this operation."""
         self.drawing.add(operation)
-        change.operation = operation
-        versions = self.drawing.versions(operation.object)
-        change.version = next(it for it in versions if operation.word == "new" or it.has(operation.name))
+        change.become(operation, version_with(operation, self.drawing))
 
     def hold(self):
         """Stops showing new entries until the hold is released."""
@@ -156,8 +203,10 @@ class RoomState:
 
     def show(self):
         """Shows all pulled entries, unless there is a hold."""
-        if self.is_entering or self.holds > 0 or not self.has_news:
-            return
+        if not self.is_entering and self.holds == 0:
+            self._show_all()
+
+    def _show_all(self):
         changed = []
         for place in range(self.shown_count, len(self.record)):
             self.shown_count = place + 1
@@ -209,14 +258,60 @@ class RoomState:
         self._emit_change(changed, list(names.items()))
 
     def discard_room(self):
-        """Discards the old room's state, and reports it with `renewed`."""
+        """Discards the old room's state, and reports it with `reset`."""
+        pending, text = self._give_up()
+        self.emit("reset", Reset(OTHER_ROOM, text))
+        self.fail(pending, Refused("another-room"))
+
+    def leave_behind(self, old_room, new_room):
+        """Discards the old room's state, as it can no longer be read. The drawing goes on in another room."""
+        pending, text = self._give_up()
+        is_lost = bool(pending)
+        words = LEFT_BEHIND if is_lost else GOES_ON
+        self.emit("renewed", Renewed(old_room, new_room, words, [], text if is_lost else None))
+        self.fail(pending, Refused("renewed"))
+
+    def _give_up(self):
+        """Discards the room's state. Returns the pending changes, and the text of the record without its end and of
+        these."""
         behind = [entry_of(change.operation) for change in (*self._accepted_unpulled, *self.pending)]
-        text = "".join(f"{write_text(entry)}\n" for entry in (*self.record, *behind))
+        text = "".join(f"{write_text(entry)}\n" for entry in (*self.record, *behind) if entry[0] != "next")
         pending, gone = self.pending, self.drawing.names()
         self._reset()
         self._emit_change(gone)
-        self.emit("renewed", Renewed(OTHER_ROOM, text))
-        self.fail(pending, Refused("another-room"))
+        return pending, text
+
+    def go_on_in(self, following, old_room, old, drawing):
+        """Makes the successor of the room, which has ended, the client's room. `old` is the drawing of the old record,
+        `drawing` that of the successor's first entries, which draws the same."""
+        self._show_all()
+        count = self.record[-1][1]
+        pending, every = self.pending, self.drawing
+        transfer = Transfer(old, every, [change.name for change in pending], drawing, following.site)
+        self._passage = Passage(every, transfer, self._later_names)
+        self._take_record(following, drawing, count)
+        self.pending = take_along(pending, transfer.groups, drawing)
+        self._move_held()
+        self._emit_change([*every.names(), *drawing.names()], transfer.renamed)
+        self.emit("renewed", Renewed(old_room, following.name, GOES_ON, transfer.copies, None))
+
+    def _take_record(self, following, drawing, count):
+        """Takes another record, of which the drawing shows the first entries."""
+        self.site, self.record, self.drawing = following.site, following.record, drawing
+        self.shown_count, self.length = count, len(following.record)
+        self._accepted_unpulled = []
+        self._later_names = {}
+        self._creation_places = {
+            entry[1]: place for place, entry in enumerate(following.record[:count]) if entry[0] == "new"
+        }
+
+    def _move_held(self):
+        """All changes but those that are sent again become changes of the objects and versions that correspond."""
+        self._held.update(self.pending)
+        for change in set(self._held).difference(self.pending):
+            found = self._continuations(change.version)
+            if found:
+                change.move_to(found[0].object, found[0].version)
 
     def fail(self, changes, refusal):
         """Reports that these changes have failed."""
@@ -232,3 +327,39 @@ class RoomState:
 
     def _emit_change(self, objects, names=()):
         self.emit("change", Changed(list(dict.fromkeys(objects)), list(names)))
+
+
+def current_name(name, later_names):
+    """The latest name of an operation."""
+    while name in later_names:
+        name = later_names[name]
+    return name
+
+
+def version_with(operation, drawing):
+    """The version of a drawing that contains an operation."""
+    versions = drawing.versions(operation.object)
+    return next(it for it in versions if operation.word == "new" or it.has(operation.name))
+
+
+def take_along(pending, groups, drawing):
+    """The pending changes after a transfer. Of each group of operations, the last is that of the last change whose
+    effect the group has. The other changes settle with the groups that have their effect."""
+    changes = {change.name: change for change in pending}
+    settled_by = {change: [] for change in pending}
+    taken = []
+    for group in groups:
+        own = [changes[name] for name in group.pending]
+        last = next((change for change in reversed(own) if change not in taken), None)
+        *first, final = group.operations
+        carriers = [Change(operation, own[0].kind, own[0].made) for operation in first]
+        carriers.append(last or Change(final, own[0].kind, own[0].made))
+        for change, operation in zip(carriers, group.operations):
+            change.become(operation, version_with(operation, drawing))
+        for change in own:
+            settled_by[change].append(carriers[-1])
+        taken += carriers
+    for change in pending:
+        if change not in taken:
+            change.settle_with(settled_by[change])
+    return taken

@@ -222,7 +222,8 @@ def not_served_back():
             expect_equal("the site", room.site, 1)
     expect_equal("the requests", server.requests[:4], ['["back","r",1]'] * 3 + ['["pull",0]'])
     words = [it.words for it in events.of("state")]
-    expect_equal("whether it says so", "The server cannot serve this room now. Trying again." in words, True)
+    wanted = "The server cannot open this room now: it may have no place for one more. Trying again."
+    expect_equal("whether it says so", wanted in words, True)
 
 
 def room_in_path():

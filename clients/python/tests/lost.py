@@ -114,7 +114,7 @@ def in_use():
 def another_room():
     """A restarted server has a new room. The client drops the state of the old one and reports it with its text."""
     with cut() as (server, relay, room, other):
-        events = EventLog("renewed", "refusal", "progress")
+        events = EventLog("reset", "refusal", "progress")
         for event, listener in events.listeners.items():
             room.on(event, listener)
         made = room.create("rect")
@@ -134,8 +134,8 @@ def another_room():
         lines = [
             '["join",1]', '["join",2]', '["new",[1,1],[],"rect",[]]', '["put",[1,2],[[1,1]],[1,1],[],[["x",1]]]', "",
         ]
-        expect_equal("the renewed texts", [news.text for news in events.of("renewed")], ["\n".join(lines)])
-        expect_equal("the order", [event for event, _ in events.news], ["renewed", "refusal", "progress", "progress"])
+        expect_equal("the texts of the resets", [news.text for news in events.of("reset")], ["\n".join(lines)])
+        expect_equal("the order", [event for event, _ in events.news], ["reset", "refusal", "progress", "progress"])
 
 
 def closed_with_changes():

@@ -177,7 +177,7 @@ def refused_here():
             (lambda: Room("127.0.0.1:1", "R"), ValueError, "the room's name 'R' isn't 1 to 64 of a-z, 0-9 and -"),
             (lambda: Room("http://h/", "r"), ValueError, "http://h/ is not an address such as ws://127.0.0.1:7000/"),
             (lambda: room.on("news", print), ValueError,
-             "there is no event 'news'; the events are change, state, progress, refusal, renewed"),
+             "there is no event 'news'; the events are change, state, progress, refusal, reset, renewed"),
             (lambda: room.put((9, 9), (), {"x": 1}), Refused, "This object does not exist."),
             (lambda: room.put(made.name, [(1, 1)], {"x": 1}), Refused,
              "This version does not exist any more, so please choose again."),
@@ -304,7 +304,8 @@ def not_served():
         room.entered(PATIENCE)
         expect_equal("the requests", server.requests[:3], ['["join","r"]', '["join","r"]', '["pull",0]'])
     words = [it.words for it in events.of("state")]
-    expect_equal("whether it says so", "The server cannot serve this room now. Trying again." in words, True)
+    wanted = "The server cannot open this room now: it may have no place for one more. Trying again."
+    expect_equal("whether it says so", wanted in words, True)
 
 
 def nobody_listens():

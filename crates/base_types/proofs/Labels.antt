@@ -4,7 +4,7 @@ use Rattle.std.specs.Prelude.{IsUtf8}
 use Rattle.std.specs.List.{position_or_len}
 use Rattle.std.specs.Str.{IsAscii}
 use Rattle.std.specs.Option.{option_map}
-use Rattle.std.proofs.lemmas.Bool.{and_parts, or_cases, leb-true, ltb-true, ltb-false, eqb-true, cases_Bool}
+use Rattle.std.proofs.lemmas.Bool.{and_parts, or_cases, leb-true, ltb-true, ltb-false, eqb-true, eqb-false, cases_Bool}
 use Rattle.std.proofs.lemmas.List.{get_or_past}
 use Rattle.std.proofs.lemmas.List.Sums.{fails_before_first}
 use Rattle.std.proofs.lemmas.Str.{IsUtf8-from_ascii}
@@ -35,15 +35,30 @@ all_good bytes e = elim (cases_Bool (ltb (position_or_len bad bytes) (length byt
   | inr f ↦ ltb-false _ _ f
 ]
 
-ascii_if : (longest : ℕ) (bytes : Bytes) → label_fault longest bytes ≡ None → IsAscii bytes
+-- what a label is: neither empty nor too long, and each byte is in range
+pub record IsLabel (longest : ℕ) (bytes : Bytes) : Type 0 where
+  pub some : 0 < length bytes
+  pub short : length bytes ≤ longest
+  pub good : (i : ℕ) → i < length bytes → is_label_byte (get_or bytes i 0) ≡ true
+
+pub label_is : (longest : ℕ) (bytes : Bytes) → label_fault longest bytes ≡ None → IsLabel longest bytes
 unfolding label_fault
-ascii_if longest bytes none i =
-    let within : length bytes ≤ position_or_len bad bytes = all_good bytes (not_first (ltb longest (length bytes)) TooLong _ (not_first (eqb (length bytes) 0) Empty _ none).1).1 in
-    elim (cases_Bool (ltb i (length bytes))) [
-      | inl t ↦ (let here : i < position_or_len bad bytes = omega (arith, ltb-true i (length bytes) t, within) in
-          label_byte-below (get_or bytes i 0) (good_if _ (fails_before_first bad bytes i 0 here)))
-      | inr f ↦ rw (get_or_past bytes i 0 (ltb-false i (length bytes) f)) (lit< tt)
-    ]
+label_is longest bytes none =
+    let first = not_first (eqb (length bytes) 0) Empty _ none in
+    let second = not_first (ltb longest (length bytes)) TooLong _ first.1 in
+    let within : length bytes ≤ position_or_len bad bytes = all_good bytes second.1 in
+    record {
+      some = omega (arith, eqb-false _ _ first.0);
+      short = omega (arith, ltb-false _ _ second.0);
+      good = λ i below. (let here : i < position_or_len bad bytes = omega (arith, below, within) in
+          good_if _ (fails_before_first bad bytes i 0 here));
+    }
+
+pub label-IsAscii : (longest : ℕ) (bytes : Bytes) → label_fault longest bytes ≡ None → IsAscii bytes
+label-IsAscii longest bytes none i = elim (cases_Bool (ltb i (length bytes))) [
+  | inl t ↦ label_byte-below (get_or bytes i 0) ((label_is longest bytes none).good i (ltb-true i (length bytes) t))
+  | inr f ↦ rw (get_or_past bytes i 0 (ltb-false i (length bytes) f)) (lit< tt)
+]
 
 pub label-IsUtf8 : (longest : ℕ) (bytes : Bytes) → label_fault longest bytes ≡ None → IsUtf8 bytes
-label-IsUtf8 longest bytes none = IsUtf8-from_ascii bytes (ascii_if longest bytes none)
+label-IsUtf8 longest bytes none = IsUtf8-from_ascii bytes (label-IsAscii longest bytes none)

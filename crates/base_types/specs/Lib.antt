@@ -1,5 +1,6 @@
 pub mod Names
 pub mod Texts
+pub mod RoomNames
 pub mod Values
 pub mod VersionIds
 pub mod Repeats

@@ -1,4 +1,4 @@
--- Labels: the texts that name rooms, keys and kinds.
+-- Labels: the texts that name keys and kinds, and the first rooms of chains.
 use Rattle.std.specs.Prelude.{ℕ, Bool, not, ◌&&◌, ◌||◌, ◌==◌, nat_le, nat_lt, List, length, Option}
 use Rattle.std.specs.Prelude.{Some, None, option_map, is_none, position, if◌then◌else◌}
 use Rattle.base_types.specs.declared.value.TheConstants.{MAX_VALUE_LEN}
@@ -24,9 +24,6 @@ label_fault longest bytes =
 -- 1 to this many bytes, each a-z, 0-9 or `-`
 abbrev pub is_label : ℕ → Bytes → Bool
 is_label longest bytes = is_none (label_fault longest bytes)
-
-abbrev pub is_room_name : Bytes → Bool
-is_room_name bytes = is_label 64 bytes
 
 abbrev pub is_key : Bytes → Bool
 is_key bytes = is_label 32 bytes

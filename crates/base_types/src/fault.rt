@@ -24,7 +24,7 @@ impl<T: Drop> From<AllocFailed<T>> for NoMemory {
     }
 }
 
-/// Why a text is not in range: the first variant that applies, in this order.
+/// Why a text is not in range.
 #[derive(Clone, Copy, Debug, PartialEq, Eq, Error)]
 pub enum NameFault {
     #[error("the text is empty")]
@@ -34,6 +34,9 @@ pub enum NameFault {
     /// The place, from 0, of the first byte that is not one of a-z, 0-9 and `-`.
     #[error("byte {0} is none of a-z, 0-9 and -")]
     BadByte(usize),
+    /// What follows the first dot of a room's name is no number of a successor.
+    #[error("what follows the dot is no number from 2 to 999999")]
+    BadNumber,
     #[error("out of memory")]
     NoMemory,
 }

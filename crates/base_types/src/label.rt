@@ -1,4 +1,4 @@
-//! Labels: the texts that name rooms, keys and kinds.
+//! Labels: the texts that name keys and kinds, and the first rooms of chains.
 
 ghost use Rattle.std.specs.Prelude.{◌≡◌, List, ℕ, true, false, None, IfOk, not, position};
 ghost use Rattle.base_types.specs.steps.Faults.{FailsBy, OnFault};
@@ -27,18 +27,11 @@ pub enum KeyMark {}
 #[derive(Drop)]
 pub enum KindMark {}
 
-/// Marks names of rooms.
-#[derive(Drop)]
-pub enum RoomMark {}
-
 /// The key of an attribute: 1 to 32 bytes.
 pub type Key = Label<32, KeyMark>;
 
 /// The kind of an object: 1 to 32 bytes.
 pub type Kind = Label<32, KindMark>;
-
-/// The name of a room: 1 to 64 bytes.
-pub type RoomName = Label<64, RoomMark>;
 
 impl<const LONGEST: usize, Mark> Model for Label<LONGEST, Mark> {
     ghost Value = { List ℕ };
@@ -66,7 +59,7 @@ fn bad_place(bytes: &[u8]) -> Option<usize>
 
 /// The first fault of a label of at most `longest` bytes, if it has one.
 #[tactic(auto, unfolding(crate::specs::Texts::label_fault))]
-fn label_fault(bytes: &[u8], longest: usize) -> Option<NameFault>
+pub(crate) fn label_fault(bytes: &[u8], longest: usize) -> Option<NameFault>
     ensures { result ≡ label_fault longest bytes.now }
 {
     if bytes.is_empty() {
@@ -82,7 +75,7 @@ fn label_fault(bytes: &[u8], longest: usize) -> Option<NameFault>
 }
 
 /// The bytes as the text of a label of at most `longest` bytes.
-fn label_text(alloc: Global, bytes: &[u8], longest: usize) -> Result<Text, NameFault>
+pub(crate) fn label_text(alloc: Global, bytes: &[u8], longest: usize) -> Result<Text, NameFault>
     ensures ok { IfOk result (λ text. (text ≡ bytes.now) × (label_fault longest bytes.now ≡ None)) }
     ensures fault { FailsBy NameFault.NoMemory (label_fault longest bytes.now) result }
 {

@@ -12,9 +12,9 @@ mod value;
 mod version_id;
 
 pub use fault::{ListFault, NameFault, NoMemory, RoomsFault};
-pub use label::{Key, Kind, Label, RoomName};
+pub use label::{Key, Kind, Label};
 pub use op_name::{MAX_SEQ, MAX_SITE, OpName};
-pub use room_name::repeated_name;
+pub use room_name::{MAX_ROOM_LEN, MAX_ROOM_NUMBER, RoomName, repeated_name};
 pub use state_vector::{SitePairs, StateVector, VectorFault};
 pub use value::{MAX_VALUE_LEN, Value, ValueText};
 pub use version_id::VersionId;

@@ -108,7 +108,8 @@ impl From<NameFault> for Fault {
     fn from(fault: NameFault) -> Fault {
         match fault {
             NameFault::NoMemory => Fault::NoMemory,
-            NameFault::Empty | NameFault::TooLong | NameFault::BadByte(_) => Fault::BadRoomName,
+            NameFault::Empty | NameFault::TooLong | NameFault::BadByte(_) | NameFault::BadNumber =>
+                Fault::BadRoomName,
         }
     }
 }

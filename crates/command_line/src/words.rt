@@ -198,6 +198,33 @@ fn migrate_command<'a>(alloc: Global) -> Result<Command<'a>, AllocError> {
         ))
 }
 
+/// `grace renew`.
+fn renew_command<'a>(alloc: Global) -> Result<Command<'a>, AllocError> {
+    Command::new(alloc, "renew")
+        .about("Prints a short record that draws what a room's record draws")
+        .arg(word(
+            alloc,
+            "RECORD",
+            "A file of the record's entries, one a line",
+        ))
+}
+
+/// `grace renewed`.
+fn renewed_command<'a>(alloc: Global) -> Result<Command<'a>, AllocError> {
+    Command::new(alloc, "renewed")
+        .about("Checks that a new record draws what an old one draws")
+        .arg(word(
+            alloc,
+            "OLD",
+            "A file of the old record's entries, one a line",
+        ))?
+        .arg(word(
+            alloc,
+            "NEW",
+            "A file of the new record's entries, one a line",
+        ))
+}
+
 /// The command line of the program: its commands with their arguments and options.
 ///
 /// # Errors
@@ -212,5 +239,7 @@ pub fn grace<'a>(alloc: Global) -> Result<Command<'a>, AllocError> {
         .subcommand(serve_command(alloc)?)?
         .subcommand(watch_command(alloc)?)?
         .subcommand(check_command(alloc)?)?
-        .subcommand(migrate_command(alloc)?)
+        .subcommand(migrate_command(alloc)?)?
+        .subcommand(renew_command(alloc)?)?
+        .subcommand(renewed_command(alloc)?)
 }

@@ -4,7 +4,7 @@ use Rattle.std.proofs.Math.Bool.{and-false}
 use Rattle.std.specs.List.{list_all}
 use Rattle.std.specs.Option.{option_map}
 use Rattle.base_types.specs.Repeats.{first_repeat}
-use Rattle.base_types.specs.Texts.{is_room_name}
+use Rattle.base_types.specs.RoomNames.{is_first_name}
 use Rattle.base_types.specs.declared.fault.NameFault.{NameFault}
 use Rattle.base_types.specs.declared.fault.NameFault.TheVariants as name
 use Rattle.base_types.specs.declared.fault.RoomsFault.{RoomsFault}
@@ -25,6 +25,7 @@ bad_name : (fault : NameFault) → of_name fault ≢ NoMemory → (fault ≢ nam
 bad_name name.Empty other = (λ e. absurd (cc), refl)
 bad_name name.TooLong other = (λ e. absurd (cc), refl)
 bad_name (name.BadByte place) other = (λ e. absurd (cc), refl)
+bad_name name.BadNumber other = (λ e. absurd (cc), refl)
 bad_name name.NoMemory other = absurd (other refl)
 
 -- the fault of a name that is none
@@ -34,7 +35,7 @@ name_fault (Ok x) fault is bad = absurd is
 name_fault (Err e) fault is bad = λ other. let known = bad_name fault (λ n. other (is ∙ n)) in (is ∙ known.1, bad known.0)
 
 -- the fault of names of which one stands twice
-pub repeat_fault : {T : Type 0} (r : Result T Fault) (fault : RoomsFault) (names given : List (List ℕ)) → IsErrAnd r (λ e. e ≡ of_rooms fault) → list_all is_room_name names ≡ true → given ≡ names
+pub repeat_fault : {T : Type 0} (r : Result T Fault) (fault : RoomsFault) (names given : List (List ℕ)) → IsErrAnd r (λ e. e ≡ of_rooms fault) → list_all is_first_name names ≡ true → given ≡ names
     → ((place : ℕ) → fault ≡ rooms.SameName place → first_repeat bytes_eq given ≡ Some place) → IfErr r (MayEnd names)
 repeat_fault (Ok x) fault names given is good same twice = absurd is
 repeat_fault (Err e) rooms.NoMemory names given is good same twice = subst (MayEnd names) (sym is) tt

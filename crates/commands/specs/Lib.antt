@@ -1,6 +1,8 @@
 pub mod Names
 pub mod steps
 pub mod Service
-pub mod Checks
 pub mod Ends
+pub mod Reports
+pub mod Checks
 pub mod Migrations
+pub mod Renewals

@@ -4,10 +4,11 @@ ghost use Rattle.std.specs.Prelude.{◌≡◌, ◌≤◌, ◌⊎◌, IfErr, IfOk
 ghost use Rattle.std.specs.Prelude.{string_bytes};
 ghost use Rattle.std.specs.Io.KnownBytes.{Appends, IsAtEnd};
 ghost use Rattle.byte_streams.specs.Prefixes.{AppendsPrefix};
-ghost use Rattle.commands.specs.Checks.{Checks, OfReaders, OfSome, Tells, TellsPrefix, end_status};
-ghost use Rattle.commands.specs.Checks.{verdict_line};
+ghost use Rattle.commands.specs.Checks.{check_report, verdict_line, verdict_status};
 ghost use Rattle.commands.specs.Ends.{EndsEarly};
+ghost use Rattle.commands.specs.Reports.{IsOfResult, OfReaders, OfSome, Reports, Tells, TellsPrefix};
 
+use crate::reporting::end_with;
 use byte_streams::{Uninterrupted, write_out};
 use command_fault::{Fault, MAX_FILE_LEN, read_up_to};
 use history_check::{Verdict, check};
@@ -51,6 +52,17 @@ fn verdict_line(alloc: Global, verdict: Verdict) -> Result<String, Fault>
     Ok(line)
 }
 
+/// The exit status after a verdict.
+fn verdict_status(verdict: Verdict) -> u8
+    ensures status { result ≡ verdict_status verdict }
+    ensures known { IsOfResult result }
+{
+    match verdict {
+        Verdict::Holds => 0,
+        Verdict::BadRecord(_) | Verdict::BadTranscript(_) | Verdict::WrongReply(_) => 1,
+    }
+}
+
 /// Writes a line and flushes the output.
 pub(crate) fn write_line<W: Write>(output: &mut W, line: &[u8]) -> Result<(), Fault>
     ensures ok { OnOk result (Appends (W.contents output.old) (W.contents output.new) line.now) }
@@ -64,38 +76,41 @@ pub(crate) fn write_line<W: Write>(output: &mut W, line: &[u8]) -> Result<(), Fa
     Ok(())
 }
 
-/// Judges these bytes, and writes the line of the verdict.
+/// Judges these bytes, writes the line of the verdict, and returns the exit status.
 fn judge<W: Write>(
     alloc: Global,
     entries: &[u8],
     transcript: &[u8],
     output: &mut W,
-) -> Result<Verdict, Fault>
-    ensures ok { IfOk result (λ verdict. Tells (W.contents output.old) (W.contents output.new)
-        verdict entries.now transcript.now) }
+) -> Result<u8, Fault>
+    ensures ok { IfOk result (λ status. Tells check_report
+        (W.contents output.old) (W.contents output.new) status (entries.now, transcript.now)) }
+    ensures status { IfOk result IsOfResult }
     ensures fault { IfErr result (EndsEarly
-        (TellsPrefix (W.contents output.old) (W.contents output.new) entries.now transcript.now)
+        (TellsPrefix check_report (W.contents output.old) (W.contents output.new)
+        (entries.now, transcript.now))
         (W.contents output.old) (W.contents output.new)) }
 {
     let verdict = check(alloc, entries, transcript)?;
     let line = verdict_line(alloc, verdict)?;
     write_line(output, line.as_bytes())?;
-    Ok(verdict)
+    Ok(verdict_status(verdict))
 }
 
-/// Judges what two readers give, and writes the line of the verdict.
+/// The same for what two readers give.
 fn judge_over<A: Read, B: Read, W: Write>(
     alloc: Global,
     first: &mut A,
     second: &mut B,
     output: &mut W,
-) -> Result<Verdict, Fault>
-    ensures ok { IfOk result (λ verdict. OfReaders (A.remaining first.old) (B.remaining second.old)
-        (Tells (W.contents output.old) (W.contents output.new) verdict)) }
-    ensures fault { IfErr result
-        (EndsEarly
+) -> Result<u8, Fault>
+    ensures ok { IfOk result (λ status.
+        OfReaders (A.remaining first.old) (B.remaining second.old)
+        (Tells check_report (W.contents output.old) (W.contents output.new) status)) }
+    ensures status { IfOk result IsOfResult }
+    ensures fault { IfErr result (EndsEarly
         (OfReaders (A.remaining first.old) (B.remaining second.old)
-        (TellsPrefix (W.contents output.old) (W.contents output.new)))
+        (TellsPrefix check_report (W.contents output.old) (W.contents output.new)))
         (W.contents output.old) (W.contents output.new)) }
 {
     let entries = read_whole(alloc, first)?;
@@ -103,38 +118,23 @@ fn judge_over<A: Read, B: Read, W: Write>(
     judge(alloc, entries.as_slice(), transcript.as_slice(), output)
 }
 
-/// Judges the files of these names, and writes the line of the verdict.
+/// The same for the files of these names.
 fn judge_at<H: Files, W: Write>(
     rt: &H,
     alloc: Global,
     record: &str,
     transcript: &str,
     output: &mut W,
-) -> Result<Verdict, Fault>
-    ensures ok { IfOk result (λ verdict. OfSome
-        (Tells (W.contents output.old) (W.contents output.new) verdict)) }
-    ensures fault { IfErr result
-        (EndsEarly
-        (OfSome (TellsPrefix (W.contents output.old) (W.contents output.new)))
+) -> Result<u8, Fault>
+    ensures ok { IfOk result (λ status. OfSome
+        (Tells check_report (W.contents output.old) (W.contents output.new) status)) }
+    ensures fault { IfErr result (EndsEarly
+        (OfSome (TellsPrefix check_report (W.contents output.old) (W.contents output.new)))
         (W.contents output.old) (W.contents output.new)) }
 {
     let entries = read_at(rt, alloc, record)?;
     let transcript = read_at(rt, alloc, transcript)?;
     judge(alloc, entries.as_slice(), transcript.as_slice(), output)
-}
-
-/// The exit status. Writes the line of a fault to `errors`.
-fn end_with<E: Write>(end: Result<Verdict, Fault>, errors: &mut E) -> u8
-    ensures { result ≡ end_status end }
-{
-    match end {
-        Ok(Verdict::Holds) => 0,
-        Ok(_) => 1,
-        Err(fault) => {
-            fault.write_line(errors);
-            fault.status()
-        }
-    }
 }
 
 /// Reads a room's record from the first reader and then a transcript of it from the second, each to
@@ -157,7 +157,7 @@ pub fn check_over<A: Read, B: Read, W: Write, E: Write>(
     output: &mut W,
     errors: &mut E,
 ) -> u8
-    ensures { Checks (OfReaders (A.remaining first.old) (B.remaining second.old))
+    ensures { Reports check_report (OfReaders (A.remaining first.old) (B.remaining second.old))
         (W.contents output.old) (W.contents output.new) result }
 {
     end_with(judge_over(alloc, first, second, output), errors)
@@ -176,7 +176,7 @@ pub fn check_at<H: Files, W: Write, E: Write>(
     output: &mut W,
     errors: &mut E,
 ) -> u8
-    ensures { Checks OfSome (W.contents output.old) (W.contents output.new) result }
+    ensures { Reports check_report OfSome (W.contents output.old) (W.contents output.new) result }
 {
     end_with(judge_at(rt, alloc, record, transcript, output), errors)
 }

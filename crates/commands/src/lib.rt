@@ -1,14 +1,20 @@
-//! The commands `script`, `check` and `migrate`, which need only readers and writers. Also what
-//! `serve` shares with them: parsing the names of rooms, and the fault when rooms cannot be made.
+//! The commands `script`, `check`, `migrate`, `renew` and `renewed`, which need only readers and
+//! writers. Also what `serve` shares with them: parsing the names of rooms, and the fault when rooms
+//! cannot be made.
 #![tactic(auto)]
 
 mod checking;
+mod comparing;
 mod fault;
 pub mod laws;
 mod migrating;
+mod renewing;
+mod reporting;
 mod script;
 
 pub use checking::{check_at, check_over};
+pub use comparing::{renewed_at, renewed_over};
 pub use fault::fault_of_rooms;
 pub use migrating::{migrate_at, migrate_over};
+pub use renewing::{renew_at, renew_over};
 pub use script::{room_names, script_over};

@@ -1,59 +1,55 @@
 //! `grace migrate RECORD`: rewrites a room's record in the current forms.
 
-ghost use Rattle.std.specs.Prelude.{◌≡◌, IfErr, IfOk, OnOk, string_bytes};
-ghost use Rattle.std.specs.Io.KnownBytes.{Appends};
-ghost use Rattle.byte_streams.specs.Prefixes.{AppendsPrefix};
-ghost use Rattle.history_check.specs.declared.migration.Migrated.TheVariants.{BadRecord};
+ghost use Rattle.std.specs.Prelude.{◌≡◌, IfErr, IfOk, string_bytes};
 ghost use Rattle.commands.specs.Ends.{EndsEarly};
-ghost use Rattle.commands.specs.Migrations.{Migrates, OfReader, OfSome, Tells, TellsPrefix};
-ghost use Rattle.commands.specs.Migrations.{end_status, told_text};
+ghost use Rattle.commands.specs.Migrations.{migrate_report, migrated_status, migrated_text};
+ghost use Rattle.commands.specs.Reports.{IsOfResult, OfReader, OfSome, Reports, Tells, TellsPrefix};
 
 use crate::checking::{read_at, read_whole, write_line};
+use crate::reporting::end_with;
 use command_fault::Fault;
 use history_check::{Migrated, migrate};
 use std::alloc::Global;
 use std::io::{Read, Write};
 use std::rt::Files;
 
-/// The line for the first bad line of a record.
-fn bad_line(alloc: Global, number: usize) -> Result<String, Fault>
-    ensures ok { IfOk result (λ line. string_bytes line ≡ told_text (BadRecord number)) }
+/// The new text of a record, or the line for its first bad line.
+fn migrated_text(alloc: Global, migrated: Migrated) -> Result<String, Fault>
+    ensures ok { IfOk result (λ text. string_bytes text ≡ migrated_text migrated) }
     ensures fault { IfErr result (λ fault. fault ≡ Fault.NoMemory) }
 {
-    let line = format!(in alloc; "bad record line {number}\n")?;
-    Ok(line)
+    let text = match migrated {
+        Migrated::Text(text) => text,
+        Migrated::BadRecord(number) => format!(in alloc; "bad record line {number}\n")?,
+    };
+    Ok(text)
 }
 
-/// Writes the new text of a record, or the line for its first bad line.
-fn tell<W: Write>(alloc: Global, migrated: &Migrated, output: &mut W) -> Result<(), Fault>
-    ensures ok { OnOk result
-        (Appends (W.contents output.old) (W.contents output.new) (told_text migrated.now)) }
-    ensures fault { IfErr result (EndsEarly
-        (AppendsPrefix (W.contents output.old) (W.contents output.new) (told_text migrated.now))
-        (W.contents output.old) (W.contents output.new)) }
+/// The exit status after this result.
+fn migrated_status(migrated: &Migrated) -> u8
+    ensures status { result ≡ migrated_status migrated.now }
+    ensures known { IsOfResult result }
 {
     match migrated {
-        Migrated::Text(text) => write_line(output, text.as_bytes())?,
-        Migrated::BadRecord(number) => {
-            let line = bad_line(alloc, *number)?;
-            write_line(output, line.as_bytes())?;
-        }
+        Migrated::Text(_) => 0,
+        Migrated::BadRecord(_) => 1,
     }
-    Ok(())
 }
 
-/// Rewrites the record of these bytes, or reports its first bad line. Returns whether the bytes are
-/// a record.
-fn migrate_bytes<W: Write>(alloc: Global, entries: &[u8], output: &mut W) -> Result<bool, Fault>
-    ensures ok { IfOk result (λ is_one.
-        Tells (W.contents output.old) (W.contents output.new) is_one entries.now) }
+/// Rewrites the record of these bytes, writes its new text or a line, and returns the exit status.
+fn migrate_bytes<W: Write>(alloc: Global, entries: &[u8], output: &mut W) -> Result<u8, Fault>
+    ensures ok { IfOk result (λ status.
+        Tells migrate_report (W.contents output.old) (W.contents output.new) status entries.now) }
+    ensures status { IfOk result IsOfResult }
     ensures fault { IfErr result (EndsEarly
-        (TellsPrefix (W.contents output.old) (W.contents output.new) entries.now)
+        (TellsPrefix migrate_report (W.contents output.old) (W.contents output.new) entries.now)
         (W.contents output.old) (W.contents output.new)) }
 {
     let migrated = migrate(alloc, entries)?;
-    tell(alloc, &migrated, output)?;
-    Ok(matches!(migrated, Migrated::Text(_)))
+    let status = migrated_status(&migrated);
+    let text = migrated_text(alloc, migrated)?;
+    write_line(output, text.as_bytes())?;
+    Ok(status)
 }
 
 /// The same for what a reader gives.
@@ -61,12 +57,13 @@ fn migrate_reader<R: Read, W: Write>(
     alloc: Global,
     input: &mut R,
     output: &mut W,
-) -> Result<bool, Fault>
-    ensures ok { IfOk result (λ is_one. OfReader (R.remaining input.old)
-        (Tells (W.contents output.old) (W.contents output.new) is_one)) }
+) -> Result<u8, Fault>
+    ensures ok { IfOk result (λ status. OfReader (R.remaining input.old)
+        (Tells migrate_report (W.contents output.old) (W.contents output.new) status)) }
+    ensures status { IfOk result IsOfResult }
     ensures fault { IfErr result (EndsEarly
         (OfReader (R.remaining input.old)
-        (TellsPrefix (W.contents output.old) (W.contents output.new)))
+        (TellsPrefix migrate_report (W.contents output.old) (W.contents output.new)))
         (W.contents output.old) (W.contents output.new)) }
 {
     let entries = read_whole(alloc, input)?;
@@ -79,29 +76,15 @@ fn migrate_file<H: Files, W: Write>(
     alloc: Global,
     record: &str,
     output: &mut W,
-) -> Result<bool, Fault>
-    ensures ok { IfOk result (λ is_one. OfSome
-        (Tells (W.contents output.old) (W.contents output.new) is_one)) }
+) -> Result<u8, Fault>
+    ensures ok { IfOk result (λ status. OfSome
+        (Tells migrate_report (W.contents output.old) (W.contents output.new) status)) }
     ensures fault { IfErr result (EndsEarly
-        (OfSome (TellsPrefix (W.contents output.old) (W.contents output.new)))
+        (OfSome (TellsPrefix migrate_report (W.contents output.old) (W.contents output.new)))
         (W.contents output.old) (W.contents output.new)) }
 {
     let entries = read_at(rt, alloc, record)?;
     migrate_bytes(alloc, entries.as_slice(), output)
-}
-
-/// The exit status. Writes the line of a fault to `errors`.
-fn end_with<E: Write>(end: Result<bool, Fault>, errors: &mut E) -> u8
-    ensures { result ≡ end_status end }
-{
-    match end {
-        Ok(true) => 0,
-        Ok(false) => 1,
-        Err(fault) => {
-            fault.write_line(errors);
-            fault.status()
-        }
-    }
 }
 
 /// Reads a room's record to its end and writes its entries in the current forms. Instead writes
@@ -123,7 +106,7 @@ pub fn migrate_over<R: Read, W: Write, E: Write>(
     output: &mut W,
     errors: &mut E,
 ) -> u8
-    ensures { Migrates (OfReader (R.remaining input.old))
+    ensures { Reports migrate_report (OfReader (R.remaining input.old))
         (W.contents output.old) (W.contents output.new) result }
 {
     end_with(migrate_reader(alloc, input, output), errors)
@@ -138,7 +121,7 @@ pub fn migrate_at<H: Files, W: Write, E: Write>(
     output: &mut W,
     errors: &mut E,
 ) -> u8
-    ensures { Migrates OfSome (W.contents output.old) (W.contents output.new) result }
+    ensures { Reports migrate_report OfSome (W.contents output.old) (W.contents output.new) result }
 {
     end_with(migrate_file(rt, alloc, record, output), errors)
 }

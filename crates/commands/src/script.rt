@@ -2,7 +2,7 @@
 
 ghost use Rattle.std.specs.Prelude.{◌≡◌, ◌≢◌, IfErr, IfOk, IfSome, None, OnErr, OnOk, true, false};
 ghost use Rattle.std.specs.List.{list_all};
-ghost use Rattle.base_types.specs.Texts.{is_room_name};
+ghost use Rattle.base_types.specs.RoomNames.{is_first_name};
 ghost use Rattle.commands.specs.Names.{texts_of, mistake_in};
 ghost use Rattle.commands.specs.Service.{IsStatus, MayEnd, Serves, ServesPrefix};
 
@@ -14,20 +14,20 @@ use std::alloc::Global;
 use std::io::{Read, Write};
 use world::World;
 
-/// Parses the names of rooms.
+/// Parses the names of chains' first rooms.
 ///
 /// # Errors
 /// `BadRoomName` if a text is no name.
 /// `NoMemory` if an allocation failed.
 pub fn room_names(alloc: Global, names: &[&str]) -> Result<Vec<RoomName>, Fault>
     ensures ok { IfOk result (λ rooms. rooms.items ≡ texts_of names.now) }
-    ensures good { OnOk result (list_all is_room_name (texts_of names.now) ≡ true) }
+    ensures good { OnOk result (list_all is_first_name (texts_of names.now) ≡ true) }
     ensures fault { IfErr result (λ fault. fault ≢ Fault.NoMemory →
-        (fault ≡ Fault.BadRoomName) × (list_all is_room_name (texts_of names.now) ≡ false)) }
+        (fault ≡ Fault.BadRoomName) × (list_all is_first_name (texts_of names.now) ≡ false)) }
 {
     let mut rooms = Vec::with_capacity(alloc, names.len())?;
     for name in names {
-        rooms.push(RoomName::parse(alloc, name.as_bytes())?)?;
+        rooms.push(RoomName::parse_first(alloc, name.as_bytes())?)?;
     }
     Ok(rooms)
 }

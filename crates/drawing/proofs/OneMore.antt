@@ -1,5 +1,5 @@
 -- What one more entry does to the objects of a record with their changes.
-use Rattle.std.proofs.Common.{◌≡◌, ℕ, ◌+◌, true, false, not, List, [], ◌∷◌, ◌++◌, length, sym, ap, ◌∙◌, Some, cond}
+use Rattle.std.proofs.Common.{◌≡◌, ℕ, ◌+◌, true, false, not, List, [], ◌∷◌, ◌++◌, length, sym, ap, ◌∙◌, None, Some, cond}
 use Rattle.std.specs.Prelude.{filter}
 use Rattle.std.specs.List.{IsDistinct}
 use Rattle.std.specs.Map.{keys_of, lookup, set_value}
@@ -7,13 +7,13 @@ use Rattle.std.proofs.lemmas.List.{append-nil, length_push}
 use Rattle.base_types.specs.Names.{Name, same_name}
 use Rattle.rules.specs.declared.history.Op.{Op}
 use Rattle.rules.specs.declared.history.Entry.{Entry}
-use Rattle.rules.specs.declared.history.Entry.TheVariants.{Join, Operation}
+use Rattle.rules.specs.declared.history.Entry.TheVariants.{Operation}
 use Rattle.rules.specs.declared.limits.LimitValues.{LimitValues}
 use Rattle.rules.specs.Bodies.{is_change_body}
 use Rattle.rules.specs.Operations.{is_change_on, object_of}
-use Rattle.rules.specs.Records.{objects, operations}
+use Rattle.rules.specs.Records.{objects, operation_in, operations}
 use Rattle.rules.proofs.Lists.{In}
-use Rattle.rules.proofs.Records.{filter-push, objects-creation, objects-join, operations-join, operations-push}
+use Rattle.rules.proofs.Records.{filter-push, objects-alone, objects-creation, operations-alone, operations-push}
 use Rattle.shape.specs.steps.Objects.{Stored, with_change}
 use Rattle.drawing.specs.steps.Objects.{objects_with_changes, without_spare}
 use Rattle.drawing.proofs.WithChanges.{objects_with_changes_at, objects_with_changes_push, objects_with_changes_set}
@@ -31,9 +31,9 @@ pub length-objects-creation : (r : List Entry) (o : Op) → is_change_body o.bod
 length-objects-creation r o f = ap length (objects-creation r o f) ∙ length_push (objects r) o
 
 module _ (l : LimitValues) (r : List Entry) (shapes : List (Name × Stored)) (are : without_spare shapes ≡ objects_with_changes l r) where
-  -- a join changes none
-  pub with_join : (site : ℕ) → without_spare shapes ≡ objects_with_changes l (r ++ Join site ∷ [])
-  with_join site = are ∙ (λ i. objects_with_changes_at l (sym (operations-join r site) i) (sym (objects-join r site) i))
+  -- an entry that is no operation changes none
+  pub with_alone : (e : Entry) → operation_in e ≡ None → without_spare shapes ≡ objects_with_changes l (r ++ e ∷ [])
+  with_alone e none = are ∙ (λ i. objects_with_changes_at l (sym (operations-alone r e none) i) (sym (objects-alone r e none) i))
 
   -- a creation's object goes last
   pub with_creation : (o : Op) (d : Stored) → is_change_body o.body ≡ false → ((x : Op) → In x (operations r) → is_change_on o.name x ≡ false) → d.object ≡ record { limits = l; creation = o; changes = [] }

@@ -7,16 +7,16 @@ use Rattle.std.proofs.lemmas.List.{length_push}
 use Rattle.base_types.specs.Names.{Name, same_name}
 use Rattle.rules.specs.declared.history.Op.{Op}
 use Rattle.rules.specs.declared.history.Entry.{Entry}
-use Rattle.rules.specs.declared.history.Entry.TheVariants.{Join, Operation}
+use Rattle.rules.specs.declared.history.Entry.TheVariants.{Operation}
 use Rattle.rules.specs.declared.refusal.Refusal.TheVariants.{TooManyObjects}
 use Rattle.rules.specs.Admission.{count_at_site, first_that_applies}
 use Rattle.rules.specs.Bodies.{is_change_body}
 use Rattle.rules.specs.Operations.{object_of}
-use Rattle.rules.specs.Records.{operations, objects, creation_conditions, change_conditions}
+use Rattle.rules.specs.Records.{operation_in, operations, objects, creation_conditions, change_conditions}
 use Rattle.rules.proofs.Conditions.{not_first}
 use Rattle.rules.proofs.Founded.{HasGround, founded_push, ground_if}
 use Rattle.rules.proofs.Histories.{IsNumbered, follows_if}
-use Rattle.rules.proofs.Records.{operations-join, operations-push, objects-join}
+use Rattle.rules.proofs.Records.{operations-alone, operations-push, objects-alone}
 use Rattle.shape.specs.steps.Objects.{Stored, with_change}
 use Rattle.shape.proofs.Next.{next_history, next_ordered, numbered_if}
 use Rattle.drawing.specs.steps.Additions.{IsNext, body_refusal}
@@ -24,7 +24,7 @@ use Rattle.drawing.specs.steps.Drawing.{IsReplay, IsSound}
 use Rattle.drawing.specs.Room.{Room}
 use Rattle.drawing.proofs.Lookup.{none_there}
 use Rattle.drawing.proofs.NewNames.{no_change_yet, not_created}
-use Rattle.drawing.proofs.OneMore.{length-objects-creation, objects-change, with_creation, with_join, with_change_on}
+use Rattle.drawing.proofs.OneMore.{length-objects-creation, objects-change, with_alone, with_creation, with_change_on}
 use Rattle.drawing.proofs.WithChanges.{objects_with_changes_same}
 
 -- the room with one more entry
@@ -55,13 +55,13 @@ module _ (room : Room) (shapes : List (Name × Stored)) (history : List Op) (rep
   abbrev h : List Op
   h = operations r
 
-  pub replay_join : (site : ℕ) → length r < room.limits.entries → IsReplay (more room (Join site)) shapes history
-  replay_join site room_for = record {
-    sound = subst IsSound (sym (operations-join r site)) replay.sound;
-    shapes_are = with_join room.limits r shapes replay.shapes_are site;
-    past = replay.past ∙ sym (operations-join r site);
-    short = (let e = length_push r (Join site) in omega (arith, e, room_for));
-    fits = (let e = ap length (objects-join r site) in omega (arith, e, replay.fits));
+  pub replay_alone : (e : Entry) → operation_in e ≡ None → length r < room.limits.entries → IsReplay (more room e) shapes history
+  replay_alone e none room_for = record {
+    sound = subst IsSound (sym (operations-alone r e none)) replay.sound;
+    shapes_are = with_alone room.limits r shapes replay.shapes_are e none;
+    past = replay.past ∙ sym (operations-alone r e none);
+    short = (let l = length_push r e in omega (arith, l, room_for));
+    fits = (let l = ap length (objects-alone r e none) in omega (arith, l, replay.fits));
   }
 
   module _ (o : Op) (next : IsNext room o) where

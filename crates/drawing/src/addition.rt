@@ -2,7 +2,7 @@
 
 ghost use Rattle.std.specs.Prelude.{◌≡◌, option_map};
 ghost use Rattle.std.specs.Arc.{arc_value};
-ghost use Rattle.rules.specs.Records.{is_join};
+ghost use Rattle.rules.specs.Records.{is_end, is_join};
 ghost use Rattle.drawing.specs.steps.State.{DrawingState};
 ghost use Rattle.drawing.specs.steps.Additions.{IsReady, ids_of};
 
@@ -16,8 +16,8 @@ use std::sync::Arc;
 /// What an entry adds to a drawing beside itself.
 #[derive(Drop)]
 pub(crate) enum Part {
-    /// A join adds nothing.
-    Join,
+    /// An entry that is no operation adds nothing.
+    Alone,
     /// A creation adds the operation and its object.
     Creation(SharedOp, Shape),
     /// A change adds the operation, and what is planned for its object, which stands at this place.
@@ -56,15 +56,22 @@ impl Addition {
         self.entry.is_join()
     }
 
-    /// Takes out the identifiers of the object's versions after the change. A creation and a join
-    /// have none. What is planned stays as it is.
+    /// Does the entry end the record?
+    pub fn is_end(&self) -> bool
+        ensures { result ≡ is_end self.now.entry }
+    {
+        self.entry.is_end()
+    }
+
+    /// Takes out the identifiers of the object's versions after the change. Other entries have
+    /// none. What is planned stays as it is.
     pub fn take_ids(&mut self, alloc: Global) -> Option<Vec<VersionId>>
         ensures ids { option_map (λ ids. ids.items) result ≡ ids_of self.old.part }
         ensures entry { self.new.entry ≡ self.old.entry }
         ensures ready { (s : DrawingState) → IsReady s self.old → IsReady s self.new }
     {
         match &mut self.part {
-            Part::Join | Part::Creation(..) => None,
+            Part::Alone | Part::Creation(..) => None,
             Part::Change(_, _, planned) => Some(planned.take_ids(alloc)),
         }
     }

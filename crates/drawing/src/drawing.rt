@@ -10,7 +10,7 @@ ghost use Rattle.rules.specs.declared.limits.TheConstants.Limits.{MAX_ENTRIES};
 ghost use Rattle.rules.specs.Admission.{causal_refusal};
 ghost use Rattle.rules.specs.Operations.{name_of};
 ghost use Rattle.rules.specs.Records.{objects, operations};
-ghost use Rattle.drawing.specs.steps.Additions.{CanAdd, CanCreate, CanJoin, CanChange, IsReady};
+ghost use Rattle.drawing.specs.steps.Additions.{CanAdd, CanCreate, CanStandAlone, CanChange, IsReady};
 ghost use Rattle.drawing.specs.Room.{all_objects, empty_room, with_entry};
 ghost use Rattle.drawing.specs.Shown.{shown};
 
@@ -212,15 +212,15 @@ impl Drawing {
     {
         let Addition { entry, part } = addition;
         match part {
-            Part::Join => self.add_join(entry),
+            Part::Alone => self.add_alone(entry),
             Part::Creation(op, shape) => self.add_creation(entry, op, shape),
             Part::Change(place, op, planned) => self.add_change(entry, place, op, planned),
         }
     }
 
-    /// Adds a join.
-    fn add_join(&mut self, entry: Arc<Entry>)
-        requires { CanJoin self.old (arc_value entry) }
+    /// Adds an entry that is no operation.
+    fn add_alone(&mut self, entry: Arc<Entry>)
+        requires { CanStandAlone self.old (arc_value entry) }
         ensures { self.new.room ≡ with_entry self.old.room (Some (arc_value entry)) }
     {
         self.record.push_reserved(entry);

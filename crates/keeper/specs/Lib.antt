@@ -1,2 +1,3 @@
 pub use Rattle.room_lock.specs.Lookups
 pub mod Accesses
+pub mod Chains

@@ -25,10 +25,13 @@ pub enum Reason {
     /// Another process has the room's file.
     #[error("elsewhere")]
     Elsewhere,
-    /// The room's file cannot be used.
+    /// The room's file cannot be used, or the room before it in its chain has not ended.
     #[error("file")]
     File,
     /// An allocation failed.
     #[error("memory")]
     NoMemory,
+    /// It is still being opened or closed, and who asked waits no longer.
+    #[error("late")]
+    Late,
 }

@@ -1,5 +1,7 @@
 //! What the threads of a keeper do.
 
+use std::time::Duration;
+
 /// One thing that a thread of a keeper did: it kept the record of a room, opened a room, or closed
 /// one.
 #[derive(Drop)]
@@ -8,6 +10,19 @@ pub struct Attempt {
     pub news: [Option<usize>; 2],
     /// What it changed for people, if it did.
     pub change: Option<Change>,
+    /// What came of writing and syncing the room's file, if there was something to write.
+    pub sync: Option<FileSync>,
+}
+
+/// What came of writing and syncing a room's file.
+#[derive(Clone, Copy, Debug, Drop, PartialEq, Eq)]
+pub enum FileSync {
+    /// So many bytes were appended and synced, in this time.
+    Kept { bytes: u64, time: Duration },
+    /// No space is left on the device.
+    Full,
+    /// It failed for another reason.
+    Failed,
 }
 
 /// What changed.

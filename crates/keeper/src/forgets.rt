@@ -4,6 +4,7 @@ ghost use Rattle.std.specs.Prelude.{◌≡◌, ◌≢◌, ℕ, [], IfOk, None, O
 ghost use Rattle.room_lock.specs.InOrder.{IsOpeningFor};
 ghost use Rattle.room_lock.specs.Rooms.{IsOnDemand};
 ghost use Rattle.keeper.specs.Accesses.{IfKnown, IfNew};
+ghost use Rattle.keeper.specs.Chains.{IsLater};
 
 use crate::access::{Access, Reason};
 use crate::attempt::Attempt;
@@ -13,6 +14,7 @@ use room_core::RoomState;
 use room_lock::{Opened, Opening, Prefix, RoomHistories, Rooms};
 use std::alloc::Global;
 use std::sync::Wait;
+use std::time::Clock;
 
 /// The keeper that keeps nothing: replies are sent at once. It never fails, and needs no thread.
 pub struct Forgets;
@@ -34,7 +36,8 @@ impl<P: RoomHistories> Keeper<P> for Forgets {
         Ok(Some(()))
     }
 
-    /// The room begins with the empty record. Who asks for it never has to wait.
+    /// The room begins with the empty record, and is the first of its chain: no other has ended here.
+    /// Who asks for it never has to wait.
     fn open(
         &self,
         rt: &impl Wait,
@@ -49,6 +52,9 @@ impl<P: RoomHistories> Keeper<P> for Forgets {
         ensures empty { IfOk result (IfNew (λ begun. begun.entries ≡ [])) }
         ensures now { (place : ℕ) → result ≢ Ok (Access.Later place) }
     {
+        if !name.is_first() {
+            return Ok(Access::NotServed(Reason::File));
+        }
         let state = RoomState::new(alloc, rooms.limits())?;
         let copied = name.copy(alloc)?;
         match rooms.open(rt, alloc, copied, state)? {
@@ -56,6 +62,18 @@ impl<P: RoomHistories> Keeper<P> for Forgets {
             Opened::Known(opening) => Ok(Access::Known(opening)),
             Opened::Full => Ok(Access::NotServed(Reason::Full)),
         }
+    }
+
+    /// Rooms end with their records, so no chain goes on.
+    fn newest(
+        &self,
+        _rt: &impl Wait,
+        _alloc: Global,
+        _name: &RoomName,
+    ) -> Result<Option<RoomName>, NoMemory>
+        ensures { result ≡ Ok None }
+    {
+        Ok(None)
     }
 
     fn permit(&self, _rt: &impl Wait, _opening: &Opening<P>) -> Option<()> {
@@ -80,7 +98,12 @@ impl<P: RoomHistories> Keeper<P> for Forgets {
         0
     }
 
-    fn keep_next(&self, _rt: &impl Wait, _alloc: Global, _rooms: &Rooms<P>) -> Option<Attempt>
+    fn keep_next(
+        &self,
+        _rt: &(impl Wait + Clock),
+        _alloc: Global,
+        _rooms: &Rooms<P>,
+    ) -> Option<Attempt>
         ensures { result ≡ None }
     {
         None

@@ -5,6 +5,7 @@ ghost use Rattle.std.specs.Prelude.{◌≡◌, IfErr, IfOk, IfSome, IsNone};
 ghost use Rattle.room_lock.specs.InOrder.{IsOpeningFor};
 ghost use Rattle.room_lock.specs.Rooms.{IsOnDemand};
 ghost use Rattle.keeper.specs.Accesses.{IfKnown, IfNew};
+ghost use Rattle.keeper.specs.Chains.{IsLater};
 
 use crate::access::Access;
 use crate::attempt::Attempt;
@@ -12,6 +13,7 @@ use base_types::{NoMemory, RoomName};
 use room_lock::{Opening, Prefix, RoomHistories, Rooms};
 use std::alloc::Global;
 use std::sync::Wait;
+use std::time::Clock;
 use thiserror::Error;
 
 /// Why what a reply reports of a room is not kept.
@@ -87,6 +89,19 @@ pub trait Keeper<P: RoomHistories> {
             IsOpeningFor rooms.now name.now begun.opening)) }
         ensures known { IfOk result (IfKnown (IsOpeningFor rooms.now name.now)) };
 
+    /// The newest room of the chain of the room of this name, where that has ended. `None` if there
+    /// is no later room.
+    ///
+    /// # Errors
+    /// `NoMemory` if an allocation failed.
+    fn newest(
+        &self,
+        rt: &impl Wait,
+        alloc: Global,
+        name: &RoomName,
+    ) -> Result<Option<RoomName>, NoMemory>
+        ensures { IfOk result (λ found. IfSome found (IsLater name.now)) };
+
     /// A permit to let a new site into the room of this opening, or `None` if the last attempt to
     /// keep the room's record failed.
     fn permit(&self, rt: &impl Wait, opening: &Opening<P>) -> Option<Self::Permit>
@@ -107,7 +122,12 @@ pub trait Keeper<P: RoomHistories> {
     /// Waits until a room's record is to be kept, or a room is to be opened or closed, and does
     /// that. Gives `None` once `end` was called and each record that was to be kept has had its
     /// attempt.
-    fn keep_next(&self, rt: &impl Wait, alloc: Global, rooms: &Rooms<P>) -> Option<Attempt>;
+    fn keep_next(
+        &self,
+        rt: &(impl Wait + Clock),
+        alloc: Global,
+        rooms: &Rooms<P>,
+    ) -> Option<Attempt>;
 
     /// Is called once a second. Has each record of which the last attempt failed kept next, and
     /// each room closed that was opened on demand and that nobody has been in for long enough.

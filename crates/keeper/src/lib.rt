@@ -7,6 +7,6 @@ mod forgets;
 mod keeper;
 
 pub use access::{Access, Reason};
-pub use attempt::{Attempt, Beginning, Change};
+pub use attempt::{Attempt, Beginning, Change, FileSync};
 pub use forgets::Forgets;
 pub use keeper::{Failing, KeepFault, Keeper};

@@ -4,14 +4,16 @@ ghost use Rattle.std.specs.Prelude.{◌≡◌, IfOk, IfSome, OnErr};
 ghost use Rattle.keeping.specs.Kept.{IsKeptIn};
 
 use crate::doors::Doors;
-use crate::file::{Clean, Kept, RoomFile};
+use crate::file::{Clean, Kept, RoomFile, keep_fault};
 use base_types::{NoMemory, RoomName};
-use journal::Journal;
-use keeper::{Change, Failing, KeepFault};
+use journal::{Journal, JournalFault};
+use keeper::{Change, Failing, FileSync, KeepFault};
 use room_lock::{CallFault, Opening, Prefix, RoomHistories, Rooms};
 use std::alloc::Global;
 use std::fmt::Write;
+use std::io;
 use std::sync::{Mutex, Wait};
+use std::time::{Clock, Duration, Instant};
 
 /// A room's file, and what it keeps. One thread at a time has the file, and writes for all that
 /// wait.
@@ -29,6 +31,8 @@ struct Desk<P: RoomHistories, J: Journal> {
     /// An attempt was asked for that has not begun. The room then stands in the orders, or a thread
     /// writes.
     is_ordered: bool,
+    /// A room waits for space until the next attempt ends.
+    is_awaited: bool,
     /// The number of ticks since somebody was in the room.
     idle: u32,
 }
@@ -43,6 +47,7 @@ impl<P: RoomHistories, J: Journal> Desk<P, J> {
             file: Some(file),
             asked: 0,
             is_ordered: false,
+            is_awaited: false,
             idle: 0,
         }
     }
@@ -67,6 +72,17 @@ impl<P: RoomHistories, J: Journal> Desk<P, J> {
             && !self.is_ordered
             && rooms.is_idle(rt, self.kept.prefix())
     }
+}
+
+/// Whether a room is left that its file does not keep yet.
+#[derive(Clone, Copy, Debug, Drop, PartialEq, Eq)]
+pub(crate) enum Left {
+    /// Somebody is in it, its last attempt failed, or no room is open here.
+    No,
+    /// It is, and an attempt to keep it is ordered or being made.
+    Ordered,
+    /// It is, and an attempt to keep it is to be ordered.
+    New,
 }
 
 /// What a thread has of a room that it closes.
@@ -100,8 +116,12 @@ pub(crate) enum Standing<P: RoomHistories> {
 pub(crate) struct Outcome {
     /// What it changed.
     pub(crate) change: Option<Change>,
+    /// What came of the write and the sync, if there was something to write.
+    pub(crate) sync: Option<FileSync>,
     /// More is to be kept.
     pub(crate) is_ordered: bool,
+    /// A room waits for space until this attempt ends.
+    pub(crate) is_awaited: bool,
 }
 
 impl<P: RoomHistories, J: Journal + Drop> Place<P, J> {
@@ -221,6 +241,26 @@ impl<P: RoomHistories, J: Journal + Drop> Place<P, J> {
         }
     }
 
+    /// Whether nobody is in the room, which its file does not keep yet. If so, a room waits for space
+    /// until the next attempt ends. Where it gives `New`, the caller orders that attempt. Linear in the
+    /// entries that the file lacks.
+    pub(crate) fn left(&self, rt: &impl Wait, alloc: Global, rooms: &Rooms<P>) -> Left {
+        let mut place = self.desk.lock(rt);
+        let Some(desk) = &mut *place else {
+            return Left::No;
+        };
+        if desk.state.is_err() || !is_left(rt, alloc, rooms, desk.kept.prefix()) {
+            return Left::No;
+        }
+        desk.is_awaited = true;
+        // Whoever waits looks again after an attempt that is being made, and orders another if need be.
+        if desk.is_ordered || desk.file.is_none() {
+            return Left::Ordered;
+        }
+        desk.is_ordered = true;
+        Left::New
+    }
+
     /// Closes the room if nobody has been in it for so many ticks and its file keeps all of its record.
     /// Gives what is to be closed of it. `None` if it stays open. From then on the receipt for the
     /// record, and the name as one that moves, stand among the doors.
@@ -257,7 +297,12 @@ impl<P: RoomHistories, J: Journal + Drop> Place<P, J> {
 
     /// Appends what the room's record has beyond what the file keeps. `None` if another thread
     /// writes, or no room is open here.
-    pub(crate) fn keep(&self, rt: &impl Wait, alloc: Global, rooms: &Rooms<P>) -> Option<Outcome> {
+    pub(crate) fn keep(
+        &self,
+        rt: &(impl Wait + Clock),
+        alloc: Global,
+        rooms: &Rooms<P>,
+    ) -> Option<Outcome> {
         let mut file = self.take_file(rt)?;
         let written = write_news(rt, alloc, rooms, &mut file);
         self.put_back(rt, alloc, file, written)
@@ -279,11 +324,11 @@ impl<P: RoomHistories, J: Journal + Drop> Place<P, J> {
         rt: &impl Wait,
         alloc: Global,
         file: RoomFile<P, J>,
-        written: Result<(), KeepFault>,
+        written: Result<Option<FileSync>, JournalFault>,
     ) -> Option<Outcome> {
-        let state = match written {
-            Ok(()) => file.clean().ok_or(KeepFault::NotKept),
-            Err(fault) => Err(fault),
+        let (sync, state) = match written {
+            Ok(sync) => (sync, file.clean().ok_or(KeepFault::NotKept)),
+            Err(fault) => (Some(failed_sync(fault)), Err(keep_fault(fault))),
         };
         let mut place = self.desk.lock(rt);
         let desk = place.as_mut()?;
@@ -302,8 +347,23 @@ impl<P: RoomHistories, J: Journal + Drop> Place<P, J> {
         desk.file = Some(file);
         Some(Outcome {
             change,
+            sync,
             is_ordered: desk.is_ordered,
+            is_awaited: std::mem::replace(&mut desk.is_awaited, false),
         })
+    }
+}
+
+/// Returns whether nobody is in the room whose record begins with this prefix.
+fn is_left<P: RoomHistories>(
+    rt: &impl Wait,
+    alloc: Global,
+    rooms: &Rooms<P>,
+    prefix: &Prefix<P>,
+) -> bool {
+    match rooms.news(rt, alloc, prefix) {
+        Ok(news) => rooms.is_idle(rt, news.whole()),
+        Err(_) => false,
     }
 }
 
@@ -326,22 +386,42 @@ fn reason<P: RoomHistories, J: Journal>(
     text
 }
 
-/// Appends what the room's record has beyond the kept prefix.
+/// What came of a write and a sync that failed so.
+fn failed_sync(fault: JournalFault) -> FileSync {
+    match fault {
+        JournalFault::Full => FileSync::Full,
+        JournalFault::Failed | JournalFault::NoMemory => FileSync::Failed,
+    }
+}
+
+/// The time since then. Zero if the clock fails.
+fn time_since(rt: &impl Clock, began: io::Result<Instant>) -> Duration {
+    match began {
+        Ok(began) => began.elapsed(rt).unwrap_or(Duration::ZERO),
+        Err(_) => Duration::ZERO,
+    }
+}
+
+/// Appends what the room's record has beyond the kept prefix. Gives nothing if there is nothing to
+/// write.
 fn write_news<P: RoomHistories, J: Journal>(
-    rt: &impl Wait,
+    rt: &(impl Wait + Clock),
     alloc: Global,
     rooms: &Rooms<P>,
     file: &mut RoomFile<P, J>,
-) -> Result<(), KeepFault>
+) -> Result<Option<FileSync>, JournalFault>
     ensures { OnErr result (file.new.kept ≡ file.old.kept) }
 {
     let news = match rooms.news(rt, alloc, file.receipt().prefix()) {
         Ok(news) => news,
-        Err(CallFault::NoMemory) => return Err(KeepFault::NoMemory),
-        Err(CallFault::Torn { .. }) => return Err(KeepFault::NotKept),
+        Err(CallFault::NoMemory) => return Err(JournalFault::NoMemory),
+        Err(CallFault::Torn { .. }) => return Err(JournalFault::Failed),
     };
     if news.entries().is_empty() && file.clean().is_some() {
-        return Ok(());
+        return Ok(None);
     }
-    file.keep(alloc, &news)
+    let began = Instant::now(rt);
+    let bytes = file.keep(alloc, &news)?;
+    let time = time_since(rt, began);
+    Ok(Some(FileSync::Kept { bytes, time }))
 }

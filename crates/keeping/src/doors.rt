@@ -4,8 +4,9 @@ ghost use Rattle.std.specs.Prelude.{IfSome};
 ghost use Rattle.keeping.specs.Kept.{IsKeptIn};
 
 use crate::file::Kept;
+use crate::recent::Recent;
 use base_types::{NoMemory, RoomName};
-use indexmap::{IndexMap, IndexSet};
+use indexmap::IndexSet;
 use keeper::Reason;
 use room_lock::{Prefix, RoomHistories};
 use std::alloc::Global;
@@ -15,7 +16,7 @@ const MAX_NAMES: usize = 65_536;
 
 /// Why a room cannot be entered at once.
 #[derive(Clone, Copy, Debug, Drop, PartialEq, Eq)]
-pub(crate) enum Hold {
+pub(crate) enum Obstacle {
     /// A thread opens or closes it.
     Moving,
     /// It could not be opened a short time ago.
@@ -23,44 +24,37 @@ pub(crate) enum Hold {
 }
 
 /// The names of rooms on demand that are being opened or closed, or could not be opened. And receipts
-/// for what is kept of rooms that were closed: a reply of such a room may still have to be sent. What
-/// stands under `before` is older than the last tick, and goes at the next one.
+/// for what is kept of rooms that were closed: a reply of such a room may still have to be sent.
 #[derive(Drop)]
 pub(crate) struct Doors<P: RoomHistories> {
-    alloc: Global,
     moving: IndexSet<RoomName>,
-    failed: IndexMap<RoomName, Reason>,
-    failed_before: IndexMap<RoomName, Reason>,
+    /// Those of them that wait for space, until an attempt to keep a room ends that may give it.
+    parked: IndexSet<RoomName>,
+    failed: Recent<RoomName, Reason>,
     /// By the numbers of their openings.
-    closed: IndexMap<u64, Kept<P>>,
-    closed_before: IndexMap<u64, Kept<P>>,
+    closed: Recent<u64, Kept<P>>,
 }
 
 impl<P: RoomHistories> Doors<P> {
     /// No names.
     pub(crate) fn new(alloc: Global) -> Doors<P> {
         Doors {
-            alloc,
             moving: IndexSet::new(alloc),
-            failed: IndexMap::new(alloc),
-            failed_before: IndexMap::new(alloc),
-            closed: IndexMap::new(alloc),
-            closed_before: IndexMap::new(alloc),
+            parked: IndexSet::new(alloc),
+            failed: Recent::none(alloc),
+            closed: Recent::none(alloc),
         }
     }
 
     /// Why the room of this name cannot be entered at once, if it cannot.
-    pub(crate) fn hold(&self, name: &RoomName) -> Option<Hold> {
+    pub(crate) fn obstacle(&self, name: &RoomName) -> Option<Obstacle> {
         if self.moving.contains(name) {
-            return Some(Hold::Moving);
+            return Some(Obstacle::Moving);
         }
-        if let Some(reason) = self.failed.get(name) {
-            return Some(Hold::Failed(*reason));
-        }
-        match self.failed_before.get(name) {
+        match self.failed.get(name)? {
             // The other process may have ended meanwhile, and a look at its lock costs little.
-            Some(Reason::Elsewhere) | None => None,
-            Some(reason) => Some(Hold::Failed(*reason)),
+            Reason::Elsewhere if self.failed.get_new(name).is_none() => None,
+            reason => Some(Obstacle::Failed(*reason)),
         }
     }
 
@@ -85,12 +79,33 @@ impl<P: RoomHistories> Doors<P> {
         self.moving.swap_remove(name);
     }
 
+    /// The room of this name waits for space.
+    ///
+    /// # Errors
+    /// `NoMemory` if an allocation failed.
+    pub(crate) fn park(&mut self, name: RoomName) -> Result<(), NoMemory> {
+        match self.parked.insert(name) {
+            Ok(_) => Ok(()),
+            Err(_) => Err(NoMemory),
+        }
+    }
+
+    /// The room of this name no longer waits for space. Returns whether it did.
+    pub(crate) fn unpark(&mut self, name: &RoomName) -> bool {
+        self.parked.swap_remove(name)
+    }
+
+    /// The rooms that wait for space. They no longer do.
+    pub(crate) fn take_parked(&mut self, alloc: Global) -> IndexSet<RoomName> {
+        std::mem::replace(&mut self.parked, IndexSet::new(alloc))
+    }
+
     /// The room of this name could not be opened, which is remembered for one to two seconds; that
     /// somebody else has its file, for one at most.
     pub(crate) fn fail(&mut self, name: RoomName, reason: Reason) {
         self.end_move(&name);
-        if self.failed.len() < MAX_NAMES {
-            let _ = self.failed.insert(name, reason);
+        if self.failed.count_new() < MAX_NAMES {
+            let _ = self.failed.add(name, reason);
         }
     }
 
@@ -99,10 +114,7 @@ impl<P: RoomHistories> Doors<P> {
     /// # Errors
     /// `NoMemory` if an allocation failed.
     pub(crate) fn add_closed(&mut self, kept: Kept<P>) -> Result<(), NoMemory> {
-        match self.closed.insert(kept.prefix().opening().number(), kept) {
-            Ok(_) => Ok(()),
-            Err(_) => Err(NoMemory),
-        }
+        self.closed.add(kept.prefix().opening().number(), kept)
     }
 
     /// The receipt for this prefix of the record of a room that was closed a short time ago, if it is
@@ -110,11 +122,7 @@ impl<P: RoomHistories> Doors<P> {
     pub(crate) fn receipt(&self, told: &Prefix<P>) -> Option<Kept<P>>
         ensures { IfSome result (λ kept. IsKeptIn kept told.now) }
     {
-        let number = told.opening().number();
-        let kept = self
-            .closed
-            .get(&number)
-            .or(self.closed_before.get(&number))?;
+        let kept = self.closed.get(&told.opening().number())?;
         if kept.covers(told) {
             Some(kept.copy())
         } else {
@@ -124,8 +132,7 @@ impl<P: RoomHistories> Doors<P> {
 
     /// A second has passed.
     pub(crate) fn tick(&mut self) {
-        let alloc = self.alloc;
-        self.failed_before = std::mem::replace(&mut self.failed, IndexMap::new(alloc));
-        self.closed_before = std::mem::replace(&mut self.closed, IndexMap::new(alloc));
+        self.failed.tick();
+        self.closed.tick();
     }
 }

@@ -1,10 +1,9 @@
 //! A room's file.
 
-ghost use Rattle.std.specs.Prelude.{◌≡◌, ◌↔◌, ◌++◌, Err, OnErr, OnOk, IfOk, IfSome, IsSome};
-ghost use Rattle.std.specs.Prelude.{false, map, option_map, true};
+ghost use Rattle.std.specs.Prelude.{◌≡◌, ◌↔◌, ◌++◌, Err, IfErr, OnErr, OnOk, IfOk, IfSome, IsSome};
+ghost use Rattle.std.specs.Prelude.{length, map, option_map, true};
 ghost use Rattle.std.specs.Arc.{arc_value};
 ghost use Rattle.record_file.specs.RecordText.{AreLines, record_text};
-ghost use Rattle.keeper.specs.declared.keeper.KeepFault.TheVariants as keep_fault;
 ghost use Rattle.room_lock.specs.InOrder.{name_of, openings_of};
 ghost use Rattle.keeping.specs.declared.file.Tail.TheVariants.{Nothing, Broken};
 ghost use Rattle.keeping.specs.Tails.{fault_of, is_clean, tail_after};
@@ -17,7 +16,7 @@ pub use clean::Clean;
 use journal::{Journal, JournalFault};
 use keeper::KeepFault;
 pub use kept::Kept;
-use record_file::append;
+use record_file::{are_in_range, text_of};
 use restore::RestoredFile;
 use room_lock::{News, Prefix, RoomHistories};
 use rules::Entry;
@@ -97,33 +96,35 @@ impl<P: RoomHistories, J: Journal> RoomFile<P, J> {
         self.journal.error()
     }
 
-    /// Appends what the room's record has beyond the kept prefix, by one write and one sync. Linear
-    /// in these entries.
+    /// Appends what the room's record has beyond the kept prefix, by one write and one sync. Gives
+    /// the number of bytes of these entries. Linear in them.
     ///
     /// # Errors
     /// What the file keeps is unchanged.
-    /// `NotKept` if the disk is full; the next call tries again.
-    /// `NotKept` if a write or a sync failed for another reason, now and for each later call.
+    /// `Full` if the disk is full; the next call tries again.
+    /// `Failed` if a write or a sync failed for another reason, now and for each later call.
     /// `NoMemory` if an allocation failed.
-    pub fn keep(&mut self, alloc: Global, news: &News<P>) -> Result<(), KeepFault>
+    pub fn keep(&mut self, alloc: Global, news: &News<P>) -> Result<u64, JournalFault>
         requires news { self.old.kept.entries ++ news.now.entries ≡ news.now.whole.entries }
         requires opening { news.now.whole.opening ≡ self.old.kept.opening }
+        // On `Ok`:
         ensures kept { OnOk result
             (self.new ≡ record { kept = news.now.whole; tail = Nothing }) }
+        ensures bytes { IfOk result (λ bytes. bytes ≡ length (record_text news.now.entries)) }
+        // On `Err`:
         ensures err { OnErr result (self.new.kept ≡ self.old.kept) }
-        ensures unclean { OnErr result (is_clean self.new.tail ≡ false) }
-        ensures broken { self.old.tail ≡ Broken →
-            (result ≡ Err keep_fault.NotKept) × (self.new.tail ≡ Broken) }
+        ensures tail { IfErr result (λ fault. self.new.tail ≡ tail_after fault) }
+        ensures broken { self.old.tail ≡ Broken → result ≡ Err JournalFault.Failed }
     {
         match put_behind(alloc, &mut self.journal, self.tail, news.entries()) {
-            Ok(()) => {
+            Ok(bytes) => {
                 self.kept = Kept::of(news.whole());
                 self.tail = Tail::Nothing;
-                Ok(())
+                Ok(bytes)
             }
             Err(fault) => {
                 self.tail = tail_after(fault);
-                Err(keep_fault(fault))
+                Err(fault)
             }
         }
     }
@@ -162,21 +163,25 @@ impl<P: RoomHistories, J: Journal + Drop> RoomFile<P, J> {
     }
 }
 
-/// Appends entries behind the kept bytes and syncs them. Cuts off what may follow those first.
-/// `Failed` if the file accepts no more.
+/// Appends entries behind the kept bytes and syncs them. Cuts off what may follow those first. Gives
+/// the number of bytes that were appended. `Failed` if the file accepts no more.
 fn put_behind<J: Journal>(
     alloc: Global,
     journal: &mut J,
     tail: Tail,
     entries: &[Arc<Entry>],
-) -> Result<(), JournalFault>
+) -> Result<u64, JournalFault>
     requires { is_clean tail ≡ true → J.held journal.old ≡ J.kept journal.old }
+    // On `Ok`:
     ensures held { OnOk result (J.held journal.new ≡ J.kept journal.new) }
     ensures kept { OnOk result (J.kept journal.new
         ≡ option_map (λ bytes. bytes ++ record_text (map arc_value entries.now))
         (J.kept journal.old)) }
     ensures lines { OnOk result
         (AreLines (record_text (map arc_value entries.now)) (map arc_value entries.now)) }
+    ensures bytes { IfOk result (λ bytes.
+        bytes ≡ length (record_text (map arc_value entries.now))) }
+    // On `Err`:
     ensures err { OnErr result (J.kept journal.new ≡ J.kept journal.old) }
     ensures broken { tail ≡ Broken → result ≡ Err JournalFault.Failed }
 {
@@ -185,7 +190,13 @@ fn put_behind<J: Journal>(
         Tail::Scraps => journal.cut()?,
         Tail::Broken => return Err(JournalFault::Failed),
     }
-    append(alloc, journal, entries)
+    if !are_in_range(entries) {
+        return Err(JournalFault::Failed);
+    }
+    let text = text_of(alloc, entries)?;
+    journal.append(text.as_bytes())?;
+    journal.sync()?;
+    Ok(text.len() as u64)
 }
 
 /// What may follow the kept bytes after a fault.
@@ -199,7 +210,7 @@ fn tail_after(fault: JournalFault) -> Tail
 }
 
 /// The fault of keeping for a fault of the file.
-fn keep_fault(fault: JournalFault) -> KeepFault
+pub(crate) fn keep_fault(fault: JournalFault) -> KeepFault
     ensures { result ≡ fault_of fault }
 {
     match fault {

@@ -16,6 +16,8 @@ pub enum FileFound<J: Journal> {
     Here(RoomState, RestoredFile<J>),
     /// Somebody else has it.
     Elsewhere,
+    /// The room begins with the end of another, and has no file yet.
+    Absent,
     /// It can't be used. The log says why.
     Unusable,
 }

@@ -4,8 +4,9 @@ ghost use Rattle.std.specs.Prelude.{◌≡◌, IfOk, IfSome};
 ghost use Rattle.keeping.specs.Kept.{IsKeptIn};
 ghost use Rattle.keeping.specs.steps.Standings.{IfKept};
 
+use crate::chains::Chains;
 use crate::desk::{Place, Standing};
-use crate::doors::{Doors, Hold};
+use crate::doors::{Doors, Obstacle};
 use crate::file::{Clean, Kept, RoomFile};
 use crate::files::RoomFiles;
 use crate::moving::Idle;
@@ -17,6 +18,7 @@ use room_lock::{Lookup, Opening, Prefix, RoomHistories, Rooms};
 use std::alloc::Global;
 use std::sync::atomic::{AtomicUsize, Ordering};
 use std::sync::{Mutex, Wait};
+use std::time::Clock;
 
 /// The most threads that write and sync.
 const MAX_THREADS: usize = 16;
@@ -37,6 +39,7 @@ pub struct Keeping<P: RoomHistories, J: Journal, F> {
     /// The number of rooms of which the last attempt failed.
     failing: AtomicUsize,
     pub(crate) doors: Mutex<Doors<P>>,
+    chains: Chains,
     /// The files of rooms on demand.
     pub(crate) files: F,
     /// After how many ticks a room is closed that nobody is in. The first may come at once.
@@ -54,7 +57,8 @@ pub struct OnDemand<F> {
 
 impl<P: RoomHistories, J: Journal + Drop, F: RoomFiles<J> + Drop> Keeping<P, J, F> {
     /// Keeps the rooms that are open from the start in these files, which are in the order of the
-    /// rooms, and rooms on demand in files that are opened with them.
+    /// rooms, and rooms on demand in files that are opened with them. Who asks for an earlier room of
+    /// a chain than the newest of those that are open from the start is sent to that one.
     ///
     /// # Errors
     /// `NoMemory` if an allocation failed.
@@ -72,13 +76,15 @@ impl<P: RoomHistories, J: Journal + Drop, F: RoomFiles<J> + Drop> Keeping<P, J, 
         let first = files.len();
         let places = places_of(rt, alloc, rooms, files)?;
         let movers = (places.len().min(MAX_THREADS) / 2).max(1);
-        let orders = Orders::new(alloc, first, movers)?;
+        let orders = Orders::new(alloc, places.len(), movers)?;
+        let chains = chains_of(alloc, rooms)?;
         Ok(Keeping {
             places,
             first,
             orders,
             failing: AtomicUsize::new(0),
             doors: Mutex::new(Doors::new(alloc)),
+            chains,
             files: others,
             close_after: close_after.saturating_add(1),
         })
@@ -102,20 +108,34 @@ impl<P: RoomHistories, J: Journal + Drop, F: RoomFiles<J> + Drop> Keeping<P, J, 
         }
     }
 
-    /// Keeps what the record of the room at this place has.
-    pub(crate) fn keep_at(
+    /// Keeps what the record of the room at this place has. Rooms that wait for the end of this attempt are
+    /// opened next.
+    fn keep_at(
         &self,
-        rt: &impl Wait,
+        rt: &(impl Wait + Clock),
         alloc: Global,
         rooms: &Rooms<P>,
         place: usize,
-    ) -> Option<Change> {
-        let outcome = self.places.get(place)?.keep(rt, alloc, rooms)?;
-        self.count(&outcome.change);
-        if outcome.is_ordered {
-            self.orders.add(rt, Order::Keep(place));
+    ) -> Attempt {
+        let mut attempt = Attempt {
+            news: [Some(place), None],
+            change: None,
+            sync: None,
+        };
+        if let Some(here) = self.places.get(place)
+            && let Some(outcome) = here.keep(rt, alloc, rooms)
+        {
+            if outcome.is_ordered {
+                self.orders.add(rt, Order::Keep(place));
+            }
+            if outcome.is_awaited {
+                self.order_parked(rt, alloc);
+            }
+            attempt.change = outcome.change;
+            attempt.sync = outcome.sync;
         }
-        outcome.change
+        self.count(&attempt.change);
+        attempt
     }
 
     /// What is known of this prefix of a room's record, and the receipt if the room was closed a short
@@ -192,6 +212,17 @@ fn places_of<P: RoomHistories, J: Journal + Drop>(
     Ok(places)
 }
 
+/// The newest room of each chain, of the rooms that are open from the start.
+fn chains_of<P: RoomHistories>(alloc: Global, rooms: &Rooms<P>) -> Result<Chains, NoMemory> {
+    let mut chains = Chains::new(alloc);
+    for place in 0..rooms.count_places() {
+        if let Some(name) = rooms.name_at(place) {
+            chains.add(alloc, name)?;
+        }
+    }
+    Ok(chains)
+}
+
 impl<P: RoomHistories, J: Journal + Drop, F: RoomFiles<J> + Drop> Keeper<P> for Keeping<P, J, F> {
     ghost use Rattle.keeping.specs.Kept.{IsKeptIn};
     ghost use Rattle.std.specs.Prelude.{◌≡◌};
@@ -227,9 +258,9 @@ impl<P: RoomHistories, J: Journal + Drop, F: RoomFiles<J> + Drop> Keeper<P> for 
         name: &RoomName,
     ) -> Result<Access<P>, NoMemory> {
         let mut doors = self.doors.lock(rt);
-        match doors.hold(name) {
-            Some(Hold::Moving) => return Ok(Access::Later(self.waiting_place(name))),
-            Some(Hold::Failed(reason)) => return Ok(Access::NotServed(reason)),
+        match doors.obstacle(name) {
+            Some(Obstacle::Moving) => return Ok(Access::Later(self.waiting_place(name))),
+            Some(Obstacle::Failed(reason)) => return Ok(Access::NotServed(reason)),
             None => {}
         }
         if let Lookup::Open(opening) = rooms.opening_of(rt, name) {
@@ -244,6 +275,15 @@ impl<P: RoomHistories, J: Journal + Drop, F: RoomFiles<J> + Drop> Keeper<P> for 
             return Err(NoMemory);
         }
         Ok(Access::Later(self.waiting_place(name)))
+    }
+
+    fn newest(
+        &self,
+        _rt: &impl Wait,
+        alloc: Global,
+        name: &RoomName,
+    ) -> Result<Option<RoomName>, NoMemory> {
+        self.chains.later(alloc, name)
     }
 
     fn permit(&self, rt: &impl Wait, opening: &Opening<P>) -> Option<Clean> {
@@ -275,12 +315,14 @@ impl<P: RoomHistories, J: Journal + Drop, F: RoomFiles<J> + Drop> Keeper<P> for 
         }
     }
 
-    fn keep_next(&self, rt: &impl Wait, alloc: Global, rooms: &Rooms<P>) -> Option<Attempt> {
+    fn keep_next(
+        &self,
+        rt: &(impl Wait + Clock),
+        alloc: Global,
+        rooms: &Rooms<P>,
+    ) -> Option<Attempt> {
         match self.orders.next(rt)? {
-            Order::Keep(place) => Some(Attempt {
-                news: [Some(place), None],
-                change: self.keep_at(rt, alloc, rooms, place),
-            }),
+            Order::Keep(place) => Some(self.keep_at(rt, alloc, rooms, place)),
             Order::Open(name) => {
                 let attempt = self.open_room(rt, alloc, rooms, name);
                 self.orders.end_move(rt);

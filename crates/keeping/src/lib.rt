@@ -1,6 +1,7 @@
 //! Rooms whose records are kept in files: what each file keeps, and how threads wait for more.
 #![tactic(auto)]
 
+mod chains;
 mod desk;
 mod doors;
 mod file;
@@ -9,6 +10,7 @@ mod keeping;
 pub mod laws;
 mod moving;
 mod orders;
+mod recent;
 
 pub use file::{Clean, Kept, RoomFile};
 pub use files::{FileFound, RoomFiles};

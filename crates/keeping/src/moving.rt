@@ -4,7 +4,7 @@ ghost use Rattle.std.specs.Prelude.{◌≡◌, IfOk};
 ghost use Rattle.room_lock.specs.InOrder.{name_of};
 ghost use Rattle.room_lock.specs.Lookups.{IfNew};
 
-use crate::desk::{Closing, text_of};
+use crate::desk::{Closing, Left, text_of};
 use crate::file::RoomFile;
 use crate::files::{FileFound, RoomFiles};
 use crate::keeping::Keeping;
@@ -27,6 +27,17 @@ enum Moved {
     Failed(Reason),
     /// As many rooms are open as may be.
     Full,
+}
+
+/// When there is space for one more room on demand.
+#[derive(Clone, Copy, Debug, PartialEq, Eq)]
+enum Space {
+    /// There is, or a room can be closed.
+    Now,
+    /// Once a room is kept that nobody is in, which an attempt does.
+    Soon,
+    /// Somebody is in each open room, or its file fails.
+    None,
 }
 
 /// A room on demand that nobody is in.
@@ -65,6 +76,7 @@ impl<P: RoomHistories, J: Journal + Drop, F: RoomFiles<J> + Drop> Keeping<P, J, 
             Moved::Opened(beginning) => Attempt {
                 news: [Some(beginning.place), Some(self.waiting_place(&name))],
                 change: Some(Change::Opened(beginning)),
+                sync: None,
             },
             Moved::Failed(reason) => self.fail(rt, name, reason),
             Moved::Full => self.make_space(rt, alloc, rooms, name),
@@ -78,10 +90,12 @@ impl<P: RoomHistories, J: Journal + Drop, F: RoomFiles<J> + Drop> Keeping<P, J, 
         Attempt {
             news: [None, Some(awaited)],
             change: None,
+            sync: None,
         }
     }
 
     /// Closes the room that nobody has been in for longest, and has the room of this name opened next.
+    /// Where no room can be closed yet, waits for one.
     fn make_space(
         &self,
         rt: &impl Wait,
@@ -90,12 +104,76 @@ impl<P: RoomHistories, J: Journal + Drop, F: RoomFiles<J> + Drop> Keeping<P, J, 
         name: RoomName,
     ) -> Attempt {
         let Some(idle) = self.longest_idle(rt, rooms) else {
-            return self.fail(rt, name, Reason::Full);
+            return self.wait_for_space(rt, alloc, rooms, name);
         };
-        if self.order_open(rt, alloc, &name) {
-            self.close_room(rt, alloc, rooms, idle)
-        } else {
-            self.fail(rt, name, Reason::NoMemory)
+        let mut attempt = self.close_room(rt, alloc, rooms, idle);
+        // Only now, since another thread may take the order and would close one more room.
+        if !self.order_open(rt, alloc, &name) {
+            attempt.news[0] = Some(self.waiting_place(&name));
+            self.doors.lock(rt).fail(name, Reason::NoMemory);
+        }
+        attempt
+    }
+
+    /// Has the room of this name opened once there is space for it. Notes that it cannot be opened now
+    /// if there is none soon.
+    fn wait_for_space(
+        &self,
+        rt: &impl Wait,
+        alloc: Global,
+        rooms: &Rooms<P>,
+        name: RoomName,
+    ) -> Attempt {
+        let Ok(copied) = name.copy(alloc) else {
+            return self.fail(rt, name, Reason::NoMemory);
+        };
+        if self.doors.lock(rt).park(copied).is_err() {
+            return self.fail(rt, name, Reason::NoMemory);
+        }
+        // Who makes space from now on finds the name, so only now it is known what will come.
+        match self.space(rt, alloc, rooms) {
+            Space::Now => self.order_parked(rt, alloc),
+            Space::Soon => {}
+            Space::None => {
+                let is_parked = self.doors.lock(rt).unpark(&name);
+                if is_parked {
+                    return self.fail(rt, name, Reason::Full);
+                }
+            }
+        }
+        Attempt {
+            news: [None, None],
+            change: None,
+            sync: None,
+        }
+    }
+
+    /// When there is space for one more room. Has a room kept that nobody is in where that makes space.
+    /// Linear in the number of rooms that may be open.
+    fn space(&self, rt: &impl Wait, alloc: Global, rooms: &Rooms<P>) -> Space {
+        if !rooms.is_full(rt) || self.longest_idle(rt, rooms).is_some() {
+            return Space::Now;
+        }
+        for (place, desk) in self.places.iter().enumerate().skip(self.first) {
+            match desk.left(rt, alloc, rooms) {
+                Left::New => {
+                    self.orders.add(rt, Order::Keep(place));
+                    return Space::Soon;
+                }
+                Left::Ordered => return Space::Soon,
+                Left::No => {}
+            }
+        }
+        Space::None
+    }
+
+    /// Has each room opened next that waits for space.
+    pub(crate) fn order_parked(&self, rt: &impl Wait, alloc: Global) {
+        let parked = self.doors.lock(rt).take_parked(alloc);
+        for name in parked.iter() {
+            if !self.order_open(rt, alloc, name) {
+                self.doors.lock(rt).end_move(name);
+            }
         }
     }
 
@@ -139,7 +217,7 @@ impl<P: RoomHistories, J: Journal + Drop, F: RoomFiles<J> + Drop> Keeping<P, J, 
                 self.enter(rt, alloc, rooms, new)
             }
             Ok(FileFound::Elsewhere) => Moved::Failed(Reason::Elsewhere),
-            Ok(FileFound::Unusable) => Moved::Failed(Reason::File),
+            Ok(FileFound::Absent | FileFound::Unusable) => Moved::Failed(Reason::File),
             Err(NoMemory) => Moved::Failed(Reason::NoMemory),
         }
     }
@@ -153,7 +231,7 @@ impl<P: RoomHistories, J: Journal + Drop, F: RoomFiles<J> + Drop> Keeping<P, J, 
         let NewRoom { name, state, file } = new;
         let beginning = beginning_of(alloc, &name, &state);
         let mut doors = self.doors.lock(rt);
-        match open_as(rt, alloc, rooms, &name, state) {
+        let unopened = match open_as(rt, alloc, rooms, &name, state) {
             Ok(Opened::New(begun)) => {
                 let opened = RoomFile::open(&begun, file);
                 doors.end_move(&name);
@@ -161,19 +239,16 @@ impl<P: RoomHistories, J: Journal + Drop, F: RoomFiles<J> + Drop> Keeping<P, J, 
                 if let Some(here) = self.places.get(place) {
                     here.put(rt, name, opened);
                 }
-                Moved::Opened(Beginning { place, ..beginning })
+                return Moved::Opened(Beginning { place, ..beginning });
             }
-            Ok(Opened::Full) => {
-                drop(doors);
-                self.files.close(alloc, &name, file.into_journal());
-                Moved::Full
-            }
-            Ok(Opened::Known(_)) | Err(NoMemory) => {
-                drop(doors);
-                self.files.close(alloc, &name, file.into_journal());
-                Moved::Failed(Reason::NoMemory)
-            }
-        }
+            Ok(Opened::Full) => Moved::Full,
+            // Never: a name that moves is opened by one thread alone.
+            Ok(Opened::Known(_)) => Moved::Failed(Reason::Elsewhere),
+            Err(NoMemory) => Moved::Failed(Reason::NoMemory),
+        };
+        drop(doors);
+        self.files.close(alloc, &name, file.into_journal());
+        unopened
     }
 
     /// Closes the room at this place with its file, if nobody has been in it for so long and its file
@@ -189,6 +264,7 @@ impl<P: RoomHistories, J: Journal + Drop, F: RoomFiles<J> + Drop> Keeping<P, J, 
         let nothing = Attempt {
             news: [None, None],
             change: None,
+            sync: None,
         };
         let Some(here) = self.places.get(place) else {
             return nothing;
@@ -202,6 +278,7 @@ impl<P: RoomHistories, J: Journal + Drop, F: RoomFiles<J> + Drop> Keeping<P, J, 
         Attempt {
             news: [None, Some(self.waiting_place(&name))],
             change: Some(Change::Closed { place }),
+            sync: None,
         }
     }
 }

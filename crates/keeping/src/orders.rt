@@ -32,10 +32,12 @@ struct Queue {
 }
 
 impl Queue {
-    /// Appends an order. Returns false if an allocation failed.
+    /// Appends an order, but none to open or close a room once all is over. Returns false if an
+    /// allocation failed.
     fn push(&mut self, order: Order) -> bool {
         match order {
             Order::Keep(place) => self.keeps.push_back(place).is_ok(),
+            Order::Open(_) | Order::Close(_) if self.is_over => true,
             Order::Open(_) | Order::Close(_) => self.moves.push_back(order).is_ok(),
         }
     }
@@ -72,12 +74,13 @@ pub(crate) struct Orders {
 }
 
 impl Orders {
-    /// No orders, with space to keep so many rooms. At most `movers` threads open and close rooms at a
+    /// No orders, with space to keep the rooms at so many places: an order to keep one, of which there
+    /// is at most one for each place, is never lost. At most `movers` threads open and close rooms at a
     /// time. `NoMemory` if an allocation failed.
-    pub(crate) fn new(alloc: Global, rooms: usize, movers: usize) -> Result<Orders, NoMemory> {
+    pub(crate) fn new(alloc: Global, places: usize, movers: usize) -> Result<Orders, NoMemory> {
         Ok(Orders {
             queue: Mutex::new(Queue {
-                keeps: VecDeque::with_capacity(alloc, rooms)?,
+                keeps: VecDeque::with_capacity(alloc, places)?,
                 moves: VecDeque::new(alloc),
                 spare: movers,
                 is_over: false,

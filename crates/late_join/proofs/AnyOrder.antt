@@ -12,7 +12,7 @@ use Rattle.base_types.specs.Names.{Name, same_name}
 use Rattle.base_types.specs.Vectors.{count_of, counts, covers}
 use Rattle.rules.specs.declared.history.Op.{Op}
 use Rattle.rules.specs.declared.history.Entry.{Entry}
-use Rattle.rules.specs.declared.history.Entry.TheVariants.{Join, Operation}
+use Rattle.rules.specs.declared.history.Entry.TheVariants.{Join, Next, Operation}
 use Rattle.rules.specs.declared.refusal.Refusal.TheVariants.{RoomFull, RecordFull, OwnCount, NotClosed, NoSuchObject, NoSuchVersion, Gone, ObjectFull, TooManyKeys, TooManyVersions, TooManyObjects}
 use Rattle.rules.specs.declared.limits.LimitValues.{LimitValues}
 use Rattle.rules.specs.Bodies.{is_change_body, is_put_body, kind_in}
@@ -21,14 +21,14 @@ use Rattle.rules.specs.Operations.{IsHistory, IsPartOf, AreSame, before, creatio
 use Rattle.rules.specs.Admission.{Condition, first_that_applies, names_counted, count_at_site, has_wrong_seq, has_wrong_own_count, is_ahead, is_not_closed}
 use Rattle.rules.specs.Conflicts.{base, has_object, members, IsFounded}
 use Rattle.rules.specs.Versions.{groups, keys_of, versions}
-use Rattle.rules.specs.Records.{operation_in, operations, objects, creation_conditions, change_conditions, has_too_many_keys, has_too_many_versions, IsLegal}
+use Rattle.rules.specs.Records.{has_ended, is_end, operation_in, operations, objects, creation_conditions, change_conditions, has_too_many_keys, has_too_many_versions, IsLegal}
 use Rattle.rules.proofs.Lists.{In, In-from_Contains, Contains-from_In, In-append_cases, In-append_left, In-append_right, In-filter, In-filter_back, In-filter_map, In-filter_map_back, In-map_back, In-range, any_from, any_back, any_none, find_is}
 use Rattle.rules.proofs.Once.{Once, Once-from_HasNoRepeats, HasNoRepeats-from_Once, Once-map, Once-filter, length_within}
 use Rattle.rules.proofs.Permutations.{in_permutation, once_permutation}
 use Rattle.rules.proofs.Counted.{In-names_counted, covers_if, found, same_name-refl, same_name-true}
 use Rattle.rules.proofs.Changes.{in_changes_on, in_changes_on_back, Once-changes_on}
 use Rattle.rules.proofs.Conditions.{is_none_if}
-use Rattle.rules.proofs.Records.{operations-join, operations-push}
+use Rattle.rules.proofs.Records.{operations-end, operations-join, operations-push}
 use Rattle.rules.proofs.Founded.{history_if_legal, founded_if_legal}
 use Rattle.rules.proofs.Histories.{count_at_site_push}
 use Rattle.rules.proofs.Agreement.{base_in_part}
@@ -58,11 +58,13 @@ apart (x ∷ xs) y ys o m = elim m [ inl e ↦ o.0 (subst (λ z. In z (xs ++ y �
 
 entry_is : (e : Entry) (p : Op) → operation_in e ≡ Some p → e ≡ Operation p
 entry_is (Join site) p q = cc
+entry_is (Next count) p q = cc
 entry_is (Operation op) p q = (let s : op ≡ p = cc in ap Operation s)
 
 once_operations : (t : List Entry) → Once t → Once (operations t)
 once_operations [] o = tt
 once_operations (Join site ∷ t) o = once_operations t o.1
+once_operations (Next count ∷ t) o = once_operations t o.1
 once_operations (Operation p ∷ t) o = (
   (λ m. let c = In-filter_map_back operation_in p t m in o.0 (subst (λ z. In z t) (entry_is c.0 p c.2) c.1)),
   once_operations t o.1,
@@ -167,6 +169,7 @@ module _ (b : LimitValues) (r t : List Entry) (legal : IsLegal b r) (order : IsP
   join_of : (site : ℕ) (e : Entry) → is_join_of site e ≡ true → e ≡ Join site
   join_of site (Join other) t = ap Join (eqb-true other site t)
   join_of site (Operation op) t = absurd (true≢false (sym t))
+  join_of site (Next count) t = absurd (true≢false (sym t))
 
   -- a join may be taken
   take_join : (front : List Entry) (site : ℕ) (later : List Entry) → front ++ Join site ∷ later ≡ t → may_take b front (Join site) ≡ true
@@ -181,6 +184,23 @@ module _ (b : LimitValues) (r t : List Entry) (legal : IsLegal b r) (order : IsP
       passed (eqb site 0 || ltb b.joins site, RoomFull) ((leb b.entries (length front), RecordFull) ∷ []) bounded
       ∙ passed (leb b.entries (length front), RecordFull) [] (lt-leb b.entries (length front) (place front (Join site) later is))
       )
+
+  end_of : (e : Entry) → is_end e ≡ true → (count : ℕ) × (e ≡ Next count)
+  end_of (Join site) t = absurd (true≢false (sym t))
+  end_of (Operation op) t = absurd (true≢false (sym t))
+  end_of (Next count) t = (count, refl)
+
+  -- the end may be taken: no other stands before it
+  take_end : (front : List Entry) (count : ℕ) (later : List Entry) → front ++ Next count ∷ later ≡ t → may_take b front (Next count) ≡ true
+  take_end front count later is =
+      let fresh : has_ended front ≡ false = false_from_ne_true (has_ended front) (λ ended.
+      let c = any_back is_end front ended in
+      let d = end_of c.0 c.2 in
+      let there : In (Next d.0) front = subst (λ z. In z front) d.1 c.1 in
+      let same : d.0 ≡ count = w.ends d.0 count (in_record (Next d.0) (front_in front (Next count ∷ later) is (Next d.0) there)) (here front (Next count) later is) in
+      new front (Next count) later is (subst (λ k. In (Next k) front) same there)) in
+      taken_from b front (Next count) refl fresh refl
+      (passed (leb b.entries (length front), RecordFull) [] (lt-leb b.entries (length front) (place front (Next count) later is)))
 
   module _ (front : List Entry) (o : Op) (later : List Entry) (is : front ++ Operation o ∷ later ≡ t) (closed : IsClosed (operations front)) (past : has_past front (Operation o) ≡ true) where
     abbrev h : List Op
@@ -397,6 +417,10 @@ module _ (b : LimitValues) (r t : List Entry) (legal : IsLegal b r) (order : IsP
   take_rest front (Join site ∷ later) is k g = (
     take_join front site later is,
     take_rest (front ++ Join site ∷ []) later (append_assoc front (Join site ∷ []) later ∙ is) (subst IsClosed (sym (operations-join front site)) k) g.1,
+  )
+  take_rest front (Next count ∷ later) is k g = (
+    take_end front count later is,
+    take_rest (front ++ Next count ∷ []) later (append_assoc front (Next count ∷ []) later ∙ is) (subst IsClosed (sym (operations-end front count)) k) g.1,
   )
   take_rest front (Operation o ∷ later) is k g = (
     take_operation front o later is k g.0,

@@ -1,5 +1,5 @@
 -- A replica with one more entry.
-use Rattle.std.proofs.Common.{◌≡◌, ℕ, ◌+◌, ◌<◌, true, List, [], ◌∷◌, ◌++◌, length, refl, sym, ap, ◌∙◌, None, ◌||◌, leb, ltb, eqb, append_assoc}
+use Rattle.std.proofs.Common.{◌≡◌, ℕ, ◌+◌, ◌<◌, Bool, true, List, [], ◌∷◌, ◌++◌, length, refl, sym, ap, ◌∙◌, None, ◌||◌, leb, ltb, eqb, append_assoc}
 use Rattle.std.specs.Prelude.{is_none}
 use Rattle.std.specs.List.{list_any}
 use Rattle.std.proofs.lemmas.Bool.{and_from, leb-false}
@@ -7,10 +7,13 @@ use Rattle.std.proofs.lemmas.List.{append-nil}
 use Rattle.std.proofs.lemmas.List.Elements.{filter_map-append}
 use Rattle.rules.specs.declared.history.Op.{Op}
 use Rattle.rules.specs.declared.history.Entry.{Entry}
-use Rattle.rules.specs.declared.history.Entry.TheVariants.{Join, Operation}
+use Rattle.rules.specs.declared.history.Entry.TheVariants.{Join, Next, Operation}
 use Rattle.rules.specs.declared.refusal.Refusal.TheVariants.{RoomFull, RecordFull}
 use Rattle.rules.specs.declared.limits.LimitValues.{LimitValues}
 use Rattle.rules.proofs.Conditions.{not_first}
+use Rattle.rules.specs.Records.{has_ended}
+use Rattle.rules.proofs.Ended.{ended_so}
+use Rattle.rules.proofs.Records.{has_ended-kept}
 use Rattle.late_join.specs.Taking.{has_joined, take_fault, is_entry, may_take, IsTakeable, IsTakeableAfter}
 use Rattle.late_join.specs.Kept.{IsReplica, site_in, sites_in}
 use Rattle.late_join.proofs.Taken.{parts_of_taken}
@@ -21,6 +24,7 @@ pub joined_is : (t : List Entry) (site : ℕ) → list_any (λ joined. eqb joine
 joined_is [] site = refl
 joined_is (Join other ∷ t) site = ap (λ b. eqb other site || b) (joined_is t site)
 joined_is (Operation op ∷ t) site = joined_is t site
+joined_is (Next count ∷ t) site = joined_is t site
 
 -- ---- one entry more
 
@@ -40,18 +44,34 @@ room_for_join b t site a =
     let x = not_first (eqb site 0 || ltb b.joins site, RoomFull) ((leb b.entries (length t), RecordFull) ∷ []) p in
     leb-false b.entries (length t) (not_first (leb b.entries (length t), RecordFull) [] x.1).0
 
+pub room_for_end : (b : LimitValues) (t : List Entry) (count : ℕ) → may_take b t (Next count) ≡ true → length t < b.entries
+room_for_end b t count a =
+    leb-false b.entries (length t) (not_first (leb b.entries (length t), RecordFull) [] (parts_of_taken b t (Next count) a).3).0
+
 sites-operation : (t : List Entry) (o : Op) → sites_in (t ++ Operation o ∷ []) ≡ sites_in t
 sites-operation t o = filter_map-append site_in t (Operation o ∷ []) ∙ append-nil (sites_in t)
 
-module _ (l : LimitValues) (t : List Entry) (joined : List ℕ) (kept : IsReplica l t joined) where
-  pub replica_joined : (site : ℕ) → may_take l t (Join site) ≡ true → IsReplica l (t ++ Join site ∷ []) (joined ++ site ∷ [])
+sites-end : (t : List Entry) (count : ℕ) → sites_in (t ++ Next count ∷ []) ≡ sites_in t
+sites-end t count = filter_map-append site_in t (Next count ∷ []) ∙ append-nil (sites_in t)
+
+module _ (l : LimitValues) (t : List Entry) (joined : List ℕ) (ended : Bool) (kept : IsReplica l t joined ended) where
+  pub replica_joined : (site : ℕ) → may_take l t (Join site) ≡ true → IsReplica l (t ++ Join site ∷ []) (joined ++ site ∷ []) ended
   replica_joined site a = record {
     takeable = takeable_push l t (Join site) kept.takeable a;
     joins = ap (λ (js : List ℕ). js ++ site ∷ []) kept.joins ∙ sym (filter_map-append site_in t (Join site ∷ []));
+    end = kept.end ∙ sym (has_ended-kept t (Join site) refl);
   }
 
-  pub replica_grown : (o : Op) → may_take l t (Operation o) ≡ true → IsReplica l (t ++ Operation o ∷ []) joined
+  pub replica_grown : (o : Op) → may_take l t (Operation o) ≡ true → IsReplica l (t ++ Operation o ∷ []) joined ended
   replica_grown o a = record {
     takeable = takeable_push l t (Operation o) kept.takeable a;
     joins = kept.joins ∙ sym (sites-operation t o);
+    end = kept.end ∙ sym (has_ended-kept t (Operation o) refl);
+  }
+
+  pub replica_ended : (count : ℕ) → may_take l t (Next count) ≡ true → IsReplica l (t ++ Next count ∷ []) joined true
+  replica_ended count a = record {
+    takeable = takeable_push l t (Next count) kept.takeable a;
+    joins = kept.joins ∙ sym (sites-end t count);
+    end = sym (ended_so t count);
   }

@@ -8,22 +8,23 @@ use Rattle.base_types.specs.Names.{Name, same_name}
 use Rattle.base_types.specs.Vectors.{count_of, is_vector}
 use Rattle.rules.specs.declared.history.Op.{Op}
 use Rattle.rules.specs.declared.history.Entry.{Entry}
-use Rattle.rules.specs.declared.history.Entry.TheVariants.{Join, Operation}
+use Rattle.rules.specs.declared.history.Entry.TheVariants.{Join, Next, Operation}
 use Rattle.rules.specs.declared.refusal.Refusal.{Refusal}
-use Rattle.rules.specs.declared.refusal.Refusal.TheVariants.{RecordFull, WrongSeq, OwnCount, Ahead, NotClosed}
+use Rattle.rules.specs.declared.refusal.Refusal.TheVariants.{RecordFull, WrongSeq, OwnCount, Ahead, NotClosed, Renewed}
 use Rattle.rules.specs.declared.limits.LimitValues.{LimitValues}
 use Rattle.rules.specs.Bodies.{is_change_body}
 use Rattle.rules.specs.Operations.{IsHistory, IsCausallyOrdered, operation}
 use Rattle.rules.specs.Admission.{Condition, first_that_applies, names_counted, count_at_site, has_wrong_seq, has_wrong_own_count, is_ahead, is_not_closed, causal_refusal}
 use Rattle.rules.specs.Conflicts.{IsFounded}
-use Rattle.rules.specs.Records.{operations, refusal, creation_conditions, change_conditions}
+use Rattle.rules.specs.Records.{has_ended, open_conditions, operations, refusal, creation_conditions, change_conditions}
 use Rattle.rules.proofs.Lists.{In-from_Contains, any_back, any_none, find_none}
 use Rattle.rules.proofs.Counted.{In-names_counted_back, same_name-refl}
 use Rattle.rules.proofs.Conditions.{none_of_both, not_first}
 use Rattle.rules.proofs.Histories.{IsNumbered, numbered_push, numbered_empty, count_at_site_push}
 use Rattle.rules.proofs.Founded.{HasGround, founded_push, ground_if}
-use Rattle.rules.proofs.Records.{operations-join, operations-push}
+use Rattle.rules.proofs.Records.{operations-end, operations-join, operations-push}
 use Rattle.shape.proofs.Next.{next_ordered}
+use Rattle.shape.proofs.Refusals.{passed}
 use Rattle.late_join.specs.declared.fault.TakeFault.TheVariants.{Repeat, Early, Refused}
 use Rattle.late_join.specs.Taking.{has_joined, is_repeat, is_early, lacks_another, arriving_conditions, taking_conditions, take_fault, is_entry, may_take, IsTakeable, IsTakeableAfter}
 
@@ -172,6 +173,9 @@ sound_after b t [] s g = subst (λ x. IsSound (operations x)) (sym (append-nil t
 sound_after b t (Join site ∷ rest) s g =
     subst (λ x. IsSound (operations x)) (append_assoc t (Join site ∷ []) rest)
     (sound_after b (t ++ Join site ∷ []) rest (subst IsSound (sym (operations-join t site)) s) g.1)
+sound_after b t (Next count ∷ rest) s g =
+    subst (λ x. IsSound (operations x)) (append_assoc t (Next count ∷ []) rest)
+    (sound_after b (t ++ Next count ∷ []) rest (subst IsSound (sym (operations-end t count)) s) g.1)
 sound_after b t (Operation o ∷ rest) s g =
     subst (λ x. IsSound (operations x)) (append_assoc t (Operation o ∷ []) rest)
     (sound_after b (t ++ Operation o ∷ []) rest (subst IsSound (sym (operations-push t o)) (sound_push b t o s (taken_if b t o g.0))) g.1)
@@ -195,10 +199,10 @@ sound b t g = sound_after b [] t sound_empty g
 -- ---- the room's conditions
 
 -- after a takeable list an operation that is neither a repeat nor early is refused where a room with these entries refuses it
-pub refused_as_room : (b : LimitValues) (t : List Entry) (o : Op) → IsTakeable b t → is_vector o.seen ≡ true → is_repeat t (Operation o) ≡ false → is_early t (Operation o) ≡ false
+pub refused_as_room : (b : LimitValues) (t : List Entry) (o : Op) → IsTakeable b t → is_vector o.seen ≡ true → has_ended t ≡ false → is_repeat t (Operation o) ≡ false → is_early t (Operation o) ≡ false
     → first_that_applies (taking_conditions b t (Operation o)) ≡ refusal b t (Operation o)
 unfolding refusal
-refused_as_room b t o g vector new early =
+refused_as_room b t o g vector going new early =
     let h = operations t in
     let s = sound b t g in
     let e = or_parts (not (has_joined t o.name.0) || has_wrong_seq h o.name) (lacks_another h o) early in
@@ -206,6 +210,7 @@ refused_as_room b t o g vector new early =
     let rest = cond (is_change_body o.body) (change_conditions b h o) (creation_conditions b t) in
     go (leb b.entries (length t)) (has_wrong_seq h o.name) (has_wrong_own_count o.name o.seen) (is_ahead h o.seen) (is_not_closed h o.seen) rest seq
     (λ own. not_ahead h o s.numbered.history s.whole vector seq own e.1)
+    ∙ sym (passed (has_ended t, Renewed) (open_conditions b t (Operation o)) going)
   where
     go : (full wrong own ahead loose : Bool) (rest : List Condition) → wrong ≡ false → (own ≡ false → ahead ≡ false)
         → first_that_applies ((full, RecordFull) ∷ (own, OwnCount) ∷ (loose, NotClosed) ∷ rest)

@@ -7,7 +7,7 @@ use Rattle.base_types.specs.Names.{Name}
 use Rattle.base_types.specs.Vectors.{is_vector}
 use Rattle.rules.specs.declared.history.Op.{Op}
 use Rattle.rules.specs.declared.history.Entry.{Entry}
-use Rattle.rules.specs.declared.history.Entry.TheVariants.{Join, Operation}
+use Rattle.rules.specs.declared.history.Entry.TheVariants.{Join, Next, Operation}
 use Rattle.rules.specs.declared.refusal.Refusal.TheVariants.{NoSuchObject, NoSuchVersion, Gone, ObjectFull, TooManyKeys, TooManyVersions}
 use Rattle.rules.specs.declared.limits.LimitValues.{LimitValues}
 use Rattle.rules.specs.declared.history.Body.{Body}
@@ -18,16 +18,16 @@ use Rattle.rules.specs.Operations.{by_name, holds_drop, is_on, is_change_on, obj
 use Rattle.rules.specs.Admission.{Condition, first_that_applies}
 use Rattle.rules.specs.Conflicts.{base, has_object, members}
 use Rattle.rules.specs.Versions.{groups, keys_of, new_keys}
-use Rattle.rules.specs.Records.{operation_in, operations, objects, sites, admits, is_placed, refusal, order_conditions, change_conditions, creation_conditions, has_too_many_keys, has_too_many_versions, IsLegal, IsLegalAfter}
-use Rattle.rules.proofs.Lists.{In, Contains-from_In, In-append_cases, In-append_left, In-append_right, In-filter_map}
+use Rattle.rules.specs.Records.{has_ended, is_end, operation_in, operations, objects, sites, admits, is_placed, refusal, order_conditions, change_conditions, creation_conditions, has_too_many_keys, has_too_many_versions, IsLegal, IsLegalAfter}
+use Rattle.rules.proofs.Lists.{In, Contains-from_In, In-append_cases, In-append_left, In-append_right, In-filter_map, any_from}
 use Rattle.rules.proofs.Once.{Once, Once-append}
 use Rattle.rules.proofs.Reordered.{SameMembers}
 use Rattle.rules.proofs.Changes.{in_changes_on, in_changes_on_back}
 use Rattle.rules.proofs.Keys.{keys_as_many, keys_with as keys_with_change}
 use Rattle.rules.proofs.Versions.{sort-length}
 use Rattle.rules.proofs.Objects.{groups_kept}
-use Rattle.rules.proofs.Records.{filter-push, operations-join, operations-push, sites-join, sites-operation, objects-join, objects-creation, legal_push}
-use Rattle.rules.proofs.Conditions.{none_of_both, not_first, none_applies, room_for_join, room_for_operation, room_for_object}
+use Rattle.rules.proofs.Records.{filter-push, operations-end, operations-join, operations-push, sites-end, sites-join, sites-operation, objects-end, objects-join, objects-creation, legal_push}
+use Rattle.rules.proofs.Conditions.{none_of_both, not_first, none_applies, open_if_admitted, room_for_end, room_for_join, room_for_operation, room_for_object}
 use Rattle.rules.proofs.Founded.{history_if_legal}
 use Rattle.rules.proofs.Histories.{follows_if}
 use Rattle.shape.proofs.Next.{numbered_if}
@@ -117,6 +117,7 @@ pub record IsWithin (b : LimitValues) (r : List Entry) : Type 0 where
   pub few : sites r ≤ b.joins
   pub objects : Rattle.std.proofs.Common.length (objects r) ≤ b.objects
   pub once : Once r
+  pub ends : (c d : ℕ) → In (Next c) r → In (Next d) r → c ≡ d
   pub fits : (o : Op) → In o (operations r) → is_change_body o.body ≡ true → Fits b (operations r) (object_of o)
 
 -- what is asked of a change that is admitted
@@ -152,7 +153,45 @@ new_name b r o legal a m =
     let last = (numbered_if (history_if_legal b r legal)).numbered o (Contains-from_In o h m) in
     omega (arith, next, last)
 
+-- what stands in a list with one item more, and isn't that item, stands in the list
+in_before : {X : Type 0} (x y : X) (xs : List X) → In x (xs ++ y ∷ []) → (x ≡ y → ⊥) → In x xs
+in_before x y xs m other = elim (In-append_cases x xs (y ∷ []) m) [ inl l ↦ l | inr q ↦ elim q [ inl e ↦ absurd (other e) | inr z ↦ absurd z ] ]
+
+-- a record in which an end stands has ended
+ended_if : (r : List Entry) (c : ℕ) → In (Next c) r → has_ended r ≡ true
+ended_if r c m = any_from is_end (Next c) r m refl
+
 module _ (b : LimitValues) (r : List Entry) (legal : IsLegal b r) (w : IsWithin b r) where
+  ends_before : (e : Entry) → is_end e ≡ false → (c d : ℕ) → In (Next c) (r ++ e ∷ []) → In (Next d) (r ++ e ∷ []) → c ≡ d
+  ends_before e goes_on c d m n = w.ends c d (in_before (Next c) e r m (other c)) (in_before (Next d) e r n (other d))
+    where
+      other : (k : ℕ) → Next k ≡ e → ⊥
+      other k is = true≢false (ap is_end is ∙ goes_on)
+
+  module _ (count : ℕ) (a : admits b r (Next count) ≡ true) where
+    going : has_ended r ≡ false
+    going = (open_if_admitted b r (Next count) a).0
+
+    the_end : (c : ℕ) → In (Next c) (r ++ Next count ∷ []) → c ≡ count
+    the_end c m = elim (In-append_cases (Next c) r (Next count ∷ []) m) [
+      | inl l ↦ absurd (true≢false (sym (ended_if r c l) ∙ going))
+      | inr q ↦ elim q [ inl e ↦ cc | inr z ↦ absurd z ]
+    ]
+
+    within_end : IsWithin b (r ++ Next count ∷ [])
+    within_end = let same = sites-end r count in record {
+      length = (let e = length_push r (Next count) in let room = room_for_end b r count a in omega (arith, e, room));
+      joins = λ s m. (let c = w.joins s (in_before (Join s) (Next count) r m (λ e. cc)) in (c.0, omega (arith, c.1, same)));
+      few = omega (arith, same, w.few);
+      objects = (let e = ap Rattle.std.proofs.Common.length (objects-end r count) in omega (arith, e, w.objects));
+      once = Once-append r (Next count ∷ []) w.once ((λ m. m), tt) (λ x m n. elim n [
+        | inl e ↦ true≢false (sym (ended_if r count (subst (λ z. In z r) e m)) ∙ going)
+        | inr z ↦ z
+      ]);
+      ends = λ c d m n. the_end c m ∙ sym (the_end d n);
+      fits = λ o m t. subst (λ h. Fits b h (object_of o)) (sym (operations-end r count)) (w.fits o (subst (λ h. In o h) (operations-end r count) m) t);
+    }
+
   within_join : (site : ℕ) → admits b r (Join site) ≡ true → IsWithin b (r ++ Join site ∷ [])
   within_join site a =
       let room = room_for_join b r site a in
@@ -173,6 +212,7 @@ module _ (b : LimitValues) (r : List Entry) (legal : IsLegal b r) (w : IsWithin 
           | inl e ↦ (let c = w.joins site (subst (λ z. In z r) e m) in omega (arith, c.1, next))
           | inr z ↦ z
         ]);
+        ends = ends_before (Join site) refl;
         fits = λ o m t. subst (λ h. Fits b h (object_of o)) (sym (operations-join r site)) (w.fits o (subst (λ h. In o h) (operations-join r site) m) t);
       }
 
@@ -257,6 +297,7 @@ module _ (b : LimitValues) (r : List Entry) (legal : IsLegal b r) (w : IsWithin 
         | inl e ↦ new_name b r p legal a (In-filter_map operation_in (Operation p) p r (subst (λ z. In z r) e m) refl)
         | inr z ↦ z
       ]);
+      ends = ends_before (Operation p) refl;
       fits = λ o m t. subst (λ k. Fits b k (object_of o)) (sym (operations-push r p)) (fits_with o (subst (λ k. In o k) (operations-push r p) m) t);
     }
 
@@ -265,6 +306,9 @@ within_after b r [] l w g = subst (IsWithin b) (sym (append-nil r)) w
 within_after b r (Join site ∷ rest) l w g =
     subst (IsWithin b) (append_assoc r (Join site ∷ []) rest)
     (within_after b (r ++ Join site ∷ []) rest (legal_push b r (Join site) l g.0) (within_join b r l w site g.0) g.1)
+within_after b r (Next count ∷ rest) l w g =
+    subst (IsWithin b) (append_assoc r (Next count ∷ []) rest)
+    (within_after b (r ++ Next count ∷ []) rest (legal_push b r (Next count) l g.0) (within_end b r l w count g.0) g.1)
 within_after b r (Operation o ∷ rest) l w g =
     subst (IsWithin b) (append_assoc r (Operation o ∷ []) rest)
     (within_after b (r ++ Operation o ∷ []) rest (legal_push b r (Operation o) l g.0) (within_operation b r l w o g.0) g.1)
@@ -276,6 +320,7 @@ within_empty b = record {
   few = omega arith;
   objects = omega arith;
   once = tt;
+  ends = λ c d m n. absurd m;
   fits = λ o m t. absurd m;
 }
 

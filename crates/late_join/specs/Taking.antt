@@ -7,14 +7,14 @@ use Rattle.std.specs.List.Sorted.{IsPermutation}
 use Rattle.base_types.specs.Vectors.{is_vector}
 use Rattle.rules.specs.declared.history.Op.{Op}
 use Rattle.rules.specs.declared.history.Entry.{Entry}
-use Rattle.rules.specs.declared.history.Entry.TheVariants.{Join, Operation}
+use Rattle.rules.specs.declared.history.Entry.TheVariants.{Join, Operation, Next}
 use Rattle.rules.specs.declared.refusal.Refusal.TheVariants.{RoomFull, RecordFull, OwnCount}
 use Rattle.rules.specs.declared.refusal.Refusal.TheVariants.{NotClosed}
 use Rattle.rules.specs.declared.limits.LimitValues.{LimitValues}
 use Rattle.rules.specs.Operations.{operation}
 use Rattle.rules.specs.Admission.{Condition, first_that_applies, names_counted, count_at_site}
 use Rattle.rules.specs.Admission.{has_wrong_seq, has_wrong_own_count, is_ahead, is_not_closed}
-use Rattle.rules.specs.Records.{operations, body_conditions}
+use Rattle.rules.specs.Records.{operations, body_conditions, has_ended, next_conditions}
 use Rattle.late_join.specs.declared.fault.TakeFault.{TakeFault}
 use Rattle.late_join.specs.declared.fault.TakeFault.TheVariants.{Repeat, Early, Refused}
 
@@ -24,15 +24,17 @@ use Rattle.late_join.specs.declared.fault.TakeFault.TheVariants.{Repeat, Early, 
 abbrev pub is_join_of : ℕ → Entry → Bool
 is_join_of site (Join other) = other == site
 is_join_of site (Operation op) = false
+is_join_of site (Next count) = false
 
 -- the site's join was taken
 abbrev pub has_joined : List Entry → ℕ → Bool
 has_joined t site = list_any (is_join_of site) t
 
--- the entry was taken: the join, or an operation of the site with this number
+-- the entry was taken: the join, an operation of the site with this number, or an end
 abbrev pub is_repeat : List Entry → Entry → Bool
 is_repeat t (Join site) = has_joined t site
 is_repeat t (Operation op) = nat_le op.name.1 (count_at_site (operations t) op.name.0)
+is_repeat t (Next count) = has_ended t
 
 -- the vector counts an operation of another site that was not taken
 abbrev pub lacks_another : List Op → Op → Bool
@@ -48,6 +50,7 @@ is_early t (Join site) = false
 is_early t (Operation op) =
     not (has_joined t op.name.0) || has_wrong_seq (operations t) op.name
     || lacks_another (operations t) op
+is_early t (Next count) = false
 
 -- ---- what is refused
 
@@ -62,11 +65,13 @@ arriving_conditions b t op =
     (nat_le b.entries (length t), RecordFull) ∷ (has_wrong_own_count op.name op.seen, OwnCount)
     ∷ (is_not_closed (operations t) op.seen, NotClosed) ∷ []
 
--- the conditions for an entry that is neither a repeat nor early, in this order
+-- the conditions for an entry that is neither a repeat nor early, in this order. An end ends nothing
+-- here: what comes before it may be taken after it
 abbrev pub taking_conditions : LimitValues → List Entry → Entry → List Condition
 taking_conditions b t (Join site) = joining_conditions b t site
 taking_conditions b t (Operation op) =
     arriving_conditions b t op ++ body_conditions b t op
+taking_conditions b t (Next count) = next_conditions b t
 
 -- why this entry, whose vector is in range, is not taken after these; `None` if it may be
 unfoldable pub take_fault : LimitValues → List Entry → Entry → Option TakeFault
@@ -81,6 +86,7 @@ take_fault b t entry =
 abbrev pub is_entry : Entry → Bool
 is_entry (Join site) = true
 is_entry (Operation op) = is_vector op.seen
+is_entry (Next count) = true
 
 -- the entry may be taken next
 abbrev pub may_take : LimitValues → List Entry → Entry → Bool
@@ -102,6 +108,7 @@ IsTakeable b t = IsTakeableAfter b [] t
 abbrev pub has_past : List Entry → Entry → Bool
 has_past t (Join site) = true
 has_past t (Operation op) = has_joined t op.name.0 && not (is_ahead (operations t) op.seen)
+has_past t (Next count) = true
 
 abbrev pub IsInOrderAfter : List Entry → List Entry → Type 0
 IsInOrderAfter t [] = Unit {0}

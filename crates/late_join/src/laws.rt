@@ -10,7 +10,7 @@ ghost use Rattle.rules.specs.declared.limits.LimitValues.{LimitValues};
 ghost use Rattle.rules.specs.Admission.{first_that_applies};
 ghost use Rattle.rules.specs.Operations.{IsHistory, IsCausallyOrdered};
 ghost use Rattle.rules.specs.Conflicts.{IsFounded};
-ghost use Rattle.rules.specs.Records.{operations, refusal, IsLegal};
+ghost use Rattle.rules.specs.Records.{has_ended, operations, refusal, IsLegal};
 ghost use Rattle.rules.specs.Versions.{versions};
 ghost use Rattle.drawing.specs.Shown.{shown};
 ghost use Rattle.late_join.specs.Taking.{is_repeat, is_early, taking_conditions, IsTakeable};
@@ -43,11 +43,12 @@ pub fn takeable_lists_are_histories()
         → IsFounded (operations t) }
 {}
 
-/// Consider an operation after a takeable list that is neither a repeat nor early. It is refused
+/// Consider an operation after a takeable list without an end that is neither a repeat nor early. It is refused
 /// where a room with these entries refuses it, by the same refusal.
 pub fn an_operation_is_refused_as_a_room_refuses_it()
     ensures { (b : LimitValues) (t : List Entry) (op : Op) → IsTakeable b t
         → is_vector op.seen ≡ true
+        → has_ended t ≡ false
         → is_repeat t (Operation op) ≡ false → is_early t (Operation op) ≡ false
         → first_that_applies (taking_conditions b t (Operation op)) ≡ refusal b t (Operation op) }
 {}

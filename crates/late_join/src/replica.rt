@@ -4,10 +4,10 @@ ghost use Rattle.std.specs.Prelude.{◌≡◌, ◌≢◌, ◌==◌, not, ◌&&�
 ghost use Rattle.std.specs.Prelude.{Some, IfErr, IfOk, OnOk, OnErr};
 ghost use Rattle.std.specs.Arc.{arc_value};
 ghost use Rattle.std.specs.List.{list_any};
-ghost use Rattle.rules.specs.declared.history.Entry.TheVariants.{Join, Operation};
+ghost use Rattle.rules.specs.declared.history.Entry.TheVariants.{Join, Next, Operation};
 ghost use Rattle.rules.specs.Operations.{name_of};
 ghost use Rattle.rules.specs.Admission.{count_at_site, has_wrong_seq};
-ghost use Rattle.rules.specs.Records.{operations, objects};
+ghost use Rattle.rules.specs.Records.{has_ended, operations, objects};
 ghost use Rattle.base_types.specs.Vectors.{is_vector};
 ghost use Rattle.drawing.specs.Shown.{shown};
 ghost use Rattle.late_join.specs.declared.fault.TakeFault.TheVariants.{NoMemory as WantOfMemory};
@@ -44,6 +44,7 @@ pub struct Fed {
 #[derive(Drop)]
 pub struct Replica {
     sites: Vec<u32>,
+    has_ended: bool,
     drawing: Drawing,
 }
 
@@ -55,7 +56,8 @@ impl Model for Replica {
 
     ghost view = { λ s. record { limits = s.drawing.room.limits; taken = s.drawing.room.entries } };
 
-    ghost invariant = { λ s. IsReplica s.drawing.room.limits s.drawing.room.entries s.sites.items };
+    ghost invariant = { λ s. IsReplica
+        s.drawing.room.limits s.drawing.room.entries s.sites.items s.has_ended };
 }
 
 /// Returns whether the site is in the list.
@@ -86,6 +88,7 @@ impl Replica {
         let drawing = Drawing::new(alloc, limits)?;
         Ok(Replica {
             sites: Vec::new(alloc),
+            has_ended: false,
             drawing,
         })
     }
@@ -103,6 +106,13 @@ impl Replica {
         ensures { result ≡ has_joined self.now.taken site }
     {
         holds(&self.sites, site)
+    }
+
+    /// Returns whether the end of the record was taken.
+    pub fn has_ended(&self) -> bool
+        ensures { result ≡ has_ended self.now.taken }
+    {
+        self.has_ended
     }
 
     /// Returns whether the operation counts an operation of another site that was not taken.
@@ -193,6 +203,38 @@ impl Replica {
         Ok(())
     }
 
+    /// Adds the end of the record, which may be taken. On `Err` nothing has changed.
+    fn add_end(&mut self, alloc: Global, count: u32) -> Result<(), NoMemory>
+        requires { take_fault self.old.limits self.old.taken (Next count) ≡ None }
+        ensures ok { OnOk result (self.new ≡ with_taken self.old (Next count)) }
+        ensures err { OnErr result (self.new ≡ self.old) }
+    {
+        let addition = self.drawing.plan_end(alloc, count)?;
+        self.has_ended = true;
+        self.drawing.commit(addition);
+        Ok(())
+    }
+
+    /// Takes the end of the record.
+    #[tactic(auto, unfolding(crate::specs::Taking::take_fault))]
+    fn take_end(&mut self, alloc: Global, count: u32) -> Result<(), TakeFault>
+        ensures accepted { OnOk result
+            (take_fault self.old.limits self.old.taken (Next count) ≡ None) }
+        ensures fault { IfErr result (λ fault. fault ≢ WantOfMemory
+            → take_fault self.old.limits self.old.taken (Next count) ≡ Some fault) }
+        ensures ok { OnOk result (self.new ≡ with_taken self.old (Next count)) }
+        ensures err { OnErr result (self.new ≡ self.old) }
+    {
+        if self.has_ended() {
+            return Err(TakeFault::Repeat);
+        }
+        if self.drawing.is_full() {
+            return Err(TakeFault::Refused(Refusal::RecordFull));
+        }
+        self.add_end(alloc, count)?;
+        Ok(())
+    }
+
     /// Takes an operation.
     fn take_operation(&mut self, alloc: Global, op: Op) -> Result<(), TakeFault>
         ensures accepted { OnOk result
@@ -230,6 +272,7 @@ impl Replica {
         match entry {
             Entry::Join(site) => self.take_join(alloc, site),
             Entry::Operation(op) => self.take_operation(alloc, op),
+            Entry::Next(count) => self.take_end(alloc, count),
         }
     }
 }

@@ -9,7 +9,7 @@ ghost use Rattle.base_types.specs.Vectors.{is_vector};
 ghost use Rattle.wire.specs.Form.{IsAttr, IsBody, IsEntry, IsId, IsValue};
 
 use base_types::{Key, MAX_SITE, OpName, Value, VersionId};
-use rules::{Body, Entry, Op};
+use rules::{Body, Entry, Limits, Op};
 use std::sync::Arc;
 
 /// A name is in range. The calls read the type's invariant into the proof.
@@ -107,6 +107,7 @@ pub fn is_in_range(entry: &Entry) -> bool
 {
     match entry {
         Entry::Join(site) => 1 <= *site && *site <= MAX_SITE,
+        Entry::Next(count) => *count <= Limits::MAX_ENTRIES,
         Entry::Operation(op) => {
             operation_in_range(op);
             true

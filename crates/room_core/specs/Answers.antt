@@ -110,11 +110,6 @@ unfoldable pub answer : Room → ℕ → Request → Outcome
 answer room site request =
     if has_site room site then site_answer room site request else reply_alone (No 0 NotJoined)
 
--- the answer to the request for an entry: the next site's join, or the operation of a site
-abbrev pub answer_to : Room → Entry → Outcome
-answer_to room (Join site) = join_answer room
-answer_to room (Operation op) = operation_answer room op
-
 -- the entry itself, if it may come next
 abbrev pub admitted : Room → Entry → Option Entry
 admitted room entry = if admits room.limits room.entries entry then Some entry else None

@@ -1,10 +1,12 @@
 //! A room.
 
-ghost use Rattle.std.specs.Prelude.{◌≡◌, ◌≤◌, ◌+◌, length, map, true, Some, IfOk, OnOk, OnErr, if◌then◌else◌};
+ghost use Rattle.std.specs.Prelude.{◌≡◌, ◌≤◌, ◌+◌, ◌||◌, length, map, true, Some, IfOk, OnOk, OnErr, if◌then◌else◌};
 ghost use Rattle.std.specs.Arc.{arc_value};
 ghost use Rattle.rules.specs.declared.limits.TheConstants.Limits.{MAX_JOINS};
-ghost use Rattle.rules.specs.Records.{is_join, objects, sites, IsLegal};
+ghost use Rattle.rules.specs.Operations.{name_of};
+ghost use Rattle.rules.specs.Records.{has_ended, is_end, is_join, objects, sites, IsLegal};
 ghost use Rattle.wire.specs.declared.reply.Reply.TheVariants.{No};
+ghost use Rattle.drawing.specs.Shown.{shown};
 ghost use Rattle.drawing.specs.steps.Additions.{IsReady as CanBeAdded};
 ghost use Rattle.room_core.specs.Room.{with_entry, empty_room};
 ghost use Rattle.room_core.specs.Answers.{join_answer, back_reply, answer, site_answer, has_site, room_after};
@@ -14,7 +16,7 @@ mod accepted;
 mod plans;
 
 use crate::planned::Planned;
-use base_types::NoMemory;
+use base_types::{NoMemory, OpName};
 use drawing::{Addition, Drawing};
 use rules::{Entry, Limits, Refusal};
 use std::alloc::Global;
@@ -27,6 +29,7 @@ use wire::{Reply, Request};
 pub struct RoomState {
     drawing: Drawing,
     sites: u32,
+    has_ended: bool,
 }
 
 impl Model for RoomState {
@@ -37,7 +40,7 @@ impl Model for RoomState {
 
     ghost view = { λ s. s.drawing };
 
-    ghost invariant = { λ s. IsRoom s.drawing.room s.sites };
+    ghost invariant = { λ s. IsRoom s.drawing.room s.sites s.has_ended };
 }
 
 impl RoomState {
@@ -50,7 +53,11 @@ impl RoomState {
         ensures { IfOk result (λ state. state.room ≡ empty_room limits) }
     {
         let drawing = Drawing::new(alloc, limits)?;
-        Ok(RoomState { drawing, sites: 0 })
+        Ok(RoomState {
+            drawing,
+            sites: 0,
+            has_ended: false,
+        })
     }
 
     /// Answers a join, and adds it if the limits allow it.
@@ -107,6 +114,29 @@ impl RoomState {
             site,
             seq: self.drawing.past().count(site),
         }
+    }
+
+    /// The names of the objects, in order of creation. Linear in their number.
+    ///
+    /// # Errors
+    ///
+    /// `NoMemory` if an allocation failed.
+    pub fn names(&self, alloc: Global) -> Result<Vec<OpName>, NoMemory>
+        ensures { IfOk result (λ names.
+            names.items ≡ map name_of (objects self.now.room.entries)) }
+    {
+        self.drawing.names(alloc)
+    }
+
+    /// The versions of an object, or the refusal `NoSuchObject` if no object has this name.
+    ///
+    /// # Errors
+    ///
+    /// `NoMemory` if an allocation failed.
+    pub fn show(&self, alloc: Global, object: OpName) -> Result<Reply, NoMemory>
+        ensures { IfOk result (λ reply. reply ≡ shown self.now.room.entries object) }
+    {
+        self.drawing.show(alloc, object)
     }
 
     /// Prepares the answer to a request of a site. The room stays as it is.
@@ -169,7 +199,10 @@ impl RoomState {
         requires admitted { IsAdmitted self.old.room addition.entry }
         ensures { self.new.room ≡ with_entry self.old.room (Some addition.entry) }
     {
-        self.sites = sites_with(self.sites(), &addition);
+        let joined = sites_with(self.sites(), &addition);
+        let ended = ended_with(self.has_ended(), &addition);
+        self.sites = joined;
+        self.has_ended = ended;
         self.drawing.commit(addition);
     }
 
@@ -180,6 +213,13 @@ impl RoomState {
     {
         let _bound = self.drawing.limits().joins();
         self.sites
+    }
+
+    /// Has the record ended?
+    pub fn has_ended(&self) -> bool
+        ensures { result ≡ has_ended self.now.room.entries }
+    {
+        self.has_ended
     }
 
     /// The number of objects.
@@ -219,6 +259,13 @@ fn sites_with(sites: u32, addition: &Addition) -> u32
     ensures { result ≡ sites + (if is_join addition.now.entry then 1 else 0) }
 {
     if addition.is_join() { sites + 1 } else { sites }
+}
+
+/// Whether a record that has ended or not has ended with this entry.
+fn ended_with(has_ended: bool, addition: &Addition) -> bool
+    ensures { result ≡ (has_ended || is_end addition.now.entry) }
+{
+    has_ended || addition.is_end()
 }
 
 /// A refusal that looks into no room.

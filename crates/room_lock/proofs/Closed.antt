@@ -10,6 +10,7 @@ use Rattle.rules.specs.declared.limits.LimitValues.{LimitValues}
 use Rattle.rules.specs.Records.{sites, IsLegal}
 use Rattle.openings.specs.Openings.{OpeningView}
 use Rattle.room_lock.specs.Passes.{PartView}
+use Rattle.room_lock.specs.Sites.{count_of_sites}
 use Rattle.room_lock.specs.Kept.{count_of_site}
 use Rattle.room_lock.specs.Shelves.{Shelf, IsPartFor, IsShelfOf, part_of}
 use Rattle.room_lock.specs.Closing.{HasItsEntries, IsClosed, IsComplete, IsOfRecord, added_of, site_of}
@@ -43,7 +44,7 @@ sites_from (x ∷ xs) from at =
 
 module _ (limits : LimitValues) (opening : OpeningView) (r : List Entry) (shelf : Shelf) (parts : List PartView)
     (legal : IsLegal limits r) (kept : IsShelfOf opening r shelf) (full : map Some parts ≡ shelf)
-    (own : All HasItsEntries parts) (whole : sum_by added_of parts ≡ length r)
+    (own : All HasItsEntries parts) (whole : sum_by added_of parts ≡ count_of_sites r)
   where
     part_at : (k : ℕ) (part : PartView) → slice_get parts k ≡ Some part → IsPartFor opening r (suc k) part
     part_at k part is = kept.parts (suc k) part (ap (λ (s : Shelf). part_of s (suc k)) (sym full) ∙ at_full parts k part is)
@@ -106,7 +107,7 @@ absent_one r shelf holds = λ complete.
     absent_at : (parts : List PartView) → Contains (map Some parts) None → ⊥
     absent_at parts at = none_absent parts at.0 at.1 at.2
 
-pub other_sum : (r : List Entry) (shelf : Shelf) (parts : List PartView) → map Some parts ≡ shelf → ¬ (sum_by added_of parts ≡ length r) → ¬ (IsComplete r shelf)
+pub other_sum : (r : List Entry) (shelf : Shelf) (parts : List PartView) → map Some parts ≡ shelf → ¬ (sum_by added_of parts ≡ count_of_sites r) → ¬ (IsComplete r shelf)
 other_sum r shelf parts full other = λ complete.
     let same = same_parts complete.0 parts (complete.1 ∙ sym full) in
     other (ap (sum_by added_of) (sym same) ∙ complete.2)

@@ -1,22 +1,14 @@
 -- Shares that add up to a record are each as many as the entries of their site.
-use Rattle.std.proofs.Common.{◌≡◌, ℕ, zero, suc, ◌+◌, ◌<◌, ◌≤◌, Bool, true, false, cond, List, [], ◌∷◌, length, map, refl, sym, ap, ◌∙◌, arith, eqb}
+use Rattle.std.proofs.Common.{◌≡◌, ℕ, zero, suc, ◌+◌, ◌<◌, ◌≤◌, Bool, true, false, cond, not, List, [], ◌∷◌, length, map, refl, sym, ap, ◌∙◌, arith, eqb}
 use Rattle.std.specs.Prelude.{sum_by}
 use Rattle.std.specs.List.{range_with_len, AllByRecursion}
 use Rattle.std.proofs.lemmas.Bool.{eqb-true, ne_eqb}
 use Rattle.std.proofs.lemmas.List.Sums.{sum_by-cons}
 use Rattle.rules.specs.declared.history.Entry.{Entry}
-use Rattle.rules.specs.declared.history.Entry.TheVariants.{Join, Operation}
-use Rattle.room_lock.specs.Sites.{is_of_site}
+use Rattle.rules.specs.declared.history.Entry.TheVariants.{Join, Next, Operation}
+use Rattle.rules.specs.Records.{is_end}
+use Rattle.room_lock.specs.Sites.{is_of_site, count_of_sites}
 use Rattle.room_lock.specs.Kept.{count_of_site}
-
--- the site of an entry
-abbrev site_in : Entry → ℕ
-site_in (Join site) = site
-site_in (Operation op) = op.name.0
-
-of_its_site : (site : ℕ) (e : Entry) → is_of_site site e ≡ eqb (site_in e) site
-of_its_site site (Join joined) = refl
-of_its_site site (Operation op) = refl
 
 -- 1 at the number
 abbrev is_here : ℕ → ℕ → ℕ
@@ -61,18 +53,25 @@ sum_of_zero : (xs : List ℕ) → sum_by (λ x. 0) xs ≡ 0
 sum_of_zero [] = refl
 sum_of_zero (x ∷ xs) = let first = sum_by-cons (λ y. 0) x xs in let rest = sum_of_zero xs in omega (arith, first, rest)
 
--- all sites together have no more entries than there are
-pub counts_within : (from count : ℕ) (r : List Entry) → sum_by (λ site. count_of_site site r) (range_with_len from count) ≤ length r
+-- an entry is of one site at most, and an end of none
+one_entry : (from count : ℕ) (e : Entry) → sum_by (λ site. cond (is_of_site site e) 1 0) (range_with_len from count) ≤ cond (not (is_end e)) 1 0
+one_entry from count (Join site) = one_at_most site from count
+one_entry from count (Operation op) = one_at_most op.name.0 from count
+one_entry from count (Next n) = let none = sum_of_zero (range_with_len from count) in omega (arith, none)
+
+-- all sites together have no more entries than there are beside the end
+pub counts_within : (from count : ℕ) (r : List Entry) → sum_by (λ site. count_of_site site r) (range_with_len from count) ≤ count_of_sites r
 counts_within from count [] = let none = sum_of_zero (range_with_len from count) in omega (arith, none)
 counts_within from count (e ∷ r) =
     let sites = range_with_len from count in
-    let split : sum_by (λ site. count_of_site site (e ∷ r)) sites ≡ sum_by (λ site. is_here (site_in e) site + count_of_site site r) sites =
-    sum_same (λ site. count_of_site site (e ∷ r)) (λ site. is_here (site_in e) site + count_of_site site r) sites
-    (λ site. sum_by-cons (λ x. cond (is_of_site site x) 1 0) e r ∙ ap (λ b. cond b 1 0 + count_of_site site r) (of_its_site site e)) in
-    let two = sum_of_two (is_here (site_in e)) (λ site. count_of_site site r) sites in
-    let one = one_at_most (site_in e) from count in
+    let split : sum_by (λ site. count_of_site site (e ∷ r)) sites ≡ sum_by (λ site. cond (is_of_site site e) 1 0 + count_of_site site r) sites =
+    sum_same (λ site. count_of_site site (e ∷ r)) (λ site. cond (is_of_site site e) 1 0 + count_of_site site r) sites
+    (λ site. sum_by-cons (λ x. cond (is_of_site site x) 1 0) e r) in
+    let two = sum_of_two (λ site. cond (is_of_site site e) 1 0) (λ site. count_of_site site r) sites in
+    let one = one_entry from count e in
     let rest = counts_within from count r in
-    omega (arith, split, two, one, rest)
+    let more = sum_by-cons (λ x. cond (not (is_end x)) 1 0) e r in
+    omega (arith, split, two, one, rest, more)
 
 -- where each is at most another, and together they are no less, each is the other
 module _ {X : Type 0} (f g : X → ℕ) where

@@ -1,10 +1,11 @@
 -- A closed room.
-use Rattle.std.specs.Prelude.{◌≡◌, ◌≤◌, ℕ, All, List, Some, length, map, sum_by}
+use Rattle.std.specs.Prelude.{◌≡◌, ◌≤◌, ℕ, All, List, Some, map, sum_by}
 use Rattle.std.specs.List.{range_with_len}
 use mathlib.Core.List.{IsPrefix}
 use Rattle.rules.specs.declared.history.Entry.{Entry}
 use Rattle.rules.specs.declared.limits.LimitValues.{LimitValues}
 use Rattle.rules.specs.Records.{sites, IsLegal}
+use Rattle.room_lock.specs.Sites.{count_of_sites}
 use Rattle.room_lock.specs.Kept.{count_of_site}
 use Rattle.room_lock.specs.Passes.{PartView}
 use Rattle.room_lock.specs.Shelves.{Shelf}
@@ -24,15 +25,16 @@ pub record IsOfRecord (r : List Entry) (part : PartView) : Type 0 where
   pub seen : IsPrefix part.seen r
   pub added : part.added ≡ count_of_site part.site r
 
--- The parts of all sites are on the shelf. Together they added as many entries as the record has.
+-- The parts of all sites are on the shelf. Together they added all entries of the record but its
+-- end.
 abbrev pub IsComplete : List Entry → Shelf → Type 0
 IsComplete r shelf =
-    (parts : List PartView) × (map Some parts ≡ shelf) × (sum_by added_of parts ≡ length r)
+    (parts : List PartView) × (map Some parts ≡ shelf) × (sum_by added_of parts ≡ count_of_sites r)
 
 -- A closed room: its record is legal, and these are the parts of all its sites, in order. Together
--- they added as many entries as the record has, so each entry belongs to one of them.
+-- they added all its entries but its end, so each other entry belongs to one of them.
 pub record IsClosed (limits : LimitValues) (r : List Entry) (parts : List PartView) : Type 0 where
   pub legal : IsLegal limits r
   pub sites_are : map site_of parts ≡ range_with_len 1 (sites r)
   pub of_record : All (IsOfRecord r) parts
-  pub whole : sum_by added_of parts ≡ length r
+  pub whole : sum_by added_of parts ≡ count_of_sites r

@@ -37,6 +37,7 @@ fn is_of_site(site: u32, entry: &Entry) -> bool
     match entry {
         Entry::Join(joined) => *joined == site,
         Entry::Operation(op) => op.name.site() == site,
+        Entry::Next(_) => false,
     }
 }
 

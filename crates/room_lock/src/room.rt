@@ -11,7 +11,7 @@ ghost use Rattle.room_lock.specs.declared.fault.CallFault.TheVariants as call_fa
 ghost use Rattle.room_core.specs.Room.{room_of};
 ghost use Rattle.room_core.specs.Answers.{join_answer, answer, room_after};
 ghost use Rattle.room_lock.specs.steps.Differences.{first_difference};
-ghost use Rattle.room_lock.specs.Sites.{none_or_one};
+ghost use Rattle.room_lock.specs.Sites.{count_of_sites, none_or_one};
 ghost use Rattle.room_lock.specs.Closing.{IsClosed, IsComplete};
 ghost use Rattle.room_lock.specs.declared.fault.CloseFault.TheVariants as close_fault;
 ghost use Rattle.room_lock.specs.Shelves.{full_shelf, is_away, part_of, with_at};
@@ -313,11 +313,12 @@ impl<P: RoomHistories> Room<P> {
             opening: _,
             shelf,
         } = self;
+        let own = count_of_sites(&state);
         let entries = state.into_entries();
         let Some(parts) = all_parts(alloc, shelf)? else {
             return Err(CloseFault::Missing { room: name });
         };
-        if added_together(parts.as_slice()) != entries.len() as u128 {
+        if added_together(parts.as_slice()) != own as u128 {
             return Err(CloseFault::Missing { room: name });
         }
         Ok(RoomRecord {
@@ -341,6 +342,19 @@ impl<P: RoomHistories> Room<P> {
         } else {
             Some(record)
         }
+    }
+}
+
+/// The number of entries that sites have added: all but the end.
+#[tactic(auto, using(crate::proofs::Answers::beside_the_end))]
+fn count_of_sites(state: &RoomState) -> usize
+    ensures { result ≡ count_of_sites state.now.room.entries }
+{
+    let len = len_of(state);
+    if state.has_ended() {
+        len.saturating_sub(1)
+    } else {
+        len
     }
 }
 

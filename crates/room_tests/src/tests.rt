@@ -1,9 +1,11 @@
-//! Rooms, replicas of them, records in journals, scripts and commands.
+//! Rooms, replicas and renewals of them, records in journals, scripts and commands.
 
 mod checks;
 mod interrupted;
 mod kept;
+mod names;
 mod one_room;
+mod renewals;
 mod replicas;
 mod requests;
 mod scripts;

@@ -136,16 +136,28 @@ pub(crate) fn reply_to<S: Read + Write + Drop, K: MaskKeys + Drop>(
     Ok(read_reply(alloc, text.as_bytes())?)
 }
 
-/// Comes back as the first site of the room that no session is in as. Returns whether there is one.
+/// What asking to enter a room gave.
+#[derive(Drop)]
+enum Entrance {
+    /// The session is in the room.
+    Entered,
+    /// Each site of the room is in use.
+    NoSite,
+    /// The room's chain goes on in this one.
+    Renewed(RoomName),
+}
+
+/// Comes back as the first site of the room that no session is in as.
 fn come_back<S: Read + Write + Drop, K: MaskKeys + Drop>(
     alloc: Global,
     socket: &mut WebSocket<S, K>,
     room: &RoomName,
-) -> Result<bool, WatchFault> {
+) -> Result<Entrance, WatchFault> {
     for site in 1..=MAX_SITE {
         let room = room.copy(alloc)?;
         match reply_to(alloc, socket, &Request::Back { room, site })? {
-            Reply::Returned { .. } => return Ok(true),
+            Reply::Returned { .. } => return Ok(Entrance::Entered),
+            Reply::Renewed { at: _, room } => return Ok(Entrance::Renewed(room)),
             Reply::No {
                 refusal: Refusal::SiteInUse,
                 ..
@@ -153,11 +165,11 @@ fn come_back<S: Read + Write + Drop, K: MaskKeys + Drop>(
             Reply::No {
                 refusal: Refusal::NoSuchSite,
                 ..
-            } => return Ok(false),
+            } => return Ok(Entrance::NoSite),
             _ => return Err(WatchFault::Session),
         }
     }
-    Ok(false)
+    Ok(Entrance::NoSite)
 }
 
 /// Joins the room of this name.
@@ -165,24 +177,61 @@ fn join<S: Read + Write + Drop, K: MaskKeys + Drop>(
     alloc: Global,
     socket: &mut WebSocket<S, K>,
     room: &RoomName,
-) -> Result<(), WatchFault> {
+) -> Result<Entrance, WatchFault> {
     let room = room.copy(alloc)?;
     match reply_to(alloc, socket, &Request::Join { room })? {
-        Reply::Joined { .. } => Ok(()),
+        Reply::Joined { .. } => Ok(Entrance::Entered),
+        Reply::Renewed { at: _, room } => Ok(Entrance::Renewed(room)),
         _ => Err(WatchFault::Session),
     }
 }
 
-/// Enters the room of this name: as a site that no session is in as, or else as the next site.
+/// Enters the room of this name: as a site that no session is in as, or else as the next site. Gives
+/// the room in which its chain goes on, if it was not entered for that.
 fn enter<S: Read + Write + Drop, K: MaskKeys + Drop>(
     alloc: Global,
     socket: &mut WebSocket<S, K>,
     room: &RoomName,
-) -> Result<(), WatchFault> {
-    if come_back(alloc, socket, room)? {
-        return Ok(());
+) -> Result<Option<RoomName>, WatchFault> {
+    let entrance = match come_back(alloc, socket, room)? {
+        Entrance::NoSite => join(alloc, socket, room)?,
+        entrance => entrance,
+    };
+    match entrance {
+        Entrance::Entered => Ok(None),
+        Entrance::Renewed(newest) => Ok(Some(newest)),
+        Entrance::NoSite => Err(WatchFault::Session),
     }
-    join(alloc, socket, room)
+}
+
+/// Enters the room of this name, or the newest of its chain, and reads its record into a replica.
+fn enter_and_pull<S: Read + Write + Drop, K: MaskKeys + Drop>(
+    alloc: Global,
+    socket: &mut WebSocket<S, K>,
+    room: &RoomName,
+) -> Result<Replica, WatchFault> {
+    if let Some(newest) = enter(alloc, socket, room)?
+        && enter(alloc, socket, &newest)?.is_some()
+    {
+        return Err(WatchFault::Session);
+    }
+    pull_record(alloc, socket)
+}
+
+/// Leaves the room of this name, which has ended, for the newest one of its chain. `None` if the
+/// server knows none; the session is then in no room.
+fn newest_of<S: Read + Write + Drop, K: MaskKeys + Drop>(
+    alloc: Global,
+    socket: &mut WebSocket<S, K>,
+    room: &RoomName,
+) -> Result<Option<RoomName>, WatchFault> {
+    leave_room(alloc, socket)?;
+    let room = room.copy(alloc)?;
+    match reply_to(alloc, socket, &Request::Join { room })? {
+        Reply::Renewed { at: _, room } => Ok(Some(room)),
+        Reply::No { .. } => Ok(None),
+        _ => Err(WatchFault::Session),
+    }
 }
 
 /// A replica of the whole record, read page by page.
@@ -233,15 +282,24 @@ fn lines_of(alloc: Global, replica: &Replica) -> Result<String, WatchFault> {
     Ok(lines)
 }
 
+/// Leaves the room.
+fn leave_room<S: Read + Write + Drop, K: MaskKeys + Drop>(
+    alloc: Global,
+    socket: &mut WebSocket<S, K>,
+) -> Result<(), WatchFault> {
+    match reply_to(alloc, socket, &Request::Leave)? {
+        Reply::Left { .. } => Ok(()),
+        _ => Err(WatchFault::Session),
+    }
+}
+
 /// Leaves the room, closes the session with 1000 (RFC 6455, section 7.4.1), and reads until the
 /// closing handshake is completed.
 fn leave<S: Read + Write + Drop, K: MaskKeys + Drop>(
     alloc: Global,
     socket: &mut WebSocket<S, K>,
 ) -> Result<(), WatchFault> {
-    let Reply::Left { .. } = reply_to(alloc, socket, &Request::Leave)? else {
-        return Err(WatchFault::Session);
-    };
+    leave_room(alloc, socket)?;
     socket.close(Some(CloseFrame {
         code: CloseCode::Normal,
         reason: Utf8Bytes::from_static(""),
@@ -264,8 +322,8 @@ pub(crate) fn write_lines<W: Write>(output: &mut W, lines: &str) -> Result<(), W
     Ok(())
 }
 
-/// Opens a session over the stream. The path of its request is a slash and the room's name, so it may
-/// enter the room also where sessions are confined to the room of their path.
+/// Opens a session over the stream. The path of its request is a slash and the name of the first room of
+/// the chain, so it may enter the room also where sessions are confined to the chain of their path.
 pub(crate) fn session_over<'a, R, S>(
     rt: &'a R,
     alloc: Global,
@@ -276,8 +334,9 @@ where
     R: RandomSource,
     S: Read + Write + Drop,
 {
-    let room = room.text();
-    let url = format!(in alloc; "ws://localhost/{room}")?;
+    let first = room.first(alloc)?;
+    let name = first.text();
+    let url = format!(in alloc; "ws://localhost/{name}")?;
     let request = request_of(alloc, &url)?;
     match client(alloc, rt, request, stream) {
         Ok((socket, _response)) => Ok(socket),
@@ -286,8 +345,8 @@ where
     }
 }
 
-/// Enters the room of this name, and writes the lines of all its objects. Returns the replica that
-/// it read.
+/// Enters the room of this name, or the newest of its chain if it has ended, and writes the lines of all
+/// its objects. Returns the replica that it read.
 pub(crate) fn show_room<S, K, W>(
     alloc: Global,
     socket: &mut WebSocket<S, K>,
@@ -299,14 +358,18 @@ where
     K: MaskKeys + Drop,
     W: Write,
 {
-    enter(alloc, socket, room)?;
-    let replica = pull_record(alloc, socket)?;
+    let mut replica = enter_and_pull(alloc, socket, room)?;
+    if replica.has_ended() {
+        let newest = newest_of(alloc, socket, room)?;
+        replica = enter_and_pull(alloc, socket, newest.as_ref().unwrap_or(room))?;
+    }
     let lines = lines_of(alloc, &replica)?;
     write_lines(output, lines.as_str())?;
     Ok(replica)
 }
 
-/// Enters the room of this name over a stream, and reads its record into a replica. Writes what the
+/// Enters the room of this name over a stream, or the newest room of its chain if that room has ended and
+/// the server knows a later one, and reads its record into a replica. Writes what the
 /// replica shows of each object, one line each in the order of the record. Then leaves the room and
 /// closes the session. Comes back as the first site that no session is in as, or joins if there is
 /// none. Writes all lines by one call.

@@ -7,13 +7,13 @@ use Rattle.base_types.specs.declared.op_name.TheConstants.{MAX_SEQ}
 use Rattle.base_types.proofs.Vectors.{none_if}
 use Rattle.rules.specs.declared.history.Op.{Op}
 use Rattle.rules.specs.declared.history.Entry.{Entry}
-use Rattle.rules.specs.declared.history.Entry.TheVariants.{Join, Operation}
-use Rattle.rules.specs.declared.refusal.Refusal.TheVariants.{RoomFull, RecordFull, WrongSeq, TooManyObjects}
+use Rattle.rules.specs.declared.history.Entry.TheVariants.{Join, Operation, Next}
+use Rattle.rules.specs.declared.refusal.Refusal.TheVariants.{RoomFull, RecordFull, WrongSeq, TooManyObjects, Renewed}
 use Rattle.rules.specs.declared.limits.LimitValues.{LimitValues}
 use Rattle.rules.specs.Bodies.{is_change_body}
 use Rattle.rules.specs.Admission.{Condition, count_at_site, first_that_applies, causal_conditions, causal_refusal}
 use Rattle.rules.proofs.Records.{count_at_site-length}
-use Rattle.rules.specs.Records.{operations, objects, sites, is_placed, admits, refusal, conditions, order_conditions, creation_conditions, change_conditions}
+use Rattle.rules.specs.Records.{operations, objects, sites, is_placed, admits, refusal, conditions, open_conditions, has_ended, order_conditions, creation_conditions, change_conditions}
 
 -- what isn't absent is there, and the other way round
 pub is_some-not_none : {X : Type 0} (r : Option X) → is_none r ≡ false → is_some r ≡ true
@@ -45,9 +45,17 @@ none_of_both (c ∷ cs) ds e =
     step false f h = h
 
 module _ (b : LimitValues) (r : List Entry) where
-  pub none_applies : (e : Entry) → admits b r e ≡ true → first_that_applies (conditions b r e) ≡ None
+  -- an entry that is admitted finds a record that has not ended, and no condition applies
+  pub open_if_admitted : (e : Entry) → admits b r e ≡ true → (has_ended r ≡ false) × (first_that_applies (open_conditions b r e) ≡ None)
   unfolding refusal
-  none_applies e a = none_if (first_that_applies (conditions b r e)) (and_parts (is_placed r e) (is_none (first_that_applies (conditions b r e))) a).1
+  open_if_admitted e a = not_first (has_ended r, Renewed) (open_conditions b r e) (none_if (first_that_applies (conditions b r e)) (and_parts (is_placed r e) (is_none (first_that_applies (conditions b r e))) a).1)
+
+  pub none_applies : (e : Entry) → admits b r e ≡ true → first_that_applies (open_conditions b r e) ≡ None
+  none_applies e a = (open_if_admitted e a).1
+
+  -- the end finds room for an entry
+  pub room_for_end : (count : ℕ) → admits b r (Next count) ≡ true → length r < b.entries
+  room_for_end count a = leb-false b.entries (length r) (not_first (leb b.entries (length r), RecordFull) [] (none_applies (Next count) a)).0
 
   -- a join that is admitted finds room for a site and an entry
   pub room_for_join : (site : ℕ) → admits b r (Join site) ≡ true → (sites r < b.joins) × (length r < b.entries)
@@ -71,11 +79,9 @@ module _ (b : LimitValues) (r : List Entry) where
       let y : first_that_applies (creation_conditions b r) ≡ None = rw e at x.1 in
       leb-false b.objects (length (objects r)) (not_first (leb b.objects (length (objects r)), TooManyObjects) [] y).0
 
-  -- an operation whose name is out of range is refused for its number, where the record isn't full
-  pub unnamed_refusal : (op : Op) → is_site op.name.0 ≡ true → is_op_name op.name ≡ false → b.entries ≤ MAX_SEQ
-      → refusal b r (Operation op) ≡ cond (leb b.entries (length r)) (Some RecordFull) (Some WrongSeq)
-  unfolding refusal
-  unnamed_refusal op site out small = elim (cases_Bool (leb b.entries (length r))) [
+  unnamed_if_open : (op : Op) → is_site op.name.0 ≡ true → is_op_name op.name ≡ false → b.entries ≤ MAX_SEQ
+      → first_that_applies (open_conditions b r (Operation op)) ≡ cond (leb b.entries (length r)) (Some RecordFull) (Some WrongSeq)
+  unnamed_if_open op site out small = elim (cases_Bool (leb b.entries (length r))) [
     | inl t ↦ rw t refl
     | inr f ↦
         (let wrong : eqb op.name.1 (count_at_site (operations r) op.name.0 + 1) ≡ false = ne_eqb _ _ (λ same.
@@ -84,4 +90,13 @@ module _ (b : LimitValues) (r : List Entry) where
         let named : leb 1 op.name.1 && leb op.name.1 MAX_SEQ ≡ true = and_from _ _ (le-leb 1 op.name.1 (omega arith)) (le-leb op.name.1 MAX_SEQ (omega arith)) in
         true≢false (sym (and_from _ _ site named) ∙ out)) in
         rw (f, wrong) refl)
+  ]
+
+  -- an operation whose name is out of range is refused for its number, where the record isn't full
+  pub unnamed_refusal : (op : Op) → is_site op.name.0 ≡ true → is_op_name op.name ≡ false → b.entries ≤ MAX_SEQ
+      → refusal b r (Operation op) ≡ cond (has_ended r) (Some Renewed) (cond (leb b.entries (length r)) (Some RecordFull) (Some WrongSeq))
+  unfolding refusal
+  unnamed_refusal op site out small = elim (cases_Bool (has_ended r)) [
+    | inl t ↦ rw t refl
+    | inr f ↦ rw f (unnamed_if_open op site out small)
   ]

@@ -6,7 +6,7 @@ use Rattle.std.proofs.lemmas.List.Elements.{Contains-push_cases}
 use Rattle.base_types.specs.Vectors.{is_vector}
 use Rattle.rules.specs.declared.history.Op.{Op}
 use Rattle.rules.specs.declared.history.Entry.{Entry}
-use Rattle.rules.specs.declared.history.Entry.TheVariants.{Join, Operation}
+use Rattle.rules.specs.declared.history.Entry.TheVariants.{Join, Operation, Next}
 use Rattle.rules.specs.declared.refusal.Refusal.TheVariants.{NoSuchObject, NoSuchVersion, Gone, ObjectFull, TooManyKeys, TooManyVersions}
 use Rattle.rules.specs.declared.limits.LimitValues.{LimitValues}
 use Rattle.rules.specs.Bodies.{is_change_body}
@@ -16,7 +16,7 @@ use Rattle.rules.specs.Conflicts.{base, has_object, members, IsFounded}
 use Rattle.rules.specs.Records.{operations, sites, admits, is_placed, refusal, order_conditions, change_conditions, creation_conditions, has_too_many_keys, has_too_many_versions, IsLegal}
 use Rattle.rules.proofs.Lists.{In, In-from_Contains, Contains-from_In, In-append_left, In-filter_back, any_from, any_back}
 use Rattle.rules.proofs.Histories.{IsNumbered, numbered_push, numbered_empty, not_counted}
-use Rattle.rules.proofs.Records.{kept_by_admitted, operations-join, operations-push}
+use Rattle.rules.proofs.Records.{kept_by_admitted, operations-join, operations-end, operations-push}
 use Rattle.rules.proofs.Conditions.{is_some-not_none, not_first, none_of_both, none_applies, room_for_operation}
 use Rattle.rules.proofs.Agreement.{base_in_part}
 use Rattle.rules.proofs.Parts.{part_of_grown, base_before_adding}
@@ -107,6 +107,7 @@ sound_push b r o s a =
 sound_next : (b : LimitValues) (r : List Entry) (e : Entry) → IsSound (operations r) → admits b r e ≡ true → IsSound (operations (r ++ e ∷ []))
 sound_next b r (Join site) s a = subst IsSound (sym (operations-join r site)) s
 sound_next b r (Operation o) s a = subst IsSound (sym (operations-push r o)) (sound_push b r o s a)
+sound_next b r (Next count) s a = subst IsSound (sym (operations-end r count)) s
 
 sound_empty : IsSound []
 sound_empty = record {

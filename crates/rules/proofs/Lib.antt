@@ -32,3 +32,4 @@ pub mod Keys
 pub mod Permutations
 pub mod Sorted
 pub mod Names
+pub mod Ended

@@ -1,19 +1,24 @@
 -- What one more entry does to a record.
-use Rattle.std.proofs.Common.{◌≡◌, ℕ, ◌+◌, ◌≤◌, Bool, true, false, cond, not, List, [], ◌∷◌, ◌++◌, length, sym, ap, ◌∙◌, subst, filter, arith}
+use Rattle.std.proofs.Common.{◌≡◌, ℕ, ◌+◌, ◌≤◌, Bool, true, false, cond, not, None, List, [], ◌∷◌, ◌++◌, length, refl, sym, ap, ◌∙◌, subst, filter, arith}
 use Rattle.std.proofs.lemmas.List.Elements.{filter-append, filter_map-append}
 use Rattle.std.proofs.lemmas.List.{append-nil, append_assoc}
+use Rattle.std.proofs.lemmas.List.Folds.{list_any-append}
 use Rattle.std.proofs.lemmas.List.Sums.{sum_by_push, count_by-le-length}
-use Rattle.std.specs.Prelude.{◌==◌}
+use Rattle.std.specs.Prelude.{◌==◌, ◌||◌}
 use Rattle.rules.specs.declared.history.Op.{Op}
 use Rattle.rules.specs.declared.history.Entry.{Entry}
-use Rattle.rules.specs.declared.history.Entry.TheVariants.{Join, Operation}
+use Rattle.rules.specs.declared.history.Entry.TheVariants.{Join, Operation, Next}
 use Rattle.rules.specs.declared.limits.LimitValues.{LimitValues}
 use Rattle.rules.specs.Bodies.{is_change_body}
 use Rattle.rules.specs.Admission.{count_at_site}
-use Rattle.rules.specs.Records.{operation_in, operations, sites, objects, is_join, admits, IsLegal, IsLegalAfter}
+use Rattle.rules.specs.Records.{operation_in, operations, sites, objects, is_join, is_end, has_ended, admits, IsLegal, IsLegalAfter}
 
 pub filter-push : {X : Type 0} (p : X → Bool) (xs : List X) (x : X) → filter p (xs ++ x ∷ []) ≡ filter p xs ++ cond (p x) (x ∷ []) []
 filter-push p xs x = filter-append p xs (x ∷ [])
+
+or-false : (b : Bool) → (b || false) ≡ b
+or-false true = refl
+or-false false = refl
 
 abbrev creates : Op → Bool
 creates op = not (is_change_body op.body)
@@ -30,6 +35,29 @@ module _ (r : List Entry) where
 
   pub sites-operation : (op : Op) → sites (r ++ Operation op ∷ []) ≡ sites r
   sites-operation op = (let e : sites (r ++ Operation op ∷ []) ≡ sites r + 0 = sum_by_push (λ x. cond (is_join x) 1 0) r (Operation op) in omega (arith, e))
+
+  pub operations-end : (count : ℕ) → operations (r ++ Next count ∷ []) ≡ operations r
+  operations-end count = filter_map-append operation_in r (Next count ∷ []) ∙ append-nil (operations r)
+
+  pub sites-end : (count : ℕ) → sites (r ++ Next count ∷ []) ≡ sites r
+  sites-end count = (let e : sites (r ++ Next count ∷ []) ≡ sites r + 0 = sum_by_push (λ x. cond (is_join x) 1 0) r (Next count) in omega (arith, e))
+
+  pub objects-end : (count : ℕ) → objects (r ++ Next count ∷ []) ≡ objects r
+  objects-end count = ap (filter creates) (operations-end count)
+
+  -- an entry that is no operation adds none, and no object
+  pub operations-alone : (e : Entry) → operation_in e ≡ None → operations (r ++ e ∷ []) ≡ operations r
+  operations-alone e none = filter_map-append operation_in r (e ∷ []) ∙ rw none (append-nil (operations r))
+
+  pub objects-alone : (e : Entry) → operation_in e ≡ None → objects (r ++ e ∷ []) ≡ objects r
+  objects-alone e none = ap (filter creates) (operations-alone e none)
+
+  -- a record has ended if it had, or with this entry
+  pub has_ended-push : (e : Entry) → has_ended (r ++ e ∷ []) ≡ has_ended r || is_end e
+  has_ended-push e = list_any-append is_end r (e ∷ []) ∙ ap (λ b. has_ended r || b) (or-false (is_end e))
+
+  pub has_ended-kept : (e : Entry) → is_end e ≡ false → has_ended (r ++ e ∷ []) ≡ has_ended r
+  has_ended-kept e f = has_ended-push e ∙ rw f (or-false (has_ended r))
 
   pub objects-join : (site : ℕ) → objects (r ++ Join site ∷ []) ≡ objects r
   objects-join site = ap (filter creates) (operations-join site)
@@ -66,6 +94,7 @@ pub length-operations : (r : List Entry) → length (operations r) ≤ length r
 length-operations [] = omega arith
 length-operations (Join n ∷ r) = omega (arith, length-operations r)
 length-operations (Operation op ∷ r) = omega (arith, length-operations r)
+length-operations (Next n ∷ r) = omega (arith, length-operations r)
 
 -- no site has more operations than the record has entries
 pub count_at_site-length : (r : List Entry) (site : ℕ) → count_at_site (operations r) site ≤ length r

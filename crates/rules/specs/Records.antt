@@ -2,16 +2,18 @@
 use Rattle.std.specs.Prelude.{◌≡◌, ◌↔◌, Contains, ℕ, ◌+◌, Bool, true, false, not, ◌&&◌, List, []}
 use Rattle.std.specs.Prelude.{◌∷◌, ◌++◌, Option, Some, None, ◌==◌, nat_le, nat_lt, filter}
 use Rattle.std.specs.Prelude.{filter_map, count_by, length, is_none, if◌then◌else◌}
+use Rattle.std.specs.List.{list_any}
 use Rattle.base_types.specs.Vectors.{is_vector}
 use Rattle.rules.specs.declared.history.Op.{Op}
 use Rattle.rules.specs.declared.history.Entry.{Entry}
-use Rattle.rules.specs.declared.history.Entry.TheVariants.{Join, Operation}
+use Rattle.rules.specs.declared.history.Entry.TheVariants.{Join, Operation, Next}
 use Rattle.rules.specs.declared.refusal.Refusal.{Refusal}
 use Rattle.rules.specs.declared.refusal.Refusal.TheVariants.{RoomFull, RecordFull, NoSuchObject}
 use Rattle.rules.specs.declared.refusal.Refusal.TheVariants.{NoSuchVersion, Gone, ObjectFull}
 use Rattle.rules.specs.declared.refusal.Refusal.TheVariants.{TooManyKeys, TooManyVersions}
-use Rattle.rules.specs.declared.refusal.Refusal.TheVariants.{TooManyObjects}
+use Rattle.rules.specs.declared.refusal.Refusal.TheVariants.{TooManyObjects, Renewed}
 use Rattle.rules.specs.declared.limits.LimitValues.{LimitValues}
+use Rattle.rules.specs.declared.limits.TheConstants.Limits.{MAX_ENTRIES}
 use Rattle.rules.specs.Bodies.{is_change_body, is_put_body}
 use Rattle.rules.specs.Operations.{holds_drop, object_of, changes_on}
 use Rattle.rules.specs.Admission.{Condition, first_that_applies, causal_conditions}
@@ -24,11 +26,23 @@ use Rattle.rules.specs.Versions.{groups, keys_of}
 abbrev pub is_join : Entry → Bool
 is_join (Join site) = true
 is_join (Operation op) = false
+is_join (Next count) = false
 
 -- the operation of an entry, where it is one
 abbrev pub operation_in : Entry → Option Op
 operation_in (Join site) = None
 operation_in (Operation op) = Some op
+operation_in (Next count) = None
+
+-- does the entry end the record
+abbrev pub is_end : Entry → Bool
+is_end (Join site) = false
+is_end (Operation op) = false
+is_end (Next count) = true
+
+-- has the record ended
+abbrev pub has_ended : List Entry → Bool
+has_ended r = list_any is_end r
 
 -- the number of sites that have joined
 abbrev pub sites : List Entry → ℕ
@@ -48,6 +62,10 @@ objects r = filter (λ op. not (is_change_body op.body)) (operations r)
 abbrev pub join_conditions : LimitValues → List Entry → List Condition
 join_conditions b r = (nat_le b.joins (sites r), RoomFull)
     ∷ (nat_le b.entries (length r), RecordFull) ∷ []
+
+-- the conditions on the end of a record
+abbrev pub next_conditions : LimitValues → List Entry → List Condition
+next_conditions b r = (nat_le b.entries (length r), RecordFull) ∷ []
 
 -- the conditions on each operation
 abbrev pub order_conditions : LimitValues → List Entry → Op → List Condition
@@ -85,19 +103,30 @@ body_conditions b r op =
     if is_change_body op.body then change_conditions b (operations r) op
     else creation_conditions b r
 
+-- the conditions on an entry of a record that has not ended, in order
+abbrev pub open_conditions : LimitValues → List Entry → Entry → List Condition
+open_conditions b r (Join site) = join_conditions b r
+open_conditions b r (Operation op) = order_conditions b r op ++ body_conditions b r op
+open_conditions b r (Next count) = next_conditions b r
+
+-- the condition on each entry: nothing comes after the end
+abbrev pub end_condition : List Entry → Condition
+end_condition r = (has_ended r, Renewed)
+
 -- the conditions on an entry, in order
 abbrev pub conditions : LimitValues → List Entry → Entry → List Condition
-conditions b r (Join site) = join_conditions b r
-conditions b r (Operation op) = order_conditions b r op ++ body_conditions b r op
+conditions b r entry = end_condition r ∷ open_conditions b r entry
 
 -- why this entry may not come next, if it may not; its site has joined and its vector is in range
 unfoldable pub refusal : LimitValues → List Entry → Entry → Option Refusal
 refusal b r entry = first_that_applies (conditions b r entry)
 
--- a join is of the next site; an operation's site has joined, and its vector is in range
+-- a join is of the next site; an operation's site has joined, and its vector is in range; the end
+-- names no more entries than a record may have
 abbrev pub is_placed : List Entry → Entry → Bool
 is_placed r (Join site) = site == sites r + 1
 is_placed r (Operation op) = nat_le 1 op.name.0 && nat_le op.name.0 (sites r) && is_vector op.seen
+is_placed r (Next count) = nat_le count MAX_ENTRIES
 
 -- the entry may come next
 abbrev pub admits : LimitValues → List Entry → Entry → Bool

@@ -9,7 +9,7 @@ use Rattle.rules.specs.declared.refusal.Refusal.TheVariants.{NoSuchObject, NoSuc
 use Rattle.rules.specs.declared.refusal.Refusal.TheVariants.{ObjectFull, TooManyKeys}
 use Rattle.rules.specs.declared.refusal.Refusal.TheVariants.{TooManyVersions, TooManyObjects}
 use Rattle.rules.specs.declared.refusal.Refusal.TheVariants.{TooFar, Gone, NoSuchSite, SiteInUse}
-use Rattle.rules.specs.declared.refusal.Refusal.TheVariants.{NotServed}
+use Rattle.rules.specs.declared.refusal.Refusal.TheVariants.{NotServed, Renewed}
 
 abbrev pub code_of : Refusal → ℕ
 code_of BadMessage = 1
@@ -33,6 +33,7 @@ code_of Gone = 18
 code_of NoSuchSite = 19
 code_of SiteInUse = 20
 code_of NotServed = 21
+code_of Renewed = 22
 
 abbrev pub word_of : Refusal → List ℕ
 word_of BadMessage = codes "bad-message"
@@ -56,13 +57,14 @@ word_of Gone = codes "gone"
 word_of NoSuchSite = codes "no-such-site"
 word_of SiteInUse = codes "site-in-use"
 word_of NotServed = codes "not-served"
+word_of Renewed = codes "renewed"
 
 abbrev all_refusals : List Refusal
 all_refusals =
     BadMessage ∷ NotJoined ∷ AlreadyJoined ∷ NoSuchRoom ∷ RoomFull ∷ RecordFull ∷ WrongSeq
     ∷ OwnCount ∷ Ahead ∷ NotClosed ∷ NoSuchObject ∷ NoSuchVersion ∷ ObjectFull ∷ TooManyKeys
     ∷ TooManyVersions ∷ TooManyObjects ∷ TooFar ∷ Gone ∷ NoSuchSite ∷ SiteInUse
-    ∷ NotServed ∷ []
+    ∷ NotServed ∷ Renewed ∷ []
 
 -- the refusal with this number
 abbrev pub refusal_at : ℕ → Option Refusal

@@ -5,11 +5,12 @@
 #![tactic(auto, unfolding(base_types::specs::Vectors::vector_fault, crate::specs::Operations::known, crate::specs::Operations::changes_on, crate::specs::Groups::groups_of, crate::specs::Groups::group_named, crate::specs::Groups::identifier, crate::specs::Conflicts::base, crate::specs::Conflicts::conflict, crate::specs::Versions::attributes, crate::specs::Versions::groups, crate::specs::Versions::shown_of, crate::specs::Versions::version_of, crate::specs::Versions::versions, crate::specs::Records::refusal))]
 
 ghost use Rattle.std.specs.Prelude.{◌≡◌, [], ◌∷◌, Some, None};
-ghost use Rattle.rules.specs.declared.refusal.Refusal.TheVariants.{WrongSeq, OwnCount, Ahead, NotClosed, NoSuchObject, NoSuchVersion, Gone, ObjectFull, TooManyKeys, TooManyVersions};
+ghost use Rattle.rules.specs.declared.history.Entry.TheVariants.{Join, Next};
+ghost use Rattle.rules.specs.declared.refusal.Refusal.TheVariants.{WrongSeq, OwnCount, Ahead, NotClosed, NoSuchObject, NoSuchVersion, Gone, ObjectFull, TooManyKeys, TooManyVersions, Renewed};
 ghost use Rattle.rules.specs.Limits.{full_limits};
 ghost use Rattle.rules.specs.Records.{operations, refusal, IsLegal};
 ghost use Rattle.rules.specs.Versions.{versions};
-ghost use Rattle.rules.specs.steps.Examples.{x, y, line, red, puts, drops, version, gone, creation_alone, one_put, two_puts, three_sites, another_key, two_ways, five_puts, same_value_twice, value_replaced, seen_by_one, based_before, based_after, same_value_and_more, other_value_and_more, one_drop, put_beside_a_drop, two_drops, one_of_two_dropped, both_dropped};
+ghost use Rattle.rules.specs.steps.Examples.{x, y, line, red, puts, drops, version, gone, creation_alone, one_put, two_puts, three_sites, another_key, two_ways, five_puts, same_value_twice, value_replaced, seen_by_one, based_before, based_after, same_value_and_more, other_value_and_more, one_drop, put_beside_a_drop, two_drops, one_of_two_dropped, both_dropped, ended};
 
 /// A put that conflicts with nothing makes no version: the one version has no name.
 pub fn one_put_alone()
@@ -184,4 +185,15 @@ pub fn refused_drops()
         (puts (1, 3) ((1, 2) ∷ []) [] (x 6 ∷ [])) ≡ Some TooManyVersions }
     ensures keys { refusal (record full_limits { keys = 0 }) one_put
         (drops (2, 1) ((1, 2) ∷ []) []) ≡ None }
+{}
+
+/// Nothing is admitted after the end of a record: no join, no operation and no other end.
+pub fn nothing_follows_the_end()
+    ensures legal { IsLegal full_limits ended }
+    ensures versions { versions (operations ended) (1, 1) ≡ version [] (x 5 ∷ []) ∷ [] }
+    ensures join { refusal full_limits ended (Join 3) ≡ Some Renewed }
+    ensures put { refusal full_limits ended (puts (2, 1) creation_alone [] (x 9 ∷ []))
+        ≡ Some Renewed }
+    ensures drop { refusal full_limits ended (drops (2, 1) creation_alone []) ≡ Some Renewed }
+    ensures end { refusal full_limits ended (Next 2) ≡ Some Renewed }
 {}

@@ -3,7 +3,7 @@
 ghost use Rattle.std.specs.Prelude.{◌≡◌, true, IfOk};
 ghost use Rattle.rules.specs.Bodies.{are_at_odds, is_change_body, is_drop_body, pairs_in, version_in};
 ghost use Rattle.rules.specs.Operations.{object_of};
-ghost use Rattle.rules.specs.Records.{is_join};
+ghost use Rattle.rules.specs.Records.{is_end, is_join};
 
 use crate::attrs::Attrs;
 use crate::pairs::Pairs;
@@ -221,11 +221,16 @@ impl Eq for Op {
     ghost laws = { same_operation-equivalence };
 }
 
-/// An entry of a room's record: a site that joined, or an operation.
+/// An entry of a room's record.
 #[derive(Debug, Drop)]
 pub enum Entry {
+    /// A site that joined.
     Join(u32),
+    /// An operation of a site.
     Operation(Op),
+    /// The end of the record. The room goes on in another one, whose record begins with so many
+    /// entries that draw what this one draws.
+    Next(u32),
 }
 
 impl Entry {
@@ -234,6 +239,13 @@ impl Entry {
         ensures { result ≡ is_join self.now }
     {
         matches!(self, Entry::Join(_))
+    }
+
+    /// Does it end the record?
+    pub fn is_end(&self) -> bool
+        ensures { result ≡ is_end self.now }
+    {
+        matches!(self, Entry::Next(_))
     }
 
     /// Returns an equal copy.
@@ -247,6 +259,7 @@ impl Entry {
         match self {
             Entry::Join(site) => Ok(Entry::Join(*site)),
             Entry::Operation(op) => Ok(Entry::Operation(op.copy(alloc)?)),
+            Entry::Next(count) => Ok(Entry::Next(*count)),
         }
     }
 }
@@ -263,6 +276,7 @@ impl PartialEq for Entry {
         match (self, other) {
             (Entry::Join(site), Entry::Join(other_site)) => *site == *other_site,
             (Entry::Operation(op), Entry::Operation(other_op)) => *op == *other_op,
+            (Entry::Next(count), Entry::Next(other_count)) => *count == *other_count,
             _ => false,
         }
     }

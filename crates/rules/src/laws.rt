@@ -1,6 +1,6 @@
 //! Laws over the definitions. Each function has an empty body: its contract is the law.
 
-ghost use Rattle.std.specs.Prelude.{◌≡◌, ◌↔◌, ◌≤◌, ◌+◌, ◌||◌, ◌∷◌, ◌++◌, not, bytes_eq, Bool, true, false, List, [], length, map, reverse, find, Some, None, IsTrue, Contains, if◌then◌else◌};
+ghost use Rattle.std.specs.Prelude.{◌≡◌, ◌↔◌, ◌≤◌, ◌+◌, ◌||◌, ℕ, ◌∷◌, ◌++◌, not, bytes_eq, Bool, true, false, List, [], length, map, reverse, find, Some, None, IsTrue, Contains, if◌then◌else◌};
 ghost use Rattle.std.specs.List.{list_any, count_by};
 ghost use Rattle.std.specs.List.Sorted.{IsPermutation, IsStrictlySortedBy};
 ghost use Rattle.base_types.specs.Names.{Name};
@@ -8,6 +8,7 @@ ghost use Rattle.base_types.specs.Texts.{Bytes};
 ghost use Rattle.base_types.specs.VersionIds.{id_cmp, same_names};
 ghost use Rattle.rules.specs.declared.history.Op.{Op};
 ghost use Rattle.rules.specs.declared.history.Entry.{Entry};
+ghost use Rattle.rules.specs.declared.history.Entry.TheVariants.{Next};
 ghost use Rattle.rules.specs.declared.limits.LimitValues.{LimitValues};
 ghost use Rattle.rules.specs.declared.history.Body.{Body};
 ghost use Rattle.rules.specs.declared.version.Shown.TheVariants.{Attrs, Gone};
@@ -342,6 +343,13 @@ pub fn legal_records_are_histories()
     ensures history { (b : LimitValues) (r : List Entry) → IsLegal b r → IsHistory (operations r) }
     ensures ordered { (b : LimitValues) (r : List Entry) → IsLegal b r
         → IsCausallyOrdered (operations r) }
+{}
+
+/// Nothing comes after the end of a record: a legal record has at most one end, as its last entry.
+#[tactic(auto, using(crate::proofs::Ended::nothing_after))]
+pub fn nothing_comes_after_the_end()
+    ensures { (b : LimitValues) (q s : List Entry) (count : ℕ) → IsLegal b (q ++ Next count ∷ s)
+        → s ≡ [] }
 {}
 
 /// Two legal records with the same operations, in any order, have the same bases, conflicts,

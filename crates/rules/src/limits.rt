@@ -71,7 +71,7 @@ impl Limits {
     pub const MAX_ENTRIES: u32 = 16_384;
 
     /// The most objects of a room.
-    pub const MAX_OBJECTS: u32 = 512;
+    pub const MAX_OBJECTS: u32 = 8192;
 
     /// The most changes of an object.
     pub const MAX_CHANGES: u32 = 1024;
@@ -85,8 +85,8 @@ impl Limits {
     /// The most objects or entries of a page.
     pub const MAX_PAGE: u32 = 64;
 
-    /// The full limits: 256 joins, 16,384 entries and 512 objects. An object has 1,024 changes, 64
-    /// keys and 32 versions. A page has 64 items.
+    /// The full limits: 256 joins, 16,384 entries and 8,192 objects. An object has 1,024 changes,
+    /// 64 keys and 32 versions. A page has 64 items.
     pub fn full() -> Limits
         ensures { result ≡ full_limits }
     {

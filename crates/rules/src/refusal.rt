@@ -3,7 +3,7 @@
 ghost use Rattle.std.specs.Prelude.{◌≡◌};
 
 /// The greatest number of a refusal. Refusals are numbered from 1.
-pub const MAX_REFUSAL_CODE: u32 = 21;
+pub const MAX_REFUSAL_CODE: u32 = 22;
 
 /// Why a room or a session refuses a request. Each variant has its number, its word and its cause.
 #[derive(Clone, Copy, Debug, PartialEq, Eq)]
@@ -55,6 +55,8 @@ pub enum Refusal {
     SiteInUse,
     /// 21, `not-served`: the server cannot serve the room now.
     NotServed,
+    /// 22, `renewed`: the record has ended, and the room goes on in another one.
+    Renewed,
 }
 
 impl Refusal {
@@ -86,6 +88,7 @@ impl Refusal {
             Refusal::NoSuchSite => 19,
             Refusal::SiteInUse => 20,
             Refusal::NotServed => 21,
+            Refusal::Renewed => 22,
         }
     }
 
@@ -115,6 +118,7 @@ impl Refusal {
             Refusal::NoSuchSite => "no-such-site",
             Refusal::SiteInUse => "site-in-use",
             Refusal::NotServed => "not-served",
+            Refusal::Renewed => "renewed",
         }
     }
 
@@ -165,6 +169,7 @@ impl Refusal {
             19 => Some(Refusal::NoSuchSite),
             20 => Some(Refusal::SiteInUse),
             21 => Some(Refusal::NotServed),
+            22 => Some(Refusal::Renewed),
             _ => None,
         }
     }

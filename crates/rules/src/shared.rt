@@ -80,7 +80,7 @@ impl Deref for SharedOp {
     fn deref(&self) -> &Op {
         match &*self.entry {
             Entry::Operation(op) => op,
-            Entry::Join(_) => unreachable!(),
+            Entry::Join(_) | Entry::Next(_) => unreachable!(),
         }
     }
 }

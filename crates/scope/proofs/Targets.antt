@@ -2,6 +2,7 @@
 use Rattle.std.proofs.Common.{◌≡◌, ◌∷◌, ◌++◌, [], ℕ, ◌+◌, suc, Bool, true, false, cond, not, take, refl, ap, sym, ◌∙◌, arith, rules}
 use Rattle.std.specs.List.{position_or_len}
 use Rattle.base_types.specs.Texts.{Bytes}
+use Rattle.base_types.specs.RoomNames.{first_name}
 use Rattle.scope.specs.Scopes.{IsQuery, allows, is_query_mark, path_of, scope_of_path, scope_of_target}
 
 -- behind the path stands nothing or a query
@@ -24,11 +25,11 @@ query_of [] = ([], refl, tt)
 query_of (byte ∷ rest) = splits_at byte rest (query_of rest) (is_query_mark byte) refl
 
 -- only the path of a slash and the name lets into the room of the name
-pub path_is : (path name : Bytes) → allows (scope_of_path path) name ≡ true → path ≡ 47 ∷ name
+pub path_is : (path name : Bytes) → allows (scope_of_path path) name ≡ true → path ≡ 47 ∷ first_name name
 path_is = search rules
 
 -- a scope of a target lets into the room of the target alone
-pub room_of_target : (target name : Bytes) → allows (scope_of_target target) name ≡ true → (query : Bytes) × (target ≡ 47 ∷ name ++ query) × IsQuery query
+pub room_of_target : (target name : Bytes) → allows (scope_of_target target) name ≡ true → (query : Bytes) × (target ≡ 47 ∷ first_name name ++ query) × IsQuery query
 room_of_target target name allowed =
     let found = query_of target in
     (found.0, found.1 ∙ ap (λ (path : Bytes). path ++ found.0) (path_is (path_of target) name allowed), found.2)

@@ -1,25 +1,26 @@
 -- Which rooms a session may enter.
-use Rattle.std.specs.Prelude.{◌≡◌, Bool, true, false, ℕ, [], ◌∷◌, bytes_eq, ◌&&◌, ◌==◌}
+use Rattle.std.specs.Prelude.{◌≡◌, Bool, true, false, ℕ, [], ◌∷◌, ◌&&◌, ◌==◌}
 use Rattle.std.specs.List.{before_first}
-use Rattle.base_types.specs.Texts.{Bytes, is_room_name}
+use Rattle.base_types.specs.Texts.{Bytes}
+use Rattle.base_types.specs.RoomNames.{is_in_chain, is_first_name}
 use Rattle.scope.specs.declared.scope.Scope.{Scope}
 use Rattle.scope.specs.declared.scope.Scope.TheVariants.{Anywhere, Only, Nowhere}
 
 -- the session may enter the room of this name
 abbrev pub allows : Scope → Bytes → Bool
 allows Anywhere name = true
-allows (Only room) name = bytes_eq name room
+allows (Only first) name = is_in_chain first name
 allows Nowhere name = false
 
--- the room of this name, if it is a room's name
+-- the rooms of this chain, if it is the name of a chain's first room
 abbrev pub scope_if : Bool → Bytes → Scope
 scope_if true name = Only name
 scope_if false name = Nowhere
 
--- `/NAME` is the room NAME, and any other path is none
+-- `/NAME` is the rooms of the chain NAME, and any other path is none
 abbrev pub scope_of_path : Bytes → Scope
 scope_of_path [] = Nowhere
-scope_of_path (first ∷ name) = scope_if ((first == 47) && is_room_name name) name
+scope_of_path (first ∷ name) = scope_if ((first == 47) && is_first_name name) name
 
 -- the byte begins a query
 abbrev pub is_query_mark : ℕ → Bool

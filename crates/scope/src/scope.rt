@@ -11,7 +11,7 @@ use std::alloc::Global;
 pub enum Scope {
     /// Every room.
     Anywhere,
-    /// This room.
+    /// The rooms of the chain of this first room.
     Only(RoomName),
     /// No room.
     Nowhere,
@@ -19,8 +19,8 @@ pub enum Scope {
 
 impl Scope {
     /// The scope of a session by the target of its request (RFC 9112, section 3.2). For `/NAME` it is
-    /// the room NAME, whatever query follows. For any other target it is no room. Nothing is decoded:
-    /// a room's name needs no escape. Linear in the target.
+    /// the room NAME and its successors, whatever query follows. For any other target it is no room, so
+    /// also for `/NAME.2`. Nothing is decoded: a room's name needs no escape. Linear in the target.
     ///
     /// # Errors
     /// `NoMemory` if an allocation failed.
@@ -33,7 +33,7 @@ impl Scope {
         if *first != b'/' {
             return Ok(Scope::Nowhere);
         }
-        match RoomName::parse(alloc, name) {
+        match RoomName::parse_first(alloc, name) {
             Ok(name) => Ok(Scope::Only(name)),
             Err(NameFault::NoMemory) => Err(NoMemory),
             Err(_) => Ok(Scope::Nowhere),
@@ -46,7 +46,7 @@ impl Scope {
     {
         match self {
             Scope::Anywhere => true,
-            Scope::Only(room) => name == room,
+            Scope::Only(first) => name.is_in_chain_of(first),
             Scope::Nowhere => false,
         }
     }

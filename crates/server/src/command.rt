@@ -7,7 +7,7 @@ use crate::serve::Service;
 use clap::ArgMatches;
 use command_fault::Fault;
 use command_line::{grace, show_error};
-use commands::{check_at, migrate_at, script_over};
+use commands::{check_at, migrate_at, renew_at, renewed_at, script_over};
 use room_watch::{follow_at, watch_at};
 use std::alloc::Global;
 use std::io::{Read, Write};
@@ -131,6 +131,14 @@ where
             Some(record) => migrate_at(rt, alloc, record, output, errors),
             None => 2,
         },
+        Some(("renew", words)) => match words.get_str("RECORD") {
+            Some(record) => renew_at(rt, alloc, record, output, errors),
+            None => 2,
+        },
+        Some(("renewed", words)) => match (words.get_str("OLD"), words.get_str("NEW")) {
+            (Some(old), Some(new)) => renewed_at(rt, alloc, old, new, output, errors),
+            _ => 2,
+        },
         // There is no other command, and each argument is required or has a default.
         _ => 2,
     }
@@ -139,7 +147,7 @@ where
 /// Runs the program. `words` are the program's name and its arguments. Returns the exit status:
 ///
 /// - 0 on success;
-/// - 1 if a record or a transcript does not hold;
+/// - 1 if a record or a transcript does not hold, or a record cannot be renewed;
 /// - 2 for a mistake in the command line;
 /// - 3 if input, output, a connection, the rooms or the rooms' files failed;
 /// - 4 if an allocation failed.

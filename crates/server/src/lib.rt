@@ -11,6 +11,7 @@ mod platform;
 mod serve;
 mod server_observer;
 mod stamped_log;
+mod sync_meters;
 mod tallies;
 mod tally;
 mod turnstile;

@@ -1,11 +1,12 @@
 //! What a server counts from its start, for `GET /metrics`.
 
+use crate::sync_meters::SyncMeters;
 use crate::tallies::Tallies;
 use crate::tally::EntrySums;
 use base_types::NoMemory;
 use command_line::VERSION;
 use crossbeam_utils::CachePadded;
-use keeper::Reason;
+use keeper::{FileSync, Reason};
 use metrics::{Family, Kind, Label, Number, Sample, Suffix, write_families};
 use rules::{MAX_REFUSAL_CODE, Refusal};
 use sessions::Cause;
@@ -27,11 +28,12 @@ const CAUSES: [Cause; 6] = [
 ];
 
 /// Why rooms are not served, in the order of their counters.
-const REASONS: [Reason; 4] = [
+const REASONS: [Reason; 5] = [
     Reason::Full,
     Reason::Elsewhere,
     Reason::File,
     Reason::NoMemory,
+    Reason::Late,
 ];
 
 /// Counters that begin at 0 with the server.
@@ -46,6 +48,7 @@ pub(crate) struct Meters {
     turned_away: AtomicU64,
     /// Joins, backs and handshakes whose room was not opened, in the order of `REASONS`.
     not_served: Vec<AtomicU64>,
+    syncs: SyncMeters,
 }
 
 /// What a server says of its sessions and rooms at one time.
@@ -60,7 +63,7 @@ pub(crate) struct Standing {
 }
 
 /// This many counters.
-fn counters(alloc: Global, count: usize) -> Result<Vec<AtomicU64>, AllocError> {
+pub(crate) fn counters(alloc: Global, count: usize) -> Result<Vec<AtomicU64>, AllocError> {
     let mut counters = Vec::with_capacity(alloc, count)?;
     for _ in 0..count {
         counters.push(AtomicU64::new(0))?;
@@ -69,7 +72,7 @@ fn counters(alloc: Global, count: usize) -> Result<Vec<AtomicU64>, AllocError> {
 }
 
 /// Counts one more.
-fn count(counter: &AtomicU64) {
+pub(crate) fn count(counter: &AtomicU64) {
     counter.fetch_add(1, Ordering::SeqCst);
 }
 
@@ -90,6 +93,7 @@ impl Meters {
             ended: counters(alloc, CAUSES.len())?,
             turned_away: AtomicU64::new(0),
             not_served: counters(alloc, REASONS.len())?,
+            syncs: SyncMeters::new(alloc)?,
         })
     }
 
@@ -130,6 +134,11 @@ impl Meters {
         }
     }
 
+    /// A room's file was written and synced, or that failed.
+    pub(crate) fn add_sync(&self, sync: FileSync) {
+        self.syncs.add(sync);
+    }
+
     /// The text of all metrics, where the rooms have added so much.
     ///
     /// # Errors
@@ -161,6 +170,7 @@ impl Meters {
             self.count_replies(),
         )?)?;
         families.push(self.refusals()?)?;
+        self.syncs.add_families(alloc, &mut families)?;
         families.push(build(alloc)?)?;
         write_families(alloc, &families)
     }
@@ -214,7 +224,7 @@ impl Meters {
 }
 
 /// The count.
-fn load(counter: &AtomicU64) -> u64 {
+pub(crate) fn load(counter: &AtomicU64) -> u64 {
     counter.load(Ordering::SeqCst)
 }
 
@@ -231,7 +241,7 @@ fn single(
 }
 
 /// A counter without labels.
-fn counter(
+pub(crate) fn counter(
     alloc: Global,
     name: &'static str,
     help: &'static str,
@@ -309,7 +319,7 @@ fn add_rooms(
 }
 
 /// A sample with one label.
-fn labelled(
+pub(crate) fn labelled(
     alloc: Global,
     name: &'static str,
     value: &str,

@@ -386,31 +386,24 @@ where
     service.serve_rooms(rooms, tallies, &Forgets)
 }
 
-/// The files of the rooms that are open from the start, and the folder for those on demand.
-#[derive(Drop)]
-struct KeptIn<'a, 'w> {
-    files: Vec<RestoredFile<Synced<File>>>,
-    folder: &'a Folder<'w>,
-}
-
-/// Serves in rooms that are kept in these files, one for each room in order, and in rooms on demand.
-/// Each room begins with the record of its file.
+/// Serves in rooms that are kept in these files, one for each room in order, and in rooms on demand
+/// that are kept in this folder. Each room begins with the record of its file.
 fn serve_in_files<'a, P, R, W>(
     service: Service<'_, 'a, R, W>,
     planned: NewRooms,
     tallies: &Tallies<'_>,
-    kept: KeptIn<'_, '_>,
+    files: Vec<RestoredFile<Synced<File>>>,
+    folder: &Folder<'_>,
 ) -> Result<(), EarlyEnd<'a>>
 where
     P: RoomHistories + Send + Sync,
     R: Platform,
     W: Write,
     requires histories { IsPlanOf planned P.limits P.register }
-    requires names { map (λ file. file.name) kept.files.items ≡ planned.names }
-    requires records { map (λ file. file.entries) kept.files.items ≡ planned.records }
+    requires names { map (λ file. file.name) files.items ≡ planned.names }
+    requires records { map (λ file. file.entries) files.items ≡ planned.records }
 {
     let (rt, alloc) = (service.rt, service.alloc);
-    let KeptIn { files, folder } = kept;
     let (rooms, begun) = Rooms::<P>::new(rt, alloc, planned)?;
     let files = RoomFile::open_all(alloc, &begun, files)?;
     let on_demand = OnDemand {
@@ -453,11 +446,7 @@ impl<'w, R: Platform, W: Write> Service<'_, 'w, R, W> {
         match NewRooms::with_records(rooms, Limits::full(), states) {
             Ok(planned) => {
                 let planned = planned.and_on_demand(self.on_demand);
-                let kept = KeptIn {
-                    files,
-                    folder: &folder,
-                };
-                serve_in_files::<Brand, R, W>(self, planned, &tallies, kept)
+                serve_in_files::<Brand, R, W>(self, planned, &tallies, files, &folder)
             }
             Err(fault) => Err(EarlyEnd::Fault(fault_of_rooms(fault))),
         }

@@ -7,7 +7,7 @@ use crate::tallies::Tallies;
 use crate::turnstile::Turnstile;
 use base_types::RoomName;
 use crossbeam_channel::Receiver;
-use keeper::{Change, Reason};
+use keeper::{Change, FileSync, Reason};
 use log::{Log, error, info, warn};
 use loops::Client;
 use sessions::{Cause, Observer};
@@ -182,6 +182,10 @@ impl<R: Wait + Log> Observer for ServerObserver<'_, R> {
             Change::Opened(beginning) => self.rooms.begin_room(self.rt, beginning),
             Change::Closed { place: _ } => self.rooms.add_closing(),
         }
+    }
+
+    fn after_sync(&self, sync: FileSync) {
+        self.meters.add_sync(sync);
     }
 
     fn before_session(&self) {

@@ -6,7 +6,8 @@ use Rattle.std.proofs.lemmas.Bool.Decides.{nat_tests}
 use Rattle.base_types.specs.Texts.{Bytes}
 use Rattle.rules.specs.declared.history.Entry.{Entry}
 use Rattle.wire.specs.declared.reply.Reply.{Reply}
-use Rattle.wire.specs.declared.reply.Reply.TheVariants.{No}
+use Rattle.wire.specs.declared.reply.Reply.TheVariants.{No, Renewed}
+use Rattle.keeper.specs.Chains.{IsLater}
 use Rattle.rules.specs.declared.refusal.Refusal.TheVariants.{NoSuchRoom, NotServed}
 use Rattle.rules.specs.declared.limits.LimitValues.{LimitValues}
 use Rattle.wire.specs.declared.request.Request.{Request}
@@ -91,7 +92,7 @@ module _ (rooms : RoomsView) (opening : OpeningView) (Enters : PassView → Repl
         same = after.2;
       }))
   told_after denied scope name NoRoom new told reply may at is after =
-      inr (inr (may.0, inl (on_demand scope name may at (is.no_room refl)), after))
+      inr (inr (inl (may.0, inl (on_demand scope name may at (is.no_room refl)), after)))
 
 none_of : {A : Type 0} (o : Option A) → is_some o ≡ false → o ≡ None
 none_of None is = refl
@@ -146,14 +147,21 @@ module _ (limits : LimitValues) (rooms : RoomsView) (permitted denied : ℕ → 
   -- a join that is denied
   pub denied_answered : (opening : OpeningView) → MayEnter scope rooms name → IsOpeningFor rooms name opening → denied opening.number
       → (reply ≡ No 0 NotServed) × (told ≡ None) × (new ≡ old) → IsAnswer limits rooms permitted denied scope old new (Join name) told reply
-  denied_answered opening may at denies is = outside (Join name) (inr (inr (shut denied may.0 (inr (opening, at, denies)) is)))
+  denied_answered opening may at denies is = outside (Join name) (inr (inr (inl (shut denied may.0 (inr (opening, at, denies)) is))))
 
   -- a room that cannot be opened now
   pub join_shut : allows scope name ≡ true → IsOnDemand rooms name → (reply ≡ No 0 NotServed) × (told ≡ None) × (new ≡ old) → IsAnswer limits rooms permitted denied scope old new (Join name) told reply
-  join_shut may demand is = outside (Join name) (inr (inr (shut denied may (inl demand) is)))
+  join_shut may demand is = outside (Join name) (inr (inr (inl (shut denied may (inl demand) is))))
 
   pub back_shut : (site : ℕ) → allows scope name ≡ true → IsOnDemand rooms name → (reply ≡ No 0 NotServed) × (told ≡ None) × (new ≡ old) → IsAnswer limits rooms permitted denied scope old new (Back name site) told reply
-  back_shut site may demand is = outside (Back name site) (inr (inr (shut (λ number. ⊥) may (inl demand) is)))
+  back_shut site may demand is = outside (Back name site) (inr (inr (inl (shut (λ number. ⊥) may (inl demand) is))))
+
+  -- the chain of the room goes on elsewhere
+  pub join_sent_on : (later : Bytes) → IsLater name later → allows scope name ≡ true → (reply ≡ Renewed 0 later) × (told ≡ None) × (new ≡ old) → IsAnswer limits rooms permitted denied scope old new (Join name) told reply
+  join_sent_on later is may sent = outside (Join name) (inr (inr (inr (later, is, sent.0, may, sent.1, sent.2 ∙ none_of old none))))
+
+  pub back_sent_on : (site : ℕ) (later : Bytes) → IsLater name later → allows scope name ≡ true → (reply ≡ Renewed 0 later) × (told ≡ None) × (new ≡ old) → IsAnswer limits rooms permitted denied scope old new (Back name site) told reply
+  back_sent_on site later is may sent = outside (Back name site) (inr (inr (inr (later, is, sent.0, may, sent.1, sent.2 ∙ none_of old none))))
 
   -- there is no room that the session may enter
   pub join_away : ¬ (MayEnter scope rooms name) → (reply ≡ No 0 NoSuchRoom) × (told ≡ None) × (new ≡ old) → IsAnswer limits rooms permitted denied scope old new (Join name) told reply

@@ -16,7 +16,7 @@ use Rattle.room_lock.specs.Rooms.{RoomsView}
 use Rattle.sessions.specs.Sessions.{SessionView}
 use Rattle.rules.specs.declared.refusal.Refusal.TheVariants.{BadMessage}
 use Rattle.room_lock.specs.Told.{IsBack, IsRefusalOver}
-use Rattle.sessions.specs.Turns.{IsAnswer, IsAnswerInside, IsAnswerOutside, IsBackRefusal, IsCallBy, IsEntering, IsJoinBy, IsLetIn, IsPermittedJoin, IsRefused, IsTurn, IsTurnedAway, MayBeShut, MayEnter}
+use Rattle.sessions.specs.Turns.{IsAnswer, IsAnswerInside, IsAnswerOutside, IsBackRefusal, IsCallBy, IsEntering, IsJoinBy, IsLetIn, IsPermittedJoin, IsRefused, IsSentOn, IsTurn, IsTurnedAway, MayBeShut, MayEnter}
 
 -- the pass is of the named room, which the scope allows
 abbrev pub IsInNamed : Scope → RoomsView → Bytes → PassView → Type 0
@@ -30,7 +30,8 @@ module _ (scope : Scope) (rooms : RoomsView) (name : Bytes) (Enters : PassView �
       let same : pass ≡ is.0 = cc is.6 in
       subst (IsInNamed scope rooms name) (sym same) (is.2, is.3, is.4)
   let_in pass told reply (inr (inl away)) = absurd (cc away.same)
-  let_in pass told reply (inr (inr shut)) = absurd (cc shut.2.2)
+  let_in pass told reply (inr (inr (inl shut))) = absurd (cc shut.2.2)
+  let_in pass told reply (inr (inr (inr sent))) = absurd (cc sent.5)
 
   -- what is reported is of the named room
   pub told_of : (new : Option PassView) (told : PrefixView) (reply : Reply)
@@ -45,15 +46,17 @@ module _ (scope : Scope) (rooms : RoomsView) (name : Bytes) (Enters : PassView �
       let same : told ≡ is.0 = cc is.3 in
       let P : PrefixView → Type 0 = λ p. IsOpeningFor rooms name p.opening in
       subst P (sym same) is.2
-  told_of new told reply (inr (inr shut)) there = absurd (cc shut.2.1)
+  told_of new told reply (inr (inr (inl shut))) there = absurd (cc shut.2.1)
+  told_of new told reply (inr (inr (inr sent))) there = absurd (cc sent.4)
 
 -- where no room is denied, a room that is open from the start is served
 pub served : (limits : LimitValues) (rooms : RoomsView) (permitted denied : ℕ → Type 0) (scope : Scope) (name : Bytes) (new : Option PassView) (told : Option PrefixView) (reply : Reply)
     → ((number : ℕ) → ¬ (denied number)) → Contains rooms.names name → IsJoinBy limits rooms permitted denied scope name new told reply
-    → IsLetIn (IsPermittedJoin limits permitted) scope rooms name new told reply ⊎ IsTurnedAway (IsRefusalOver limits) scope rooms name new told reply
+    → IsLetIn (IsPermittedJoin limits permitted) scope rooms name new told reply ⊎ IsTurnedAway (IsRefusalOver limits) scope rooms name new told reply ⊎ IsSentOn scope name new told reply
 served limits rooms permitted denied scope name new told reply never first (inl is) = inl is
-served limits rooms permitted denied scope name new told reply never first (inr (inl is)) = inr is
-served limits rooms permitted denied scope name new told reply never first (inr (inr shut)) = absurd (go shut.1)
+served limits rooms permitted denied scope name new told reply never first (inr (inl is)) = inr (inl is)
+served limits rooms permitted denied scope name new told reply never first (inr (inr (inr sent))) = inr (inr sent)
+served limits rooms permitted denied scope name new told reply never first (inr (inr (inl shut))) = absurd (go shut.1)
   where
     go : MayBeShut denied rooms name → ⊥
     go (inl demand) = demand.0 first

@@ -11,7 +11,7 @@ use Rattle.rules.specs.declared.refusal.Refusal.TheVariants.{NoSuchRoom, NotServ
 use Rattle.wire.specs.declared.request.Request.{Request}
 use Rattle.wire.specs.declared.request.Request.TheVariants.{Join, Back, Leave, Pull}
 use Rattle.wire.specs.declared.reply.Reply.{Reply}
-use Rattle.wire.specs.declared.reply.Reply.TheVariants.{No}
+use Rattle.wire.specs.declared.reply.Reply.TheVariants.{No, Renewed}
 use Rattle.wire.specs.Texts.{reply_text}
 use Rattle.wire_reader.specs.steps.Reads.{request_read}
 use Rattle.scope.specs.Scopes.{allows}
@@ -22,6 +22,7 @@ use Rattle.room_lock.specs.Rooms.{IsOnDemand, RoomsView, Serves}
 use Rattle.room_lock.specs.Passes.{PassView, PrefixView, prefix_of}
 use Rattle.room_lock.specs.Told.{IsBack, IsBackRefusalOver, IsCall, IsJoin, IsLeaveOver}
 use Rattle.room_lock.specs.Told.{IsRefusalOver}
+use Rattle.keeper.specs.Chains.{IsLater}
 use Rattle.sessions.specs.Sessions.{SessionView}
 
 -- the session itself refuses, and is unchanged; the reply reports on no room
@@ -98,13 +99,21 @@ IsNotServed denied scope rooms name new told reply =
     (allows scope name ≡ true) × MayBeShut denied rooms name
     × IsRefused NotServed None new told reply
 
--- a site is let in, or it is turned away, or the room is not served
+-- The session may enter the room of this name, but is told of a later room of its chain. The reply
+-- reports on no room.
+abbrev pub IsSentOn : Scope → Bytes → Option PassView → Option PrefixView → Reply → Type 0
+IsSentOn scope name new told reply =
+    (later : Bytes) × IsLater name later × (reply ≡ Renewed 0 later) × (allows scope name ≡ true)
+    × (told ≡ None) × (new ≡ None)
+
+-- a site is let in, or it is turned away, or the room is not served, or its chain goes on elsewhere
 abbrev pub IsEntering : (PassView → Reply → Type 0) → (List Entry → Reply → Type 0) → (ℕ → Type 0)
     → Scope → RoomsView → Bytes → Option PassView → Option PrefixView → Reply → Type 0
 IsEntering Enters Refuses denied scope rooms name new told reply =
     IsLetIn Enters scope rooms name new told reply
     ⊎ IsTurnedAway Refuses scope rooms name new told reply
     ⊎ IsNotServed denied scope rooms name new told reply
+    ⊎ IsSentOn scope name new told reply
 
 -- a join, and a coming back as a site, which no keeper denies
 abbrev pub IsJoinBy : LimitValues → RoomsView → (ℕ → Type 0) → (ℕ → Type 0) → Scope → Bytes

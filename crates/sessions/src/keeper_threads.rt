@@ -11,12 +11,12 @@ use std::time::{Clock, Duration};
 /// The period of the ticks of a keeper, in seconds.
 const TICK_SECONDS: u64 = 1;
 
-/// Does what is to be done for the keeper, until that is ended. Tells the observer what changes,
-/// and wakes the loops in which answers wait.
+/// Does what is to be done for the keeper, until that is ended. Tells the observer what was synced
+/// and what changes, and wakes the loops in which answers wait.
 pub(crate) fn keep_rooms<P, R, O, K>(host: &Host<'_, P, R, O, K>)
 where
     P: RoomHistories,
-    R: Wait,
+    R: Wait + Clock,
     O: Observer,
     K: Keeper<P>,
 {
@@ -24,6 +24,9 @@ where
         let Some(attempt) = host.keeper.keep_next(host.rt, host.alloc, host.rooms) else {
             return;
         };
+        if let Some(sync) = attempt.sync {
+            host.observer.after_sync(sync);
+        }
         if let Some(change) = &attempt.change {
             host.observer.after_change(change);
         }

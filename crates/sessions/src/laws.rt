@@ -2,6 +2,7 @@
 
 ghost use Rattle.std.specs.Prelude.{◌≡◌, ◌⊎◌, ◌∷◌, ◌++◌, ℕ, Contains, None, Option, Some, true};
 ghost use Rattle.base_types.specs.Texts.{Bytes};
+ghost use Rattle.base_types.specs.RoomNames.{first_name};
 ghost use Rattle.rules.specs.declared.limits.LimitValues.{LimitValues};
 ghost use Rattle.wire.specs.declared.reply.Reply.{Reply};
 ghost use Rattle.scope.specs.Scopes.{IsQuery, allows, scope_of_target};
@@ -12,7 +13,7 @@ ghost use Rattle.room_lock.specs.Rooms.{RoomsView};
 ghost use Rattle.sessions.specs.Sessions.{SessionView};
 ghost use Rattle.room_lock.specs.Told.{IsRefusalOver};
 ghost use Rattle.sessions.specs.Turns.{IsBackBy, IsJoinBy, IsLetIn, IsPermitted, IsPermittedJoin};
-ghost use Rattle.sessions.specs.Turns.{IsTurn, IsTurnedAway, MayEnter};
+ghost use Rattle.sessions.specs.Turns.{IsSentOn, IsTurn, IsTurnedAway, MayEnter};
 
 use keeper::Keeper;
 use room_lock::RoomHistories;
@@ -41,14 +42,14 @@ pub fn a_session_stays_in_its_room<P: RoomHistories, K: Keeper<P>>()
 {}
 
 /// A session whose scope is that of its request's target enters a room only if the target is a slash
-/// and the room's name, and then nothing or a query.
-pub fn a_session_enters_only_the_room_of_its_path<P: RoomHistories, K: Keeper<P>>()
+/// and the name of the first room of its chain, and then nothing or a query.
+pub fn a_session_enters_only_the_chain_of_its_path<P: RoomHistories, K: Keeper<P>>()
     ensures { (limits : LimitValues) (rooms : RoomsView) (target : Bytes)
         (old new : SessionView) (pass : PassView) (bytes : Bytes) (told : Option PrefixView)
         (reply : Reply) → old.scope ≡ scope_of_target target → old.pass ≡ None →
         new.pass ≡ Some pass →
         IsTurn limits rooms (IsPermitted K.permits) K.denies old new bytes told reply →
-        (query : Bytes) × (target ≡ 47 ∷ pass.room ++ query) × IsQuery query }
+        (query : Bytes) × (target ≡ 47 ∷ first_name pass.room ++ query) × IsQuery query }
 {}
 
 /// What the reply to a join or a coming back reports is a record of the named room. What a reply
@@ -70,13 +71,15 @@ pub fn a_reply_reports_on_the_room_of_the_session<P: RoomHistories, K: Keeper<P>
 {}
 
 /// Where no room is denied, no join of a room that is open from the start is refused as not served.
+/// A site is let in, or turned away by the room, or told of a later room of the chain.
 pub fn a_room_that_is_not_denied_is_served<P: RoomHistories, K: Keeper<P>>()
     ensures { (limits : LimitValues) (rooms : RoomsView) (scope : Scope) (name : Bytes)
         (new : Option PassView) (told : Option PrefixView) (reply : Reply) →
         ((number : ℕ) → ¬ (K.denies number)) → Contains rooms.names name →
         IsJoinBy limits rooms (IsPermitted K.permits) K.denies scope name new told reply →
         IsLetIn (IsPermittedJoin limits (IsPermitted K.permits)) scope rooms name new told reply
-        ⊎ IsTurnedAway (IsRefusalOver limits) scope rooms name new told reply }
+        ⊎ IsTurnedAway (IsRefusalOver limits) scope rooms name new told reply
+        ⊎ IsSentOn scope name new told reply }
 {}
 
 /// Two sessions that are let into rooms of one name, which is open from the start, are in one

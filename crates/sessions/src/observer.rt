@@ -2,7 +2,7 @@
 
 use crate::cause::Cause;
 use base_types::RoomName;
-use keeper::{Change, Reason};
+use keeper::{Change, FileSync, Reason};
 use loops::Client;
 use wire::{EntryKind, Refusal};
 
@@ -24,6 +24,9 @@ pub trait Observer {
 
     /// A thread of the keeper changed this.
     fn after_change(&self, _change: &Change) {}
+
+    /// A thread of the keeper wrote and synced a room's file, or failed to.
+    fn after_sync(&self, _sync: FileSync) {}
 
     /// A connection is no probe: a session begins.
     fn before_session(&self) {}

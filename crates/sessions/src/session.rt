@@ -14,6 +14,7 @@ ghost use Rattle.room_lock.specs.declared.lookup.Lookup.TheVariants as lookup;
 ghost use Rattle.room_lock.specs.steps.Entrances.{IfEntered};
 ghost use Rattle.room_lock.specs.Lookups.{IfOpen};
 ghost use Rattle.keeper.specs.Accesses.{IfKnown, IfNew};
+ghost use Rattle.keeper.specs.Chains.{IsLater};
 ghost use Rattle.scope.specs.Scopes.{allows};
 ghost use Rattle.sessions.specs.Turns.{IsAnswer, IsCallBy, IsPermitted, IsTextOfTurn, IsTurn, IsWait};
 ghost use Rattle.sessions.specs.Turns.{AsksToOpen, IsWaitInRoom, MayEnter, MayStand};
@@ -24,7 +25,7 @@ use crate::observer::Observer;
 use crate::session_reply::SessionReply;
 use base_types::{NoMemory, RoomName};
 use connection::Answer;
-use keeper::{Access, Keeper};
+use keeper::{Access, Keeper, Reason};
 use room_lock::{Entrance, Lookup, Pass, Prefix, RoomHistories};
 use scope::Scope;
 use std::marker::Model;
@@ -133,8 +134,8 @@ impl<P: RoomHistories> Session<P> {
     /// holds the message: then it is `None`, and nothing has changed.
     /// The session itself refuses five things. These are bytes that are no request, `join` and
     /// `back` in a room, other requests in no room, rooms that do not exist or are not in its
-    /// scope, and rooms that cannot be opened now, or for which the keeper has no permit. Every
-    /// other request is one call of the rooms: `join` and `back` may give a pass, `leave` hands it
+    /// scope, and rooms that cannot be opened now, or for which the keeper has no permit. It tells
+    /// who asks for a room whose chain goes on elsewhere of the newest room. Every other request is one call of the rooms: `join` and `back` may give a pass, `leave` hands it
     /// back, and the rest call the room by it.
     /// With `may_hold` it holds a `wait` in a room whose record has exactly the number of entries
     /// that the request names. It also holds a `join` or `back` of a room that is being opened.
@@ -279,8 +280,25 @@ impl<P: RoomHistories> Session<P> {
         }
     }
 
-    /// Joins the room of this name, unless the session is in a room. What the keeper cannot keep is
-    /// not begun.
+    /// The newest room of the chain of the room of this name, if the session may enter that room and
+    /// its chain goes on elsewhere.
+    fn later_room<R: Wait, O: Observer, K: Keeper<P>>(
+        &self,
+        host: &Host<'_, P, R, O, K>,
+        name: &RoomName,
+    ) -> Result<Option<RoomName>, MessageFault>
+        ensures later { IfOk result (λ found. IfSome found (λ later.
+            IsLater name.now later × (allows self.now.scope name.now ≡ true))) }
+        ensures cause { IfErr result (λ why. why ≡ message_fault.NoMemory) }
+    {
+        if !self.scope.allows(name) {
+            return Ok(None);
+        }
+        Ok(host.keeper.newest(host.rt, host.alloc, name)?)
+    }
+
+    /// Joins the room of this name, unless the session is in a room. A room whose chain goes on
+    /// elsewhere is not joined. What the keeper cannot keep is not begun.
     fn join<R: Wait, O: Observer, K: Keeper<P>>(
         &mut self,
         host: &Host<'_, P, R, O, K>,
@@ -296,6 +314,9 @@ impl<P: RoomHistories> Session<P> {
         if self.inside.is_some() {
             return Ok(SessionReply::own_refusal(Refusal::AlreadyJoined));
         }
+        if let Some(later) = self.later_room(host, &name)? {
+            return Ok(SessionReply::sent_on(later));
+        }
         let found = self.look_up(host, &name)?;
         let opening = match found {
             Lookup::Open(opening) => opening,
@@ -309,7 +330,8 @@ impl<P: RoomHistories> Session<P> {
         Ok(self.enter(name, entrance))
     }
 
-    /// Comes back as this site of the room of this name, unless the session is in a room.
+    /// Comes back as this site of the room of this name, unless the session is in a room. A room that
+    /// has ended is read on while it is open. Otherwise the reply tells where its chain goes on.
     fn back<R: Wait, O: Observer, K: Keeper<P>>(
         &mut self,
         host: &Host<'_, P, R, O, K>,
@@ -329,8 +351,18 @@ impl<P: RoomHistories> Session<P> {
         let found = self.look_up(host, &name)?;
         let opening = match found {
             Lookup::Open(opening) => opening,
-            Lookup::Closed => return Ok(SessionReply::own_refusal(Refusal::NotServed)),
-            Lookup::NoRoom => return Ok(SessionReply::own_refusal(Refusal::NoSuchRoom)),
+            Lookup::Closed => {
+                if let Some(later) = self.later_room(host, &name)? {
+                    return Ok(SessionReply::sent_on(later));
+                }
+                return Ok(SessionReply::own_refusal(Refusal::NotServed));
+            }
+            Lookup::NoRoom => {
+                if let Some(later) = self.later_room(host, &name)? {
+                    return Ok(SessionReply::sent_on(later));
+                }
+                return Ok(SessionReply::own_refusal(Refusal::NoSuchRoom));
+            }
         };
         let entrance = host.rooms.back(host.rt, &opening, site);
         Ok(self.enter(name, entrance))
@@ -461,15 +493,14 @@ fn open_room<P: RoomHistories, R: Wait, O: Observer, K: Keeper<P>>(
     ensures some { result ≢ Ok lookup.NoRoom }
     ensures cause { IfErr result (λ why. why ≡ message_fault.NoMemory) }
 {
-    match access_to(host, name)? {
-        Access::New(begun) => Ok(Lookup::Open(begun.opening().copy())),
-        Access::Known(opening) => Ok(Lookup::Open(opening)),
-        Access::Later(_) => Ok(Lookup::Closed),
-        Access::NotServed(reason) => {
-            host.observer.not_served(reason);
-            Ok(Lookup::Closed)
-        }
-    }
+    let reason = match access_to(host, name)? {
+        Access::New(begun) => return Ok(Lookup::Open(begun.opening().copy())),
+        Access::Known(opening) => return Ok(Lookup::Open(opening)),
+        Access::Later(_) => Reason::Late,
+        Access::NotServed(reason) => reason,
+    };
+    host.observer.not_served(reason);
+    Ok(Lookup::Closed)
 }
 
 /// Calls the room by this pass. On `Err` the pass is as it was.

@@ -2,7 +2,7 @@
 
 ghost use Rattle.std.specs.Prelude.{ℕ, ◌≡◌, ◌≢◌, IfOk, IfSome, IsNone, None, Some, string_bytes};
 ghost use Rattle.rules.specs.declared.refusal.Refusal.{Refusal};
-ghost use Rattle.wire.specs.declared.reply.Reply.TheVariants.{No};
+ghost use Rattle.wire.specs.declared.reply.Reply.TheVariants.{No, Renewed};
 ghost use Rattle.wire.specs.Texts.{reply_text};
 
 use crate::host::Host;
@@ -39,6 +39,17 @@ impl<P: RoomHistories> SessionReply<P> {
     {
         SessionReply {
             reply: Reply::No { at: 0, refusal },
+            told: None,
+        }
+    }
+
+    /// The session itself tells of a later room of the chain.
+    pub(crate) fn sent_on(room: RoomName) -> SessionReply<P>
+        ensures reply { result.reply ≡ Renewed 0 room }
+        ensures told { result.told ≡ None }
+    {
+        SessionReply {
+            reply: Reply::Renewed { at: 0, room },
             told: None,
         }
     }

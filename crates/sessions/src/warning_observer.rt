@@ -3,7 +3,7 @@
 use crate::cause::Cause;
 use crate::observer::Observer;
 use base_types::RoomName;
-use keeper::{Change, Reason};
+use keeper::{Change, FileSync, Reason};
 use log::{Log, warn};
 use loops::Client;
 use wire::{EntryKind, Refusal};
@@ -35,6 +35,10 @@ impl<R: Log, O: Observer> Observer for WarningObserver<'_, R, O> {
 
     fn after_change(&self, change: &Change) {
         self.observer.after_change(change);
+    }
+
+    fn after_sync(&self, sync: FileSync) {
+        self.observer.after_sync(sync);
     }
 
     fn before_session(&self) {

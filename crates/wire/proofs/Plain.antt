@@ -16,7 +16,7 @@ use Rattle.base_types.proofs.Choices.{not_first}
 use Rattle.base_types.proofs.Vectors.{none_if}
 use Rattle.rules.specs.AttrLists.{Attr}
 use Rattle.rules.specs.declared.history.Entry.{Entry}
-use Rattle.rules.specs.declared.history.Entry.TheVariants.{Operation, Join as JoinOf}
+use Rattle.rules.specs.declared.history.Entry.TheVariants.{Operation, Next, Join as JoinOf}
 use Rattle.rules.specs.declared.history.Body.{Body}
 use Rattle.rules.specs.declared.history.Body.TheVariants.{New, Put, DropVersion}
 use Rattle.wire.specs.declared.reply.Reply.TheVariants.{Entries}
@@ -84,9 +84,13 @@ plain_body (DropVersion object version) h = (plain_name object h.0, (plain_names
 
 -- ---- entries
 
+plain_at : (count : ℕ) → is_at count ≡ true → count < 2 ^ 64
+plain_at count h = grind (arith, nat_tests)
+
 plain_entry : (e : Entry) → IsEntry e → IsPlain (entry_form e)
 plain_entry (JoinOf site) h = (tt, (plain_site site h, tt))
 plain_entry (Operation o) h = (tt, (plain_name o.name h.0, (plain_vector o.seen h.1, plain_items (body_form o.body).1 (plain_body o.body h.2))))
+plain_entry (Next count) h = (tt, (plain_at count h, tt))
 
 page_parts : (at from : ℕ) → is_at at ≡ true → is_from from ≡ true → (at < 2 ^ 64) × (from < 2 ^ 64)
 page_parts at from h k = grind (arith, nat_tests)

@@ -11,14 +11,14 @@ use Rattle.rules.specs.AttrLists.{Attr}
 use Rattle.wire.specs.declared.request.Request.{Request}
 use Rattle.wire.specs.declared.request.Request.TheVariants.{Join, Back, Change, Show, Pull, Leave, List as ListObjects}
 use Rattle.rules.specs.declared.history.Entry.{Entry}
-use Rattle.rules.specs.declared.history.Entry.TheVariants.{Operation, Join as JoinOf}
+use Rattle.rules.specs.declared.history.Entry.TheVariants.{Operation, Next, Join as JoinOf}
 use Rattle.rules.specs.declared.history.Body.{Body}
 use Rattle.rules.specs.declared.history.Body.TheVariants.{New, Put, DropVersion}
 use Rattle.rules.specs.declared.version.Version.{Version}
 use Rattle.rules.specs.declared.version.Shown.{Shown}
 use Rattle.rules.specs.declared.version.Shown.TheVariants.{Attrs, Gone}
 use Rattle.wire.specs.declared.reply.Reply.{Reply}
-use Rattle.wire.specs.declared.reply.Reply.TheVariants.{Joined, Returned, Made, Taken, Versions, Objects, Entries, Left, No}
+use Rattle.wire.specs.declared.reply.Reply.TheVariants.{Joined, Returned, Made, Taken, Versions, Objects, Entries, Left, Renewed, No}
 use Rattle.wire.specs.Form.{list_form, whole_form, name_form, names_form, value_form, attr_form, attrs_form, shown_form, version_form, object_form, body_form, operation_form, entry_form, request_form, reply_form}
 use Rattle.rules.specs.Refusals.{code_of, word_of}
 
@@ -86,6 +86,7 @@ shallow_operation head seen b low = shallow_fields 2 (body_form b).0 (head ∷ n
 pub shallow_entry : (e : Entry) → IsShallow 3 (entry_form e)
 shallow_entry (JoinOf site) = shallow_fields 2 (codes "join") (whole_form site ∷ []) (shallow_whole 2 site, tt)
 shallow_entry (Operation o) = shallow_operation (name_form o.name) o.seen o.body (shallow_name 1 o.name)
+shallow_entry (Next count) = shallow_fields 2 (codes "next") (whole_form count ∷ []) (shallow_whole 2 count, tt)
 
 pub shallow_request : (q : Request) → IsShallow 3 (request_form q)
 shallow_request (Join room) = shallow_fields 2 (codes "join") (string room ∷ []) (shallow_text 2 room, tt)
@@ -113,4 +114,5 @@ shallow_reply (Entries at from entries) =
     shallow_fields 4 (codes "entries") (whole_form at ∷ whole_form from ∷ list_form (map entry_form entries) ∷ [])
     (shallow_whole 4 at, (shallow_whole 4 from, (shallow_list 3 (map entry_form entries) (shallow_map 3 entry_form shallow_entry entries), tt)))
 shallow_reply (Left at) = shallow_fields 4 (codes "left") (whole_form at ∷ []) (shallow_whole 4 at, tt)
+shallow_reply (Renewed at room) = shallow_fields 4 (codes "renewed") (whole_form at ∷ string room ∷ []) (shallow_whole 4 at, (shallow_text 4 room, tt))
 shallow_reply (No at refusal) = shallow_fields 4 (codes "no") (whole_form at ∷ whole_form (code_of refusal) ∷ string (word_of refusal) ∷ []) (shallow_whole 4 at, (shallow_whole 4 (code_of refusal), (shallow_text 4 (word_of refusal), tt)))

@@ -9,7 +9,8 @@ use Rattle.serde_json.specs.Read.{read}
 use Rattle.serde_json.specs.View.{items_of}
 use Rattle.base_types.specs.Names.{is_site, is_seq, is_op_name}
 use Rattle.base_types.specs.VersionIds.{names_rise}
-use Rattle.base_types.specs.Texts.{is_room_name, is_key, is_kind, is_value_text}
+use Rattle.base_types.specs.Texts.{is_key, is_kind, is_value_text}
+use Rattle.base_types.specs.RoomNames.{is_room_name}
 use Rattle.base_types.specs.declared.value.Value.{Value}
 use Rattle.base_types.specs.declared.value.Value.TheVariants.{Number, Text}
 use Rattle.base_types.specs.Vectors.{Vector, is_vector}
@@ -20,7 +21,7 @@ use Rattle.wire.specs.declared.request.Request.{Request}
 use Rattle.wire.specs.declared.request.Request.TheVariants.{Join, Back, Change, Show, Pull, Leave}
 use Rattle.wire.specs.declared.request.Request.TheVariants.{List as ListObjects}
 use Rattle.rules.specs.declared.history.Entry.{Entry}
-use Rattle.rules.specs.declared.history.Entry.TheVariants.{Operation, Join as JoinOf}
+use Rattle.rules.specs.declared.history.Entry.TheVariants.{Operation, Next, Join as JoinOf}
 use Rattle.rules.specs.declared.history.Body.{Body}
 use Rattle.rules.specs.declared.history.Body.TheVariants.{New, Put, DropVersion}
 use Rattle.rules.specs.declared.version.Version.{Version}
@@ -30,7 +31,7 @@ use Rattle.rules.specs.Refusals.{code_of, word_of}
 use Rattle.wire.specs.Rising.{rise, attr_before, id_before, version_before}
 use Rattle.wire.specs.declared.reply.Reply.{Reply}
 use Rattle.wire.specs.declared.reply.Reply.TheVariants.{Joined, Returned, Made, Taken, Versions}
-use Rattle.wire.specs.declared.reply.Reply.TheVariants.{Objects, Entries, Left, No}
+use Rattle.wire.specs.declared.reply.Reply.TheVariants.{Objects, Entries, Left, Renewed, No}
 
 -- a JSON list of these values
 abbrev pub list_form : List Data → Data
@@ -73,6 +74,10 @@ IsId names = AllByRecursion (λ name. is_op_name name ≡ true) names × (names_
 -- the place that a page begins at, in range
 abbrev pub is_from : ℕ → Bool
 is_from from = nat_le from MAX_FROM
+
+-- a place in the record, or a number of entries or objects, in range
+abbrev pub is_at : ℕ → Bool
+is_at at = nat_le at MAX_ENTRIES
 
 -- an attribute in range
 abbrev pub IsAttr : Attr → Type 0
@@ -192,6 +197,7 @@ object_form o = list_form (name_form o.0 ∷ string o.1 ∷ [])
 abbrev pub entry_form_by : (Body → WordAndFields) → Entry → Data
 entry_form_by of_body (JoinOf site) = list_form (string (codes "join") ∷ whole_form site ∷ [])
 entry_form_by of_body (Operation o) = operation_form (name_form o.name) o.seen (of_body o.body)
+entry_form_by of_body (Next count) = list_form (string (codes "next") ∷ whole_form count ∷ [])
 
 -- the form in which an entry is written
 abbrev pub entry_form : Entry → Data
@@ -205,6 +211,7 @@ IsEntryForm = IsFormBy entry_form_by
 abbrev pub IsEntry : Entry → Type 0
 IsEntry (JoinOf site) = is_site site ≡ true
 IsEntry (Operation o) = (is_op_name o.name ≡ true) × (is_vector o.seen ≡ true) × IsBody o.body
+IsEntry (Next count) = is_at count ≡ true
 
 -- the JSON value is one of the entry
 abbrev pub IsEntryValue : Data → Entry → Type 0
@@ -246,6 +253,8 @@ reply_form (Entries at from entries) =
     (string (codes "entries") ∷ whole_form at ∷ whole_form from
     ∷ list_form (map entry_form entries) ∷ [])
 reply_form (Left at) = list_form (string (codes "left") ∷ whole_form at ∷ [])
+reply_form (Renewed at room) =
+    list_form (string (codes "renewed") ∷ whole_form at ∷ string room ∷ [])
 reply_form (No at refusal) =
     list_form
     (string (codes "no") ∷ whole_form at ∷ whole_form (code_of refusal)
@@ -258,10 +267,6 @@ IsReplyForm d (Entries at from entries) =
     (page : Data) × IsListForm IsEntryForm page entries
     × (d ≡ list_form (string (codes "entries") ∷ whole_form at ∷ whole_form from ∷ page ∷ []))
 IsReplyForm d reply = d ≡ reply_form reply
-
--- a place in the record, or a number of entries or objects, in range
-abbrev pub is_at : ℕ → Bool
-is_at at = nat_le at MAX_ENTRIES
 
 -- the attributes of a version, in range
 abbrev pub AreShown : List Attr → Type 0
@@ -302,6 +307,7 @@ IsReply (Objects at from total objects) =
 IsReply (Entries at from entries) = (is_at at ≡ true) × (is_from from ≡ true)
     × AllByRecursion IsEntry entries
 IsReply (Left at) = is_at at ≡ true
+IsReply (Renewed at room) = (is_at at ≡ true) × (is_room_name room ≡ true)
 IsReply (No at refusal) = is_at at ≡ true
 
 -- the JSON value is one of the reply

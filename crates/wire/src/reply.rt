@@ -4,7 +4,7 @@ ghost use Rattle.std.specs.Prelude.{◌≡◌};
 ghost use Rattle.wire.specs.steps.Equality.{same_entrance, same_change, same_listing, same_page};
 
 use crate::lists::{EntryList, IdList, ObjectList, VersionList};
-use base_types::{Kind, OpName};
+use base_types::{Kind, OpName, RoomName};
 use rules::Refusal;
 
 /// The reply to a request. `at` is the number of entries in the record before the call, and 0 if no
@@ -56,6 +56,11 @@ pub enum Reply {
     Left {
         at: u32,
     },
+    /// The room that the request named has ended. Its chain goes on in this room, the newest.
+    Renewed {
+        at: u32,
+        room: RoomName,
+    },
     /// The request was refused, and nothing changed.
     No {
         at: u32,
@@ -90,6 +95,7 @@ impl Reply {
             | Reply::Objects { at, .. }
             | Reply::Entries { at, .. }
             | Reply::Left { at }
+            | Reply::Renewed { at, .. }
             | Reply::No { at, .. } => *at,
         }
     }
@@ -129,6 +135,13 @@ impl PartialEq for Reply {
             (Reply::Versions { .. }, _) => same_listing(self, other),
             (Reply::Objects { .. } | Reply::Entries { .. }, _) => same_page(self, other),
             (Reply::Left { at }, Reply::Left { at: other_at }) => *at == *other_at,
+            (
+                Reply::Renewed { at, room },
+                Reply::Renewed {
+                    at: other_at,
+                    room: other_room,
+                },
+            ) => *at == *other_at && *room == *other_room,
             (
                 Reply::No { at, refusal },
                 Reply::No {

@@ -11,7 +11,8 @@ use Rattle.wire.specs.declared.request.TheConstants.{MAX_FROM}
 use Rattle.serde_json.specs.Data.{Data, null, boolean, number, string, array, object}
 use Rattle.base_types.specs.Names.{is_op_name, is_site, is_seq}
 use Rattle.base_types.specs.VersionIds.{names_rise}
-use Rattle.base_types.specs.Texts.{is_room_name, is_key, is_kind, is_value_text}
+use Rattle.base_types.specs.Texts.{is_key, is_kind, is_value_text}
+use Rattle.base_types.specs.RoomNames.{is_room_name}
 use Rattle.base_types.specs.declared.value.Value.{Value}
 use Rattle.base_types.specs.declared.value.Value.TheVariants.{Number, Text}
 use Rattle.base_types.specs.Vectors.{is_vector, vector_fault, fault_after, pair_fault}
@@ -31,9 +32,12 @@ exact_seq = exact_whole 1 MAX_SEQ
 pub exact_site : IsExact ℕ (whole_in 1 MAX_SITE) whole_form (λ n. is_site n ≡ true)
 exact_site = exact_whole 1 MAX_SITE
 
+pub exact_count : IsExact ℕ (whole_in 0 MAX_ENTRIES) whole_form (λ n. is_at n ≡ true)
+exact_count = exact_by (exact_whole 0 MAX_ENTRIES) (λ n fit. grind (arith, nat_tests)) (λ n fit. grind (arith, nat_tests))
+
 pub exact_at : IsExact ℕ at_in whole_form (λ n. is_at n ≡ true)
 unfolding at_in
-exact_at = exact_by (exact_whole 0 MAX_ENTRIES) (λ n fit. grind (arith, nat_tests)) (λ n fit. grind (arith, nat_tests))
+exact_at = exact_count
 
 pub exact_from : IsExact ℕ (whole_in 0 MAX_FROM) whole_form (λ n. is_from n ≡ true)
 exact_from = exact_by (exact_whole 0 MAX_FROM) (λ n fit. grind (arith, nat_tests)) (λ n fit. grind (arith, nat_tests))

@@ -4,7 +4,7 @@ ghost use Rattle.std.specs.Prelude.{◌≡◌, ◌≤◌, ℕ, IfOk, IsErrOf, So
 ghost use Rattle.std.specs.Arc.{arc_value};
 ghost use Rattle.rules.specs.declared.history.Entry.{Entry as AnyEntry};
 ghost use Rattle.wire.specs.Form.{IsEntryText};
-ghost use Rattle.wire_reader.specs.steps.Entries.{join_at, change_at, entry_of};
+ghost use Rattle.wire_reader.specs.steps.Entries.{join_at, next_at, change_at, entry_of};
 ghost use Rattle.wire_reader.specs.steps.Reads.{entry_read};
 ghost use Rattle.wire_reader.specs.steps.Streams.{rest_in, Takes};
 
@@ -14,7 +14,7 @@ use crate::part::{Part, read_text};
 use crate::token::{close_list, whole_of, word_of};
 use base_types::MAX_SITE;
 use json::{Reader, Scratch};
-use rules::{Entry, Op};
+use rules::{Entry, Limits, Op};
 use std::alloc::Global;
 use std::sync::Arc;
 
@@ -24,6 +24,14 @@ fn join_of(reader: &mut Reader<'_>) -> Result<Entry, ReadFault>
     let site = whole_of(reader, 1, MAX_SITE)?;
     close_list(reader)?;
     Ok(Entry::Join(site))
+}
+
+fn next_of(reader: &mut Reader<'_>) -> Result<Entry, ReadFault>
+    ensures { (n : ℕ) → Takes (λ entry. entry) result (rest_in next_at n reader.old) reader.new }
+{
+    let count = whole_of(reader, 0, Limits::MAX_ENTRIES)?;
+    close_list(reader)?;
+    Ok(Entry::Next(count))
 }
 
 fn change_of(alloc: Global, word: &str, reader: &mut Reader<'_>) -> Result<Entry, ReadFault>
@@ -47,6 +55,7 @@ impl Part for Entry {
         let word = word_of(reader)?;
         match word {
             "join" => join_of(reader),
+            "next" => next_of(reader),
             _ => change_of(alloc, word, reader),
         }
     }

@@ -8,7 +8,8 @@ ghost use Rattle.wire_reader.specs.steps.Reading.{Fails, Gives, name_in, pair_in
 ghost use Rattle.wire_reader.specs.steps.Reads.{json_of, text_in};
 ghost use Rattle.wire_reader.specs.steps.Streams.{next_in, rest_in, fronted, value_of, Takes};
 ghost use Rattle.base_types.specs.Names.{is_op_name};
-ghost use Rattle.base_types.specs.Texts.{is_key, is_kind, is_room_name};
+ghost use Rattle.base_types.specs.Texts.{is_key, is_kind};
+ghost use Rattle.base_types.specs.RoomNames.{is_room_name};
 ghost use Rattle.base_types.specs.VersionIds.{names_rise};
 ghost use Rattle.base_types.specs.Vectors.{is_vector};
 ghost use Rattle.rules.specs.AttrLists.{Attr, are_attrs, are_pairs};

@@ -9,7 +9,7 @@ use Rattle.base_types.specs.Names.{Name, is_site, is_seq, is_op_name}
 use Rattle.base_types.specs.Texts.{Bytes}
 use Rattle.rules.specs.declared.history.Op.{Op}
 use Rattle.rules.specs.declared.history.Entry.{Entry}
-use Rattle.rules.specs.declared.history.Entry.TheVariants.{Join, Operation}
+use Rattle.rules.specs.declared.history.Entry.TheVariants.{Join, Next, Operation}
 use Rattle.rules.specs.declared.refusal.Refusal.{Refusal}
 use Rattle.rules.specs.declared.refusal.Refusal.TheVariants.{NotJoined, NoSuchSite, SiteInUse, TooFar}
 use Rattle.rules.specs.declared.limits.LimitValues.{LimitValues}
@@ -18,13 +18,13 @@ use Rattle.rules.specs.Operations.{IsHistory, creation_of, is_creation_of, objec
 use Rattle.rules.specs.Admission.{count_at_site}
 use Rattle.rules.specs.Records.{admits, objects, operations, refusal, sites, IsLegal}
 use Rattle.rules.proofs.Lists.{In, In-filter_back, In-map_back, find_is}
-use Rattle.rules.proofs.Records.{kept_by_admitted, legal_push, length-operations, count_at_site-length, operations-push, sites-join, sites-operation}
-use Rattle.rules.proofs.Conditions.{room_for_join, room_for_operation}
+use Rattle.rules.proofs.Records.{kept_by_admitted, legal_push, length-operations, count_at_site-length, operations-push, sites-end, sites-join, sites-operation}
+use Rattle.rules.proofs.Conditions.{room_for_end, room_for_join, room_for_operation}
 use Rattle.rules.proofs.Founded.{history_if_legal}
 use Rattle.wire.specs.declared.request.Request.{Request}
 use Rattle.wire.specs.declared.request.Request.TheVariants as request
 use Rattle.wire.specs.declared.reply.Reply.{Reply}
-use Rattle.wire.specs.declared.reply.Reply.TheVariants.{Joined, Returned, Made, Taken, Versions, Objects, Entries, Left, No}
+use Rattle.wire.specs.declared.reply.Reply.TheVariants.{Joined, Returned, Made, Taken, Versions, Objects, Entries, Left, Renewed, No}
 use Rattle.wire.specs.Form.{IsEntry, IsObject, IsReply, IsRequest, is_at, is_from}
 use Rattle.room_core.specs.Room.{Room, all_objects, with_entry}
 use Rattle.drawing.specs.Shown.{ids_with, shown_by}
@@ -53,6 +53,12 @@ within_push b r (Operation op) w a =
     let more = length_push r (Operation op) in
     let few = w.joins in
     let place = room.0 in
+    record { joins = omega (arith, same, few); short = omega (arith, more, place) }
+within_push b r (Next count) w a =
+    let place = room_for_end b r count a in
+    let same = sites-end r count in
+    let more = length_push r (Next count) in
+    let few = w.joins in
     record { joins = omega (arith, same, few); short = omega (arith, more, place) }
 
 within : (b : LimitValues) (r : List Entry) → IsLegal b r → IsWithin b r
@@ -248,4 +254,5 @@ moved_in_range (Versions at name kind vs) site range e = absurd (cc)
 moved_in_range (Objects at from total page) site range e = absurd (cc)
 moved_in_range (Entries at from page) site range e = absurd (cc)
 moved_in_range (Left at) site range e = absurd (cc)
+moved_in_range (Renewed at room) site range e = absurd (cc)
 moved_in_range (No at why) site range e = absurd (cc)

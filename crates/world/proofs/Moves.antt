@@ -3,14 +3,14 @@ use Rattle.std.proofs.Common.{◌≡◌, ℕ, ◌+◌, ◌≤◌, ◌⊎◌, inl
 use Rattle.std.proofs.lemmas.Bool.{and_from, and_parts, le-leb, leb-true}
 use Rattle.rules.specs.declared.history.Op.{Op}
 use Rattle.rules.specs.declared.history.Entry.{Entry}
-use Rattle.rules.specs.declared.history.Entry.TheVariants.{Join, Operation}
+use Rattle.rules.specs.declared.history.Entry.TheVariants.{Join, Next, Operation}
 use Rattle.rules.specs.declared.refusal.Refusal.{Refusal}
 use Rattle.rules.specs.declared.refusal.Refusal.TheVariants.{NotJoined, NoSuchSite, SiteInUse}
 use Rattle.rules.specs.Admission.{count_at_site}
 use Rattle.rules.specs.Bodies.{is_change_body}
 use Rattle.rules.specs.Operations.{creation_of}
 use Rattle.rules.specs.Records.{objects, operations, refusal, sites}
-use Rattle.rules.proofs.Records.{sites-join, sites-operation}
+use Rattle.rules.proofs.Records.{sites-end, sites-join, sites-operation}
 use Rattle.wire.specs.declared.request.Request.{Request}
 use Rattle.wire.specs.declared.request.Request.TheVariants as request
 use Rattle.wire.specs.declared.reply.Reply.{Reply}
@@ -70,6 +70,9 @@ module _ (room : Room) where
   still_joined (Some (Operation op)) site has =
       let same = sites-operation room.entries op in
       joined_with (room.entries ++ Operation op ∷ []) site (omega (arith, same)) has
+  still_joined (Some (Next count)) site has =
+      let same = sites-end room.entries count in
+      joined_with (room.entries ++ Next count ∷ []) site (omega (arith, same)) has
 
   next_joined : has_site (with_entry room (Some (Join (sites room.entries + 1)))) (sites room.entries + 1) ≡ true
   next_joined =

@@ -15,7 +15,7 @@ use Rattle.rules.specs.declared.history.Op.{Op}
 use Rattle.rules.specs.declared.history.Body.{Body}
 use Rattle.rules.specs.declared.history.Body.TheVariants.{New, Put, DropVersion}
 use Rattle.rules.specs.declared.history.Entry.{Entry}
-use Rattle.rules.specs.declared.history.Entry.TheVariants.{Join, Operation}
+use Rattle.rules.specs.declared.history.Entry.TheVariants.{Join, Next, Operation}
 use Rattle.rules.specs.declared.version.Shown.TheVariants.{Attrs, Gone}
 use Rattle.rules.specs.declared.version.Version.{Version}
 use Rattle.rules.specs.AttrLists.{Attr, value_at}
@@ -88,6 +88,7 @@ IsOp op = IsEntry (Operation op)
 
 entry_is : (e : Entry) (op : Op) → operation_in e ≡ Some op → IsEntry e → IsOp op
 entry_is (Join site) op e range = absurd cc
+entry_is (Next count) op e range = absurd cc
 entry_is (Operation o) op e range = (let same : o ≡ op = cc in subst IsOp same range)
 
 pub ops_in_range : (r : List Entry) → AllByRecursion IsEntry r → (op : Op) → In op (operations r) → IsOp op

@@ -93,19 +93,19 @@ export async function begunAnew(browser, address) {
   try {
     proxy.port = new URL((await pageOf(other.address)).searchParams.get("server")).port
     proxy.cut()
-    await person.waitUntil("the messages", `document.querySelector("#renewed .notice") !== null`)
+    await person.waitUntil("the messages", `document.querySelector("#reset .notice") !== null`)
     await isOpen(person)
-    await person.picture(join(PICTURES, "renewed.png"))
-    expect("the words of the news", (await person.look(`document.getElementById("renewed").textContent`))
+    await person.picture(join(PICTURES, "reset.png"))
+    expect("the words of the news", (await person.look(`document.getElementById("reset").textContent`))
       .startsWith("The room was started again"))
     expectEqual("what it shows", await person.look(COUNT), 0)
-    const text = await person.look(`fetch(document.querySelector("#renewed a").href).then((it) => it.text())`)
+    const text = await person.look(`fetch(document.querySelector("#reset a").href).then((it) => it.text())`)
     const lines = text.split("\n")
     expectEqual("the first line of the record", lines[0], '["join",1]')
     expectEqual("the last one", JSON.parse(lines.at(-2)).slice(3),
       ["rect", [["x", 20], ["y", 700], ["width", 60], ["height", 60], ["fill", "#3a86c8"], ["name", ""]]])
-    await person.click("#renewed button")
-    expectEqual("the messages then", await person.look(`document.getElementById("renewed").textContent`), "")
+    await person.click("#reset button")
+    expectEqual("the messages then", await person.look(`document.getElementById("reset").textContent`), "")
     expectEqual("faults in the page", person.faults, [])
   } finally {
     proxy.end()
@@ -137,7 +137,7 @@ export async function killed(browser) {
     proxy.port = new URL(again.searchParams.get("server")).port
     proxy.cut()
     await isOpen(person)
-    expectEqual("the messages", await person.look(`document.getElementById("renewed").textContent`), "")
+    expectEqual("the messages", await person.look(`document.getElementById("reset").textContent`), "")
     expectEqual("what it shows", await person.look(BODIES), bodies)
     // Another address serves the page's files now.
     const other = await browser.open(again.href, 1240, 720)

@@ -6,10 +6,13 @@ import { expect, expectEqual } from "../../../clients/js/tests/checks.js"
 import { Chromium } from "./chromium.mjs"
 import * as connections from "./connections.mjs"
 import * as deleting from "./deleting.mjs"
+import { full } from "./full.mjs"
+import { keepingWork } from "./keeping_work.mjs"
 import { looking } from "./looking.mjs"
 import { opening } from "./opening.mjs"
 import { COUNT, PICTURES, counts, faults, isOpen, serve, step, watch } from "./people.mjs"
 import { plan } from "./plan.mjs"
+import { renewing } from "./renewing.mjs"
 import { saving } from "./saving.mjs"
 import { sharing } from "./sharing.mjs"
 import { sketching } from "./sketching.mjs"
@@ -83,8 +86,11 @@ async function all(browser) {
   await sketching(browser)
   await looking(browser)
   await opening(browser)
+  await full(browser)
+  await keepingWork(browser)
   await saving(browser)
   await sharing(browser)
+  await renewing(browser)
   await step("a whiteboard that is killed and started again", () => connections.killed(browser))
   await step("a whiteboard whose room is gone", () => connections.roomGone())
   await step("a whiteboard at another address", () => connections.atAnotherAddress(browser))

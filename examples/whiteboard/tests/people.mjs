@@ -1,7 +1,9 @@
 /** Shared code of the tests: the whiteboard's server, its pages, what they show, and actions on them. */
 
 import { spawn } from "node:child_process"
-import { readFile } from "node:fs/promises"
+import { mkdtemp, readFile, rm, writeFile } from "node:fs/promises"
+import { tmpdir } from "node:os"
+import { join } from "node:path"
 import { createInterface } from "node:readline"
 import { fileURLToPath } from "node:url"
 import { Room } from "../../../clients/js/grace.js"
@@ -26,7 +28,7 @@ export const STATE = `document.getElementById("state").textContent`
 // The panel: its heading, the objects in its list, and its notice of a deletion.
 export const HEADING = `document.querySelector("#panel h2").textContent`
 export const LIST = `[...document.querySelectorAll("#panel .list button")].map((one) => one.textContent)`
-export const NOTICE = `document.querySelector(".notice")?.innerText.replace(/\\s+/g, " ") ?? null`
+export const NOTICE = `document.querySelector("#panel .notice")?.innerText.replace(/\\s+/g, " ") ?? null`
 
 /** The numbers of passed and failed steps. */
 export const counts = { passed: 0, failed: 0 }
@@ -163,6 +165,22 @@ export async function twoPeople(browser, act) {
     room?.close()
     for (const page of pages) await page.close()
     server.kill()
+  }
+}
+
+/** The lines of a record with these entries. */
+export const linesOf = (entries) => entries.map((entry) => `${JSON.stringify(entry)}\n`).join("")
+
+/** Runs an action with a whiteboard whose room has a record of these lines, and ends it. */
+export async function withRecord(record, act) {
+  const folder = await mkdtemp(join(tmpdir(), "whiteboard-room-"))
+  await writeFile(join(folder, "people.record"), record)
+  const { server, address } = await serve("--keep", folder)
+  try {
+    await act(address)
+  } finally {
+    endAll(server)
+    await rm(folder, { recursive: true })
   }
 }
 

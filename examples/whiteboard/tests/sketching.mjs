@@ -1,13 +1,24 @@
 /** Further tools: the pen, texts, copies, custom colours, and the order from back to front. */
 
 import { join } from "node:path"
+import { Refused } from "../../../clients/js/grace.js"
 import { expect, expectEqual } from "../../../clients/js/tests/checks.js"
-import { CONTROL } from "./chromium.mjs"
-import { COUNT, PICTURES, VERSIONS, added, draw, onScreen, step, twoPeople } from "./people.mjs"
+import { Handwriting } from "../handwriting.js"
+import { CONTROL, SHIFT } from "./chromium.mjs"
+import { COUNT, PICTURES, VERSIONS, added, draw, onScreen, signalRoom, step, twoPeople } from "./people.mjs"
 
-export const sketching = (browser) => twoPeople(browser, async ({ first, second, room }) => {
+// Longer than the time in which a stroke goes into the object of the one before.
+const LATER_MILLISECONDS = 2300
+
+export const sketching = (browser) => twoPeople(browser, async ({ first, second, room, server }) => {
   await step("strokes of the pen", () => strokes(first, second, room))
   await step("a stroke that takes several objects", () => longStroke(first, second, room))
+  await step("strokes that go into one object", () => handwriting(first, second, room))
+  await step("strokes that begin another object", () => otherObjects(first, room))
+  await step("two people write at once", () => bothWrite(first, second, room))
+  await step("a stroke after another has moved the object", () => strokeAfterMove(first, second, room))
+  await step("a stroke while another drags", () => strokeWhileDragged(first, second, room, server))
+  await step("a stroke that the room refuses in an object", () => refusedStroke())
   await step("text on a shape", () => textOnShape(first, second, room))
   await step("to the front and to the back", () => frontAndBack(first, second, room))
   await step("copies", () => copies(first, second, room))
@@ -15,12 +26,18 @@ export const sketching = (browser) => twoPeople(browser, async ({ first, second,
   await first.picture(join(PICTURES, "sketched.png"))
 })
 
-/** Draws with the pen along these places of the drawing. */
-async function stroke(page, places) {
+/** Takes the pen. Returns what draws with it along these places of the drawing. */
+async function readyStroke(page, places) {
   await page.click('[data-tool="pen"]')
   const onPage = []
   for (const place of places) onPage.push(await onScreen(page, place))
-  await page.dragAlong(onPage)
+  return () => page.dragAlong(onPage)
+}
+
+/** Draws with the pen along these places of the drawing. */
+async function stroke(page, places) {
+  const drawIt = await readyStroke(page, places)
+  await drawIt()
 }
 
 /** A stroke has the points at which it turns, relative to its corner. Points between them are left out. */
@@ -67,6 +84,149 @@ async function longStroke(first, second, room) {
   expectEqual("all points", [...points[0], ...points[1].slice(1)], places)
   expectEqual("one step back", await added(room, 2, () => first.key("z", CONTROL)), [["drop"], ["drop"]])
   await first.key("Escape")
+}
+
+const later = () => new Promise((resolve) => setTimeout(resolve, LATER_MILLISECONDS))
+
+/** Draws several strokes without a pause. */
+async function strokesOf(page, several) {
+  const ready = []
+  for (const places of several) ready.push(await readyStroke(page, places))
+  for (const drawNext of ready) await drawNext()
+}
+
+/** A new object of one stroke, as it is in the record. */
+const inked = ([x, y, width, height], text) =>
+  ["new", [["x", x], ["y", y], ["width", width], ["height", height], ["fill", "#3a86c8"], ["points-0", text]]]
+
+const LETTER = [[[800, 60], [810, 100]], [[820, 60], [830, 100]], [[790, 50], [790, 110]]]
+const LETTER_PATH = "M 800 60 L 810 100 M 820 60 L 830 100 M 790 50 L 790 110"
+const STROKES = `document.querySelector('[aria-label="Strokes"] .body')?.getAttribute("d") ?? null`
+
+/** Quick strokes near each other are one object. Undo takes back the last one alone, and the others see the same. */
+async function handwriting(first, second, room) {
+  await later()
+  const two = ["points-0", "0,0 10,40 / 20,0 30,40"]
+  const third = ["put", [["x", 790], ["y", 50], ["width", 40], ["height", 60],
+    ["points-0", "10,10 20,50 / 30,10 40,50 / 0,0 0,60"]]]
+  expectEqual("three strokes", await added(room, 3, () => strokesOf(first, LETTER)),
+    [inked([800, 60, 10, 40], "0,0 10,40"), ["put", [["width", 30], ["height", 40], two]], third])
+  await second.waitUntil("the strokes", `${STROKES} === "${LETTER_PATH}"`)
+  const back = ["put", [["x", 800], ["y", 60], ["width", 30], ["height", 40], two]]
+  expectEqual("one step back", await added(room, 1, () => first.key("z", CONTROL)), [back])
+  await second.waitUntil("what is left", `${STROKES} === "${LETTER_PATH.split(" M 790")[0]}"`)
+  const again = await added(room, 1, () => first.key("Z", CONTROL | SHIFT))
+  expectEqual("the stroke again", again, [third])
+  await first.key("Escape")
+  const middle = await onScreen(second, [790, 80])
+  const to = await onScreen(second, [810, 90])
+  const moved = await added(room, 1, () => second.drag(middle, to))
+  expectEqual("a move by the other", moved, [["put", [["x", 810], ["y", 60]]]])
+  await first.waitUntil("all strokes there", `${STROKES}.startsWith("M 820 70 ")`)
+  await second.key("Escape")
+}
+
+/** A stroke in another colour, far away, later, or after the object has changed begins another object. */
+async function otherObjects(first, room) {
+  await later()
+  const one = () => stroke(first, [[930, 60], [940, 100]])
+  const beside = () => stroke(first, [[950, 60], [960, 100]])
+  const next = inked([950, 60, 10, 40], "0,0 10,40")
+  expectEqual("the first", await added(room, 1, one), [inked([930, 60, 10, 40], "0,0 10,40")])
+  expectEqual("far away", await added(room, 1, () => stroke(first, [[1100, 300], [1110, 340]])),
+    [inked([1100, 300, 10, 40], "0,0 10,40")])
+  expectEqual("near the one before the last", await added(room, 1, beside), [next])
+  await later()
+  expectEqual("later", await added(room, 1, () => stroke(first, [[970, 60], [980, 100]])),
+    [inked([970, 60, 10, 40], "0,0 10,40")])
+  expectEqual("undone", await added(room, 1, () => first.key("z", CONTROL)), [["drop"]])
+  expectEqual("after the object was deleted", await added(room, 1, beside), [next])
+  await first.click('[data-colour="#e4572e"]')
+  const [[word, pairs]] = await added(room, 1, () => stroke(first, [[970, 60], [980, 100]]))
+  expectEqual("in another colour", [word, pairs[4]], ["new", ["fill", "#e4572e"]])
+  await first.click('[data-colour="#3a86c8"]')
+  await first.key("Escape")
+}
+
+/** The strokes of two people who write at one place are in objects of their own. */
+async function bothWrite(first, second, room) {
+  await later()
+  const start = room.record.length
+  const ready = []
+  for (const x of [900, 910, 920]) {
+    ready.push(await readyStroke(first, [[x, 400], [x, 430]]))
+    ready.push(await readyStroke(second, [[x + 5, 400], [x + 5, 430]]))
+  }
+  await added(room, 6, async () => {
+    for (const drawNext of ready) await drawNext()
+  })
+  // The author of each operation, and the author of the object that it changes.
+  const operations = room.record.slice(start).map(([word, [site], , object]) =>
+    [site, word === "put" ? object[0] : word])
+  const [one, other] = [operations.find(([, word]) => word === "new")[0], operations.at(-1)[0]]
+  for (const site of [one, other]) {
+    const own = operations.filter(([author]) => author === site).map(([, of]) => of)
+    expectEqual(`the changes of site ${site}`, own, ["new", site, site])
+  }
+  for (const page of [first, second]) await page.key("Escape")
+}
+
+/** A stroke after another has moved the object begins an object, and the move stays. */
+async function strokeAfterMove(first, second, room) {
+  await later()
+  const before = await second.look(COUNT)
+  const drawFirst = await readyStroke(first, [[600, 600], [640, 640]])
+  const drawMore = await readyStroke(first, [[650, 600], [650, 640]])
+  const [from, to] = [await onScreen(second, [620, 620]), await onScreen(second, [630, 620])]
+  const changes = await added(room, 3, async () => {
+    await drawFirst()
+    await second.waitUntil("the stroke", `${COUNT} === ${before + 1}`)
+    await second.drag(from, to)
+    await first.waitUntil("the move", `[...document.querySelectorAll("path.body")].some((one) =>
+      one.getAttribute("d").startsWith("M 610 600 "))`)
+    await drawMore()
+  })
+  const next = inked([650, 600, 0, 40], "0,0 0,40")
+  expectEqual("the changes", changes, [inked([600, 600, 40, 40], "0,0 40,40"), ["put", [["x", 610], ["y", 600]]], next])
+  for (const page of [first, second]) await page.key("Escape")
+}
+
+/** A stroke that one person adds while another drags the object makes a version. The next stroke begins an object. */
+async function strokeWhileDragged(first, second, room, server) {
+  await later()
+  const before = await second.look(COUNT)
+  const drawFirst = await readyStroke(first, [[1000, 500], [1040, 540]])
+  const drawMore = await readyStroke(first, [[990, 500], [990, 540]])
+  await drawFirst()
+  await second.waitUntil("the stroke", `${COUNT} === ${before + 1}`)
+  await signalRoom(server, "SIGSTOP")
+  await drawMore()
+  await second.drag(await onScreen(second, [1020, 520]), await onScreen(second, [1060, 560]))
+  const changes = await added(room, 2, () => signalRoom(server, "SIGCONT"))
+  const [stroked, dragged] = changes.sort(([, one], [, other]) => other.length - one.length)
+  expectEqual("the stroke", stroked,
+    ["put", [["x", 990], ["y", 500], ["width", 50], ["height", 40], ["points-0", "10,0 50,40 / 0,0 0,40"]]])
+  expectEqual("the move", dragged, ["put", [["x", 1040], ["y", 540]]])
+  for (const page of [first, second]) await page.waitUntil("both versions", `${COUNT} === ${before + 2}`)
+  expectEqual("the next stroke", (await added(room, 1, () => stroke(first, [[1010, 500], [1010, 540]])))[0][0], "new")
+  for (const page of [first, second]) await page.key("Escape")
+}
+
+/** A stroke that the room refuses as a part of an object becomes an object of its own. */
+async function refusedStroke() {
+  const made = []
+  const changeOf = (done, attributes = {}) =>
+    ({ object: [1, 1], version: { attributes: new Map(Object.entries(attributes)) }, done })
+  const changes = {
+    step: (call) => call(),
+    create: (kind, attributes) => (made.push(attributes), changes.last = changeOf(Promise.resolve(), attributes)),
+    put: () => changeOf(Promise.reject(new Refused("too-many-versions"))),
+  }
+  const room = { has: () => true, versions: () => [changes.last.version] }
+  const handwriting = new Handwriting({ changes, room, camera: { scale: 1 }, tools: { colour: "#3a86c8" } })
+  for (const x of [100, 110]) handwriting.draw([[x, 100], [x, 140]], performance.now())
+  await new Promise((resolve) => setTimeout(resolve))
+  expectEqual("the objects", made.map(({ x, "points-0": text }) => [x, text]), [[100, "0,0 0,40"], [110, "0,0 0,40"]])
 }
 
 async function textOnShape(first, second, room) {

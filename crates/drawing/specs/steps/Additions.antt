@@ -7,12 +7,12 @@ use Rattle.base_types.specs.Names.{Name, same_name}
 use Rattle.base_types.specs.Vectors.{is_vector}
 use Rattle.rules.specs.declared.history.Op.{Op}
 use Rattle.rules.specs.declared.history.Entry.{Entry}
-use Rattle.rules.specs.declared.history.Entry.TheVariants.{Join, Operation}
+use Rattle.rules.specs.declared.history.Entry.TheVariants.{Operation}
 use Rattle.rules.specs.declared.refusal.Refusal.{Refusal}
 use Rattle.rules.specs.Admission.{causal_refusal, first_that_applies}
 use Rattle.rules.specs.Bodies.{is_change_body}
 use Rattle.rules.specs.Operations.{object_of}
-use Rattle.rules.specs.Records.{operations, body_conditions}
+use Rattle.rules.specs.Records.{operation_in, operations, body_conditions}
 use Rattle.shape.specs.steps.Objects.{Stored}
 use Rattle.shape.specs.steps.Planned.{IsPlanned, Plan as ChangePlan}
 use Rattle.drawing.specs.Room.{Room}
@@ -42,7 +42,7 @@ pub record Added : Type 0 where
 
 -- the identifiers that are planned to be shown of a change's object
 abbrev pub ids_of : Part → Option (List (List Name))
-ids_of part.Join = None
+ids_of part.Alone = None
 ids_of (part.Creation op shape) = None
 ids_of (part.Change place op planned) = Some planned.ids
 
@@ -54,9 +54,8 @@ pub record HasShape (shapes : List (Name × Stored)) (name : Name) (place : ℕ)
   pub named : lookup (same_name name) shapes ≡ Some shape
   pub holds : Holds shape
 
-pub record CanJoin (s : DrawingState) (entry : Entry) : Type 0 where
-  pub site : ℕ
-  pub join : entry ≡ Join site
+pub record CanStandAlone (s : DrawingState) (entry : Entry) : Type 0 where
+  pub alone : operation_in entry ≡ None
   pub short : length s.room.entries < s.room.limits.entries
   pub place : 0 < s.reserve.entries
 
@@ -79,7 +78,7 @@ pub record CanChange (s : DrawingState) (place : ℕ) (op : Op) (planned : Chang
 
 -- this part of an entry can be added, and takes no memory
 abbrev pub IsReadyPart : DrawingState → Entry → Part → Type 0
-IsReadyPart s entry part.Join = CanJoin s entry
+IsReadyPart s entry part.Alone = CanStandAlone s entry
 IsReadyPart s entry (part.Creation op shape) = CanAdd s entry op × CanCreate s op shape
 IsReadyPart s entry (part.Change place op planned) =
     CanAdd s entry op × CanChange s place op planned

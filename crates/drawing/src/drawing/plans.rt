@@ -1,8 +1,9 @@
-//! What is planned to be added: joins, creations and changes.
+//! What is planned to be added: joins, ends, creations and changes.
 
 ghost use Rattle.std.specs.Prelude.{◌≡◌, ◌<◌, false, length, true, IfErr, IfOk, None, OnOk, Some};
 ghost use Rattle.base_types.specs.Names.{is_site};
-ghost use Rattle.rules.specs.declared.history.Entry.TheVariants.{Join};
+ghost use Rattle.rules.specs.declared.history.Entry.TheVariants.{Join, Next};
+ghost use Rattle.rules.specs.Records.{operation_in};
 ghost use Rattle.rules.specs.Bodies.{is_change_body};
 ghost use Rattle.rules.specs.Operations.{object_of};
 ghost use Rattle.base_types.specs.Vectors.{counts};
@@ -33,11 +34,37 @@ impl Drawing {
         ensures ready { IfOk result (IsReady self.new) }
         ensures room { self.new.room ≡ self.old.room }
     {
+        self.plan_alone(alloc, Entry::Join(site))
+    }
+
+    /// Prepares the end of the record, which goes on with so many entries in another. The record
+    /// must not be full. The drawing stays as it is.
+    ///
+    /// # Errors
+    ///
+    /// `NoMemory` if an allocation failed.
+    pub fn plan_end(&mut self, alloc: Global, count: u32) -> Result<Addition, NoMemory>
+        requires { length self.old.room.entries < self.old.room.limits.entries }
+        ensures entry { IfOk result (λ added. added.entry ≡ Next count) }
+        ensures ready { IfOk result (IsReady self.new) }
+        ensures room { self.new.room ≡ self.old.room }
+    {
+        self.plan_alone(alloc, Entry::Next(count))
+    }
+
+    /// Plans to add an entry that is no operation.
+    fn plan_alone(&mut self, alloc: Global, entry: Entry) -> Result<Addition, NoMemory>
+        requires alone { operation_in entry ≡ None }
+        requires short { length self.old.room.entries < self.old.room.limits.entries }
+        ensures entry { IfOk result (λ added. added.entry ≡ entry) }
+        ensures ready { IfOk result (IsReady self.new) }
+        ensures room { self.new.room ≡ self.old.room }
+    {
         self.record.reserve_one()?;
-        let entry = Arc::new(alloc, Entry::Join(site))?;
+        let entry = Arc::new(alloc, entry)?;
         Ok(Addition {
             entry,
-            part: Part::Join,
+            part: Part::Alone,
         })
     }
 

@@ -1,11 +1,11 @@
 -- What is planned for a room.
-use Rattle.std.specs.Prelude.{◌≡◌, ℕ, true, List, Option, Some, None, Result, IfOk, option_map}
+use Rattle.std.specs.Prelude.{◌≡◌, ◌∷◌, ℕ, true, List, Option, Some, None, Result, IfOk, option_map}
 use Rattle.base_types.specs.Names.{Name}
 use Rattle.rules.specs.declared.history.Op.{Op}
 use Rattle.rules.specs.declared.history.Entry.{Entry}
 use Rattle.rules.specs.declared.refusal.Refusal.{Refusal}
 use Rattle.rules.specs.Admission.{first_that_applies}
-use Rattle.rules.specs.Records.{order_conditions, admits, refusal}
+use Rattle.rules.specs.Records.{end_condition, order_conditions, admits, refusal}
 use Rattle.wire.specs.declared.reply.Reply.{Reply}
 use Rattle.wire.specs.declared.reply.Reply.TheVariants.{Made, Taken}
 use Rattle.drawing.specs.steps.Additions.{Added, IsReady as CanBeAdded}
@@ -40,7 +40,8 @@ refusal_in room entry = refusal room.limits room.entries entry
 
 -- why an operation is refused, whatever it does, if it is
 abbrev pub order_refusal : Room → Op → Option Refusal
-order_refusal room op = first_that_applies (order_conditions room.limits room.entries op)
+order_refusal room op =
+    first_that_applies (end_condition room.entries ∷ order_conditions room.limits room.entries op)
 
 -- it may come next
 abbrev pub IsAdmitted : Room → Entry → Type 0

@@ -37,7 +37,9 @@ impl RoomState {
     fn join_refusal(&self) -> Option<Refusal>
         ensures { result ≡ refusal_in self.now.room (Join (sites self.now.room.entries + 1)) }
     {
-        if self.sites >= self.drawing.limits().joins() {
+        if self.has_ended() {
+            Some(Refusal::Renewed)
+        } else if self.sites >= self.drawing.limits().joins() {
             Some(Refusal::RoomFull)
         } else if self.drawing.is_full() {
             Some(Refusal::RecordFull)
@@ -111,6 +113,9 @@ impl RoomState {
     fn order_refusal(&self, op: &Op) -> Option<Refusal>
         ensures { result ≡ order_refusal self.now.room op.now }
     {
+        if self.has_ended() {
+            return Some(Refusal::Renewed);
+        }
         if self.drawing.is_full() {
             return Some(Refusal::RecordFull);
         }
@@ -151,7 +156,9 @@ impl RoomState {
         ensures addition { result.addition ≡ None }
     {
         let _sites = self.sites();
-        if self.drawing.is_full() {
+        if self.has_ended() {
+            self.refuse(Refusal::Renewed)
+        } else if self.drawing.is_full() {
             self.refuse(Refusal::RecordFull)
         } else {
             self.refuse(Refusal::WrongSeq)

@@ -6,6 +6,7 @@ use wire_reader::{Scratch, read_request};
 
 /// A request of each form, in compact text.
 const REQUESTS: &str = r#"["join","a-9"]
+["join","a-9.999999"]
 ["back","r",256]
 ["new",16384,[],"rect",[]]
 ["new",1,[[1,2],[256,16384]],"rect",[["y",-9223372036854775808],["x",9223372036854775807]]]

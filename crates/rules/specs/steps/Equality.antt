@@ -15,7 +15,7 @@ use Rattle.rules.specs.declared.history.Body.{Body}
 use Rattle.rules.specs.declared.history.Body.TheVariants.{New, Put, DropVersion}
 use Rattle.rules.specs.declared.history.Op.{Op}
 use Rattle.rules.specs.declared.history.Entry.{Entry}
-use Rattle.rules.specs.declared.history.Entry.TheVariants.{Join, Operation}
+use Rattle.rules.specs.declared.history.Entry.TheVariants.{Join, Operation, Next}
 use Rattle.rules.specs.declared.version.Shown.{Shown}
 use Rattle.rules.specs.declared.version.Shown.TheVariants.{Attrs, Gone}
 
@@ -115,19 +115,21 @@ same_operation-equivalence = decided same_operation same_operation-Decides
 abbrev pub same_entry : Entry → Entry → Bool
 same_entry (Join site) (Join other) = site == other
 same_entry (Operation op) (Operation other) = same_operation op other
+same_entry (Next count) (Next other) = count == other
 same_entry _ _ = false
 
-site_in : Entry → ℕ
-site_in (Join site) = site
-site_in (Operation op) = 0
+number_in : Entry → ℕ
+number_in (Join site) = site
+number_in (Operation op) = 0
+number_in (Next count) = count
 
 pub same_entry-Decides : (a b : Entry) → Decides (same_entry a b) (a ≡ b)
-unfolding site_in
+unfolding number_in
 same_entry-Decides (Join site) (Join other) = (
   λ e.
       ap Join ((unsigned_Decides site other).0 e),
   λ e. (unsigned_Decides site other).1
-      (ap site_in e),
+      (ap number_in e),
 )
 same_entry-Decides (Operation op) (Operation other) = (
   λ e.
@@ -135,8 +137,18 @@ same_entry-Decides (Operation op) (Operation other) = (
   λ e.
       (same_operation-Decides op other).1 (ap held e),
 )
+same_entry-Decides (Next count) (Next other) = (
+  λ e.
+      ap Next ((unsigned_Decides count other).0 e),
+  λ e. (unsigned_Decides count other).1
+      (ap number_in e),
+)
 same_entry-Decides (Join site) (Operation op) = (λ e. cc, λ e. cc)
+same_entry-Decides (Join site) (Next count) = (λ e. cc, λ e. cc)
 same_entry-Decides (Operation op) (Join site) = (λ e. cc, λ e. cc)
+same_entry-Decides (Operation op) (Next count) = (λ e. cc, λ e. cc)
+same_entry-Decides (Next count) (Join site) = (λ e. cc, λ e. cc)
+same_entry-Decides (Next count) (Operation op) = (λ e. cc, λ e. cc)
 
 pub same_entry-equivalence : IsEquivalence same_entry
 same_entry-equivalence = decided same_entry same_entry-Decides

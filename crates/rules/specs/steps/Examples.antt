@@ -5,7 +5,7 @@ use Rattle.base_types.specs.declared.value.Value.TheVariants.{Number, Text}
 use Rattle.base_types.specs.Vectors.{Vector}
 use Rattle.rules.specs.declared.history.Body.TheVariants.{New, Put, DropVersion}
 use Rattle.rules.specs.declared.history.Entry.{Entry}
-use Rattle.rules.specs.declared.history.Entry.TheVariants.{Join, Operation}
+use Rattle.rules.specs.declared.history.Entry.TheVariants.{Join, Next, Operation}
 use Rattle.rules.specs.declared.version.Shown.TheVariants.{Attrs, Gone}
 use Rattle.rules.specs.declared.version.Version.{Version}
 use Rattle.rules.specs.AttrLists.{Attr}
@@ -137,3 +137,9 @@ one_of_two_dropped = two_puts ++ drops (1, 3) ((1, 2) ∷ (2, 1) ∷ []) ((1, 2)
 -- and the second, which hasn't seen that, drops the other one
 abbrev pub both_dropped : List Entry
 both_dropped = one_of_two_dropped ++ drops (2, 2) ((1, 2) ∷ (2, 1) ∷ []) ((2, 1) ∷ []) ∷ []
+
+-- ---- an end
+
+-- the room goes on with two entries in another
+abbrev pub ended : List Entry
+ended = one_put ++ Next 2 ∷ []

@@ -18,11 +18,15 @@ use std::net::Net;
 use std::process::Abort;
 use std::sync::Wait;
 use std::sync::atomic::{AtomicU64, Ordering};
+use std::time::Clock;
 use wire::EntryKind;
 use wire_reader::Scratch;
 
 /// The place at which there is news of rooms that are being opened.
 const NEWS: usize = 9;
+
+/// The newest room of its chain.
+const NEWEST: &str = "s.3";
 
 /// The place of the room that is open on demand, behind `r` and `s`.
 const PLACE: usize = 2;
@@ -147,6 +151,22 @@ impl<P: RoomHistories> Keeper<P> for Slow {
         }
     }
 
+    fn newest(
+        &self,
+        _rt: &impl Wait,
+        alloc: Global,
+        name: &RoomName,
+    ) -> Result<Option<RoomName>, NoMemory> {
+        let first = name.first(alloc)?;
+        match RoomName::parse(alloc, NEWEST.as_bytes()) {
+            Ok(room) if room.is_in_chain_of(&first) && name.number() < room.number() => Ok(Some(
+                room,
+            )),
+            Ok(_) => Ok(None),
+            Err(_) => Err(NoMemory),
+        }
+    }
+
     fn permit(&self, _rt: &impl Wait, _opening: &Opening<P>) -> Option<()> {
         Some(())
     }
@@ -163,7 +183,12 @@ impl<P: RoomHistories> Keeper<P> for Slow {
         1
     }
 
-    fn keep_next(&self, _rt: &impl Wait, _alloc: Global, _rooms: &Rooms<P>) -> Option<Attempt> {
+    fn keep_next(
+        &self,
+        _rt: &(impl Wait + Clock),
+        _alloc: Global,
+        _rooms: &Rooms<P>,
+    ) -> Option<Attempt> {
         None
     }
 
@@ -347,7 +372,7 @@ fn a_room_is_given_up(rt: HostRuntime) {
 }
 
 #[test]
-fn nobody_waits_without_leave(rt: HostRuntime) {
+fn who_waits_no_longer_is_counted_by_a_reason(rt: HostRuntime) {
     for words in [JOIN, BACK] {
         let step = Step {
             may_hold: false,
@@ -356,10 +381,36 @@ fn nobody_waits_without_leave(rt: HostRuntime) {
         let heard = Heard {
             asked: 1,
             opened: 0,
-            told: 0,
+            told: 1,
         };
-        assert_eq!(rt; heard_after(&rt, 3, None, &[step]), Some(heard), "{words}");
+        let heard_all = heard_after(&rt, 3, Some(Reason::Late), &[step]);
+        assert_eq!(rt; heard_all, Some(heard), "{words}");
     }
+}
+
+#[test]
+fn who_asks_for_an_earlier_room_is_sent_on(rt: HostRuntime) {
+    let renewed = r#"["renewed",0,"s.3"]"#;
+    let now = |words, reply| Step {
+        may_hold: false,
+        ..refused(words, reply)
+    };
+    let steps = [
+        now(r#"["join","s"]"#, renewed),
+        now(r#"["join","s.2"]"#, renewed),
+        now(r#"["back","s.2",1]"#, renewed),
+        now(r#"["back","s",1]"#, r#"["no",0,19,"no-such-site"]"#),
+        now(r#"["join","s.3"]"#, NOT_SERVED),
+        now(r#"["join","s.4"]"#, NOT_SERVED),
+        now(r#"["join","s.1"]"#, r#"["no",0,1,"bad-message"]"#),
+    ];
+    let heard = Heard {
+        asked: 3,
+        opened: 0,
+        told: 3,
+    };
+    let heard_all = heard_after(&rt, 9, Some(Reason::Late), &steps);
+    assert_eq!(rt; heard_all, Some(heard));
 }
 
 /// Whether a session is confined, the target of its request, and when it is let in.

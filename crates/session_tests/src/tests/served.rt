@@ -260,6 +260,15 @@ impl<P: RoomHistories> Keeper<P> for Told {
         Ok(Access::NotServed(Reason::Full))
     }
 
+    fn newest(
+        &self,
+        _rt: &impl Wait,
+        _alloc: Global,
+        _name: &RoomName,
+    ) -> Result<Option<RoomName>, NoMemory> {
+        Ok(None)
+    }
+
     fn permit(&self, _rt: &impl Wait, opening: &Opening<P>) -> Option<()> {
         if self.denied == Some(opening.number()) {
             None
@@ -280,7 +289,12 @@ impl<P: RoomHistories> Keeper<P> for Told {
         0
     }
 
-    fn keep_next(&self, _rt: &impl Wait, _alloc: Global, _rooms: &Rooms<P>) -> Option<Attempt> {
+    fn keep_next(
+        &self,
+        _rt: &(impl Wait + Clock),
+        _alloc: Global,
+        _rooms: &Rooms<P>,
+    ) -> Option<Attempt> {
         None
     }
 

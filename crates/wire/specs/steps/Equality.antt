@@ -18,7 +18,7 @@ use Rattle.rules.specs.declared.refusal.Refusal.TheVariants.{BadMessage}
 use Rattle.rules.specs.declared.version.Version.{Version}
 use Rattle.wire.specs.declared.reply.Reply.{Reply}
 use Rattle.wire.specs.declared.reply.Reply.TheVariants.{Joined, Returned, Made, Taken, Versions}
-use Rattle.wire.specs.declared.reply.Reply.TheVariants.{Objects, Entries, Left, No}
+use Rattle.wire.specs.declared.reply.Reply.TheVariants.{Objects, Entries, Left, Renewed, No}
 
 -- pairs are equal where both their parts are
 pairs_decide : {A B : Type 0} {E : A → A → Bool} {F : B → B → Bool}
@@ -137,6 +137,7 @@ same_reply (Versions at object kind versions) other =
 same_reply (Objects at from total objects) other = same_page (Objects at from total objects) other
 same_reply (Entries at from entries) other = same_page (Entries at from entries) other
 same_reply (Left at) (Left other_at) = at == other_at
+same_reply (Renewed at room) (Renewed other_at other_room) = at == other_at && bytes_eq room other_room
 same_reply (No at refusal) (No other_at other_refusal) =
     at == other_at && same_refusal refusal other_refusal
 same_reply _ _ = false
@@ -181,6 +182,9 @@ same_reply-Decides (Entries at from entries) (Entries other_at other_from other_
     (same_entries-Decides entries other_entries))
 same_reply-Decides (Left at) (Left other_at) =
     Decides-like _ (λ e i. Left (e i)) (λ e. cc) (unsigned_Decides at other_at)
+same_reply-Decides (Renewed at room) (Renewed other_at other_room) =
+    Decides-like _ (λ e i. Renewed (e.0 i) (e.1 i)) (λ e. (cc, cc))
+    (Decides-and _ _ (unsigned_Decides at other_at) (bytes_eq-Decides room other_room))
 same_reply-Decides (No at refusal) (No other_at other_refusal) =
     Decides-like _ (λ e i. No (e.0 i) (e.1 i)) (λ e. (cc, cc))
     (Decides-and _ _ (unsigned_Decides at other_at)

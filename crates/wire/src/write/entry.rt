@@ -20,6 +20,7 @@ impl Written for Entry {
         match self {
             Entry::Join(site) => ("join", *site).send(out),
             Entry::Operation(op) => send_operation(&op.name, &op.seen, &op.body, out),
+            Entry::Next(count) => ("next", *count).send(out),
         }
     }
 }

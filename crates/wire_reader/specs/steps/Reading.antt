@@ -6,7 +6,8 @@ use Rattle.serde_json.specs.Data.{Num, unsigned, negative, float, Data, Items, n
 use Rattle.serde_json.specs.Find.{as_array, as_number, as_str, as_u64}
 use Rattle.base_types.specs.Names.{is_op_name}
 use Rattle.base_types.specs.VersionIds.{names_rise}
-use Rattle.base_types.specs.Texts.{is_room_name, is_key, is_kind, is_value_text}
+use Rattle.base_types.specs.Texts.{is_key, is_kind, is_value_text}
+use Rattle.base_types.specs.RoomNames.{is_room_name}
 use Rattle.base_types.specs.declared.value.Value.{Value}
 use Rattle.base_types.specs.declared.value.Value.TheVariants.{Number, Text}
 use Rattle.base_types.specs.Vectors.{is_vector}

@@ -19,5 +19,5 @@ invariant_of-self-2 c =
     let none = ap (λ (s : ReplicaState). take_fault s.limits s.taken (Join c.args.site)) c.self.view_is ∙ c.requires in
     let grown = c.commit.ensures ∙ (λ i. with_entry (c.plan_join.ensures.room i) (Some (c.in_ok-addition.ensures.entry i))) in
     rw (c.push_reserved.ensures.items, c.reserve.ensures.items)
-    (subst (λ (r : Room). IsReplica r.limits r.entries (c.self.inside.sites.items ++ c.args.site ∷ [])) (sym grown)
-    (replica_joined room.limits room.entries c.self.inside.sites.items c.self.invariant c.args.site (may_take_if room.limits room.entries (Join c.args.site) refl none)))
+    (subst (λ (r : Room). IsReplica r.limits r.entries (c.self.inside.sites.items ++ c.args.site ∷ []) c.self.inside.has_ended) (sym grown)
+    (replica_joined room.limits room.entries c.self.inside.sites.items c.self.inside.has_ended c.self.invariant c.args.site (may_take_if room.limits room.entries (Join c.args.site) refl none)))

@@ -1,4 +1,7 @@
-use Rattle.std.proofs.Common.{◌≡◌, ◌∙◌, ap, sym, subst}
+use Rattle.std.proofs.Common.{◌≡◌, ◌∙◌, ap, sym, subst, Some}
+use Rattle.std.proofs.lemmas.Bool.{true≢false}
+use Rattle.std.proofs.lemmas.Option.{none-some}
+use Rattle.std.specs.Map.{lookup}
 use Rattle.std.specs.Prelude.{bytes_eq}
 use Rattle.std.proofs.lemmas.Map.Made.{lookup_key_same}
 use Rattle.std.proofs.lemmas.Slice.Eq.{bytes_eq-Decides}
@@ -17,3 +20,17 @@ returns-clause-name g c = λ is.
     let named = named_at openings c.self.invariant c.in-Some._index c.in-Some._name.now c.in-Some.found.now c.in-Some.ensures.entry in
     let same : c.in-Some.found.now ≡ c.args.opening.now = c.is_same.ensures.0 c.if-not-is_same.false in
     ap name_of (sym same) ∙ named ∙ sym key
+
+pub returns-in_default-clause-open : goal.returns-in_default-clause-open
+returns-in_default-clause-open g c = (
+  λ e. absurd (true≢false (sym e)),
+  λ some. absurd (none-some _ (c.in_default.ensures.value ∙ ap (lookup (bytes_eq c.args.name.now)) c.self.view_is ∙ some)),
+)
+
+pub returns-then-not-is_same-clause-open : goal.returns-then-not-is_same-clause-open
+returns-then-not-is_same-clause-open g c = (
+  λ e. absurd (true≢false (sym e)),
+  λ some. (let found : Some c.in-Some.found.now ≡ Some c.args.opening.now = c.in-Some.ensures.value ∙ ap (lookup (bytes_eq c.args.name.now)) c.self.view_is ∙ some in
+      let same : c.in-Some.found.now ≡ c.args.opening.now = cc found in
+      sym c.if-not-is_same.true ∙ c.is_same.ensures.1 same),
+)

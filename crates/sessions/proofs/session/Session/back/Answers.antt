@@ -1,10 +1,14 @@
-use Rattle.std.proofs.Common.{◌≡◌, false, true, is_some, ap, sym, ◌∙◌, subst}
+use Rattle.std.proofs.Common.{◌≡◌, false, true, is_some, Option, ap, refl, sym, ◌∙◌, subst}
+use Rattle.std.specs.Prelude.{IfSome}
+use Rattle.base_types.specs.Texts.{Bytes}
+use Rattle.scope.specs.Scopes.{allows}
+use Rattle.keeper.specs.Chains.{IsLater}
 use Rattle.openings.specs.Openings.{OpeningView}
 use Rattle.room_lock.specs.InOrder.{IsOpeningFor}
 use Rattle.room_lock.specs.Lookups.{IfOpen}
 use Rattle.sessions.specs.Sessions.{SessionView}
 use Rattle.sessions.specs.Turns.{IsPermitted, MayEnter}
-use Rattle.sessions.proofs.Entering.{back_answered, if_in_use_so, if_refused_so}
+use Rattle.sessions.proofs.Entering.{back_answered, back_sent_on, if_in_use_so, if_refused_so}
 use Rattle.sessions.proofs.session.Session.back.Goals as goal
 
 pub returns-clause-ok : goal.returns-clause-ok
@@ -24,3 +28,19 @@ returns-clause-ok g c =
       refusal_opening = c.back-entrance.ensures.refusal_opening;
       in_use_opening = c.back-entrance.ensures.in_use_opening;
     }) c.enter.ensures.after
+
+pub returns-in-Some-clause-ok : goal.returns-in-Some-clause-ok
+returns-in-Some-clause-ok g c =
+    let found = subst (λ (o : Option Bytes). IfSome o (λ later. IsLater c.args.name later × (allows c.args.self.now.scope c.args.name ≡ true))) c.in-Some.is c.in_ok-later-in-Closed.ensures.later in
+    let outside : is_some c.self.inside.inside ≡ false = cc in
+    let none : is_some c.args.self.now.pass ≡ false = sym (ap (λ (session : SessionView). is_some session.pass) c.self.view_is) ∙ outside in
+    back_sent_on g.P.RoomHistories.limits c.args.host.now.rooms.now (IsPermitted g.K.Keeper.permits) g.K.Keeper.denies c.args.self.now.scope c.args.name c.args.self.now.pass c.args.self.now.pass c.sent_on.result.told c.sent_on.result.reply none
+    c.args.site c.in-Some.later found.0 found.1 (c.sent_on.ensures.reply, c.sent_on.ensures.told, refl)
+
+pub returns-in-Some-2-clause-ok : goal.returns-in-Some-2-clause-ok
+returns-in-Some-2-clause-ok g c =
+    let found = subst (λ (o : Option Bytes). IfSome o (λ later. IsLater c.args.name later × (allows c.args.self.now.scope c.args.name ≡ true))) c.in-Some-2.is c.in_ok-later-in-NoRoom.ensures.later in
+    let outside : is_some c.self.inside.inside ≡ false = cc in
+    let none : is_some c.args.self.now.pass ≡ false = sym (ap (λ (session : SessionView). is_some session.pass) c.self.view_is) ∙ outside in
+    back_sent_on g.P.RoomHistories.limits c.args.host.now.rooms.now (IsPermitted g.K.Keeper.permits) g.K.Keeper.denies c.args.self.now.scope c.args.name c.args.self.now.pass c.args.self.now.pass c.sent_on-in-Some-2.result.told c.sent_on-in-Some-2.result.reply none
+    c.args.site c.in-Some-2.later found.0 found.1 (c.sent_on-in-Some-2.ensures.reply, c.sent_on-in-Some-2.ensures.told, refl)

@@ -15,8 +15,14 @@ returns-in-join c n h =
     let deep : 0 < n = omega arith in
     rw (message_steps _ _ n _ deep, c.in_ok-word.ensures (n - 1), same_word _ _ c.in-join.is) (c.join_of.ensures (n - 1))
 
+pub returns-in-next : goal.returns-in-next
+unfolding entry_of
+returns-in-next c n h =
+    let deep : 0 < n = omega arith in
+    rw (message_steps _ _ n _ deep, c.in_ok-word.ensures (n - 1), other_word _ _ c.in-next.not-join, same_word _ _ c.in-next.is) (c.next_of.ensures (n - 1))
+
 pub returns-in_default : goal.returns-in_default
 unfolding entry_of
 returns-in_default c n h =
     let deep : 0 < n = omega arith in
-    rw (message_steps _ _ n _ deep, c.in_ok-word.ensures (n - 1), other_word _ _ c.in_default.not-join) (c.change_of.ensures (n - 1) (omega arith))
+    rw (message_steps _ _ n _ deep, c.in_ok-word.ensures (n - 1), other_word _ _ c.in_default.not-join, other_word _ _ c.in_default.not-next) (c.change_of.ensures (n - 1) (omega arith))

@@ -1,0 +1,167 @@
+"""How a client asks to be let into a room: as the site that it was, or as a new one. A room that was renewed goes on in
+its successor."""
+
+import math
+import time
+from dataclasses import dataclass
+
+from .forms import Lost, ProtocolFault, Refused, RenewedAs
+from .pause import Pause
+from .room_names import is_after, successor_of
+
+STILL_CONNECTED = "The server still has your previous connection. Trying again."
+NOT_SERVED = "The server cannot open this room now: it may have no place for one more. Trying again."
+NOT_THERE_YET = "The server has not opened the next room of this drawing yet. Trying again."
+CANNOT_JOIN = "The server still has your previous connection, and the room is too full for a new one."
+NEXT_IS_FULL = "The next room of this drawing is full."
+IN_USE = "Others are reading the room."
+
+# The first and the longest pause between attempts to rejoin as a site that the server says is in use.
+REJOIN_SECONDS = 0.1
+LONGEST_REJOIN_SECONDS = 1
+# How often to ask for a room that the server cannot serve, or has not opened yet.
+NOT_SERVED_SECONDS = 1
+# The server names the newest room, so more steps than this are no renewals.
+MOST_STEPS = 8
+
+# The refusals of a join after which the client asks again over the same connection, and what it says then. The first
+# says that the record has ended, and its successor is not open yet.
+ASKED_AGAIN = {"renewed": NOT_THERE_YET, "not-served": NOT_SERVED}
+
+
+@dataclass(frozen=True)
+class Following:
+    """The successor of a room, as the client has loaded it. The client is in it as the site `site`. If it could only
+    read it, it is not in it, and nobody was in it as this site."""
+
+    name: str
+    site: int
+    record: list
+    is_in: bool
+
+
+def nobody_in(record):
+    """A site that nobody was in the room with this record."""
+    return sum(word == "join" for word, *_ in record) + 1
+
+
+class Entrance:
+    """Asks again while the server has the client's old session, or cannot serve the room. `request` sends a request and
+    returns a reply of this kind. `wait` says why the client is not in the room yet, and waits."""
+
+    def __init__(self, name, back_seconds, request, wait):
+        self.name = name
+        self._back_seconds = back_seconds
+        self._request = request
+        self._wait = wait
+
+    def back(self, site):
+        """The reply to `back`, or None if the site is still in use when the time is over. While the server cannot serve
+        the room, that time has not begun. Raises `Refused` or `RenewedAs`."""
+        end = time.monotonic() + self._back_seconds
+        pause = Pause(REJOIN_SECONDS, LONGEST_REJOIN_SECONDS)
+        while True:
+            try:
+                return self._ask(["back", self.name, site], "back")
+            except Refused as refusal:
+                if refusal.word not in ("site-in-use", "not-served"):
+                    raise
+                is_served = refusal.word == "site-in-use"
+            if is_served:
+                if time.monotonic() >= end:
+                    return None
+                self._wait(STILL_CONNECTED, pause.take())
+            else:
+                self._wait(NOT_SERVED, NOT_SERVED_SECONDS)
+                end = time.monotonic() + self._back_seconds
+
+    def back_as_any(self, name):
+        """The reply to `back` as any site that is free, to read a room that has ended. Raises `RenewedAs`."""
+        end = time.monotonic() + self._back_seconds
+        pause = Pause(REJOIN_SECONDS, LONGEST_REJOIN_SECONDS)
+        while time.monotonic() < end:
+            reply = self._back_as_first_free(name)
+            if reply is not None:
+                return reply
+            self._wait(f"{IN_USE} Trying again.", pause.take())
+        raise Lost(IN_USE)
+
+    def join(self, has_site):
+        """The reply to `join`. In a full room a client that has a site keeps trying to rejoin. Raises `Refused` or
+        `RenewedAs`."""
+        return self._join(self.name, CANNOT_JOIN if has_site else None)
+
+    def join_newest(self, has_site):
+        """The reply to `join` of the newest room."""
+        return self.follow(lambda: self.join(has_site))
+
+    def follow(self, ask):
+        """The result of a call, which is repeated with the name of a newer room while it raises `RenewedAs`."""
+        for _ in range(MOST_STEPS):
+            try:
+                return ask()
+            except RenewedAs as renewed:
+                self.name = renewed.room
+        raise ProtocolFault("The server names ever more rooms.")
+
+    def enter_successor(self):
+        """Joins the room's successor, and loads it. If that has ended too, reads it as a site that it never had. Raises
+        `RenewedAs` if the successor can no longer be read, and `Refused` if the server does not open it."""
+        name = successor_of(self.name)
+        if name is None:
+            raise Refused("renewed")
+        try:
+            _, at, site = self._join(name, NEXT_IS_FULL, time.monotonic() + self._back_seconds)
+            return Following(name, site, self._load(at + 1), True)
+        except RenewedAs:
+            _, at, *_ = self.back_as_any(name)
+        record = self._load(at)
+        self._request(["leave"], "left")
+        return Following(name, nobody_in(record), record, False)
+
+    def _load(self, length):
+        """Pulls this many entries of the room."""
+        record = []
+        while len(record) < length:
+            *_, entries = self._request(["pull", len(record)], "entries")
+            if not isinstance(entries, tuple) or not entries:
+                raise ProtocolFault("The server sent an empty page.")
+            record += entries
+        return record
+
+    def _back_as_first_free(self, name):
+        """The reply to the first `back` as a site that is not in use; None if all are."""
+        site = 1
+        while True:
+            try:
+                return self._ask(["back", name, site], "back")
+            except Refused as refusal:
+                if refusal.word == "no-such-site" and site > 1 or refusal.word == "not-served":
+                    return None
+                if refusal.word != "site-in-use":
+                    raise
+            site += 1
+
+    def _join(self, name, full_words, opens_until=-math.inf):
+        """Asks to join. `full_words` says that the client tries again later where the room is full. Until `opens_until`
+        a room that is not there may still be opened."""
+        while True:
+            try:
+                return self._ask(["join", name], "joined")
+            except Refused as refusal:
+                if refusal.word in ("room-full", "record-full") and full_words is not None:
+                    raise Lost(full_words) from None
+                may_open = refusal.word == "no-such-room" and time.monotonic() < opens_until
+                if refusal.word not in ASKED_AGAIN and not may_open:
+                    raise
+                words = ASKED_AGAIN.get(refusal.word, NOT_THERE_YET)
+            self._wait(words, NOT_SERVED_SECONDS)
+
+    def _ask(self, request, kind):
+        try:
+            return self._request(request, kind)
+        except RenewedAs as renewed:
+            _, name, *_ = request
+            if not is_after(renewed.room, name):
+                raise ProtocolFault(f"The server names {renewed.room} after {name}.") from None
+            raise

@@ -1,0 +1,1 @@
+use Rattle.keeping.proofs.chains.Chains.later.Goals as goal

@@ -1,0 +1,37 @@
+/** How much more the room takes. Deleted objects count too, and so do pending changes. */
+
+import { LIMITS } from "../../clients/js/grace.js"
+
+export class Space {
+  /** @param {import("./board.js").Board} board */
+  constructor(board) {
+    this.board = board
+  }
+
+  get objects() {
+    return LIMITS.objects - this.board.all().length
+  }
+
+  get entries() {
+    const { record, pending } = this.board.room
+    return LIMITS.entries - record.length - pending.length
+  }
+
+  /**
+   * Whether these versions could be deleted, but not brought back: that takes new objects.
+   * @param {{ attributes: Map<string, unknown> }[]} versions
+   */
+  makesFinal(versions) {
+    const [deletions, { entries, objects }] = [versions.length, this]
+    const again = versions.reduce((sum, { attributes }) => sum + entriesOfNew(attributes.size), 0)
+    return deletions <= entries && (deletions > objects || deletions + again > entries)
+  }
+
+  /** Whether it takes a new object with this many attributes. */
+  takes(attributes) {
+    return this.objects > 0 && this.entries >= entriesOfNew(attributes)
+  }
+}
+
+/** The entries of a new object with this many attributes: the creation, and puts for those that it does not take. */
+export const entriesOfNew = (attributes) => Math.max(1, Math.ceil(attributes / LIMITS.attributes))

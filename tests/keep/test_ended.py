@@ -1,0 +1,37 @@
+"""Kept rooms whose record has ended."""
+
+from lib.keeping import KeepingServer, bytes_of, room_folder
+from lib.serving import expect_equal
+from lib.worked import RECORD
+
+# The time limit of a test, in seconds.
+BOUND = 60
+ENDED = "".join(f"{line}\n" for line in [*RECORD, '["next",2]']).encode()
+VERSIONS = '["versions",6,[1,1],"rect",[[[[1,2]],[["x",5]]],[[[2,1]],[["x",9]]]]]'
+
+# What a session asks of the room, and what it is answered.
+EXCHANGES = [
+    ('["join","r"]', '["no",6,22,"renewed"]'),
+    ('["back","r",2]', '["back",6,2,1]'),
+    ('["new",2,[[2,1]],"rect",[]]', '["no",6,22,"renewed"]'),
+    ('["put",2,[[1,1],[2,1]],[1,1],[],[["x",1]]]', '["no",6,22,"renewed"]'),
+    ('["drop",2,[[1,1],[2,1]],[1,1],[]]', '["no",6,22,"renewed"]'),
+    ('["show",[1,1]]', VERSIONS),
+    ('["list",0]', '["objects",6,0,1,[[[1,1],"rect"]]]'),
+    ('["pull",5]', '["entries",6,5,[["next",2]]]'),
+    ('["leave"]', '["left",6]'),
+]
+
+
+def test_room_that_has_ended():
+    """A room that has ended is read as before. Nothing is added to it, and its file stays as it is."""
+    with room_folder({"r": ENDED}) as folder:
+        with KeepingServer(folder, sessions=1) as server:
+            client = server.client()
+            for request, reply in EXCHANGES:
+                client.expect_reply(request, reply)
+            client.close()
+            lines = server.output()
+            expect_equal("the status", server.process.returncode, 0)
+        expect_equal("the output", lines, ["room r 6", *ENDED.decode().splitlines()])
+        expect_equal("the file", bytes_of(folder, "r"), ENDED)

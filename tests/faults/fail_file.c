@@ -1,5 +1,5 @@
 /* Makes calls on rooms' files fail, for tests: a library for LD_PRELOAD. It counts writes, truncations and syncs of files
-   whose names end in `.record`, and syncs of folders. The variable FAILED is the number of the call that fails, from 1.
+   whose names end in `.record` or `.record.new`, and syncs of folders. The variable FAILED is the number of the call that fails, from 1.
    FAILURE is its error number. With LASTS all later calls fail too. With SHORT a failing write first writes
    half of its bytes. With the error 0 a write writes only the first half and reports that. The library prints the line
    `failed` on standard error when it reaches the call. Each sync of the file that SLOW names takes SLOW_MILLIS longer, and
@@ -41,7 +41,9 @@ static int ends_in(int file, const char *end) {
 
 static int is_kept(int file) {
     struct stat status;
-    return !fstat(file, &status) && (S_ISDIR(status.st_mode) || ends_in(file, ".record"));
+    if (fstat(file, &status))
+        return 0;
+    return S_ISDIR(status.st_mode) || ends_in(file, ".record") || ends_in(file, ".record.new");
 }
 
 static void pause_if_slow(int file) {

@@ -7,11 +7,12 @@ from lib.worked import RECORD
 # The time limit of a test, in seconds.
 BOUND = 60
 ENDED = "".join(f"{line}\n" for line in [*RECORD, '["next",2]']).encode()
+NEXT = "".join(f"{line}\n" for line in RECORD[:2]).encode()
 VERSIONS = '["versions",6,[1,1],"rect",[[[[1,2]],[["x",5]]],[[[2,1]],[["x",9]]]]]'
 
 # What a session asks of the room, and what it is answered.
 EXCHANGES = [
-    ('["join","r"]', '["no",6,22,"renewed"]'),
+    ('["join","r"]', '["renewed",0,"r.2"]'),
     ('["back","r",2]', '["back",6,2,1]'),
     ('["new",2,[[2,1]],"rect",[]]', '["no",6,22,"renewed"]'),
     ('["put",2,[[1,1],[2,1]],[1,1],[],[["x",1]]]', '["no",6,22,"renewed"]'),
@@ -24,8 +25,9 @@ EXCHANGES = [
 
 
 def test_room_that_has_ended():
-    """A room that has ended is read as before. Nothing is added to it, and its file stays as it is."""
-    with room_folder({"r": ENDED}) as folder:
+    """A room that has ended is read as before. Nothing is added to it, and its file and that of the next room stay as they
+    are."""
+    with room_folder({"r": ENDED, "r.2": NEXT}) as folder:
         with KeepingServer(folder, sessions=1) as server:
             client = server.client()
             for request, reply in EXCHANGES:
@@ -33,5 +35,5 @@ def test_room_that_has_ended():
             client.close()
             lines = server.output()
             expect_equal("the status", server.process.returncode, 0)
-        expect_equal("the output", lines, ["room r 6", *ENDED.decode().splitlines()])
-        expect_equal("the file", bytes_of(folder, "r"), ENDED)
+        expect_equal("the output", lines, ["room r.2 2", *RECORD[:2], "room r 6", *ENDED.decode().splitlines()])
+        expect_equal("the files", (bytes_of(folder, "r"), bytes_of(folder, "r.2")), (ENDED, NEXT))

@@ -31,12 +31,13 @@ class KeepingServer(Server):
             client.is_over = client.transcript.hung_up = True
 
     def open_files(self):
-        """Returns the names of the rooms' files that the program has open, in order."""
-        names = []
+        """Returns the names of the rooms' files that the program has open, in order. The lock of a chain has a file open
+        too."""
+        names = set()
         for link in pathlib.Path(f"/proc/{self.process.pid}/fd").iterdir():
             # It may have been closed meanwhile.
             with contextlib.suppress(FileNotFoundError):
-                names.append(link.readlink().name)
+                names.add(link.readlink().name)
         return sorted(name for name in names if name.endswith(".record"))
 
     def error_lines(self):

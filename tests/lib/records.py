@@ -7,7 +7,7 @@ import re
 from lib.answers import BY_SESSION, OF_BACK
 
 # The line before a room's record in the output.
-HEAD = re.compile(r"room ([a-z0-9-]{1,64}) (0|[1-9]\d*)")
+HEAD = re.compile(r"room ([a-z0-9.-]{1,64}) (0|[1-9]\d*)")
 
 
 class Differs(Exception):

@@ -27,7 +27,7 @@ TIME = "%Y-%m-%dT%H:%M:%SZ"
 # The warning about a session that ended without a close: its number, the client's address, the room if it was in one,
 # and the cause.
 WARNING = re.compile(
-    r"session (\d+) (127\.0\.0\.1:\d+)(?: room ([a-z0-9-]+))?: "
+    r"session (\d+) (127\.0\.0\.1:\d+)(?: room ([a-z0-9.-]+))?: "
     r"(handshake failed|stream fault|out of memory|torn from its room|record not kept)"
 )
 

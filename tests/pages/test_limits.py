@@ -116,7 +116,7 @@ def test_statuses():
     own = [text for source in sources for text in re.findall(r'#\[error\("(.*?)"\)\]', source)]
     expected = {text: 3 for text in own if text != "{0}"} | statuses_of_commands()
     documented = lines_of_page()
-    filled = {"dir": "DIR", "room": "ROOM", "line": "N"}
+    filled = {"path": "DIR/ROOM.record", "line": "N"}
     fill = lambda text: re.sub(r"\{(\w+)\}", lambda it: filled.get(it[1], "{0}"), text)
     shorten = lambda line: re.sub(r"^((?:cannot|kept) [a-z ]+): [A-Z]+$", r"\1: {0}", line)
     expect_same_rows("the lines", sorted({(shorten(line), status) for line, status in documented.items()}),

@@ -112,12 +112,16 @@ def record_of(entries, objects):
             yield ["put", [1, seq], seen, [1, 1 + seq % objects], [], [["x", seq]]]
 
 
+NOT_RENEWED = "WARN", "room r cannot be renewed: the file of the next room is there"
+
+
 def warnings_over(record, reports, add):
-    """Returns the warnings of a server that starts over this record, reports these numbers, and has a client add
-    entries."""
+    """Returns the warnings of a server that starts over this record, which it cannot renew, reports these numbers, and has
+    a client add entries."""
     with tempfile.TemporaryDirectory() as folder:
-        file = pathlib.Path(folder) / "r.record"
-        file.write_text("".join(f"{compact(entry)}\n" for entry in record))
+        for name, entries in (("r", record), ("r.2", [["join", 1]])):
+            file = pathlib.Path(folder) / f"{name}.record"
+            file.write_text("".join(f"{compact(entry)}\n" for entry in entries))
         with Server(1, 2, keep=folder, report=1) as server:
             await_report(server, report_of(server, 0, 0, {"r": reports}))
             client = server.client()
@@ -129,34 +133,34 @@ def warnings_over(record, reports, add):
 
 
 @cases([
-    ("one line when nine tenths are passed", 14_745, 3, 14_746),
-    ("one line at the start if they are passed", 14_748, 2, 14_748),
+    ("one line when nine tenths are passed", 14_745, 3, 14_746, []),
+    ("one line at the start if they are passed", 14_748, 2, 14_748, [NOT_RENEWED]),
 ])
-def test_entries(start, added, count):
+def test_entries(start, added, count, at_start):
     """The server warns once when a room has 14,746 entries, the first count past nine tenths, or at the start if it
-    begins with more."""
+    begins with more and is not renewed."""
     def add(client):
         for seq in range(start, start + added):
             reply = client.ask(["put", seq, [[1, seq - 1]], [1, 1], [], [["x", seq]]])
             expect_equal("the reply", reply, f'["taken",{seq},[[]]]')
 
     notices = warnings_over(list(record_of(start, 32)), (1, start, 32), add)
-    expect_equal("the notices", notices, [("WARN", f"room r has {count} of 16384 entries")])
+    expect_equal("the notices", notices, [*at_start, ("WARN", f"room r has {count} of 16384 entries")])
 
 
 @cases([
-    ("one line when nine tenths are passed", 7_372, 3, 7_373),
-    ("one line at the start if they are passed", 7_375, 2, 7_375),
+    ("one line when nine tenths are passed", 7_372, 3, 7_373, []),
+    ("one line at the start if they are passed", 7_375, 2, 7_375, [NOT_RENEWED]),
 ])
-def test_objects(start, added, count):
+def test_objects(start, added, count, at_start):
     """The server warns once when a room has 7,373 objects, the first count past nine tenths, or at the start if it
-    begins with more."""
+    begins with more and is not renewed."""
     def add(client):
         for seq in range(start + 1, start + added + 1):
             expect_equal("the reply", client.ask(["new", seq, [[1, seq - 1]], "rect", []]), f'["made",{seq},[1,{seq}]]')
 
     notices = warnings_over(list(record_of(start + 1, start)), (1, start + 1, start), add)
-    expect_equal("the notices", notices, [("WARN", f"room r has {count} of 8192 objects")])
+    expect_equal("the notices", notices, [*at_start, ("WARN", f"room r has {count} of 8192 objects")])
 
 
 def test_places():

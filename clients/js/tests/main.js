@@ -12,6 +12,7 @@ import { TESTS as standing } from "./standing.js"
 import { TESTS as reconnecting } from "./reconnecting.js"
 import { TESTS as loading } from "./loading_anew.js"
 import { TESTS as renewals } from "./renewals.js"
+import { TESTS as renewedRooms } from "./renewed_rooms.js"
 import { TESTS as handshakes } from "./handshakes.js"
 
 // The time limit of a test. The histories have none: a slow program needs long for them.
@@ -32,7 +33,10 @@ build()
 const words = process.argv.slice(2)
 let passed = 0
 let failed = 0
-const groups = [rows, numbers, types, histories, transfers, rooms, standing, reconnecting, loading, renewals, handshakes]
+const groups = [
+  rows, numbers, types, histories, transfers, rooms, standing, reconnecting, loading, renewals, renewedRooms,
+  handshakes,
+]
 for (const [name, test] of groups.flat()) {
   if (words.length > 0 && !words.some((word) => name.includes(word))) continue
   const start = performance.now()

@@ -66,8 +66,10 @@ export function renewalOf(entries) {
   return status === 0 ? stdout.split("\n").slice(0, -1).map(readText) : null
 }
 
-/** `grace serve` on a free port, with the room `r` and further options. `end` kills it. */
+/** `grace serve` on a free port, with further options. `rooms` are those of the command line. `end` kills it. */
 export class Server {
+  rooms = ["r"]
+
   static async start(sessions = 1000, ...options) {
     const server = new Server()
     server.options = options
@@ -79,7 +81,7 @@ export class Server {
   /** Starts the program on the port. */
   listen(sessions) {
     this.address = `127.0.0.1:${this.port}`
-    const words = ["serve", ...this.options, this.address, `${sessions}`, "64", "r"]
+    const words = ["serve", ...this.options, this.address, `${sessions}`, "64", ...this.rooms]
     this.program = spawn(PROGRAM, words, { stdio: ["ignore", "pipe", "ignore"] })
     this.closed = new Promise((tell) => this.program.on("close", tell))
     return new Promise((tell, fail) => {

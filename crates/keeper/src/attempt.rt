@@ -52,4 +52,6 @@ pub struct Beginning {
     pub entries: usize,
     /// The number of its objects.
     pub objects: u32,
+    /// Another room goes on with what it has.
+    pub has_ended: bool,
 }

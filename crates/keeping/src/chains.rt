@@ -7,35 +7,77 @@ use base_types::{NoMemory, RoomName};
 use indexmap::IndexMap;
 use std::alloc::Global;
 
-/// The newest room of each chain that has a second room, by the name of the chain's first room.
+/// The chains of which a room is open, if they have a second room, by the name of the first room. Rooms
+/// that were opened before the second one was known do not count, so a chain may leave while one of
+/// them is open. The next opening of one of its rooms adds it again.
 #[derive(Drop)]
 pub(crate) struct Chains {
-    newest: IndexMap<RoomName, RoomName>,
+    chains: IndexMap<RoomName, Chain>,
+}
+
+/// A chain that has a second room.
+#[derive(Drop)]
+struct Chain {
+    newest: RoomName,
+    /// The number of its rooms that are open.
+    open: usize,
 }
 
 impl Chains {
     /// No chains.
     pub(crate) fn new(alloc: Global) -> Chains {
         Chains {
-            newest: IndexMap::new(alloc),
+            chains: IndexMap::new(alloc),
         }
     }
 
-    /// Adds a room. It is the newest of its chain, unless a later one was added.
+    /// The room of this name is opened. `later` is the newest room of its chain, if it is an earlier one.
     ///
     /// # Errors
-    /// `NoMemory` if an allocation failed. Nothing is added.
-    pub(crate) fn add(&mut self, alloc: Global, room: &RoomName) -> Result<(), NoMemory> {
-        if room.is_first() || self.later(alloc, room)?.is_some() {
+    /// `NoMemory` if an allocation failed.
+    pub(crate) fn add(
+        &mut self,
+        alloc: Global,
+        room: &RoomName,
+        later: Option<&RoomName>,
+    ) -> Result<(), NoMemory> {
+        let newest = later.unwrap_or(room);
+        let first = room.first(alloc)?;
+        if let Some(chain) = self.chains.get_mut(&first) {
+            if chain.newest.number() < newest.number() {
+                chain.newest = newest.copy(alloc)?;
+            }
+            chain.open = chain.open.saturating_add(1);
             return Ok(());
         }
-        match self.newest.insert(room.first(alloc)?, room.copy(alloc)?) {
+        if newest.is_first() {
+            return Ok(());
+        }
+        let chain = Chain {
+            newest: newest.copy(alloc)?,
+            open: 1,
+        };
+        match self.chains.insert(first, chain) {
             Ok(_) => Ok(()),
             Err(_) => Err(NoMemory),
         }
     }
 
-    /// The newest room of the chain of the room of this name. `None` if no later room was added.
+    /// The room of this name is closed. Where an allocation fails the chain stays, which does no harm:
+    /// who asks for an earlier room is sent to a room that was the newest.
+    pub(crate) fn remove(&mut self, alloc: Global, room: &RoomName) {
+        let Ok(first) = room.first(alloc) else {
+            return;
+        };
+        if let Some(chain) = self.chains.get_mut(&first) {
+            chain.open = chain.open.saturating_sub(1);
+            if chain.open == 0 {
+                self.chains.swap_remove(&first);
+            }
+        }
+    }
+
+    /// The newest room of the chain of the room of this name. `None` if no later room is known.
     /// Constant time.
     ///
     /// # Errors
@@ -44,9 +86,10 @@ impl Chains {
         ensures { IfOk result (λ found. IfSome found (IsLater name.now)) }
     {
         let first = name.first(alloc)?;
-        let Some(newest) = self.newest.get(&first) else {
+        let Some(chain) = self.chains.get(&first) else {
             return Ok(None);
         };
+        let newest = &chain.newest;
         if newest.is_in_chain_of(&first) && name.number() < newest.number() {
             return Ok(Some(newest.copy(alloc)?));
         }

@@ -12,11 +12,16 @@ use std::alloc::Global;
 /// What asking for the file of a room gave.
 #[derive(Drop)]
 pub enum FileFound<J: Journal> {
-    /// The room with the record that the file has, and the file. Nobody else has it until it is closed.
-    Here(RoomState, RestoredFile<J>),
-    /// Somebody else has it.
+    /// The room with the record that the file has. Nobody else has a file of its chain until it is closed.
+    Here {
+        state: RoomState,
+        file: RestoredFile<J>,
+        /// The newest room of its chain, if it is an earlier one.
+        later: Option<RoomName>,
+    },
+    /// Somebody else has a file of its chain.
     Elsewhere,
-    /// The room begins with the end of another, and has no file yet.
+    /// The room begins with the end of another, which has not ended.
     Absent,
     /// It can't be used. The log says why.
     Unusable,
@@ -24,7 +29,8 @@ pub enum FileFound<J: Journal> {
 
 /// The files of rooms, by the names of the rooms. One value serves all threads.
 pub trait RoomFiles<J: Journal> {
-    /// Opens the file of the room of this name, or creates it. May wait for a disk.
+    /// Opens the file of the room of this name, or creates it. Ends the record of a room that is nearly
+    /// full, if another room can go on with it. May wait for a disk.
     ///
     /// # Errors
     /// `NoMemory` if an allocation failed.

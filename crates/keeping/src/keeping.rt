@@ -29,7 +29,7 @@ const WAITING_PLACES: usize = 64;
 /// The files of all rooms, by the places of the rooms. A thread writes and syncs all that a room has
 /// by then for all that wait for it. No two threads write for one room. Rooms on demand are opened and
 /// closed by these threads too, with their files. Locks are taken in this order: the doors, a place,
-/// and then what `Rooms` locks.
+/// and then what `Rooms` locks. The lock of the chains is taken alone.
 #[derive(Drop)]
 pub struct Keeping<P: RoomHistories, J: Journal, F> {
     pub(crate) places: Vec<Place<P, J>>,
@@ -39,7 +39,7 @@ pub struct Keeping<P: RoomHistories, J: Journal, F> {
     /// The number of rooms of which the last attempt failed.
     failing: AtomicUsize,
     pub(crate) doors: Mutex<Doors<P>>,
-    chains: Chains,
+    pub(crate) chains: Mutex<Chains>,
     /// The files of rooms on demand.
     pub(crate) files: F,
     /// After how many ticks a room is closed that nobody is in. The first may come at once.
@@ -58,7 +58,7 @@ pub struct OnDemand<F> {
 impl<P: RoomHistories, J: Journal + Drop, F: RoomFiles<J> + Drop> Keeping<P, J, F> {
     /// Keeps the rooms that are open from the start in these files, which are in the order of the
     /// rooms, and rooms on demand in files that are opened with them. Who asks for an earlier room of
-    /// a chain than the newest of those that are open from the start is sent to that one.
+    /// a chain than the newest of those that are open is sent to that one.
     ///
     /// # Errors
     /// `NoMemory` if an allocation failed.
@@ -84,7 +84,7 @@ impl<P: RoomHistories, J: Journal + Drop, F: RoomFiles<J> + Drop> Keeping<P, J, 
             orders,
             failing: AtomicUsize::new(0),
             doors: Mutex::new(Doors::new(alloc)),
-            chains,
+            chains: Mutex::new(chains),
             files: others,
             close_after: close_after.saturating_add(1),
         })
@@ -217,7 +217,7 @@ fn chains_of<P: RoomHistories>(alloc: Global, rooms: &Rooms<P>) -> Result<Chains
     let mut chains = Chains::new(alloc);
     for place in 0..rooms.count_places() {
         if let Some(name) = rooms.name_at(place) {
-            chains.add(alloc, name)?;
+            chains.add(alloc, name, None)?;
         }
     }
     Ok(chains)
@@ -279,11 +279,11 @@ impl<P: RoomHistories, J: Journal + Drop, F: RoomFiles<J> + Drop> Keeper<P> for 
 
     fn newest(
         &self,
-        _rt: &impl Wait,
+        rt: &impl Wait,
         alloc: Global,
         name: &RoomName,
     ) -> Result<Option<RoomName>, NoMemory> {
-        self.chains.later(alloc, name)
+        self.chains.lock(rt).later(alloc, name)
     }
 
     fn permit(&self, rt: &impl Wait, opening: &Opening<P>) -> Option<Clean> {

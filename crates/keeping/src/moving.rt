@@ -55,6 +55,8 @@ struct NewRoom<J: Journal> {
     name: RoomName,
     state: RoomState,
     file: RestoredFile<J>,
+    /// The newest room of its chain, if it is an earlier one.
+    later: Option<RoomName>,
 }
 
 impl<P: RoomHistories, J: Journal + Drop, F: RoomFiles<J> + Drop> Keeping<P, J, F> {
@@ -204,31 +206,42 @@ impl<P: RoomHistories, J: Journal + Drop, F: RoomFiles<J> + Drop> Keeping<P, J, 
         let Ok(copied) = name.copy(alloc) else {
             return Moved::Failed(Reason::NoMemory);
         };
-        match self.files.open(alloc, name) {
-            Ok(FileFound::Here(state, _file)) if state.limits() != rooms.limits() => {
-                Moved::Failed(Reason::File)
-            }
-            Ok(FileFound::Here(state, file)) => {
-                let new = NewRoom {
-                    name: copied,
-                    state,
-                    file,
-                };
-                self.enter(rt, alloc, rooms, new)
-            }
-            Ok(FileFound::Elsewhere) => Moved::Failed(Reason::Elsewhere),
-            Ok(FileFound::Absent | FileFound::Unusable) => Moved::Failed(Reason::File),
-            Err(NoMemory) => Moved::Failed(Reason::NoMemory),
+        let (state, file, later) = match self.files.open(alloc, name) {
+            Ok(FileFound::Here { state, file, later }) => (state, file, later),
+            Ok(FileFound::Elsewhere) => return Moved::Failed(Reason::Elsewhere),
+            Ok(FileFound::Absent | FileFound::Unusable) => return Moved::Failed(Reason::File),
+            Err(NoMemory) => return Moved::Failed(Reason::NoMemory),
+        };
+        if state.limits() != rooms.limits() {
+            self.files.close(alloc, name, file.into_journal());
+            return Moved::Failed(Reason::File);
         }
+        let new = NewRoom {
+            name: copied,
+            state,
+            file,
+            later,
+        };
+        self.enter(rt, alloc, rooms, new)
     }
 
     /// Opens a room with its file. Whoever looks for the room finds it with its file, since all of this
-    /// is done under the lock of the doors.
+    /// is done under the lock of the doors, and finds where its chain goes on.
     fn enter(&self, rt: &impl Wait, alloc: Global, rooms: &Rooms<P>, new: NewRoom<J>) -> Moved
         requires limits { new.state.room.limits ≡ P.limits }
         requires file { new.file ≡ record { name = new.name; entries = new.state.room.entries } }
     {
-        let NewRoom { name, state, file } = new;
+        let NewRoom {
+            name,
+            state,
+            file,
+            later,
+        } = new;
+        let added = self.chains.lock(rt).add(alloc, &name, later.as_ref());
+        if added.is_err() {
+            self.files.close(alloc, &name, file.into_journal());
+            return Moved::Failed(Reason::NoMemory);
+        }
         let beginning = beginning_of(alloc, &name, &state);
         let mut doors = self.doors.lock(rt);
         let unopened = match open_as(rt, alloc, rooms, &name, state) {
@@ -247,6 +260,7 @@ impl<P: RoomHistories, J: Journal + Drop, F: RoomFiles<J> + Drop> Keeping<P, J, 
             Err(NoMemory) => Moved::Failed(Reason::NoMemory),
         };
         drop(doors);
+        self.chains.lock(rt).remove(alloc, &name);
         self.files.close(alloc, &name, file.into_journal());
         unopened
     }
@@ -273,6 +287,7 @@ impl<P: RoomHistories, J: Journal + Drop, F: RoomFiles<J> + Drop> Keeping<P, J, 
         let Ok(Some(Closing { name, journal })) = taken else {
             return nothing;
         };
+        self.chains.lock(rt).remove(alloc, &name);
         self.files.close(alloc, &name, journal);
         self.doors.lock(rt).end_move(&name);
         Attempt {
@@ -291,6 +306,7 @@ fn beginning_of(alloc: Global, name: &RoomName, state: &RoomState) -> Beginning 
         sites: state.sites(),
         entries: state.entries().len(),
         objects: state.count_objects(),
+        has_ended: state.has_ended(),
     }
 }
 

@@ -1,15 +1,16 @@
-//! The folder of `--keep`. The server locks it, reads the file of each room, and then cuts each
-//! file to its whole lines.
+//! The folder of `--keep`: its lock, and the files of rooms in it as they are read.
+//!
+//! Whoever reads or writes the file of a room has the lock of its chain, or the folder alone.
 
 ghost use Rattle.std.specs.Prelude.{◌≡◌, All, IfOk, map};
 ghost use Rattle.rules.specs.Limits.{full_limits};
 
+use crate::chain_locks::ChainLocks;
 use crate::fault::FolderFault;
-use crate::found::{Found, RestoreFault, restore_room};
-use crate::room_file::{cut_or_create, open_file, path_of};
-use journal::Synced;
+use crate::found::{FoundRoom, RestoreFault, bytes_of, restore_bytes};
+use crate::room_file::{open_there, path_of};
+use base_types::RoomName;
 use log::{Log, error, info};
-use restore::RestoredFile;
 use room_core::RoomState;
 use std::alloc::Global;
 use std::fmt::Display;
@@ -17,16 +18,28 @@ use std::fs::{File, TryLockError};
 use std::io::ErrorKind;
 use std::marker::Model;
 use std::rt::Files;
-use std::sync::Wait;
+use std::sync::{Mutex, Wait};
 use std::{fs, io};
 
 /// A folder that keeps rooms. The file ROOM.record has the entries of a room, one per line. No
-/// other process holds the folder while this value exists, or only others that share it. Contracts
-/// see its path.
+/// other process holds the folder while this value exists, or only others that share it. Then each
+/// chain of which a room is open is locked. Contracts see the folder's path.
 #[derive(Drop)]
 pub struct Folder<'a> {
     pub(crate) dir: &'a str,
     opened: File,
+    hold: Hold,
+    /// The locks of chains, if others may have the folder.
+    pub(crate) locks: Mutex<ChainLocks>,
+}
+
+/// How a process has the folder.
+#[derive(Clone, Copy, Debug, PartialEq, Eq)]
+enum Hold {
+    /// No other process has it.
+    Alone,
+    /// Others may have it, but none alone.
+    Shared,
 }
 
 impl<'a> Model for Folder<'a> {
@@ -48,13 +61,13 @@ fn open_folder<R: Files<File = File>>(rt: &R, dir: &str) -> io::Result<File> {
     File::open(rt, dir)
 }
 
-/// How a process has the folder.
-#[derive(Clone, Copy, Debug, PartialEq, Eq)]
-enum Hold {
-    /// No other process has it.
-    Alone,
-    /// Others may have it, but none alone.
-    Shared,
+/// A room's file as it was read.
+#[derive(Drop)]
+pub(crate) struct ReadFile {
+    pub(crate) path: String,
+    /// The open file, if there is one.
+    pub(crate) file: Option<File>,
+    pub(crate) bytes: Vec<u8>,
 }
 
 /// Locks the folder.
@@ -66,7 +79,7 @@ fn lock_folder(opened: &File, hold: Hold) -> Result<(), TryLockError> {
 }
 
 /// Logs which file fails and why. Returns the fault that the folder cannot keep rooms.
-fn cannot_keep<'a, R: Log, W: Display>(
+pub(crate) fn cannot_keep<'a, R: Log, W: Display>(
     rt: &R,
     dir: &'a str,
     path: &str,
@@ -92,31 +105,34 @@ impl<'a> Folder<'a> {
     /// `KeptByAnother` if another process holds it.
     pub fn open<R: Files<File = File> + Log>(
         rt: &R,
+        alloc: Global,
         dir: &'a str,
     ) -> Result<Folder<'a>, FolderFault<'a>>
         ensures { IfOk result (λ folder. folder ≡ dir.now) }
     {
-        Folder::open_as(rt, dir, Hold::Alone)
+        Folder::open_as(rt, alloc, dir, Hold::Alone)
     }
 
     /// Opens the folder and locks it together with others that call this: several processes may
-    /// share a folder, but not with one that has it alone. Each file is locked by `open_room`.
+    /// share a folder, but not with one that has it alone. Then each chain is locked too.
     ///
     /// # Errors
     /// `CannotKeep` if it is no folder or cannot be opened.
     /// `KeptByAnother` if another process has it alone.
     pub fn open_shared<R: Files<File = File> + Log>(
         rt: &R,
+        alloc: Global,
         dir: &'a str,
     ) -> Result<Folder<'a>, FolderFault<'a>>
         ensures { IfOk result (λ folder. folder ≡ dir.now) }
     {
-        Folder::open_as(rt, dir, Hold::Shared)
+        Folder::open_as(rt, alloc, dir, Hold::Shared)
     }
 
     /// Opens the folder and locks it in this way.
     fn open_as<R: Files<File = File> + Log>(
         rt: &R,
+        alloc: Global,
         dir: &'a str,
         hold: Hold,
     ) -> Result<Folder<'a>, FolderFault<'a>>
@@ -127,109 +143,77 @@ impl<'a> Folder<'a> {
             Err(why) => return Err(cannot_keep(rt, dir, dir, &why)),
         };
         match lock_folder(&opened, hold) {
-            Ok(()) => Ok(Folder { dir, opened }),
+            Ok(()) => Ok(Folder {
+                dir,
+                opened,
+                hold,
+                locks: Mutex::new(ChainLocks::none(alloc)),
+            }),
             Err(TryLockError::WouldBlock) => Err(FolderFault::KeptByAnother(dir)),
             Err(TryLockError::Error(why)) => Err(cannot_keep(rt, dir, dir, &why)),
         }
     }
 
-    /// Reads the files of these rooms. Returns the rooms with the records that their files have,
-    /// under full limits, and the files, both in the order of the names. A room without a file is
-    /// empty. Changes nothing.
-    ///
-    /// # Errors
-    /// `CannotKeep` if a file cannot be opened or read, or has more than 1,073,741,824 bytes.
-    /// `BadRecord` if the whole lines of a file are no legal record.
-    /// `NoMemory` if an allocation failed.
-    pub fn read<R: Files<File = File> + Log + Wait>(
-        &self,
-        rt: &R,
-        alloc: Global,
-        names: &[&'a str],
-    ) -> Result<(Vec<RoomState>, Vec<Found<File>>), FolderFault<'a>>
-        // There is a file for each name in order, and the room with the record of the file:
-        ensures names { IfOk result (λ found.
-            map (λ file. file.name) found.1.items ≡ map (λ name. name.now) names.now) }
-        ensures records { IfOk result (λ found. map (λ state. state.room.entries) found.0.items
-            ≡ map (λ file. file.entries) found.1.items) }
-        ensures limits { IfOk result (λ found.
-            All (λ state. state.room.limits ≡ full_limits) found.0.items) }
-    {
-        let mut states = Vec::with_capacity(alloc, names.len())?;
-        let mut files = Vec::with_capacity(alloc, names.len())?;
-        for name in names {
-            let (state, found) = self.read_room(rt, alloc, name)?;
-            states.push(state)?;
-            files.push(found)?;
-        }
-        Ok((states, files))
+    /// Returns whether other processes may have the folder.
+    pub(crate) fn is_shared(&self) -> bool {
+        self.hold == Hold::Shared
     }
 
-    /// Reads the file of one room.
-    fn read_room<R: Files<File = File> + Log + Wait>(
+    /// Reads the file of a room, and the room from it.
+    pub(crate) fn read_room<R: Files<File = File> + Log + Wait>(
         &self,
         rt: &R,
         alloc: Global,
-        name: &'a str,
-    ) -> Result<(RoomState, Found<File>), FolderFault<'a>>
-        ensures limits { IfOk result (λ found. found.0.room.limits ≡ full_limits) }
-        ensures found { IfOk result (λ found.
-            found.1 ≡ record { name = name.now; entries = found.0.room.entries }) }
+        name: &RoomName,
+    ) -> Result<FoundRoom<File>, FolderFault<'a>>
+        ensures { IfOk result (λ found. found.name ≡ name.now) }
     {
-        let path = path_of(alloc, self.dir, name)?;
-        let file = match open_file(rt, path.as_str()) {
+        let read = self.read_file(rt, alloc, name)?;
+        self.restore_file(rt, alloc, name, read)
+    }
+
+    /// Reads the file of a room, if there is one.
+    pub(crate) fn read_file<R: Files<File = File> + Log>(
+        &self,
+        rt: &R,
+        alloc: Global,
+        name: &RoomName,
+    ) -> Result<ReadFile, FolderFault<'a>> {
+        let path = path_of(alloc, self.dir, name.text())?;
+        let file = match open_there(rt, path.as_str()) {
             Ok(file) => file,
             Err(why) => return Err(cannot_keep(rt, self.dir, path.as_str(), &why)),
         };
-        match restore_room(rt, alloc, name, file) {
-            Ok((room, found)) => {
-                log_entries(rt, path.as_str(), &room);
-                Ok((room, found))
-            }
-            Err(fault) => Err(self.fault_of(rt, path.as_str(), name, fault)),
+        match bytes_of(alloc, file) {
+            Ok((file, bytes)) => Ok(ReadFile { path, file, bytes }),
+            Err(fault) => Err(self.fault_of(rt, path, fault)),
+        }
+    }
+
+    /// The room of this name from its file.
+    pub(crate) fn restore_file<R: Log + Wait>(
+        &self,
+        rt: &R,
+        alloc: Global,
+        name: &RoomName,
+        read: ReadFile,
+    ) -> Result<FoundRoom<File>, FolderFault<'a>>
+        ensures { IfOk result (λ found. found.name ≡ name.now) }
+    {
+        let ReadFile { path, file, bytes } = read;
+        match restore_bytes(rt, alloc, name, file, bytes.as_slice()) {
+            Ok(found) => Ok(found),
+            Err(fault) => Err(self.fault_of(rt, path, fault)),
         }
     }
 
     /// The fault of the start for a room that cannot be restored.
-    fn fault_of<R: Log>(
-        &self,
-        rt: &R,
-        path: &str,
-        name: &'a str,
-        fault: RestoreFault,
-    ) -> FolderFault<'a> {
+    fn fault_of<R: Log>(&self, rt: &R, path: String, fault: RestoreFault) -> FolderFault<'a> {
         match fault {
-            RestoreFault::BadLine(line) => FolderFault::BadRecord {
-                dir: self.dir,
-                room: name,
-                line,
-            },
-            RestoreFault::Unreadable => cannot_keep(rt, self.dir, path, &UNREADABLE),
+            RestoreFault::BadLine(line) => FolderFault::BadRecord { path, line },
+            RestoreFault::Unreadable => cannot_keep(rt, self.dir, path.as_str(), &UNREADABLE),
             RestoreFault::NoMemory => FolderFault::NoMemory,
         }
-    }
-
-    /// Creates absent files, cuts each file to its whole lines, and syncs the files and the folder.
-    /// Logs a warning for each file that it cuts. Returns the files in the same order.
-    ///
-    /// # Errors
-    /// `CannotKeep` if a file cannot be created, cut or synced.
-    /// `NoMemory` if an allocation failed.
-    pub fn settle<R: Files<File = File> + Log>(
-        &self,
-        rt: &R,
-        alloc: Global,
-        files: Vec<Found<File>>,
-    ) -> Result<Vec<RestoredFile<Synced<File>>>, FolderFault<'a>>
-        // Each has the name and the record that it had:
-        ensures { IfOk result (λ settled. settled.items ≡ files.items) }
-    {
-        let mut settled = Vec::with_capacity(alloc, files.len())?;
-        for found in files {
-            settled.push(self.settle_file(rt, alloc, found)?)?;
-        }
-        self.sync(rt)?;
-        Ok(settled)
     }
 
     /// Syncs the folder, so that the files that were created in it last.
@@ -237,29 +221,6 @@ impl<'a> Folder<'a> {
         match self.opened.sync_all() {
             Ok(()) => Ok(()),
             Err(why) => Err(cannot_keep(rt, self.dir, self.dir, &why)),
-        }
-    }
-
-    /// Settles one file.
-    pub(crate) fn settle_file<R: Files<File = File> + Log>(
-        &self,
-        rt: &R,
-        alloc: Global,
-        found: Found<File>,
-    ) -> Result<RestoredFile<Synced<File>>, FolderFault<'a>>
-        ensures { IfOk result (λ settled. settled ≡ found) }
-    {
-        let Found {
-            name,
-            file,
-            whole,
-            behind,
-            restored,
-        } = found;
-        let path = path_of(alloc, self.dir, name.as_str())?;
-        match cut_or_create(rt, path.as_str(), file, behind, whole) {
-            Ok(journal) => Ok(RestoredFile::new(name, restored, journal)),
-            Err(why) => Err(cannot_keep(rt, self.dir, path.as_str(), &why)),
         }
     }
 }

@@ -1,21 +1,24 @@
-//! Opening the files of rooms with their locks, at the start and while a server runs, and closing
-//! them. Several processes may share a folder: each room's file has a lock of its own.
+//! Opening the files of rooms while a server runs, and closing them. Several processes may share a
+//! folder: each chain has a lock of its own.
 
-ghost use Rattle.std.specs.Prelude.{◌≡◌, All, IfOk, map};
+ghost use Rattle.std.specs.Prelude.{◌≡◌, IfOk};
 ghost use Rattle.rules.specs.Limits.{full_limits};
 ghost use Rattle.room_folder.specs.steps.Opened.{IfHere};
 
+use crate::chain::{EndedRoom, Newest, Succeeded};
 use crate::fault::FolderFault;
-use crate::folder::{Folder, UNREADABLE, log_entries};
-use crate::found::{Found, RestoreFault, restore_room};
-use crate::room_file::{LockedFile, lock_or_create, path_of, remove_empty};
+use crate::folder::Folder;
+use crate::found::FoundRoom;
+use crate::open_rooms::log_renewal;
+use crate::room_file::path_of;
+use crate::settling::SettledRoom;
 use base_types::{NoMemory, RoomName};
 use journal::Synced;
 use log::{Log, error, warn};
 use restore::RestoredFile;
 use room_core::RoomState;
 use std::alloc::Global;
-use std::fmt::Display;
+use std::fs;
 use std::fs::File;
 use std::rt::Files;
 use std::sync::Wait;
@@ -23,40 +26,41 @@ use std::sync::Wait;
 /// What opening a room's file gave.
 #[derive(Drop)]
 pub enum RoomFound {
-    /// The room with the record that the file has, and the file, all of it on the disk. No other
-    /// open file has the file's lock until the file is dropped.
-    Here(RoomState, RestoredFile<Synced<File>>),
-    /// Another open file has the lock, of another process or of this one.
+    /// The room is here. No other process has the lock of its chain until its file is closed.
+    Here {
+        /// The room with the record that the file has.
+        state: RoomState,
+        /// The file, all of it on the disk.
+        file: RestoredFile<Synced<File>>,
+        /// The newest room of its chain, if it is an earlier one.
+        later: Option<RoomName>,
+    },
+    /// Another process has the lock of the room's chain.
     Elsewhere,
-    /// This line of the file, counted from 1, is no entry that may come next. Nothing was changed.
+    /// The room is not the first of its chain, and the room before it has not ended.
+    Absent,
+    /// This line of a file, counted from 1, is no entry that may come next, or ends a record that
+    /// cannot be followed. Nothing was changed.
     Bad(usize),
-    /// The file can't be used. The log says why.
+    /// A file can't be used. The log says why.
     Unusable,
 }
 
-/// Why a file is not used that could not be locked where it lies.
-const NOT_HELD: &str = "it is a link to no file, or it is removed again and again";
-
-/// Logs why a room's file can't be used.
-fn unusable<R: Log, W: Display>(rt: &R, path: &str, why: &W) -> RoomFound
-    ensures { result ≡ RoomFound.Unusable }
-{
-    error!(rt; "{path}: {why}");
-    RoomFound::Unusable
-}
-
 impl<'a> Folder<'a> {
-    /// Opens the file of a room, creates it if there is none, and takes its lock. Cuts the file to
-    /// its whole lines, with a warning in the log, and syncs it, and the folder if the file may be
-    /// new. Never waits for another process. Its cost is that of adding the entries one by one, and
-    /// of the syncs.
+    /// Opens the file of a room and takes the lock of its chain. Creates the file if there is none and
+    /// the room is the first of its chain, or the one before it has ended. Cuts the file to its whole
+    /// lines, with a warning in the log, and syncs it, and the folder if the file may be new. If the
+    /// room is the newest of its chain and nearly full, ends its record if a renewal helps: then another
+    /// room is the newest, and begins when it is opened. Never waits for another process. Its cost is
+    /// that of reading the file of the room before, of adding the entries one by one, of a renewal,
+    /// and of the syncs.
     ///
     /// `Unusable` stands for a folder, a pipe, a link to no file, a file that can't be opened, read,
-    /// cut or synced or has more than 1,073,741,824 bytes, and a folder of rooms that is gone.
+    /// cut, written or synced or has more than 1,073,741,824 bytes, and a folder of rooms that is gone.
     ///
     /// # Errors
-    /// `NoMemory` if an allocation failed. The file may have been created, or cut to its whole
-    /// lines.
+    /// `NoMemory` if an allocation failed. The file may have been created, cut to its whole lines, or
+    /// ended.
     pub fn open_room<R: Files<File = File> + Log + Wait>(
         &self,
         rt: &R,
@@ -68,113 +72,142 @@ impl<'a> Folder<'a> {
         ensures file { IfOk result (IfHere (λ state file.
             file ≡ record { name = name.now; entries = state.room.entries })) }
     {
-        let found = self.open_named(rt, alloc, name.text())?;
-        if let RoomFound::Bad(line) = &found {
-            error!(rt; "{}/{}.record: bad record line {line}", self.dir, name.text());
-        }
-        Ok(found)
-    }
-
-    /// Opens the files of these rooms as `open_room` does, in order. Returns the rooms with the
-    /// records that their files have, under full limits, and the files, both in the order of the
-    /// names. Its cost is that of `open_room` for each.
-    ///
-    /// # Errors
-    /// `RoomKeptByAnother` if another open file has the lock of a room's file.
-    /// `BadRecord` if the whole lines of a file are no legal record.
-    /// `CannotKeep` if a file can't be used. The log says why.
-    /// `NoMemory` if an allocation failed.
-    ///
-    /// The files of the rooms before may have been created, or cut to their whole lines.
-    pub fn open_rooms<R: Files<File = File> + Log + Wait>(
-        &self,
-        rt: &R,
-        alloc: Global,
-        names: &[&'a str],
-    ) -> Result<(Vec<RoomState>, Vec<RestoredFile<Synced<File>>>), FolderFault<'a>>
-        // There is a file for each name in order, and the room with the record of the file:
-        ensures names { IfOk result (λ found.
-            map (λ file. file.name) found.1.items ≡ map (λ name. name.now) names.now) }
-        ensures records { IfOk result (λ found. map (λ state. state.room.entries) found.0.items
-            ≡ map (λ file. file.entries) found.1.items) }
-        ensures limits { IfOk result (λ found.
-            All (λ state. state.room.limits ≡ full_limits) found.0.items) }
-    {
-        let mut states = Vec::with_capacity(alloc, names.len())?;
-        let mut files = Vec::with_capacity(alloc, names.len())?;
-        for name in names {
-            let (state, file) = self.open_at_start(rt, alloc, name)?;
-            states.push(state)?;
-            files.push(file)?;
-        }
-        Ok((states, files))
-    }
-
-    /// Opens the file of one room. Fails unless the room is here.
-    fn open_at_start<R: Files<File = File> + Log + Wait>(
-        &self,
-        rt: &R,
-        alloc: Global,
-        name: &'a str,
-    ) -> Result<(RoomState, RestoredFile<Synced<File>>), FolderFault<'a>>
-        ensures limits { IfOk result (λ found. found.0.room.limits ≡ full_limits) }
-        ensures found { IfOk result (λ found.
-            found.1 ≡ record { name = name.now; entries = found.0.room.entries }) }
-    {
-        let dir = self.dir;
-        match self.open_named(rt, alloc, name)? {
-            RoomFound::Here(state, file) => Ok((state, file)),
-            RoomFound::Elsewhere => Err(FolderFault::RoomKeptByAnother { dir, room: name }),
-            RoomFound::Bad(line) => Err(FolderFault::BadRecord {
-                dir,
-                room: name,
-                line,
-            }),
-            RoomFound::Unusable => Err(FolderFault::CannotKeep(dir)),
-        }
-    }
-
-    /// Opens the file of the room of this name, as `open_room` does, but does not log a bad line.
-    fn open_named<R: Files<File = File> + Log + Wait>(
-        &self,
-        rt: &R,
-        alloc: Global,
-        name: &str,
-    ) -> Result<RoomFound, NoMemory>
-        ensures limits { IfOk result (IfHere (λ state file. state.room.limits ≡ full_limits)) }
-        ensures file { IfOk result (IfHere (λ state file.
-            file ≡ record { name = name.now; entries = state.room.entries })) }
-    {
-        let path = path_of(alloc, self.dir, name)?;
-        match lock_or_create(rt, path.as_str()) {
-            Ok(LockedFile::Here(file)) => self.restore_locked(rt, alloc, name, path.as_str(), file),
-            Ok(LockedFile::Elsewhere) => Ok(RoomFound::Elsewhere),
-            Ok(LockedFile::Gone) => Ok(unusable(rt, path.as_str(), &NOT_HELD)),
-            Err(why) => Ok(unusable(rt, path.as_str(), &why)),
-        }
-    }
-
-    /// Restores a room from its locked file.
-    fn restore_locked<R: Files<File = File> + Log + Wait>(
-        &self,
-        rt: &R,
-        alloc: Global,
-        name: &str,
-        path: &str,
-        file: File,
-    ) -> Result<RoomFound, NoMemory>
-        ensures limits { IfOk result (IfHere (λ state file. state.room.limits ≡ full_limits)) }
-        ensures file { IfOk result (IfHere (λ state file.
-            file ≡ record { name = name.now; entries = state.room.entries })) }
-    {
-        match restore_room(rt, alloc, name, Some(file)) {
-            Ok((room, found)) => {
-                log_entries(rt, path, &room);
-                self.found_here(rt, alloc, room, found)
+        match self.open_locked(rt, alloc, name) {
+            Ok(found) => Ok(found),
+            Err(FolderFault::NoMemory) => Err(NoMemory),
+            Err(FolderFault::RoomKeptByAnother { path: _ }) => Ok(RoomFound::Elsewhere),
+            Err(FolderFault::BadRecord { path, line }) => {
+                error!(rt; "{path}: bad record line {line}");
+                Ok(RoomFound::Bad(line))
             }
-            Err(RestoreFault::BadLine(line)) => Ok(RoomFound::Bad(line)),
-            Err(RestoreFault::Unreadable) => Ok(unusable(rt, path, &UNREADABLE)),
-            Err(RestoreFault::NoMemory) => Err(NoMemory),
+            Err(_logged) => Ok(RoomFound::Unusable),
+        }
+    }
+
+    /// Opens the file of a room, as `open_room` does, and keeps the lock of its chain if the room is
+    /// here.
+    fn open_locked<R: Files<File = File> + Log + Wait>(
+        &self,
+        rt: &R,
+        alloc: Global,
+        name: &RoomName,
+    ) -> Result<RoomFound, FolderFault<'a>>
+        ensures limits { IfOk result (IfHere (λ state file. state.room.limits ≡ full_limits)) }
+        ensures file { IfOk result (IfHere (λ state file.
+            file ≡ record { name = name.now; entries = state.room.entries })) }
+    {
+        if !self.lock_chain(rt, alloc, name)? {
+            return Ok(RoomFound::Absent);
+        }
+        let found = self.open_in_chain(rt, alloc, name);
+        if !matches!(&found, Ok(RoomFound::Here { .. })) {
+            self.unlock_chain(rt, alloc, name)?;
+        }
+        found
+    }
+
+    /// Opens the file of a room of which this process has the chain's lock.
+    fn open_in_chain<R: Files<File = File> + Log + Wait>(
+        &self,
+        rt: &R,
+        alloc: Global,
+        name: &RoomName,
+    ) -> Result<RoomFound, FolderFault<'a>>
+        ensures limits { IfOk result (IfHere (λ state file. state.room.limits ≡ full_limits)) }
+        ensures file { IfOk result (IfHere (λ state file.
+            file ≡ record { name = name.now; entries = state.room.entries })) }
+    {
+        let first = name.first(alloc)?;
+        match self.last_ended(rt, alloc, &first)? {
+            Some(ended) => self.open_behind(rt, alloc, name, ended),
+            None => self.open_first(rt, alloc, name),
+        }
+    }
+
+    /// Opens the file of a room of a chain in which none has ended.
+    fn open_first<R: Files<File = File> + Log + Wait>(
+        &self,
+        rt: &R,
+        alloc: Global,
+        name: &RoomName,
+    ) -> Result<RoomFound, FolderFault<'a>>
+        ensures limits { IfOk result (IfHere (λ state file. state.room.limits ≡ full_limits)) }
+        ensures file { IfOk result (IfHere (λ state file.
+            file ≡ record { name = name.now; entries = state.room.entries })) }
+    {
+        if !name.is_first() {
+            return Ok(RoomFound::Absent);
+        }
+        let room = self.read_room(rt, alloc, name)?;
+        let newest = self.go_on(rt, alloc, room)?;
+        self.open_newest(rt, alloc, name, newest)
+    }
+
+    /// Opens the file of a room of the chain in which this one is the last that has ended.
+    fn open_behind<R: Files<File = File> + Log + Wait>(
+        &self,
+        rt: &R,
+        alloc: Global,
+        name: &RoomName,
+        ended: EndedRoom,
+    ) -> Result<RoomFound, FolderFault<'a>>
+        ensures limits { IfOk result (IfHere (λ state file. state.room.limits ≡ full_limits)) }
+        ensures file { IfOk result (IfHere (λ state file.
+            file ≡ record { name = name.now; entries = state.room.entries })) }
+    {
+        let newest = ended.next.number();
+        if name.number() > newest {
+            return Ok(RoomFound::Absent);
+        }
+        if name.number() < newest {
+            let later = ended.next.copy(alloc)?;
+            return self.open_earlier(rt, alloc, name, later);
+        }
+        let chain = self.follow(rt, alloc, ended)?;
+        self.open_newest(rt, alloc, name, chain.newest)
+    }
+
+    /// Opens the file of a room that is not the newest of its chain.
+    fn open_earlier<R: Files<File = File> + Log + Wait>(
+        &self,
+        rt: &R,
+        alloc: Global,
+        name: &RoomName,
+        later: RoomName,
+    ) -> Result<RoomFound, FolderFault<'a>>
+        ensures limits { IfOk result (IfHere (λ state file. state.room.limits ≡ full_limits)) }
+        ensures file { IfOk result (IfHere (λ state file.
+            file ≡ record { name = name.now; entries = state.room.entries })) }
+    {
+        let room = self.read_room(rt, alloc, name)?;
+        self.found_here(rt, alloc, room, Some(later))
+    }
+
+    /// Opens the file of the room of this name, which was the newest of its chain when its file was
+    /// read. `Absent` if the newest room has another name.
+    ///
+    /// Only the file of this room is written: another thread may have the room before it, or open the
+    /// one that follows it.
+    fn open_newest<R: Files<File = File> + Log + Wait>(
+        &self,
+        rt: &R,
+        alloc: Global,
+        name: &RoomName,
+        newest: Newest,
+    ) -> Result<RoomFound, FolderFault<'a>>
+        ensures limits { IfOk result (IfHere (λ state file. state.room.limits ≡ full_limits)) }
+        ensures file { IfOk result (IfHere (λ state file.
+            file ≡ record { name = name.now; entries = state.room.entries })) }
+    {
+        match newest {
+            Newest::Found(room) if room.name == *name => self.found_here(rt, alloc, room, None),
+            Newest::Renewed(Succeeded { old, new }) if old.name == *name => {
+                self.found_here(rt, alloc, old, Some(new.name))
+            }
+            Newest::Renewed(succeeded) if succeeded.new.name == *name => {
+                self.begun_here(rt, alloc, succeeded)
+            }
+            Newest::Found(_) | Newest::Renewed(_) => Ok(RoomFound::Absent),
         }
     }
 
@@ -183,43 +216,65 @@ impl<'a> Folder<'a> {
         &self,
         rt: &R,
         alloc: Global,
-        room: RoomState,
-        found: Found<File>,
-    ) -> Result<RoomFound, NoMemory>
-        ensures { IfOk result (IfHere (λ state file. (state ≡ room) × (file ≡ found))) }
-    {
-        match self.settle_locked(rt, alloc, found) {
-            Ok(file) => Ok(RoomFound::Here(room, file)),
-            Err(FolderFault::NoMemory) => Err(NoMemory),
-            Err(_logged) => Ok(RoomFound::Unusable),
-        }
-    }
-
-    /// Settles a locked file, and syncs the folder if the file may be new.
-    fn settle_locked<R: Files<File = File> + Log>(
-        &self,
-        rt: &R,
-        alloc: Global,
-        found: Found<File>,
-    ) -> Result<RestoredFile<Synced<File>>, FolderFault<'a>>
-        ensures { IfOk result (λ settled. settled ≡ found) }
+        room: FoundRoom<File>,
+        later: Option<RoomName>,
+    ) -> Result<RoomFound, FolderFault<'a>>
+        ensures { IfOk result (IfHere (λ state file. (state ≡ room.state) × (file ≡ room.file))) }
     {
         // Another process may have created an empty file and ended before it synced the folder.
-        let may_be_new = found.whole == 0;
-        let settled = self.settle_file(rt, alloc, found)?;
+        let may_be_new = room.file.whole == 0;
+        let SettledRoom {
+            name: _,
+            state,
+            file,
+        } = self.settle_room(rt, alloc, room)?;
         if may_be_new {
             self.sync(rt)?;
         }
-        Ok(settled)
+        Ok(RoomFound::Here { state, file, later })
     }
 
-    /// Closes the file of a room, which frees its lock. Then removes the file if it is still empty
-    /// and nobody else has it, so names that were only tried leave nothing. Logs a warning if that
-    /// fails.
+    /// A new room, once the end of the room before it is on the disk and then its own file.
+    fn begun_here<R: Files<File = File> + Log + Wait>(
+        &self,
+        rt: &R,
+        alloc: Global,
+        succeeded: Succeeded,
+    ) -> Result<RoomFound, FolderFault<'a>>
+        ensures file { IfOk result (IfHere (λ state file.
+            file ≡ record { name = succeeded.new.name; entries = state.room.entries })) }
+        ensures limits { IfOk result (IfHere (λ state file. state.room.limits ≡ full_limits)) }
+    {
+        let Succeeded { old, new } = succeeded;
+        let FoundRoom {
+            name: old_name,
+            state: old_state,
+            file: old_file,
+        } = old;
+        self.settle_file(rt, alloc, old_file)?;
+        let newest = self.write_room(rt, alloc, new)?;
+        log_renewal(rt, &old_name, &old_state, &newest);
+        self.sync(rt)?;
+        let SettledRoom {
+            name: _,
+            state,
+            file,
+        } = newest;
+        Ok(RoomFound::Here {
+            state,
+            file,
+            later: None,
+        })
+    }
+
+    /// Closes the file of a room, and frees the lock of its chain if no other room of the chain is open.
+    /// If so, and the file of a first room is still empty, removes it, so names that were only tried
+    /// leave nothing. Logs a warning if that fails.
     ///
     /// # Errors
-    /// `NoMemory` if an allocation failed. The file is closed, and stays if it is empty.
-    pub fn close_room<R: Files<File = File> + Log>(
+    /// `NoMemory` if an allocation failed. The file is closed, and stays if it is empty. The lock may
+    /// stay.
+    pub fn close_room<R: Files<File = File> + Log + Wait>(
         &self,
         rt: &R,
         alloc: Global,
@@ -228,9 +283,30 @@ impl<'a> Folder<'a> {
     ) -> Result<(), NoMemory> {
         let is_empty = file.kept_len() == 0;
         drop(file);
-        if is_empty {
-            let path = path_of(alloc, self.dir, name.text())?;
-            if let Err(why) = remove_empty(rt, path.as_str()) {
+        if let Some(locked) = self.unlock_chain(rt, alloc, name)?
+            && is_empty
+            && name.is_first()
+        {
+            self.remove_empty(rt, alloc, name, &locked)?;
+        }
+        Ok(())
+    }
+
+    /// Removes the file of a first room, whose lock this open file has, if it is empty and there is no
+    /// file of the next room. Whoever opens it meanwhile finds it gone once it has the lock.
+    fn remove_empty<R: Files<File = File> + Log>(
+        &self,
+        rt: &R,
+        alloc: Global,
+        first: &RoomName,
+        locked: &File,
+    ) -> Result<(), NoMemory> {
+        if let Ok(None) = self.next_with_file(rt, alloc, first)
+            && let Ok(about) = locked.metadata()
+            && about.len() == 0
+        {
+            let path = path_of(alloc, self.dir, first.text())?;
+            if let Err(why) = fs::remove_file(rt, path.as_str()) {
                 warn!(rt; "{path}: an empty file is not removed: {why}");
             }
         }

@@ -2,7 +2,7 @@
 
 ghost use Rattle.std.specs.Prelude.{◌≡◌, ◌++◌, IfOk, codes, string_bytes};
 
-use base_types::NoMemory;
+use base_types::{NoMemory, RoomName};
 use command_fault::MAX_FILE_LEN;
 use journal::Synced;
 use log::{Log, warn};
@@ -19,6 +19,9 @@ const TOO_LONG: &str = "it has more than 1073741824 bytes";
 /// How often a file is opened before it is given up that others remove it each time.
 const MAX_ATTEMPTS: u32 = 10;
 
+/// Why a file is not used that could not be locked where it lies.
+const NOT_HELD: &str = "it is a link to no file, or it is removed again and again";
+
 /// The file at a path, as an attempt to lock it found it.
 #[derive(Drop)]
 pub(crate) enum LockedFile {
@@ -30,6 +33,15 @@ pub(crate) enum LockedFile {
     Gone,
 }
 
+/// The number of bytes of the file at a path, if there is one.
+pub(crate) fn len_at<R: Files<File = File>>(rt: &R, path: &str) -> io::Result<Option<u64>> {
+    match fs::metadata(rt, path) {
+        Ok(about) => Ok(Some(about.len())),
+        Err(why) if why.kind() == ErrorKind::NotFound => Ok(None),
+        Err(why) => Err(why),
+    }
+}
+
 /// The path of a room's file.
 pub(crate) fn path_of(alloc: Global, dir: &str, name: &str) -> Result<String, NoMemory>
     ensures { IfOk result (λ path. string_bytes path
@@ -39,7 +51,7 @@ pub(crate) fn path_of(alloc: Global, dir: &str, name: &str) -> Result<String, No
 }
 
 /// Opens a file for reading and appending, if there is one.
-pub(crate) fn open_file<R: Files<File = File>>(rt: &R, path: &str) -> io::Result<Option<File>> {
+pub(crate) fn open_there<R: Files<File = File>>(rt: &R, path: &str) -> io::Result<Option<File>> {
     match OpenOptions::new().read(true).append(true).open(rt, path) {
         Ok(file) => {
             let about = file.metadata()?;
@@ -94,15 +106,15 @@ fn lock_opened<R: Files<File = File>>(rt: &R, path: &str, file: File) -> io::Res
 }
 
 /// Opens the file at a path for reading and appending, if there is one, and locks it.
-fn lock_file<R: Files<File = File>>(rt: &R, path: &str) -> io::Result<LockedFile> {
-    match open_file(rt, path)? {
+pub(crate) fn lock_file<R: Files<File = File>>(rt: &R, path: &str) -> io::Result<LockedFile> {
+    match open_there(rt, path)? {
         Some(file) => lock_opened(rt, path, file),
         None => Ok(LockedFile::Gone),
     }
 }
 
-/// Opens the file at a path for reading and appending, or creates it, and locks it. `Gone` means
-/// that the path is a link to no file, or that others removed or replaced the file at each attempt.
+/// Opens the file at a path for reading and appending, or creates it, and locks it. Fails if the path
+/// is a link to no file, or if others removed or replaced the file at each attempt.
 pub(crate) fn lock_or_create<R: Files<File = File>>(rt: &R, path: &str) -> io::Result<LockedFile> {
     for _ in 0..MAX_ATTEMPTS {
         let locked = match create_file(rt, path)? {
@@ -114,18 +126,7 @@ pub(crate) fn lock_or_create<R: Files<File = File>>(rt: &R, path: &str) -> io::R
             found => return Ok(found),
         }
     }
-    Ok(LockedFile::Gone)
-}
-
-/// Removes the file at a path if it is empty and no other open file has its lock. Whoever opens it
-/// meanwhile finds it gone once it has the lock.
-pub(crate) fn remove_empty<R: Files<File = File>>(rt: &R, path: &str) -> io::Result<()> {
-    if let LockedFile::Here(file) = lock_file(rt, path)? {
-        if file.metadata()?.len() == 0 {
-            fs::remove_file(rt, path)?;
-        }
-    }
-    Ok(())
+    Err(io::Error::new(ErrorKind::NotFound, NOT_HELD))
 }
 
 /// Cuts the file to its whole lines, or creates it, and syncs it.
@@ -146,4 +147,13 @@ pub(crate) fn cut_or_create<R: Files<File = File> + Log>(
     }
     file.sync_all()?;
     Ok(Synced::new(file, whole as u64))
+}
+
+/// Opens an empty file at a path for reading and appending.
+pub(crate) fn open_empty<R: Files<File = File>>(rt: &R, path: &str) -> io::Result<File> {
+    let mut options = OpenOptions::new();
+    options.read(true).append(true).create(true);
+    let file = options.open(rt, path)?;
+    file.set_len(0)?;
+    Ok(file)
 }

@@ -10,7 +10,7 @@ use std::io::Write;
 use thiserror::Error;
 
 /// Why `grace serve` ends early, with the words of its line.
-#[derive(Clone, Copy, Debug, Error)]
+#[derive(Debug, Drop, Error)]
 pub(crate) enum EarlyEnd<'a> {
     #[error("{0}")]
     Fault(Fault),
@@ -26,8 +26,8 @@ impl EarlyEnd<'_> {
     ghost use Rattle.server.specs.steps.Ends.{status_of_end};
 
     /// The exit status: that of the fault, 4 if the folder's fault is want of memory, otherwise 3.
-    pub(crate) fn status(self) -> u8
-        ensures { result ≡ status_of_end self.entry }
+    pub(crate) fn status(&self) -> u8
+        ensures { result ≡ status_of_end self.now }
     {
         match self {
             EarlyEnd::Fault(fault) => fault.status(),
@@ -37,7 +37,7 @@ impl EarlyEnd<'_> {
     }
 
     /// Writes the line of the fault. Ignores a failed write.
-    pub(crate) fn write_line<E: Write>(self, errors: &mut E) {
+    pub(crate) fn write_line<E: Write>(&self, errors: &mut E) {
         let _ = writeln!(errors, "grace: {self}");
         let _ = errors.flush();
     }

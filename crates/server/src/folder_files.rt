@@ -18,14 +18,11 @@ pub(crate) struct FolderFiles<'a, 'w, R> {
 }
 
 impl<R: Files<File = File> + Log + Wait> RoomFiles<Synced<File>> for FolderFiles<'_, '_, R> {
-    /// A room with a number has no file: no room before it has ended here.
     fn open(&self, alloc: Global, name: &RoomName) -> Result<FileFound<Synced<File>>, NoMemory> {
-        if !name.is_first() {
-            return Ok(FileFound::Absent);
-        }
         match self.folder.open_room(self.rt, alloc, name)? {
-            RoomFound::Here(state, file) => Ok(FileFound::Here(state, file)),
+            RoomFound::Here { state, file, later } => Ok(FileFound::Here { state, file, later }),
             RoomFound::Elsewhere => Ok(FileFound::Elsewhere),
+            RoomFound::Absent => Ok(FileFound::Absent),
             RoomFound::Bad(_) | RoomFound::Unusable => Ok(FileFound::Unusable),
         }
     }

@@ -146,7 +146,7 @@ impl Meters {
     pub(crate) fn text(
         &self,
         standing: Standing,
-        rooms: &Tallies<'_>,
+        rooms: &Tallies,
         added: EntrySums,
     ) -> Result<String, NoMemory> {
         let alloc = self.alloc;
@@ -290,11 +290,7 @@ fn add_sessions(
 }
 
 /// Appends the families of the rooms that are open and were opened.
-fn add_rooms(
-    alloc: Global,
-    families: &mut Vec<Family>,
-    rooms: &Tallies<'_>,
-) -> Result<(), NoMemory> {
+fn add_rooms(alloc: Global, families: &mut Vec<Family>, rooms: &Tallies) -> Result<(), NoMemory> {
     let open = rooms.count_open();
     families.push(gauge(alloc, "grace_rooms_open", "Open rooms.", open)?)?;
     families.push(gauge(

@@ -1,7 +1,6 @@
 //! `grace serve`: serves sessions over WebSocket.
 
-ghost use Rattle.std.specs.Prelude.{◌≡◌, All, IfOk, map};
-ghost use Rattle.rules.specs.Limits.{full_limits};
+ghost use Rattle.std.specs.Prelude.{◌≡◌, map};
 ghost use Rattle.std.specs.Thread.{IsSend};
 ghost use Rattle.room_lock.specs.steps.Planned.{IsPlanOf};
 ghost use Rattle.server.specs.steps.Faults.{of_serving};
@@ -25,8 +24,7 @@ use log::warn;
 use loops::{Bell, MAX_LOOPS, Settings};
 use mio::{Poll, Waker};
 use restore::RestoredFile;
-use room_core::RoomState;
-use room_folder::Folder;
+use room_folder::{Folder, OpenRooms};
 use room_lock::{NewRooms, RoomHistories, Rooms};
 use rules::Limits;
 use sessions::{ServeFault, Served, serve_streams};
@@ -105,12 +103,7 @@ fn listening_line<L: OpenListener>(
 
 impl<R: Platform, W: Write> Service<'_, '_, R, W> {
     /// Listens, reports so on the output, and serves what it accepts in these rooms.
-    fn serve_rooms<P, K>(
-        self,
-        rooms: Rooms<P>,
-        tallies: &Tallies<'_>,
-        keeper: &K,
-    ) -> Result<(), Fault>
+    fn serve_rooms<P, K>(self, rooms: Rooms<P>, tallies: &Tallies, keeper: &K) -> Result<(), Fault>
     where
         P: RoomHistories + Send + Sync,
         K: Keeper<P> + Sync,
@@ -374,7 +367,7 @@ where
 fn serve_in_memory<P, R, W>(
     service: Service<'_, '_, R, W>,
     planned: NewRooms,
-    tallies: &Tallies<'_>,
+    tallies: &Tallies,
 ) -> Result<(), Fault>
 where
     P: RoomHistories + Send + Sync,
@@ -391,7 +384,7 @@ where
 fn serve_in_files<'a, P, R, W>(
     service: Service<'_, 'a, R, W>,
     planned: NewRooms,
-    tallies: &Tallies<'_>,
+    tallies: &Tallies,
     files: Vec<RestoredFile<Synced<File>>>,
     folder: &Folder<'_>,
 ) -> Result<(), EarlyEnd<'a>>
@@ -423,7 +416,7 @@ impl<'w, R: Platform, W: Write> Service<'_, 'w, R, W> {
     /// Serves in rooms of these names, and in rooms on demand, with full limits.
     fn serve(self, names: &[&'w str]) -> Result<(), Fault> {
         let rooms = room_names(self.alloc, names)?;
-        let tallies = Tallies::empty(self.alloc, names, self.on_demand)?;
+        let tallies = Tallies::empty(self.alloc, &rooms, self.on_demand)?;
         match NewRooms::plan(self.alloc, rooms, Limits::full()) {
             Ok(planned) => {
                 let planned = planned.and_on_demand(self.on_demand);
@@ -433,16 +426,21 @@ impl<'w, R: Platform, W: Write> Service<'_, 'w, R, W> {
         }
     }
 
-    /// Serves in rooms of these names, and in rooms on demand, with full limits, which this folder keeps.
+    /// Serves with full limits, in rooms that this folder keeps: the newest rooms of the chains of these
+    /// names, the rooms before them, and rooms on demand.
     fn serve_kept(self, dir: &'w str, names: &[&'w str]) -> Result<(), EarlyEnd<'w>> {
         let alloc = self.alloc;
-        let rooms = room_names(alloc, names)?;
-        if repeated_name(&rooms).is_some() {
+        let named = room_names(alloc, names)?;
+        if repeated_name(&named).is_some() {
             return Err(EarlyEnd::Fault(Fault::RoomNamedTwice));
         }
         let folder = self.open_folder(dir)?;
-        let (states, files) = self.open_files(&folder, names)?;
-        let tallies = Tallies::of_rooms(alloc, names, &states, self.on_demand)?;
+        let OpenRooms {
+            names: rooms,
+            states,
+            files,
+        } = folder.open_rooms(self.rt, alloc, &named)?;
+        let tallies = Tallies::of_rooms(alloc, &rooms, &states, self.on_demand)?;
         match NewRooms::with_records(rooms, Limits::full(), states) {
             Ok(planned) => {
                 let planned = planned.and_on_demand(self.on_demand);
@@ -455,32 +453,10 @@ impl<'w, R: Platform, W: Write> Service<'_, 'w, R, W> {
     /// Opens the folder, together with other processes if rooms are opened on demand.
     fn open_folder(&self, dir: &'w str) -> Result<Folder<'w>, EarlyEnd<'w>> {
         if self.on_demand > 0 {
-            Ok(Folder::open_shared(self.rt, dir)?)
+            Ok(Folder::open_shared(self.rt, self.alloc, dir)?)
         } else {
-            Ok(Folder::open(self.rt, dir)?)
+            Ok(Folder::open(self.rt, self.alloc, dir)?)
         }
-    }
-
-    /// Reads and settles the files of these rooms. If other processes may have the folder, each is locked.
-    fn open_files(
-        &self,
-        folder: &Folder<'w>,
-        names: &[&'w str],
-    ) -> Result<(Vec<RoomState>, Vec<RestoredFile<Synced<File>>>), EarlyEnd<'w>>
-        ensures names { IfOk result (λ opened.
-            map (λ file. file.name) opened.1.items ≡ map (λ name. name.now) names.now) }
-        ensures records { IfOk result (λ opened. map (λ state. state.room.entries) opened.0.items
-            ≡ map (λ file. file.entries) opened.1.items) }
-        ensures limits { IfOk result (λ opened.
-            All (λ state. state.room.limits ≡ full_limits) opened.0.items) }
-    {
-        let (rt, alloc) = (self.rt, self.alloc);
-        if self.on_demand > 0 {
-            return Ok(folder.open_rooms(rt, alloc, names)?);
-        }
-        let (states, found) = folder.read(rt, alloc, names)?;
-        let files = folder.settle(rt, alloc, found)?;
-        Ok((states, files))
     }
 
     /// Serves in rooms of these names, and in rooms on demand, with full limits. Returns the exit

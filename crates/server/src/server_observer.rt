@@ -30,7 +30,7 @@ pub(crate) struct SessionLimits {
 #[derive(Drop)]
 pub(crate) struct ServerObserver<'a, R> {
     rt: &'a R,
-    rooms: &'a Tallies<'a>,
+    rooms: &'a Tallies,
     meters: Meters,
     /// The folder that keeps the rooms; `None` if nothing does.
     dir: Option<&'a str>,
@@ -51,7 +51,7 @@ impl<'a, R> ServerObserver<'a, R> {
     /// An observer of these rooms, in order, which this folder keeps if one does.
     pub(crate) fn new(
         rt: &'a R,
-        rooms: &'a Tallies<'a>,
+        rooms: &'a Tallies,
         meters: Meters,
         dir: Option<&'a str>,
         limits: SessionLimits,

@@ -3,10 +3,11 @@
 ghost use Rattle.std.specs.Prelude.{◌≡◌, ◌+◌, ◌<◌, ◌^◌, IfOk, length, slice_get, vec_len};
 
 use crate::tally::{EntrySums, Tally};
+use base_types::{NoMemory, RoomName};
 use keeper::Beginning;
 use log::{Log, info};
 use room_core::RoomState;
-use std::alloc::{AllocError, Global};
+use std::alloc::Global;
 use std::sync::atomic::{AtomicU64, Ordering};
 use std::sync::{Mutex, Wait};
 use wire::EntryKind;
@@ -24,9 +25,9 @@ struct Past {
 /// those that may be opened on demand. The tally of a room that was closed stays until another is
 /// opened at its place.
 #[derive(Drop)]
-pub(crate) struct Tallies<'a> {
+pub(crate) struct Tallies {
     /// The names of the rooms that are open from the start.
-    names: Vec<&'a str>,
+    names: Vec<RoomName>,
     rooms: Vec<Tally>,
     past: Mutex<Past>,
     /// The number of rooms that were opened on demand.
@@ -35,36 +36,47 @@ pub(crate) struct Tallies<'a> {
     closed: AtomicU64,
 }
 
-impl<'a> Tallies<'a> {
+/// Copies of these names.
+fn copies(alloc: Global, names: &[RoomName]) -> Result<Vec<RoomName>, NoMemory>
+    ensures { IfOk result (λ copied. copied.items ≡ names.now) }
+{
+    let mut copied = Vec::with_capacity(alloc, names.len())?;
+    for name in names {
+        copied.push(name.copy(alloc)?)?;
+    }
+    Ok(copied)
+}
+
+impl Tallies {
     /// The tallies of rooms that begin empty: those of these names, and so many on demand.
     ///
     /// # Errors
-    /// `AllocError` if an allocation failed.
+    /// `NoMemory` if an allocation failed.
     pub(crate) fn empty(
         alloc: Global,
-        names: &[&'a str],
+        names: &[RoomName],
         on_demand: u32,
-    ) -> Result<Tallies<'a>, AllocError>
+    ) -> Result<Tallies, NoMemory>
         ensures names { IfOk result (λ tallies. tallies.names.items ≡ names.now) }
         ensures rooms { length names.now + on_demand < 2 ^ 64 → IfOk result (λ tallies.
             vec_len tallies.rooms ≡ length names.now + on_demand) }
     {
         let count = names.len().saturating_add(on_demand as usize);
         let rooms = (0..count).map(|_| Tally::empty()).collect(alloc)?;
-        Ok(Tallies::new(Vec::from_slice(alloc, names)?, rooms))
+        Ok(Tallies::new(copies(alloc, names)?, rooms))
     }
 
     /// The tallies of rooms of these names that begin with these records, in the same order, and of so
     /// many on demand.
     ///
     /// # Errors
-    /// `AllocError` if an allocation failed.
+    /// `NoMemory` if an allocation failed.
     pub(crate) fn of_rooms(
         alloc: Global,
-        names: &[&'a str],
+        names: &[RoomName],
         records: &[RoomState],
         on_demand: u32,
-    ) -> Result<Tallies<'a>, AllocError>
+    ) -> Result<Tallies, NoMemory>
         ensures names { IfOk result (λ tallies. tallies.names.items ≡ names.now) }
         ensures rooms { IfOk result (λ tallies.
             vec_len tallies.rooms ≡ length records.now + on_demand) }
@@ -72,11 +84,11 @@ impl<'a> Tallies<'a> {
         let mut rooms: Vec<Tally> = records.iter().map(Tally::of_room).collect(alloc)?;
         let mut others: Vec<Tally> = (0..on_demand).map(|_| Tally::empty()).collect(alloc)?;
         rooms.append(&mut others)?;
-        Ok(Tallies::new(Vec::from_slice(alloc, names)?, rooms))
+        Ok(Tallies::new(copies(alloc, names)?, rooms))
     }
 
-    fn new(names: Vec<&'a str>, rooms: Vec<Tally>) -> Tallies<'a>
-        ensures names { result.names ≡ names.entry }
+    fn new(names: Vec<RoomName>, rooms: Vec<Tally>) -> Tallies
+        ensures names { result.names ≡ names }
         ensures rooms { result.rooms ≡ rooms }
     {
         let past = Past {
@@ -99,7 +111,8 @@ impl<'a> Tallies<'a> {
         }
     }
 
-    /// A room was opened on demand with a record. Warns if it begins nearly full.
+    /// A room was opened on demand with a record. Warns if it begins nearly full, and nothing goes on
+    /// with it.
     pub(crate) fn begin_room<R: Wait + Log>(&self, rt: &R, beginning: &Beginning) {
         self.add_opening();
         if let Some(room) = self.rooms.get(beginning.place) {
@@ -107,7 +120,9 @@ impl<'a> Tallies<'a> {
             past.gone = past.gone.and(room.begin_anew(beginning));
             past.begun = past.begun.and(EntrySums::of_beginning(beginning));
             drop(past);
-            room.begin(rt, &beginning.room);
+            if !beginning.has_ended {
+                room.begin(rt, &beginning.room);
+            }
         }
     }
 
@@ -153,7 +168,7 @@ impl<'a> Tallies<'a> {
     /// Warns of rooms that begin nearly full.
     pub(crate) fn begin<R: Log>(&self, rt: &R) {
         for (name, room) in self.names.iter().zip(&self.rooms) {
-            room.begin(rt, name);
+            room.begin(rt, name.text());
         }
     }
 
@@ -165,7 +180,7 @@ impl<'a> Tallies<'a> {
             info!(rt; "report: rooms open {open}/{most}");
         }
         for (name, room) in self.names.iter().zip(&self.rooms) {
-            room.report(rt, name);
+            room.report(rt, name.text());
         }
     }
 }

@@ -1,21 +1,14 @@
 //! Counts of what one room has.
 
-ghost use Rattle.std.specs.Prelude.{◌≡◌, ◌≤◌, ◌<◌, ◌+◌, ◌-◌, ◌*◌};
+ghost use Rattle.std.specs.Prelude.{◌≡◌, ◌-◌};
 
 use keeper::Beginning;
 use log::{Log, info, warn};
 use room_core::RoomState;
 use rules::Limits;
 use std::sync::atomic::{AtomicU64, Ordering};
+use succession::nine_tenths;
 use wire::EntryKind;
-
-/// The least count that is at least nine tenths of a limit.
-fn nine_tenths(limit: u32) -> u64
-    ensures reached { limit * 9 ≤ result * 10 }
-    ensures least { result * 10 < limit * 9 + 10 }
-{
-    (u64::from(limit) * 9).div_ceil(10)
-}
 
 /// A room's numbers of joins, entries and objects.
 #[derive(Drop)]
@@ -23,6 +16,8 @@ pub(crate) struct Tally {
     joins: AtomicU64,
     entries: AtomicU64,
     objects: AtomicU64,
+    /// Another room goes on with what the room has.
+    has_ended: bool,
 }
 
 /// Adds 1, and returns the new count.
@@ -37,6 +32,7 @@ impl Tally {
             joins: AtomicU64::new(0),
             entries: AtomicU64::new(0),
             objects: AtomicU64::new(0),
+            has_ended: false,
         }
     }
 
@@ -46,6 +42,7 @@ impl Tally {
             joins: AtomicU64::new(u64::from(room.sites())),
             entries: AtomicU64::new(room.entries().len() as u64),
             objects: AtomicU64::new(u64::from(room.count_objects())),
+            has_ended: room.has_ended(),
         }
     }
 
@@ -87,8 +84,11 @@ impl Tally {
     }
 
     /// Warns if the room of this name begins with nine tenths of its joins, its objects or its
-    /// entries, or more.
+    /// entries, or more, and nothing goes on with them.
     pub(crate) fn begin<R: Log>(&self, rt: &R, name: &str) {
+        if self.has_ended {
+            return;
+        }
         let (joins, entries) = (load(&self.joins), load(&self.entries));
         if entries >= nine_tenths(Limits::MAX_ENTRIES) {
             warn_of_entries(rt, name, entries);

@@ -23,12 +23,14 @@ impl<P: RoomHistories, R: Wait, O: Observer, K: Keeper<P>> Service for Host<'_, 
         Some(Session::new(scope))
     }
 
-    /// A client that is confined to a room waits until the room is open. Where the room cannot be
-    /// opened now, the client is not let in, so that a proxy can ask another server.
+    /// A client that is confined to a chain waits until its first room is open, unless a later one is
+    /// known. Where the room cannot be opened now, the client is not let in, so that a proxy can ask
+    /// another server.
     fn admission(&self, target: &[u8]) -> Admission {
         if self.is_confining
             && let Ok(Scope::Only(name)) = Scope::of_target(self.alloc, target)
             && let Lookup::Closed = self.rooms.opening_of(self.rt, &name)
+            && let Ok(None) = self.keeper.newest(self.rt, self.alloc, &name)
             && let Ok(access) = access_to(self, &name)
         {
             self.admission_by(&access)

@@ -135,8 +135,9 @@ impl<P: RoomHistories> Session<P> {
     /// The session itself refuses five things. These are bytes that are no request, `join` and
     /// `back` in a room, other requests in no room, rooms that do not exist or are not in its
     /// scope, and rooms that cannot be opened now, or for which the keeper has no permit. It tells
-    /// who asks for a room whose chain goes on elsewhere of the newest room. Every other request is one call of the rooms: `join` and `back` may give a pass, `leave` hands it
-    /// back, and the rest call the room by it.
+    /// who asks for a room whose chain goes on elsewhere of the newest room. Every other request is
+    /// one call of the rooms: `join` and `back` may give a pass, `leave` hands it back, and the rest
+    /// call the room by it.
     /// With `may_hold` it holds a `wait` in a room whose record has exactly the number of entries
     /// that the request names. It also holds a `join` or `back` of a room that is being opened.
     /// Without, a `wait` is a pull, and such a room is not served.
@@ -225,6 +226,12 @@ impl<P: RoomHistories> Session<P> {
             return Ok(false);
         };
         if self.inside.is_some() || !self.scope.allows(room) {
+            return Ok(false);
+        }
+        // Who joins is sent on, so the room need not be opened.
+        if let Request::Join { room } = request
+            && self.later_room(host, room)?.is_some()
+        {
             return Ok(false);
         }
         self.awaited = match host.rooms.opening_of(host.rt, room) {
@@ -330,8 +337,8 @@ impl<P: RoomHistories> Session<P> {
         Ok(self.enter(name, entrance))
     }
 
-    /// Comes back as this site of the room of this name, unless the session is in a room. A room that
-    /// has ended is read on while it is open. Otherwise the reply tells where its chain goes on.
+    /// Comes back as this site of the room of this name, unless the session is in a room. So a room that
+    /// has ended is read on. If it is no longer among the rooms, the reply tells where its chain goes on.
     fn back<R: Wait, O: Observer, K: Keeper<P>>(
         &mut self,
         host: &Host<'_, P, R, O, K>,
@@ -351,12 +358,8 @@ impl<P: RoomHistories> Session<P> {
         let found = self.look_up(host, &name)?;
         let opening = match found {
             Lookup::Open(opening) => opening,
-            Lookup::Closed => {
-                if let Some(later) = self.later_room(host, &name)? {
-                    return Ok(SessionReply::sent_on(later));
-                }
-                return Ok(SessionReply::own_refusal(Refusal::NotServed));
-            }
+            // The session may come back later, and then read how the room ended.
+            Lookup::Closed => return Ok(SessionReply::own_refusal(Refusal::NotServed)),
             Lookup::NoRoom => {
                 if let Some(later) = self.later_room(host, &name)? {
                     return Ok(SessionReply::sent_on(later));

@@ -7,7 +7,7 @@ use Rattle.keeping.specs.declared.files.FileFound.TheVariants.{Here, Elsewhere, 
 module _ {J : Type 0} where
   -- if the file is here, this holds of the room and its file
   abbrev pub IfHere : (DrawingState → FileView → Type 0) → FileFound J → Type 0
-  IfHere Holds (Here state file) = Holds state file
+  IfHere Holds (Here state file later) = Holds state file
   IfHere Holds Elsewhere = Unit {0}
   IfHere Holds Absent = Unit {0}
   IfHere Holds Unusable = Unit {0}

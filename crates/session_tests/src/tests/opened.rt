@@ -398,7 +398,7 @@ fn who_asks_for_an_earlier_room_is_sent_on(rt: HostRuntime) {
     let steps = [
         now(r#"["join","s"]"#, renewed),
         now(r#"["join","s.2"]"#, renewed),
-        now(r#"["back","s.2",1]"#, renewed),
+        now(r#"["back","s.2",1]"#, NOT_SERVED),
         now(r#"["back","s",1]"#, r#"["no",0,19,"no-such-site"]"#),
         now(r#"["join","s.3"]"#, NOT_SERVED),
         now(r#"["join","s.4"]"#, NOT_SERVED),

@@ -31,16 +31,8 @@ returns-clause-ok g c =
 
 pub returns-in-Some-clause-ok : goal.returns-in-Some-clause-ok
 returns-in-Some-clause-ok g c =
-    let found = subst (λ (o : Option Bytes). IfSome o (λ later. IsLater c.args.name later × (allows c.args.self.now.scope c.args.name ≡ true))) c.in-Some.is c.in_ok-later-in-Closed.ensures.later in
+    let found = subst (λ (o : Option Bytes). IfSome o (λ later. IsLater c.args.name later × (allows c.args.self.now.scope c.args.name ≡ true))) c.in-Some.is c.in_ok-later-in-NoRoom.ensures.later in
     let outside : is_some c.self.inside.inside ≡ false = cc in
     let none : is_some c.args.self.now.pass ≡ false = sym (ap (λ (session : SessionView). is_some session.pass) c.self.view_is) ∙ outside in
     back_sent_on g.P.RoomHistories.limits c.args.host.now.rooms.now (IsPermitted g.K.Keeper.permits) g.K.Keeper.denies c.args.self.now.scope c.args.name c.args.self.now.pass c.args.self.now.pass c.sent_on.result.told c.sent_on.result.reply none
     c.args.site c.in-Some.later found.0 found.1 (c.sent_on.ensures.reply, c.sent_on.ensures.told, refl)
-
-pub returns-in-Some-2-clause-ok : goal.returns-in-Some-2-clause-ok
-returns-in-Some-2-clause-ok g c =
-    let found = subst (λ (o : Option Bytes). IfSome o (λ later. IsLater c.args.name later × (allows c.args.self.now.scope c.args.name ≡ true))) c.in-Some-2.is c.in_ok-later-in-NoRoom.ensures.later in
-    let outside : is_some c.self.inside.inside ≡ false = cc in
-    let none : is_some c.args.self.now.pass ≡ false = sym (ap (λ (session : SessionView). is_some session.pass) c.self.view_is) ∙ outside in
-    back_sent_on g.P.RoomHistories.limits c.args.host.now.rooms.now (IsPermitted g.K.Keeper.permits) g.K.Keeper.denies c.args.self.now.scope c.args.name c.args.self.now.pass c.args.self.now.pass c.sent_on-in-Some-2.result.told c.sent_on-in-Some-2.result.reply none
-    c.args.site c.in-Some-2.later found.0 found.1 (c.sent_on-in-Some-2.ensures.reply, c.sent_on-in-Some-2.ensures.told, refl)

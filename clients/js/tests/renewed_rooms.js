@@ -1,0 +1,158 @@
+/** Clients of rooms that the program renews, at a start or when it opens them on demand. They go on in the next one. */
+
+import { mkdtempSync, rmSync, writeFileSync } from "node:fs"
+import { tmpdir } from "node:os"
+import { join } from "node:path"
+import { writeText } from "../grace.js"
+import { expectEqual, waitUntil } from "./checks.js"
+import { Server, freePort } from "./program.js"
+import { CUT_AFTER, CUT_BEFORE, PASS, Proxy } from "./proxy.js"
+import { agree, enter, versionsOf } from "./rooms.js"
+import { Storage } from "./storage.js"
+
+// A room is nearly full at this number of joins.
+const JOINS = 231
+// The room is on the command line, or the server opens it on demand.
+const AT_A_START = { rooms: ["r"], options: [] }
+const ON_DEMAND = { rooms: [], options: ["--rooms", "3"] }
+
+/** Returns the file of a room with this many joins. It draws a rectangle and a line. */
+function recordOf(joins) {
+  const entries = Array.from({ length: joins }, (_, place) => ["join", place + 1])
+  entries.push(
+    ["new", [1, 1], [], "line", []], ["drop", [1, 2], [[1, 1]], [1, 1], []],
+    ["new", [1, 3], [[1, 2]], "rect", [["x", 0]]], ["new", [1, 4], [[1, 3]], "line", [["x", 0]]],
+  )
+  return entries.map((entry) => `${writeText(entry)}\n`).join("")
+}
+
+/**
+ * Runs a test with a server of a room with this many joins, a proxy before it, and a function that opens a client. The
+ * server keeps its port and its folder: `end` and `listen` start it again.
+ */
+const withRoom = (joins, { rooms, options }, test) => async () => {
+  const folder = mkdtempSync(join(tmpdir(), "rooms-"))
+  writeFileSync(join(folder, "r.record"), recordOf(joins))
+  const server = Object.assign(new Server(), { rooms, options: ["--keep", folder, ...options], port: await freePort() })
+  const proxy = await Proxy.start(server.port)
+  const clients = []
+  const client = async ({ address }, further) => {
+    const news = []
+    const connecting = (room) => {
+      clients.push(room)
+      for (const event of ["renewed", "reset", "refusal"]) room.on(event, (it) => news.push([event, it]))
+    }
+    return Object.assign(await enter(address, { connecting, ...further }), { news })
+  }
+  try {
+    await server.listen(0)
+    return await test(client, proxy, server)
+  } finally {
+    clients.forEach((room) => room.close())
+    proxy.end()
+    await server.end()
+    rmSync(folder, { recursive: true })
+  }
+}
+
+/** The proxy cuts the next put in this way. It lets nothing through after that. */
+function cutOff(proxy, what) {
+  proxy.whatToDo = (text) => {
+    if (!text.startsWith('["put"')) return PASS
+    proxy.whatToDo = () => CUT_BEFORE
+    return what
+  }
+}
+
+const shown = (room) => room.objects().map((name) => [room.kind(name), versionsOf(room, name)])
+
+/** The news that the drawing goes on in the second room. */
+const goesOn = (copies = []) =>
+  ["renewed", { oldRoom: "r", newRoom: "r.2", words: "This drawing goes on in another room.", copies, text: null }]
+
+/**
+ * The server is killed and started again while one client is cut off. Both go on in the next room by themselves. No
+ * change is lost, and none is made twice.
+ */
+const startedAgain = (what) => async (client, proxy, server) => {
+  const [room, other] = [await client(proxy), await client(server)]
+  const [, rect, line] = room.objects()
+  cutOff(proxy, what)
+  const changes = [room.put(line, [], { y: 7 })]
+  await waitUntil("the change is cut", () => proxy.cuts > 0)
+  if (what === CUT_AFTER) await waitUntil("the server has the change", () => other.record.at(-1)[0] === "put")
+  changes.push(room.put(rect, [], { x: 5 }), room.create("rect", { x: 7 }))
+  await other.put(rect, [], { x: 9 }).done
+  await server.end()
+  changes.push(other.put(line, [], { fill: "red" }))
+  await server.listen(0)
+  await waitUntil("the other is in the next room", () => other.name === "r.2" && other.state === "open")
+  proxy.whatToDo = () => PASS
+  await Promise.all(changes.map(({ done }) => done))
+  await agree(room, other)
+  expectEqual("where they are", [room, other].map(({ name, site }) => [name, site]), [["r.2", 3], ["r.2", 2]])
+  expectEqual("what is shown", shown(room), [
+    ["rect", [[[], [["x", 9]]]]], ["line", [[[], [["fill", "red"], ["x", 0], ["y", 7]]]]],
+    ["rect", [[[], [["x", 5]]]]], ["rect", [[[], [["x", 7]]]]],
+  ])
+  const late = await client(server)
+  await agree(room, other, late)
+  expectEqual("where a late client is", [late.name, late.site], ["r.2", 4])
+  for (const it of [other, late]) {
+    expectEqual("what another shows", [it.record, shown(it)], [room.record, shown(room)])
+  }
+  expectEqual("the news", [room, other, late].map(({ news }) => news), [[goesOn([[[1, 1], [3, 1]]])], [goesOn()], []])
+}
+
+/** A client that comes after the renewal is sent on to the next room. It comes back to that, also after a start. */
+async function late(client, proxy, server) {
+  const asked = []
+  proxy.whatToDo = (text) => {
+    if (/^."(join|back)"/.test(text)) asked.push(text)
+    return PASS
+  }
+  const room = await client(proxy)
+  const made = room.create("rect", { x: 7 })
+  await made.done
+  proxy.cut()
+  await waitUntil("it connects again", () => proxy.heads.length === 2)
+  await room.put(made.object, [], { x: 8 }).done
+  await server.end()
+  await server.listen(0)
+  await room.put(made.object, [], { y: 9 }).done
+  await agree(room)
+  expectEqual("how it entered", [...new Set(asked)], ['["join","r"]', '["join","r.2"]', '["back","r.2",2]'])
+  expectEqual("what it shows", shown(room), [
+    ["rect", [[[], [["x", 0]]]]], ["line", [[[], [["x", 0]]]]], ["rect", [[[], [["x", 8], ["y", 9]]]]],
+  ])
+  expectEqual("the news", room.news, [])
+}
+
+/** A page that is reloaded after the renewal reads the end of its room, and takes along what it had not sent. */
+async function reloaded(client, proxy, server) {
+  const storage = new Storage()
+  const first = await client(proxy, { storage })
+  const [, rect] = first.objects()
+  cutOff(proxy, CUT_BEFORE)
+  first.put(rect, [], { x: 5 })
+  await waitUntil("the change is cut", () => proxy.cuts > 0)
+  first.close()
+  await server.end()
+  await server.listen(0)
+  proxy.whatToDo = () => PASS
+  const second = await client(proxy, { storage })
+  await agree(second)
+  expectEqual("where it is", [second.name, second.site, second.news], ["r.2", 2, [goesOn()]])
+  expectEqual("what it shows", shown(second), [["rect", [[[], [["x", 5]]]]], ["line", [[[], [["x", 0]]]]]])
+}
+
+export const TESTS = [
+  ["renewed at a start, with a change that it lacks", withRoom(JOINS - 2, AT_A_START, startedAgain(CUT_BEFORE))],
+  ["renewed at a start, with a change that it has", withRoom(JOINS - 2, AT_A_START, startedAgain(CUT_AFTER))],
+  ["renewed on demand, with a change that it lacks", withRoom(JOINS - 2, ON_DEMAND, startedAgain(CUT_BEFORE))],
+  ["renewed on demand, with a change that it has", withRoom(JOINS - 2, ON_DEMAND, startedAgain(CUT_AFTER))],
+  ["renewed at a start, before it came", withRoom(JOINS, AT_A_START, late)],
+  ["renewed on demand, when it comes", withRoom(JOINS, ON_DEMAND, late)],
+  ["renewed at a start, and reloaded", withRoom(JOINS - 1, AT_A_START, reloaded)],
+  ["renewed on demand, and reloaded", withRoom(JOINS - 1, ON_DEMAND, reloaded)],
+]

@@ -1,0 +1,3 @@
+pub use Rattle.renewal.specs.Renewed
+pub mod Usage
+pub mod Succession

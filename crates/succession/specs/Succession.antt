@@ -1,0 +1,43 @@
+-- How a room goes on as another one.
+use Rattle.std.specs.Prelude.{◌≡◌, ℕ, List, [], ◌∷◌, ◌++◌, length, true}
+use Rattle.rules.specs.declared.history.Entry.{Entry}
+use Rattle.rules.specs.declared.history.Entry.TheVariants.{Next}
+use Rattle.room_core.specs.Room.{Room, full_room}
+use Rattle.renewal.specs.Renewed.{IsRenewal}
+use Rattle.succession.specs.Usage.{is_roomy}
+use Rattle.succession.specs.declared.succeeding.Succession.{Succession}
+use Rattle.succession.specs.declared.succeeding.Succession.TheVariants as succession
+
+-- the last entry of the record is its end, with this number of entries of the next one
+pub record EndsWith (r : List Entry) (count : ℕ) : Type 0 where
+  pub before : List Entry
+  pub ended : r ≡ before ++ Next count ∷ []
+
+-- The old record is one that goes on in the new record: it ends with the number of entries of the
+-- new one, which is legal and draws what the entries before this end draw.
+pub record IsFollowed (old new : List Entry) : Type 0 where
+  pub before : List Entry
+  pub ended : old ≡ before ++ Next (length new) ∷ []
+  pub renewal : IsRenewal before new
+
+-- the new room goes on where the old one has ended
+pub record Follows (old new : Room) : Type 0 where
+  pub followed : IsFollowed old.entries new.entries
+  pub whole : new ≡ full_room new.entries
+
+-- the new room draws what the room draws, and has a quarter left of each limit
+pub record IsSuccessor (room new : Room) : Type 0 where
+  pub renewal : IsRenewal room.entries new.entries
+  pub whole : new ≡ full_room new.entries
+  pub roomy : is_roomy new ≡ true
+
+-- a room has ended with the number of entries of the new one, which is a successor
+pub record IsRenewedAs (room old new : Room) : Type 0 where
+  pub limits : old.limits ≡ room.limits
+  pub ended : old.entries ≡ room.entries ++ Next (length new.entries) ∷ []
+  pub successor : IsSuccessor room new
+
+-- what a room goes on as
+abbrev pub IsSuccession : Room → Succession → Type 0
+IsSuccession room (succession.Renewed old new) = IsRenewedAs room old.room new.room
+IsSuccession room (succession.Declined same obstacle) = same.room ≡ room

@@ -1,0 +1,537 @@
+"""Kept rooms that are nearly full: a start renews them, and goes on with the newest room of a chain."""
+
+import contextlib
+import errno
+import functools
+import os
+import pathlib
+import subprocess
+
+from lib import serving
+from lib.keeping import KeepingServer, OnDemandServer, expect_no_start, mounted, path_of, room_folder
+from lib.limit_records import Record, full, full_of_pairs
+from lib.on_demand import NOT_SERVED, ask_until_served, refusals_of, rooms_of
+from lib.records import compact
+from lib.running import cases
+from lib.serving import expect_equal, run
+from lib.websocket_client import SECONDS
+
+from keep.test_faults import FailingLibrary
+from keep.test_files import bad_record, entries_notice, tail_notice
+
+# The time limit of a test, in seconds.
+BOUND = 600
+# The least counts that are nine tenths of 256 joins, 16,384 entries and 8,192 objects.
+JOINS, ENTRIES, OBJECTS = 231, 14_746, 7_373
+# A room that is nearly full by its joins: the number of its objects, each with a put, and of its entries.
+DRAWN = 20
+NEARLY_FULL = JOINS + 2 * DRAWN
+# It renews to a join, and a creation of each object.
+RENEWED = 1 + DRAWN
+OLD, NEW, BESIDE = "plan.record", "plan.2.record", "plan.2.record.new"
+# A server has the folder alone, or may share it: the number of --rooms.
+FOLDERS = [("alone", 0), ("shared", 3)]
+
+
+# ---- records and files
+
+
+def text_of(entries):
+    """Returns the bytes of a file with these entries."""
+    return "".join(f"{compact(entry)}\n" for entry in entries).encode()
+
+
+def end_of(count):
+    """Returns the line that ends a record, with the number of entries of the next one."""
+    return text_of([["next", count]])
+
+
+@functools.cache
+def nearly_full():
+    """Returns the file of a room that is nearly full."""
+    record = Record(JOINS)
+    for number in range(DRAWN):
+        record.create([("x", number), ("y", 0)])
+    for place in range(1, DRAWN + 1):
+        record.put(1, [("x", 100 + place), ("t", "text")], place)
+    return text_of(record.entries)
+
+
+@functools.cache
+def full_entries():
+    """Returns a full record of 512 objects."""
+    return full(512).entries
+
+
+@functools.cache
+def ended():
+    """Returns the file of this room once it has ended."""
+    return nearly_full() + end_of(RENEWED)
+
+
+@functools.cache
+def renewed():
+    """Returns the file of the room that goes on, by `grace renew`."""
+    with folder_of({OLD: nearly_full()}) as folder:
+        status, output, _ = run("renew", path_of(folder, "plan"))
+        path_of(folder, "plan.2").write_text(output)
+        comparison = run("renewed", path_of(folder, "plan"), path_of(folder, "plan.2"))
+    expect_equal("the renewal", (status, output.count("\n"), comparison), (0, RENEWED, (0, "holds\n", "")))
+    return output.encode()
+
+
+@contextlib.contextmanager
+def folder_of(files):
+    """Creates a folder with these files, given as bytes by name."""
+    with room_folder() as folder:
+        for name, data in files.items():
+            (pathlib.Path(folder) / name).write_bytes(data)
+        yield folder
+
+
+def expect_files(folder, files):
+    """Expects that the folder has these files and no other."""
+    actual = {file.name: file.read_bytes() for file in pathlib.Path(folder).iterdir()}
+    expect_equal("the files", sorted(actual), sorted(files))
+    for name, data in files.items():
+        expect_equal(f"the file {name}", actual[name], data)
+
+
+# ---- servers
+
+
+def server_of(folder, on_demand=0, rooms=("plan",), **options):
+    """Returns a server of these rooms over this folder, with rooms on demand if there are to be some."""
+    if on_demand:
+        return OnDemandServer(folder, on_demand, rooms, **options)
+    return KeepingServer(folder, rooms, sessions=0, **options)
+
+
+def notices_of_start(folder, on_demand=0, rooms=("plan",)):
+    """Starts a server and kills it. Returns what it logged."""
+    with server_of(folder, on_demand, rooms) as server:
+        server.kill()
+        expect_equal("the warnings", server.warnings(), {})
+        return server.other_notices
+
+
+def renewal_notice(old="plan", new="plan.2"):
+    """Returns the notice about the renewal of the room that is nearly full."""
+    return "INFO", f"room {old} renewed as {new}: {NEARLY_FULL} entries to {RENEWED}"
+
+
+def declined_notice(why, room="plan"):
+    """Returns the notice that a room is not renewed."""
+    return "WARN", f"room {room} cannot be renewed: {why}"
+
+
+# ---- a start
+
+
+@cases(FOLDERS)
+def test_renewal(on_demand):
+    """A start renews a room that is nearly full. The new room goes on, and the old one can be read. The next start
+    changes nothing."""
+    with folder_of({OLD: nearly_full()}) as folder:
+        with server_of(folder, on_demand) as server:
+            client = server.client()
+            client.expect_reply('["join","plan"]', '["renewed",0,"plan.2"]')
+            client.expect_reply('["join","plan.2"]', f'["joined",{RENEWED},2]')
+            client.expect_reply('["show",[1,2]]', compact(
+                ["versions", RENEWED + 1, [1, 2], "rect", [[[], [["t", "text"], ["x", 102], ["y", 0]]]]]
+            ))
+            client.expect_reply('["leave"]', f'["left",{RENEWED + 1}]')
+            client.expect_reply('["back","plan",1]', f'["back",{NEARLY_FULL + 1},1,{2 * DRAWN}]')
+            client.expect_reply(
+                f'["pull",{NEARLY_FULL}]', f'["entries",{NEARLY_FULL + 1},{NEARLY_FULL},[["next",{RENEWED}]]]'
+            )
+            server.kill()
+            server.warnings()
+            expect_equal("the notices", server.other_notices,
+                         [entries_notice(folder, "plan", NEARLY_FULL + 1), renewal_notice()])
+        files = {OLD: ended(), NEW: renewed() + b'["join",2]\n'}
+        expect_files(folder, files)
+        for room in ("plan", "plan.2"):
+            expect_equal("the verdict", run("check", path_of(folder, room), os.devnull), (0, "holds\n", ""))
+        expect_equal("the next start", notices_of_start(folder, on_demand), [
+            entries_notice(folder, "plan", NEARLY_FULL + 1), entries_notice(folder, "plan.2", RENEWED + 1),
+        ])
+        expect_files(folder, files)
+
+
+def test_order_of_rooms():
+    """The newest rooms come first, in the order of the command line, and then the rooms before them. Their entries are
+    printed at the end."""
+    files = {"b.record": nearly_full(), "a.record": b'["join",1]\n["next",1]\n', "a.2.record": b'["join",1]\n'}
+    with folder_of(files) as folder:
+        with KeepingServer(folder, ["b", "c", "a"], sessions=1) as server:
+            server.client().close()
+            heads = [line for line in server.output() if line.startswith("room ")]
+        expect_equal("the rooms", heads, [
+            f"room b.2 {RENEWED}", "room c 0", "room a.2 1", f"room b {NEARLY_FULL + 1}", "room a 2",
+        ])
+
+
+@cases(FOLDERS)
+def test_long_chain(on_demand):
+    """The newest room of a chain is renewed too. Rooms before the last two are not opened, and what their files have does
+    not matter."""
+    files = {OLD: b"", NEW: b"no entry\n", "plan.3.record": end_of(0), "plan.4.record": nearly_full()}
+    with folder_of(files) as folder:
+        notices = notices_of_start(folder, on_demand)
+        expect_equal("the notices", notices, [
+            entries_notice(folder, "plan.4", NEARLY_FULL + 1), renewal_notice("plan.4", "plan.5"),
+        ])
+        expect_files(folder, {**files, "plan.4.record": ended(), "plan.5.record": renewed()})
+
+
+def test_restored_copy():
+    """A room that has not ended is the newest, even if there is a file of the next one. That one stays as it is, and the
+    room is not renewed."""
+    for old, notices in [
+        (nearly_full()[:-1], [declined_notice("the file of the next room is there")]),
+        (b'["join",1]\n', []),
+    ]:
+        with folder_of({OLD: old, NEW: renewed()}) as folder:
+            with KeepingServer(folder, ["plan"], sessions=1) as server:
+                client = server.client()
+                client.expect_reply('["join","plan.2"]', '["no",0,4,"no-such-room"]')
+                client.close()
+                server.output()
+                server.warnings()
+                logged = [line for line in server.other_notices if "cannot be renewed" in line[1]]
+            expect_equal("the notices", logged, notices)
+            expect_equal("the file", path_of(folder, "plan.2").read_bytes(), renewed())
+
+
+# ---- starts that were killed
+
+
+def states():
+    """Returns states in which a start that is killed may leave the files: a name, the files, and how many bytes of the
+    old room's file are cut off then."""
+    end = ended()[len(nearly_full()) :]
+    parts = [1, 9, 200, len(renewed()) // 2, len(renewed()) - 1]
+    return [
+        ("nothing", {OLD: nearly_full()}, 0),
+        ("a part of the end", {OLD: nearly_full() + end[:5]}, 5),
+        ("the end but its line feed", {OLD: nearly_full() + end[:-1]}, len(end) - 1),
+        ("an empty file of the new room", {OLD: nearly_full(), NEW: b""}, 0),
+        ("the end", {OLD: ended()}, 0),
+        ("the end and an empty file of the new room", {OLD: ended(), NEW: b""}, 0),
+        ("the end and a part of the new file", {OLD: ended(), BESIDE: renewed()[:300]}, 0),
+        *[(f"the end and {part} bytes of the new room", {OLD: ended(), NEW: renewed()[:part]}, 0) for part in parts],
+    ]
+
+
+@cases(FOLDERS)
+def test_states(on_demand):
+    """Whatever a start that was killed has written, the next one ends the old room and makes the new one whole."""
+    for name, files, cut in states():
+        with folder_of(files) as folder:
+            cuts = [tail_notice(folder, "plan", cut)] if cut else []
+            notices = [entries_notice(folder, "plan", NEARLY_FULL + 1), *cuts, renewal_notice()]
+            expect_equal(f"the notices after {name}", notices_of_start(folder, on_demand), notices)
+            expect_files(folder, {OLD: ended(), NEW: renewed()})
+
+
+def test_failing_calls():
+    """Each call on a file fails once, also after half of its bytes. The server does not start then. The next start ends
+    the old room and makes the new one whole."""
+    for words in ((), ("SHORT",)):
+        failer = FailingLibrary(errno.EIO, *words)
+        number = 1
+        while start_fails(failer, number):
+            number += 1
+        # The old file is synced, written and synced. The new one is cut, written and synced. The folder is synced.
+        expect_equal("the calls", number - 1, 7)
+
+
+def start_fails(failer, number):
+    """Starts a server with this call failing, and then one without. Returns whether the first one reached the call."""
+    with folder_of({OLD: nearly_full()}) as folder:
+        # Its input has ended, so it ends once it has started.
+        words = [serving.program(), "serve", "--until-input-ends", "--keep", folder, "127.0.0.1:0", "0", "1", "plan"]
+        done = subprocess.run(
+            words, env={**os.environ, **failer.at(number)}, stdin=subprocess.DEVNULL, capture_output=True, text=True,
+            timeout=SECONDS,
+        )
+        if done.returncode:
+            last = done.stderr.splitlines()[-1:]
+            expect_equal("the end", (done.returncode, last), (3, [f"grace: cannot keep: {folder}"]))
+        notices_of_start(folder)
+        expect_files(folder, {OLD: ended(), NEW: renewed()})
+    return done.returncode != 0
+
+
+def test_full_disk():
+    """If the disk has no space for the new room, the server does not start. Once there is space, it does."""
+    with mounted("size=64k") as folder:
+        path_of(folder, "plan").write_bytes(nearly_full())
+        ballast = pathlib.Path(folder) / "ballast"
+        fill(ballast)
+        expect_no_start(f"grace: cannot keep: {folder}", folder, "plan")
+        ballast.unlink()
+        expect_equal("the last notice", notices_of_start(folder)[-1], renewal_notice())
+        expect_files(folder, {OLD: ended(), NEW: renewed()})
+
+
+def fill(path):
+    """Fills the disk with a file, but for the space in the last block of another."""
+    with path.open("wb", buffering=0) as file, contextlib.suppress(OSError):
+        while True:
+            file.write(b"x" * 4096)
+
+
+# ---- what prevents a start
+
+
+def test_another_count():
+    """If the end of a record names another number of entries than a renewal has, the new room is not made: the line of
+    the end is bad."""
+    for count in (RENEWED - 1, RENEWED + 1):
+        files = {OLD: nearly_full() + end_of(count), NEW: renewed()[:200]}
+        with folder_of(files) as folder:
+            expect_no_start(bad_record(folder, "plan", NEARLY_FULL + 1), folder, "plan")
+            expect_files(folder, files)
+
+
+def test_other_lines():
+    """If the file of a new room has fewer lines than the end names, and others than a renewal has, they are not lost: the
+    first of them is bad."""
+    lines = renewed().splitlines(keepends=True)
+    for other, line in [
+        (b"\0" * len(renewed()), 1),
+        (lines[0] + lines[2], 2),
+        (b"".join(lines[:4]) + b"x", 5),
+        (b"".join(lines[:-1]) + b"x" * 100, len(lines)),
+    ]:
+        files = {OLD: ended(), NEW: other}
+        with folder_of(files) as folder:
+            expect_no_start(bad_record(folder, "plan.2", line), folder, "plan")
+            expect_files(folder, files)
+
+
+def test_new_room_of_another_record():
+    """A new room with as many lines as the end names is opened, whatever these draw: a copy may have been restored."""
+    files = {OLD: nearly_full() + end_of(1), NEW: b'["join",1]\n["join",2]\n'}
+    with folder_of(files) as folder:
+        expect_equal("the notices", notices_of_start(folder), [
+            entries_notice(folder, "plan", NEARLY_FULL + 1), entries_notice(folder, "plan.2", 2),
+        ])
+        expect_files(folder, files)
+
+
+@cases(FOLDERS)
+def test_bad_new_room(on_demand):
+    """A new room with as many lines as the end names, of which one is bad, prevents the start. So does one that can't be
+    read."""
+    words = ["--rooms", on_demand] if on_demand else []
+    lines = renewed().split(b"\n")
+    files = {OLD: ended(), NEW: b"\n".join([*lines[:5], b"x", *lines[6:]])}
+    with folder_of(files) as folder:
+        expect_no_start(bad_record(folder, "plan.2", 6), folder, *words, "plan")
+        expect_files(folder, files)
+    with folder_of({OLD: ended()}) as folder:
+        path_of(folder, "plan.2").mkdir()
+        expect_no_start(f"grace: cannot keep: {folder}", folder, *words, "plan")
+        expect_equal("the file", path_of(folder, "plan").read_bytes(), ended())
+
+
+# ---- rooms that are not renewed
+
+
+LONG_NAME = "n" * 63
+
+
+def many_objects(count):
+    """Returns a record of so many objects."""
+    return full(count).entries[: count + 1]
+
+
+DECLINED = [
+    ("a full record", "plan", full_entries, "no entry is left for the end of its record"),
+    ("three quarters of the objects", "plan", lambda: many_objects(OBJECTS),
+     "the new record has more than three quarters of a limit"),
+    ("a longer record", "plan", lambda: full_of_pairs().entries, "the new record is longer than the old one"),
+    ("a long name", LONG_NAME, lambda: full_entries()[:ENTRIES], "the name of the next room would be too long"),
+]
+
+
+@cases(DECLINED)
+def test_declined(room, entries_of, why):
+    """A room that cannot be renewed goes on. The log says why, at each start."""
+    entries = entries_of()
+    files = {f"{room}.record": text_of(entries)}
+    with folder_of(files) as folder:
+        for _ in range(2):
+            notices = notices_of_start(folder, rooms=[room])
+            expect_equal("the first notices", notices[:2],
+                         [declined_notice(why, room), entries_notice(folder, room, len(entries))])
+            expect_files(folder, files)
+
+
+# ---- when a room is nearly full
+
+
+@cases([
+    ("joins", lambda: [["join", site] for site in range(1, JOINS)]),
+    ("entries", lambda: full_entries()[: ENTRIES - 1]),
+    ("objects", lambda: many_objects(OBJECTS - 1)),
+])
+def test_not_due(entries_of):
+    """A room that has used less than nine tenths of each limit goes on as it is."""
+    files = {OLD: text_of(entries_of())}
+    with folder_of(files) as folder:
+        expect_equal("the notices", notices_of_start(folder), [entries_notice(folder, "plan", len(entries_of()))])
+        expect_files(folder, files)
+
+
+def test_entries():
+    """A room that has used nine tenths of its entries is renewed."""
+    with folder_of({OLD: text_of(full_entries()[:ENTRIES])}) as folder:
+        expect_equal("the last notice", notices_of_start(folder)[-1],
+                     ("INFO", f"room plan renewed as plan.2: {ENTRIES} entries to 513"))
+        comparison = run("renewed", path_of(folder, "plan"), path_of(folder, "plan.2"))
+        expect_equal("the comparison", comparison, (0, "holds\n", ""))
+
+
+def test_no_objects():
+    """A room without objects is renewed to one without entries."""
+    entries = [["join", site] for site in range(1, JOINS + 1)]
+    with folder_of({OLD: text_of(entries)}) as folder:
+        for on_demand, last in [
+            (0, ("INFO", f"room plan renewed as plan.2: {JOINS} entries to 0")),
+            (0, entries_notice(folder, "plan", JOINS + 1)),
+            (3, entries_notice(folder, "plan", JOINS + 1)),
+        ]:
+            expect_equal("the last notice", notices_of_start(folder, on_demand)[-1], last)
+            expect_files(folder, {OLD: text_of(entries) + end_of(0), NEW: b""})
+
+
+# ---- rooms on demand
+
+
+SENT_ON = '["renewed",0,"plan.2"]'
+JOINED = f'["joined",{RENEWED},2]'
+
+
+@cases([
+    ("no first room", {NEW: renewed, "plan.3.record": renewed}),
+    ("a first room that goes on", {OLD: lambda: b'["join",1]\n', NEW: renewed}),
+])
+def test_rooms_that_are_not_reached(contents):
+    """A room with a number is not opened on demand unless the room before it has ended. No file is made or removed."""
+    files = {name: data() for name, data in contents.items()}
+    with folder_of(files) as folder, OnDemandServer(folder, 3) as server:
+        client = server.client()
+        for room in ("plan.2", "plan.3"):
+            client.expect_reply(["join", room], NOT_SERVED)
+            client.expect_reply(["back", room, 1], NOT_SERVED)
+        expect_equal("the refusals", refusals_of(server), {"file": 4})
+        server.finish()
+        expect_files(folder, files)
+
+
+def test_renewal_on_demand():
+    """The opening of a room that is nearly full ends it. Who joins is sent on, and the new room is made when it is opened.
+    Who comes back can read the old one. The next opening changes nothing."""
+    with folder_of({OLD: nearly_full()}) as folder:
+        with OnDemandServer(folder, 3) as server:
+            client = server.client()
+            client.expect_reply(["join", "plan"], SENT_ON)
+            client.expect_reply(["join", "plan.2"], JOINED)
+            client.expect_reply('["show",[1,2]]', compact(
+                ["versions", RENEWED + 1, [1, 2], "rect", [[[], [["t", "text"], ["x", 102], ["y", 0]]]]]
+            ))
+            other = server.client()
+            other.expect_reply('["back","plan",1]', f'["back",{NEARLY_FULL + 1},1,{2 * DRAWN}]')
+            other.expect_reply(
+                f'["pull",{NEARLY_FULL}]', f'["entries",{NEARLY_FULL + 1},{NEARLY_FULL},[["next",{RENEWED}]]]'
+            )
+            expect_equal("the open rooms", rooms_of(server)["open"], 2)
+            server.kill()
+            server.warnings()
+            expect_equal("the notices", server.other_notices,
+                         [entries_notice(folder, "plan", NEARLY_FULL + 1), renewal_notice()])
+        files = {OLD: ended(), NEW: renewed() + b'["join",2]\n'}
+        expect_files(folder, files)
+        with OnDemandServer(folder, 3) as server:
+            client = server.client()
+            client.expect_reply(["back", "plan.2", 2], f'["back",{RENEWED + 1},2,0]')
+            client.expect_reply(["leave"], f'["left",{RENEWED + 1}]')
+            client.expect_reply(["join", "plan"], SENT_ON)
+            expect_equal("the open rooms", rooms_of(server)["open"], 1)
+            server.kill()
+            server.warnings()
+        expect_files(folder, files)
+
+
+def test_states_on_demand():
+    """Whatever a server that was killed has written, the opening of a chain's rooms ends the old room and makes the new one
+    whole."""
+    for name, files, _cut in states():
+        with folder_of(files) as folder:
+            with OnDemandServer(folder, 3) as server:
+                client = server.client()
+                expect_equal(f"the join after {name}", client.ask(["join", "plan"]), SENT_ON)
+                expect_equal(f"the next join after {name}", client.ask(["join", "plan.2"]), JOINED)
+                server.kill()
+                server.warnings()
+            expect_files(folder, {OLD: ended(), NEW: renewed() + b'["join",2]\n'})
+
+
+def test_emptied_rooms():
+    """Who asks for an earlier room is sent to the newest, also if the files before the last two were emptied."""
+    files = {OLD: b"", NEW: b"", "plan.3.record": end_of(0), "plan.4.record": renewed()}
+    with folder_of(files) as folder, OnDemandServer(folder, 3) as server:
+        client = server.client()
+        for room in ("plan", "plan.2", "plan.3"):
+            client.expect_reply(["join", room], '["renewed",0,"plan.4"]')
+        client.expect_reply(["join", "plan.5"], NOT_SERVED)
+        server.finish()
+        expect_files(folder, files)
+
+
+def test_one_process_for_a_chain():
+    """A process that has a room open has all rooms of its chain: another one refuses them by 21. It serves them once the
+    first has closed the room."""
+    with folder_of({OLD: ended(), NEW: renewed()}) as folder, OnDemandServer(folder, 3, close_after=1) as first:
+        client = first.client()
+        client.expect_reply(["join", "plan.2"], JOINED)
+        with OnDemandServer(folder, 3) as second:
+            other = second.client()
+            for room in ("plan", "plan.2"):
+                other.expect_reply(["join", room], NOT_SERVED)
+            client.expect_reply(["leave"], f'["left",{RENEWED + 1}]')
+            expect_equal("the reply", ask_until_served(other, ["join", "plan"]), SENT_ON)
+            other.expect_reply('["back","plan.2",2]', f'["back",{RENEWED + 1},2,0]')
+            second.kill()
+            second.warnings()
+
+
+def test_no_place_for_the_old_room():
+    """Who comes back to a room that has ended is not sent on while it cannot be opened for want of a place: what it has
+    pending can go along later."""
+    with folder_of({OLD: nearly_full()}) as folder, OnDemandServer(folder, 1) as server:
+        client, other = server.client(), server.client()
+        client.expect_reply(["join", "plan"], SENT_ON)
+        client.expect_reply(["join", "plan.2"], JOINED)
+        other.expect_reply(["back", "plan", 1], NOT_SERVED)
+        client.expect_reply(["leave"], f'["left",{RENEWED + 1}]')
+        expect_equal("the reply", ask_until_served(other, ["back", "plan", 1]),
+                     f'["back",{NEARLY_FULL + 1},1,{2 * DRAWN}]')
+        server.kill()
+        server.warnings()
+
+
+def test_chain_by_path():
+    """With `--by-path` a handshake over /plan is let in while a later room of the chain has the only place."""
+    with folder_of({OLD: ended(), NEW: renewed()}) as folder, OnDemandServer(folder, 1, by_path=True) as server:
+        for site in (2, 3):
+            client = server.connect()
+            client.open("/plan")
+            client.expect_reply(["join", "plan"], SENT_ON)
+            client.expect_reply(["join", "plan.2"], f'["joined",{RENEWED + site - 2},{site}]')
+        server.kill()
+        server.warnings()

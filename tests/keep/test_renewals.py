@@ -195,7 +195,7 @@ def test_restored_copy():
         with folder_of({OLD: old, NEW: renewed()}) as folder:
             with KeepingServer(folder, ["plan"], sessions=1) as server:
                 client = server.client()
-                client.expect_reply('["join","plan.2"]', '["no",0,4,"no-such-room"]')
+                client.expect_reply('["join","plan.2"]', NOT_SERVED)
                 client.close()
                 server.output()
                 server.warnings()

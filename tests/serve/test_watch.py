@@ -188,6 +188,25 @@ def test_bad_news(reply):
     expect_equal("the end", followed(('["wait",3]', reply)), ([], (3, SHOWN, FAILED[2])))
 
 
+def test_follows_into_the_next_room():
+    """When the room ends, it asks for the newest room of the chain until the server knows one, and goes on there."""
+    last, end = followed(
+        ('["wait",3]', page(5, 3, ['["put",[1,2],[[1,1]],[1,1],[],[["x",5]]]', '["next",2]'])),
+        ('["leave"]', '["left",5]'),
+        ('["join","r"]', '["no",5,22,"renewed"]'),
+        ('["join","r"]', '["renewed",0,"r.3"]'),
+        ('["back","r.3",1]', '["back",2,1,1]'),
+        ('["pull",0]', page(2, 0, ['["join",1]', '["new",[1,1],[],"rect",[["x",7]]]'])),
+        ('["wait",2]', page(3, 2, ['["put",[1,2],[[1,1]],[1,1],[],[["x",8]]]'])),
+    )
+    expect_equal("the last message", last, ['["wait",3]'])
+    expect_equal("the end", end, (3, SHOWN + """\
+["versions",4,[1,1],"rect",[[[],[["x",5]]]]]
+["versions",2,[1,1],"rect",[[[],[["x",7]]]]]
+["versions",3,[1,1],"rect",[[[],[["x",8]]]]]
+""", FAILED[2]))
+
+
 def test_follows_live():
     """It shows each change of a live room as it comes, until the reader of its output has gone away."""
     with Server(2) as server:

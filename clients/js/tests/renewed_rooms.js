@@ -104,6 +104,22 @@ const startedAgain = (what) => async (client, proxy, server) => {
   expectEqual("the news", [room, other, late].map(({ news }) => news), [[goesOn([[[1, 1], [3, 1]]])], [goesOn()], []])
 }
 
+/** A room on demand is renewed while two clients draw. Both go on, and nothing is lost or refused. */
+async function inUse(client, proxy, server) {
+  const clients = [await client(server), await client(server)]
+  let number = 0
+  while (clients.some(({ name }) => name === "r") && number < 100) {
+    number++
+    for (const [place, room] of clients.entries()) {
+      await room.put(room.objects().at(place - 2), [], { x: number }).done
+    }
+  }
+  await agree(...clients)
+  const both = [["rect", [[[], [["x", number]]]]], ["line", [[[], [["x", number]]]]]]
+  expectEqual("what both show", clients.map(shown), [both, both])
+  expectEqual("the news", clients.map(({ news }) => news), [[goesOn()], [goesOn()]])
+}
+
 /** A client that comes after the renewal is sent on to the next room. It comes back to that, also after a start. */
 async function late(client, proxy, server) {
   const asked = []
@@ -151,8 +167,8 @@ export const TESTS = [
   ["renewed at a start, with a change that it has", withRoom(JOINS - 2, AT_A_START, startedAgain(CUT_AFTER))],
   ["renewed on demand, with a change that it lacks", withRoom(JOINS - 2, ON_DEMAND, startedAgain(CUT_BEFORE))],
   ["renewed on demand, with a change that it has", withRoom(JOINS - 2, ON_DEMAND, startedAgain(CUT_AFTER))],
+  ["renewed on demand, while they draw", withRoom(JOINS - 2, ON_DEMAND, inUse)],
   ["renewed at a start, before it came", withRoom(JOINS, AT_A_START, late)],
   ["renewed on demand, when it comes", withRoom(JOINS, ON_DEMAND, late)],
   ["renewed at a start, and reloaded", withRoom(JOINS - 1, AT_A_START, reloaded)],
-  ["renewed on demand, and reloaded", withRoom(JOINS - 1, ON_DEMAND, reloaded)],
 ]

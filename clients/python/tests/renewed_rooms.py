@@ -126,6 +126,25 @@ def closed():
         expect_equal("what both show", (shown(room), shown(other)), (both, both))
 
 
+def in_use():
+    """A room on demand is renewed while two clients draw. Both go on, and nothing is lost or refused."""
+    events = EventLog("renewed", "refusal", "reset")
+    with (
+        served(JOINS - 2, ON_DEMAND) as (server, _, _),
+        open_rooms(server.name, server.name, listeners=events.listeners) as (room, other),
+    ):
+        for number in range(1, 100):
+            room.put(room.objects()[-2], (), {"x": number}).done.result(PATIENCE)
+            other.put(other.objects()[-1], (), {"x": number}).done.result(PATIENCE)
+            if (room.name, other.name) == ("r.2", "r.2"):
+                break
+        agree(room, other)
+        both = [("rect", [((), {"x": number})]), ("line", [((), {"x": number})])]
+        expect_equal("what both show", (shown(room), shown(other)), (both, both))
+        wait_until("the news of both", lambda: len(events.news) == 2)
+        expect_equal("the news", events.news, [("renewed", it) for it in news() * 2])
+
+
 def late(on_demand):
     """A client that comes after the renewal is sent on to the next room. It comes back to that, also after a start."""
     events = EventLog("renewed", "refusal", "reset")
@@ -156,6 +175,7 @@ TESTS = [
     ("renewed on demand, with a change that it lacks", partial(started_again, ON_DEMAND, CUT_BEFORE)),
     ("renewed on demand, with a change that it has", partial(started_again, ON_DEMAND, CUT_AFTER)),
     ("renewed on demand, when it was closed", closed),
+    ("renewed on demand, while they draw", in_use),
     ("renewed at a start, before it came", partial(late, AT_A_START)),
     ("renewed on demand, when it comes", partial(late, ON_DEMAND)),
 ]

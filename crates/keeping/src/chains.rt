@@ -63,6 +63,19 @@ impl Chains {
         }
     }
 
+    /// An open room has ended, and goes on as the room of this name.
+    ///
+    /// # Errors
+    /// `NoMemory` if an allocation failed.
+    pub(crate) fn go_on(&mut self, alloc: Global, next: &RoomName) -> Result<(), NoMemory> {
+        let first = next.first(alloc)?;
+        if let Some(chain) = self.chains.get_mut(&first) {
+            chain.newest = next.copy(alloc)?;
+            return Ok(());
+        }
+        self.add(alloc, next, None)
+    }
+
     /// The room of this name is closed. Where an allocation fails the chain stays, which does no harm:
     /// who asks for an earlier room is sent to a room that was the newest.
     pub(crate) fn remove(&mut self, alloc: Global, room: &RoomName) {

@@ -35,6 +35,8 @@ struct Desk<P: RoomHistories, J: Journal> {
     is_awaited: bool,
     /// The number of ticks since somebody was in the room.
     idle: u32,
+    /// The number of entries from which on it is looked again whether the room is nearly full.
+    look_at: u64,
 }
 
 impl<P: RoomHistories, J: Journal> Desk<P, J> {
@@ -49,6 +51,7 @@ impl<P: RoomHistories, J: Journal> Desk<P, J> {
             is_ordered: false,
             is_awaited: false,
             idle: 0,
+            look_at: 0,
         }
     }
 
@@ -185,6 +188,29 @@ impl<P: RoomHistories, J: Journal + Drop> Place<P, J> {
             Ok(clean) => Some(Ok(clean.copy())),
             Err(fault) => Some(Err(*fault)),
         }
+    }
+
+    /// The opening of the room, if it is to be looked whether the room is nearly full: its file keeps so
+    /// many entries, and the last attempt did not fail.
+    pub(crate) fn to_look_at(&self, rt: &impl Wait) -> Option<Opening<P>> {
+        match &*self.desk.lock(rt) {
+            Some(desk) if desk.state.is_ok() && desk.kept.prefix().len() >= desk.look_at => {
+                Some(desk.opening().copy())
+            }
+            Some(_) | None => None,
+        }
+    }
+
+    /// Has the room looked at again after so many further entries.
+    pub(crate) fn look_again(&self, rt: &impl Wait, after: u64) {
+        if let Some(desk) = &mut *self.desk.lock(rt) {
+            desk.look_at = desk.kept.prefix().len().saturating_add(after);
+        }
+    }
+
+    /// The name of the room. `None` if no room is open here, or an allocation failed.
+    pub(crate) fn name(&self, rt: &impl Wait, alloc: Global) -> Option<RoomName> {
+        self.desk.lock(rt).as_ref()?.name.copy(alloc).ok()
     }
 
     /// The room, if its last attempt failed.

@@ -39,6 +39,10 @@ pub trait RoomFiles<J: Journal> {
         ensures { IfOk result (IfHere (λ state file.
             file ≡ record { name = name.now; entries = state.room.entries })) };
 
+    /// Returns whether nothing lies where the file of the room of this name is to be. May wait for a
+    /// disk.
+    fn is_free(&self, alloc: Global, name: &RoomName) -> bool;
+
     /// Closes the file of the room of this name, so that others may have it. May wait for a disk.
     fn close(&self, alloc: Global, name: &RoomName, file: J);
 }

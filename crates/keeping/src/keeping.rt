@@ -13,7 +13,7 @@ use crate::moving::Idle;
 use crate::orders::{Order, Orders};
 use base_types::{NoMemory, RoomName};
 use journal::Journal;
-use keeper::{Access, Attempt, Change, Failing, KeepFault, Keeper, Reason};
+use keeper::{Access, Attempt, Change, Failing, FileSync, KeepFault, Keeper, Reason};
 use room_lock::{Lookup, Opening, Prefix, RoomHistories, Rooms};
 use std::alloc::Global;
 use std::sync::atomic::{AtomicUsize, Ordering};
@@ -108,9 +108,33 @@ impl<P: RoomHistories, J: Journal + Drop, F: RoomFiles<J> + Drop> Keeping<P, J, 
         }
     }
 
+    /// Keeps what the record of the room at this place has. If the room is nearly full then, ends its
+    /// record and keeps the end. From then on, whoever joins is sent on to the next room.
+    fn keep_at(
+        &self,
+        rt: &(impl Wait + Clock),
+        alloc: Global,
+        rooms: &Rooms<P>,
+        place: usize,
+    ) -> Attempt {
+        let attempt = self.attempt_at(rt, alloc, rooms, place);
+        let Some(next) = self.end_at(rt, alloc, rooms, place) else {
+            return attempt;
+        };
+        let last = self.attempt_at(rt, alloc, rooms, place);
+        if let Some(FileSync::Kept { .. }) = last.sync {
+            // Where an allocation fails, who joins is told that the record has ended.
+            let _ = self.chains.lock(rt).go_on(alloc, &next);
+        }
+        Attempt {
+            change: last.change.or(attempt.change),
+            ..last
+        }
+    }
+
     /// Keeps what the record of the room at this place has. Rooms that wait for the end of this attempt are
     /// opened next.
-    fn keep_at(
+    fn attempt_at(
         &self,
         rt: &(impl Wait + Clock),
         alloc: Global,

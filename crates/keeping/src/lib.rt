@@ -4,6 +4,7 @@
 mod chains;
 mod desk;
 mod doors;
+mod ending;
 mod file;
 mod files;
 mod keeping;

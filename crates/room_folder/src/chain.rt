@@ -332,6 +332,17 @@ impl<'a> Folder<'a> {
         }
     }
 
+    /// Returns whether nothing lies where the file of this room is to be. The log says why not if that
+    /// cannot be told.
+    pub fn is_free<R: Files<File = File> + Log>(
+        &self,
+        rt: &R,
+        alloc: Global,
+        name: &RoomName,
+    ) -> bool {
+        matches!(self.len_of(rt, alloc, name), Ok(None | Some(0)))
+    }
+
     /// The name of the next room, if it has one and nothing lies where its file is to be.
     fn free_successor<R: Files<File = File> + Log>(
         &self,

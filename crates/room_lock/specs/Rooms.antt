@@ -1,19 +1,34 @@
 -- The rooms of a server, as contracts see them.
-use Rattle.std.specs.Prelude.{◌≡◌, ◌⊎◌, ◌<◌, ◌≤◌, ◌++◌, ℕ, List, Contains, length}
+use Rattle.std.specs.Prelude.{◌≡◌, ◌⊎◌, ◌<◌, ◌≤◌, ◌++◌, ℕ, Bool, true, List, Contains, length}
+use Rattle.std.specs.List.{list_any}
 use Rattle.base_types.specs.Texts.{Bytes}
+use Rattle.base_types.specs.RoomNames.{is_in_chain}
+use Rattle.room_lock.specs.declared.offered.Offered.{Offered}
+use Rattle.room_lock.specs.declared.offered.Offered.TheVariants.{Every, Chains}
 
--- the names of the rooms that are open from the start, in order, and how many others may be open
+-- the room of this name is one of those that may be opened on demand
+abbrev pub is_offered : Offered → Bytes → Bool
+is_offered Every name = true
+is_offered (Chains firsts) name = list_any (λ first. is_in_chain first name) firsts.items
+
+-- the names of the rooms that are open from the start, in order, how many others may be open, and
+-- which
 pub record RoomsView : Type 0 where
   pub names : List Bytes
   pub others : ℕ
+  pub offered : Offered
 
--- there is a room of this name: it is open from the start, or rooms are opened on demand
+-- the room of this name may be opened on demand, unless it is open from the start
+abbrev pub IsOffered : RoomsView → Bytes → Type 0
+IsOffered rooms name = (0 < rooms.others) × (is_offered rooms.offered name ≡ true)
+
+-- there is a room of this name: it is open from the start, or may be opened on demand
 abbrev pub Serves : RoomsView → Bytes → Type 0
-Serves rooms name = Contains rooms.names name ⊎ (0 < rooms.others)
+Serves rooms name = Contains rooms.names name ⊎ IsOffered rooms name
 
 -- the room of this name is opened on demand
 abbrev pub IsOnDemand : RoomsView → Bytes → Type 0
-IsOnDemand rooms name = (¬ (Contains rooms.names name)) × (0 < rooms.others)
+IsOnDemand rooms name = (¬ (Contains rooms.names name)) × IsOffered rooms name
 
 -- These are the names of all rooms that were open: those from the start, and then others, of which
 -- there are no more than may be open.

@@ -28,6 +28,10 @@ abbrev pub is_away : Shelf → ℕ → Bool
 is_away shelf site =
     nat_le 1 site && nat_le site (length shelf) && not (is_some (part_of shelf site))
 
+-- how many sites a session is in as
+abbrev pub count_away : Shelf → ℕ
+count_away shelf = count_by (λ part. not (is_some part)) shelf
+
 -- the part belongs to this site of the room of this opening, and has seen a prefix of its record
 pub record IsPartFor (opening : OpeningView) (r : List Entry) (site : ℕ) (part : PartView)
     : Type 0 where

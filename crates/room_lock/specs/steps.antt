@@ -1,4 +1,5 @@
 pub mod Planned
+pub mod Ends
 pub mod Entrances
 pub mod Differences
 pub mod Stages

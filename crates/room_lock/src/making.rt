@@ -9,6 +9,7 @@ ghost use Rattle.room_lock.specs.InOrder.{AreInOrder, openings_in, openings_of};
 ghost use Rattle.room_lock.specs.steps.Planned.{IsPlanOf};
 
 use crate::new_room::{NewRoom, empty_states};
+use crate::offered::Offered;
 use crate::others::Others;
 use crate::prefix::Prefix;
 use crate::room::Room;
@@ -34,6 +35,8 @@ pub struct NewRooms {
     names: Vec<RoomName>,
     /// How many rooms may be open besides.
     others: u32,
+    /// Which rooms these may be.
+    offered: Offered,
     limits: Limits,
     register: Blank,
 }
@@ -50,6 +53,7 @@ impl Model for NewRooms {
       records = map (λ state. state.room.entries) new.states.items;
       names = new.names.items;
       others = new.others;
+      offered = new.offered;
     } };
 
     ghost invariant = { λ new. CanBeMade (record {
@@ -58,6 +62,7 @@ impl Model for NewRooms {
       records = map (λ state. state.room.entries) new.states.items;
       names = new.names.items;
       others = new.others;
+      offered = new.offered;
     })
         × All (λ state. state.room.limits ≡ new.limits) new.states.items };
 }
@@ -136,16 +141,21 @@ impl NewRooms {
             states,
             names,
             others: 0,
+            offered: Offered::Every,
             limits,
             register: Blank::new(),
         })
     }
 
-    /// The same rooms, where so many others may be open at a time besides.
-    pub fn and_on_demand(self, others: u32) -> NewRooms
-        ensures { result ≡ record self { others = others } }
+    /// The same rooms, where so many others of those that are offered may be open at a time besides.
+    pub fn and_on_demand(self, others: u32, offered: Offered) -> NewRooms
+        ensures { result ≡ record self { others = others; offered = offered } }
     {
-        NewRooms { others, ..self }
+        NewRooms {
+            others,
+            offered,
+            ..self
+        }
     }
 }
 
@@ -175,7 +185,11 @@ impl<P: RoomHistories> Rooms<P> {
     ) -> Result<(Rooms<P>, Vec<Prefix<P>>), NoMemory>
         requires { IsPlanOf planned P.limits P.register }
         ensures rooms { IfOk result (λ made.
-            made.0 ≡ record { names = planned.names; others = planned.others }) }
+            made.0 ≡ record {
+              names = planned.names;
+              others = planned.others;
+              offered = planned.offered;
+            }) }
         ensures openings { IfOk result (λ made.
             AreInOrder planned.names (openings_of made.1.items)) }
         ensures records { IfOk result (λ made.
@@ -185,6 +199,7 @@ impl<P: RoomHistories> Rooms<P> {
             states,
             names,
             others,
+            offered,
             limits,
             register,
         } = planned;
@@ -195,6 +210,7 @@ impl<P: RoomHistories> Rooms<P> {
             Rooms {
                 rooms,
                 others,
+                offered,
                 limits,
             },
             begun,

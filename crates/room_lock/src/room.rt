@@ -2,7 +2,8 @@
 
 ghost use Rattle.std.specs.Prelude.{◌≡◌, ◌≢◌, ◌⊎◌, ◌++◌, ◌∷◌, [], ◌+◌, ◌<◌, ◌≤◌, ◌↔◌, Err, None};
 ghost use Rattle.std.specs.Prelude.{Ok, Some, IfErr, IfOk, OnOk, OnErr, false, true, slice_get};
-ghost use Rattle.std.specs.Prelude.{Contains, IsNone, length, map, option_map};
+ghost use Rattle.std.specs.Prelude.{Contains, IfSome, IsNone, length, map, option_map};
+ghost use Rattle.std.specs.Fn.{FnOnceReturnsAt};
 ghost use Rattle.std.specs.Arc.{arc_value};
 ghost use mathlib.Core.List.{IsPrefix};
 ghost use Rattle.rules.specs.Records.{IsLegal};
@@ -13,8 +14,9 @@ ghost use Rattle.room_core.specs.Answers.{join_answer, answer, room_after};
 ghost use Rattle.room_lock.specs.steps.Differences.{first_difference};
 ghost use Rattle.room_lock.specs.Sites.{count_of_sites, none_or_one};
 ghost use Rattle.room_lock.specs.Closing.{IsClosed, IsComplete};
+ghost use Rattle.room_lock.specs.steps.Ends.{IsEndOver};
 ghost use Rattle.room_lock.specs.declared.fault.CloseFault.TheVariants as close_fault;
-ghost use Rattle.room_lock.specs.Shelves.{full_shelf, is_away, part_of, with_at};
+ghost use Rattle.room_lock.specs.Shelves.{count_away, full_shelf, is_away, part_of, with_at};
 ghost use Rattle.room_lock.specs.Told.{IsBackOver, IsBackRefusalOver, IsCallOver, IsJoinOver};
 ghost use Rattle.room_lock.specs.Told.{IsLeaveOver, IsRefusalOver};
 
@@ -28,7 +30,7 @@ use crate::part::Part;
 use crate::pass::Pass;
 use crate::prefix::Prefix;
 use crate::restoring::fill_shelf;
-use crate::shelf::{all_parts, is_any_away, is_away, put_part, take_part};
+use crate::shelf::{all_parts, count_away, is_any_away, is_away, put_part, take_part};
 use base_types::{NoMemory, RoomName};
 use openings::{NewOpening, Opening, Register, RoomHistories};
 use room_core::RoomState;
@@ -141,6 +143,13 @@ impl<P: RoomHistories> Room<P> {
         ensures { result ≡ is_away self.now.shelf site }
     {
         is_away(self.shelf.as_slice(), site)
+    }
+
+    /// The number of sites that a session is in as. Linear in the number of sites.
+    pub(crate) fn count_away(&self) -> usize
+        ensures { result ≡ count_away self.now.shelf }
+    {
+        count_away(self.shelf.as_slice())
     }
 
     /// Returns whether no session is in the room and its record is this prefix. Linear in the number
@@ -265,6 +274,40 @@ impl<P: RoomHistories> Room<P> {
         part.added += count_of(own);
         part.seen = self.prefix();
         Ok(reply)
+    }
+
+    /// Ends the record where `count_of` gives for it the number of entries that the next record begins
+    /// with. Gives the whole record then. It stays open if that gives none, or if no entry may be added.
+    pub(crate) fn end_by<F>(
+        &mut self,
+        rt: &impl Wait,
+        alloc: Global,
+        count_of: F,
+    ) -> Result<Option<Prefix<P>>, NoMemory>
+    where
+        F: FnOnce(&RoomState) -> Result<Option<u32>, NoMemory>,
+        requires { F.IsAlwaysCallable count_of }
+        ensures ended { IfOk result (λ found. IfSome found (λ whole.
+            IsEndOver (λ state count. FnOnceReturnsAt F.FnOnce count_of state (Ok (Some count)))
+            self.old.entries whole.entries)) }
+        ensures whole { IfOk result (λ found. IfSome found (λ whole.
+            whole ≡ record { opening = self.old.opening; entries = self.new.entries })) }
+        // The room's opening and its shelf are unchanged, and all of it if the record stays open:
+        ensures shelf { self.new.shelf ≡ self.old.shelf }
+        ensures opening { self.new.opening ≡ self.old.opening }
+        ensures open { result ≡ Ok None → self.new ≡ self.old }
+        ensures err { OnErr result (self.new ≡ self.old) }
+    {
+        let Some(count) = count_of(&self.state)? else {
+            return Ok(None);
+        };
+        let had = len_of(&self.state);
+        if !self.state.end(alloc, count)? {
+            return Ok(None);
+        }
+        let _has = len_of(&self.state);
+        self.account.add(rt, entry_behind(&self.state, had));
+        Ok(Some(self.prefix()))
     }
 
     /// Takes a pass back; its site leaves. Returns the pass if what it has seen is no prefix of the

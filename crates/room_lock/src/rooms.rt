@@ -2,16 +2,19 @@
 
 ghost use Rattle.std.specs.Prelude.{◌≡◌, ◌↔◌, ◌+◌, ◌++◌, ◌<◌, ◌≤◌, ℕ, All, Err, IfErr, IfOk};
 ghost use Rattle.std.specs.Prelude.{IfSome, IsErr, IsNone, IsSome, List, OnErr, Ok, false, length};
-ghost use Rattle.std.specs.Prelude.{map, option_map, slice_get, true};
+ghost use Rattle.std.specs.Prelude.{map, option_map, slice_get, true, None, Some};
+ghost use Rattle.std.specs.Fn.{FnOnceReturnsAt};
+ghost use Rattle.rules.specs.declared.history.Entry.{Entry};
 ghost use Rattle.std.specs.Arc.{arc_value};
 ghost use Rattle.std.specs.Sync.Mutex.{mutex_guard_value};
 ghost use Rattle.base_types.specs.Texts.{Bytes};
 ghost use Rattle.room_lock.specs.declared.fault.CallFault.TheVariants as call_fault;
 ghost use Rattle.room_lock.specs.declared.lookup.Lookup.TheVariants as lookup;
 ghost use Rattle.room_lock.specs.Closing.{IsClosed};
+ghost use Rattle.room_lock.specs.steps.Ends.{IsEndOver};
 ghost use Rattle.room_lock.specs.InOrder.{IsOpeningFor};
 ghost use Rattle.room_lock.specs.Passes.{MayBeOf};
-ghost use Rattle.room_lock.specs.Rooms.{IsListOf, IsOnDemand, Serves};
+ghost use Rattle.room_lock.specs.Rooms.{IsListOf, IsOffered, IsOnDemand, Serves};
 ghost use Rattle.room_lock.specs.Lookups.{IfKnown, IfNew, IfOpen};
 ghost use Rattle.room_lock.specs.steps.Stages.{IsOpenAs};
 ghost use Rattle.room_lock.specs.Told.{IsBack, IsBackRefusalOver, IsCall, IsJoin, IsLeaveOver};
@@ -22,6 +25,7 @@ use crate::entrance::Entrance;
 use crate::fault::{CallFault, CloseFault};
 use crate::lookup::{Lookup, Opened};
 use crate::news::News;
+use crate::offered::Offered;
 use crate::others::Others;
 use crate::pass::Pass;
 use crate::prefix::Prefix;
@@ -39,11 +43,13 @@ use wire::{Reply, Request};
 
 /// Rooms, each behind a lock of its own: those that are open from the start, by name, and those that
 /// are opened on demand. Each lock has its own cache line, so threads in different rooms do not
-/// contend for one. Contracts see the names of the first, in order, and how many others may be open.
+/// contend for one. Contracts see the names of the first, in order, how many others may be open, and
+/// which.
 #[derive(Drop)]
 pub struct Rooms<P: RoomHistories> {
     pub(crate) rooms: IndexMap<RoomName, CachePadded<Slot<P>>>,
     pub(crate) others: Others<P>,
+    pub(crate) offered: Offered,
     pub(crate) limits: Limits,
 }
 
@@ -55,7 +61,11 @@ impl<P: RoomHistories> Model for Rooms<P> {
 
     ghost Value = { RoomsView };
 
-    ghost view = { λ r. record { names = keys r.rooms; others = r.others } };
+    ghost view = { λ r. record {
+      names = keys r.rooms;
+      others = r.others;
+      offered = r.offered;
+    } };
 
     ghost invariant = { λ r. AreInOrder (keys r.rooms) (openings_in r.rooms.entries)
         × (r.limits ≡ P.limits) × (length (keys r.rooms) ≤ 2 ^ 49) × (r.others < 2 ^ 32) };
@@ -88,6 +98,13 @@ impl<P: RoomHistories> Rooms<P> {
         opening.number() < self.rooms.len() as u64
     }
 
+    /// Returns whether the room of this name may be opened on demand, unless it is open from the start.
+    fn may_open(&self, name: &RoomName) -> bool
+        ensures { (result ≡ true) ↔ IsOffered self.now name.now }
+    {
+        self.others.most() > 0 && self.offered.has(name)
+    }
+
     /// The limits of the rooms.
     pub fn limits(&self) -> Limits
         ensures { result ≡ P.limits }
@@ -113,7 +130,8 @@ impl<P: RoomHistories> Rooms<P> {
     }
 
     /// Looks up the room of this name. Where it is open, gives its opening. Waits for the lock of the
-    /// directory if the room is opened on demand. Constant time.
+    /// directory if the room is opened on demand. Constant time, but for the number of chains where only
+    /// the rooms of some are offered and the room is not open from the start.
     pub fn opening_of(&self, rt: &impl Wait, name: &RoomName) -> Lookup<P>
         ensures open { IfOpen (λ opening. Serves self.now name.now
             × IsOpeningFor self.now name.now opening) result }
@@ -123,7 +141,7 @@ impl<P: RoomHistories> Rooms<P> {
         if let Some((_place, _name, room)) = self.rooms.get_full(name) {
             return Lookup::Open(room.opening().copy());
         }
-        if self.others.most() == 0 {
+        if !self.may_open(name) {
             return Lookup::NoRoom;
         }
         match self.others.opening_of(rt, name) {
@@ -191,6 +209,20 @@ impl<P: RoomHistories> Rooms<P> {
     {
         match &*self.lock(rt, pass.opening())? {
             Stage::Open(room) => Some(room.count_entries()),
+            Stage::Free => unreachable!(),
+        }
+    }
+
+    /// The number of sessions in the room of this opening; 0 if it is none of these rooms. Waits for the
+    /// room's lock. Linear in the number of its sites.
+    pub fn count_sessions(&self, rt: &impl Wait, opening: &Opening<P>) -> usize
+        ensures { ¬ (MayBeOf self.now opening.now) → result ≡ 0 }
+    {
+        let Some(stage) = self.lock(rt, opening) else {
+            return 0;
+        };
+        match &*stage {
+            Stage::Open(room) => room.count_away(),
             Stage::Free => unreachable!(),
         }
     }
@@ -311,6 +343,41 @@ impl<P: RoomHistories> Rooms<P> {
         };
         match &mut *stage {
             Stage::Open(room) => room.hand_back(pass),
+            Stage::Free => unreachable!(),
+        }
+    }
+
+    /// Ends the record of the room of this opening, where `count_of` gives for the room the number of
+    /// entries that the next record begins with. Gives the whole record then. The record stays open if
+    /// `count_of` gives none, if no entry may be added, or if it is none of these rooms. Waits for the
+    /// room's lock, and holds it while `count_of` runs.
+    ///
+    /// # Errors
+    /// `NoMemory` if an allocation failed. That no room has changed is a clause of the room under
+    /// its lock.
+    pub fn end_by<F>(
+        &self,
+        rt: &impl Wait,
+        alloc: Global,
+        opening: &Opening<P>,
+        count_of: F,
+    ) -> Result<Option<Prefix<P>>, NoMemory>
+    where
+        F: FnOnce(&RoomState) -> Result<Option<u32>, NoMemory>,
+        requires { F.IsAlwaysCallable count_of }
+        // Only a room under its lock gives it: its record, which has got its end.
+        ensures ended { IfOk result (λ found. IfSome found (λ whole. (r : List Entry)
+            × IsEndOver (λ state count. FnOnceReturnsAt F.FnOnce count_of state (Ok (Some count)))
+            r whole.entries)) }
+        ensures opening { IfOk result (λ found. IfSome found
+            (λ whole. whole.opening ≡ opening.now)) }
+        ensures other_rooms { ¬ (MayBeOf self.now opening.now) → result ≡ Ok None }
+    {
+        let Some(mut stage) = self.lock(rt, opening) else {
+            return Ok(None);
+        };
+        match &mut *stage {
+            Stage::Open(room) => room.end_by(rt, alloc, count_of),
             Stage::Free => unreachable!(),
         }
     }

@@ -3,7 +3,7 @@
 
 ghost use Rattle.std.specs.Prelude.{◌≡◌, ◌↔◌, None, Some, true, false, IfErr, IfOk, OnErr, OnOk};
 ghost use Rattle.std.specs.Prelude.{MatchOption, Contains, map, vec_capacity};
-ghost use Rattle.room_lock.specs.Shelves.{is_away, part_of, with_at};
+ghost use Rattle.room_lock.specs.Shelves.{count_away, is_away, part_of, with_at};
 
 use crate::part::Part;
 use base_types::NoMemory;
@@ -83,4 +83,11 @@ pub(crate) fn all_parts<P: RoomHistories>(
         }
     }
     Ok(Some(parts))
+}
+
+/// The number of sites that a session is in as.
+pub(crate) fn count_away<P: RoomHistories>(shelf: &[Option<Part<P>>]) -> usize
+    ensures { result ≡ count_away shelf.now }
+{
+    shelf.iter().filter(|part| part.is_none()).count()
 }

@@ -6,7 +6,8 @@ ghost use Rattle.late_join.specs.Replica.{with_entries, with_taken};
 ghost use Rattle.room_watch.specs.steps.Lines.{added_line, added_lines};
 
 use crate::watch::{
-    WatchFault, connect, line_of, reply_to, session_over, show_room, status_of, write_lines,
+    WatchFault, connect, leave_room, line_of, newest_of, reply_to, session_over, show_room,
+    status_of, write_lines,
 };
 use base_types::RoomName;
 use command_fault::Fault;
@@ -25,6 +26,9 @@ use wire::{Reply, Request};
 /// The pause after a wait that brought no entry, in milliseconds. Few come from a server that holds
 /// waits.
 const PAUSE_MILLISECONDS: u64 = 100;
+
+/// How often a server is asked for the room that goes on with one that has ended.
+const MAX_ASKS: u32 = 100;
 
 /// Takes an entry, and adds the line of the object that it creates or changes.
 fn take_entry(
@@ -94,12 +98,36 @@ fn news<S: Read + Write + Drop, K: MaskKeys + Drop>(
     Ok(Some(lines_of_entries(alloc, replica, entries.as_slice())?))
 }
 
-/// Writes the lines of news until the session or the output fails. Returns the fault.
+/// Leaves the room, which has ended. Returns the newest one of the chain of this room, once the server
+/// knows it.
+fn leave_for_newest<C, S, K>(
+    clock: &C,
+    alloc: Global,
+    socket: &mut WebSocket<S, K>,
+    room: &RoomName,
+) -> Result<RoomName, WatchFault>
+where
+    C: Clock,
+    S: Read + Write + Drop,
+    K: MaskKeys + Drop,
+{
+    leave_room(alloc, socket)?;
+    for _ask in 0..MAX_ASKS {
+        if let Some(newest) = newest_of(alloc, socket, room)? {
+            return Ok(newest);
+        }
+        thread::sleep(clock, Duration::from_millis(PAUSE_MILLISECONDS));
+    }
+    Err(WatchFault::Session)
+}
+
+/// Writes the lines of news until the session or the output fails. Where the room ends, writes the lines
+/// of the one that goes on with it. Returns the fault.
 fn follow<C, S, K, W>(
     clock: &C,
     alloc: Global,
     socket: &mut WebSocket<S, K>,
-    replica: &mut Replica,
+    room: &RoomName,
     output: &mut W,
 ) -> Result<(), WatchFault>
 where
@@ -108,10 +136,15 @@ where
     K: MaskKeys + Drop,
     W: Write,
 {
+    let mut replica = show_room(alloc, socket, room, output)?;
     for _wait in 0..u64::MAX {
-        match news(alloc, socket, replica)? {
+        match news(alloc, socket, &mut replica)? {
             Some(lines) => write_lines(output, lines.as_str())?,
             None => thread::sleep(clock, Duration::from_millis(PAUSE_MILLISECONDS)),
+        }
+        if replica.has_ended() {
+            let newest = leave_for_newest(clock, alloc, socket, room)?;
+            replica = show_room(alloc, socket, &newest, output)?;
         }
     }
     Err(WatchFault::Session)
@@ -119,8 +152,9 @@ where
 
 /// Enters the room of this name over a stream, and writes the lines that `watch_over` writes. Then
 /// it waits for each new entry, and takes it. For an entry that creates or changes an object it
-/// writes the object's line again, as the record up to this entry shows it. Writes the lines of
-/// each page by one call. It goes on until something fails, so the result is never `Ok`.
+/// writes the object's line again, as the record up to this entry shows it. Where the record ends, it
+/// enters the newest room of the chain, writes the lines of its objects, and goes on there. Writes
+/// the lines of each page by one call. It goes on until something fails, so the result is never `Ok`.
 ///
 /// # Errors
 /// `Session` if the stream ended or failed, or the server sent an unexpected message.
@@ -139,8 +173,7 @@ where
     W: Write,
 {
     let mut socket = session_over(rt, alloc, stream, room)?;
-    let mut replica = show_room(alloc, &mut socket, room, output)?;
-    follow(rt, alloc, &mut socket, &mut replica, output)
+    follow(rt, alloc, &mut socket, room, output)
 }
 
 /// Connects, shows the room, and follows it.

@@ -218,14 +218,13 @@ fn enter_and_pull<S: Read + Write + Drop, K: MaskKeys + Drop>(
     pull_record(alloc, socket)
 }
 
-/// Leaves the room of this name, which has ended, for the newest one of its chain. `None` if the
-/// server knows none; the session is then in no room.
-fn newest_of<S: Read + Write + Drop, K: MaskKeys + Drop>(
+/// The newest room of the chain of this room, which has ended: `None` if the server knows none. The
+/// session is in no room.
+pub(crate) fn newest_of<S: Read + Write + Drop, K: MaskKeys + Drop>(
     alloc: Global,
     socket: &mut WebSocket<S, K>,
     room: &RoomName,
 ) -> Result<Option<RoomName>, WatchFault> {
-    leave_room(alloc, socket)?;
     let room = room.copy(alloc)?;
     match reply_to(alloc, socket, &Request::Join { room })? {
         Reply::Renewed { at: _, room } => Ok(Some(room)),
@@ -283,7 +282,7 @@ fn lines_of(alloc: Global, replica: &Replica) -> Result<String, WatchFault> {
 }
 
 /// Leaves the room.
-fn leave_room<S: Read + Write + Drop, K: MaskKeys + Drop>(
+pub(crate) fn leave_room<S: Read + Write + Drop, K: MaskKeys + Drop>(
     alloc: Global,
     socket: &mut WebSocket<S, K>,
 ) -> Result<(), WatchFault> {
@@ -360,6 +359,7 @@ where
 {
     let mut replica = enter_and_pull(alloc, socket, room)?;
     if replica.has_ended() {
+        leave_room(alloc, socket)?;
         let newest = newest_of(alloc, socket, room)?;
         replica = enter_and_pull(alloc, socket, newest.as_ref().unwrap_or(room))?;
     }

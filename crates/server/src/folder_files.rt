@@ -27,6 +27,10 @@ impl<R: Files<File = File> + Log + Wait> RoomFiles<Synced<File>> for FolderFiles
         }
     }
 
+    fn is_free(&self, alloc: Global, name: &RoomName) -> bool {
+        self.folder.is_free(self.rt, alloc, name)
+    }
+
     /// An empty file that stays since an allocation failed does no harm.
     fn close(&self, alloc: Global, name: &RoomName, file: Synced<File>) {
         let _ = self.folder.close_room(self.rt, alloc, name, file);

@@ -13,7 +13,7 @@ use crate::meters::Meters;
 use crate::platform::Platform;
 use crate::server_observer::{ServerObserver, SessionLimits};
 use crate::tallies::Tallies;
-use base_types::repeated_name;
+use base_types::{RoomName, repeated_name};
 use command_fault::Fault;
 use commands::{fault_of_rooms, room_names};
 use crossbeam_channel::{Receiver, Sender};
@@ -25,7 +25,7 @@ use loops::{Bell, MAX_LOOPS, Settings};
 use mio::{Poll, Waker};
 use restore::RestoredFile;
 use room_folder::{Folder, OpenRooms};
-use room_lock::{NewRooms, RoomHistories, Rooms};
+use room_lock::{NewRooms, Offered, RoomHistories, Rooms};
 use rules::Limits;
 use sessions::{ServeFault, Served, serve_streams};
 use std::alloc::{AllocError, Global};
@@ -36,6 +36,12 @@ use std::net::{Net, OpenListener, TcpListener};
 use std::sync::atomic::{AtomicBool, Ordering};
 use std::thread;
 use std::time::Duration;
+
+/// The places for the next rooms of each chain, where no other rooms are opened on demand.
+const PLACES_A_CHAIN: usize = 4;
+
+/// The most places for next rooms, as many as `--rooms` can ask for.
+const MAX_PLACES: usize = 100_000;
 
 /// The program's fault for a fault of serving.
 fn fault_of(fault: ServeFault) -> Fault
@@ -71,7 +77,8 @@ pub(crate) struct Service<'a, 'w, R, W> {
     pub(crate) dir: Option<&'w str>,
     /// A session may enter only the room of its request's path.
     pub(crate) is_confining: bool,
-    /// The number of rooms that may be opened on demand, 1 to 100,000; 0 for none.
+    /// The number of rooms that may be opened on demand, 1 to 100,000; 0 for none but the next rooms of
+    /// chains that are kept.
     pub(crate) on_demand: u32,
     /// After how many seconds a room is closed that nobody is in and that is kept, from 1.
     pub(crate) close_after: u32,
@@ -419,7 +426,7 @@ impl<'w, R: Platform, W: Write> Service<'_, 'w, R, W> {
         let tallies = Tallies::empty(self.alloc, &rooms, self.on_demand)?;
         match NewRooms::plan(self.alloc, rooms, Limits::full()) {
             Ok(planned) => {
-                let planned = planned.and_on_demand(self.on_demand);
+                let planned = planned.and_on_demand(self.on_demand, Offered::Every);
                 serve_in_memory::<Brand, R, W>(self, planned, &tallies)
             }
             Err(fault) => Err(fault_of_rooms(fault)),
@@ -440,14 +447,25 @@ impl<'w, R: Platform, W: Write> Service<'_, 'w, R, W> {
             states,
             files,
         } = folder.open_rooms(self.rt, alloc, &named)?;
-        let tallies = Tallies::of_rooms(alloc, &rooms, &states, self.on_demand)?;
+        let (others, offered) = self.offer(named);
+        let tallies = Tallies::of_rooms(alloc, &rooms, &states, others)?;
         match NewRooms::with_records(rooms, Limits::full(), states) {
             Ok(planned) => {
-                let planned = planned.and_on_demand(self.on_demand);
+                let planned = planned.and_on_demand(others, offered);
                 serve_in_files::<Brand, R, W>(self, planned, &tallies, files, &folder)
             }
             Err(fault) => Err(EarlyEnd::Fault(fault_of_rooms(fault))),
         }
+    }
+
+    /// How many rooms of the folder may be open beside those of the start, and which: any, or only the next
+    /// rooms of these first rooms.
+    fn offer(&self, firsts: Vec<RoomName>) -> (u32, Offered) {
+        if self.on_demand > 0 {
+            return (self.on_demand, Offered::Every);
+        }
+        let places = firsts.len().saturating_mul(PLACES_A_CHAIN);
+        (places.min(MAX_PLACES) as u32, Offered::Chains(firsts))
     }
 
     /// Opens the folder, together with other processes if rooms are opened on demand.

@@ -20,7 +20,7 @@ use Rattle.room_lock.specs.declared.entrance.Entrance.TheVariants.{Entered, Refu
 use Rattle.room_lock.specs.steps.Entrances.{IfEntered, IfInUse, IfRefused}
 use Rattle.room_lock.specs.InOrder.{IsOpeningFor}
 use Rattle.room_lock.specs.Passes.{InUseView, PassView, PrefixView}
-use Rattle.room_lock.specs.Rooms.{IsOnDemand, RoomsView, Serves}
+use Rattle.room_lock.specs.Rooms.{IsOffered, IsOnDemand, RoomsView, Serves}
 use Rattle.room_lock.specs.Told.{IsBack, IsJoin, IsRefusalOver}
 use Rattle.sessions.specs.steps.Entrances.{IsAfter}
 use Rattle.sessions.specs.Turns.{IsAnswer, IsBackRefusal, IsEntering, IsNotServed, IsPermitted, IsPermittedJoin, IsTurnedAway, MayBeShut, MayEnter}
@@ -69,7 +69,7 @@ module _ (rooms : RoomsView) (opening : OpeningView) (Enters : PassView → Repl
       other : Contains rooms.names name → ⊥
       other there = (let within = place_bound (bytes_eq name) rooms.names opening.number (at.number_is there) in omega (arith, within, past))
 
-      served : Serves rooms name → 0 < rooms.others
+      served : Serves rooms name → IsOffered rooms name
       served (inl there) = absurd (other there)
       served (inr some) = some
 

@@ -5,4 +5,4 @@ mod succeeding;
 mod usage;
 
 pub use succeeding::{Obstacle, Succession, succeed, successor_for, successor_of};
-pub use usage::{is_nearly_full, nine_tenths};
+pub use usage::{has_joins_for, is_nearly_full, nine_tenths};

@@ -1,7 +1,8 @@
 //! How much of a room's limits is used.
 
 ghost use Rattle.std.specs.Prelude.{◌≡◌, ◌≤◌, ◌<◌, ◌+◌, ◌*◌};
-ghost use Rattle.succession.specs.Usage.{is_nearly_full, is_roomy};
+ghost use Rattle.rules.specs.Records.{sites};
+ghost use Rattle.succession.specs.Usage.{has_quarter, is_nearly_full, is_roomy};
 
 use room_core::RoomState;
 
@@ -40,4 +41,13 @@ pub(crate) fn is_roomy(room: &RoomState) -> bool
     room.entries().len() as u64 <= three_quarters(limits.entries())
         && u64::from(room.sites()) <= three_quarters(limits.joins())
         && u64::from(room.count_objects()) <= three_quarters(limits.objects())
+}
+
+/// Returns whether a quarter of the room's joins is left once so many sessions more have joined it.
+pub fn has_joins_for(room: &RoomState, sessions: usize) -> bool
+    ensures { result ≡ has_quarter room.now.room.limits.joins
+        (sites room.now.room.entries + sessions) }
+{
+    let joined = u64::from(room.sites()).saturating_add(sessions as u64);
+    joined <= three_quarters(room.limits().joins())
 }

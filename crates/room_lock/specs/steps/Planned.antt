@@ -5,15 +5,17 @@ use Rattle.base_types.specs.Repeats.{first_repeat}
 use Rattle.base_types.specs.Texts.{Bytes}
 use Rattle.rules.specs.declared.history.Entry.{Entry}
 use Rattle.rules.specs.declared.limits.LimitValues.{LimitValues}
+use Rattle.room_lock.specs.declared.offered.Offered.{Offered}
 
 -- the limits of the rooms, the register of their openings, for each room that is open from the start
--- its record and its name, and how many others may be open
+-- its record and its name, how many others may be open, and which
 pub record Planned : Type 0 where
   pub limits : LimitValues
   pub register : Book
   pub records : List (List Entry)
   pub names : List Bytes
   pub others : ℕ
+  pub offered : Offered
 
 -- Each name has a record, and no name occurs twice.
 pub record CanBeMade (planned : Planned) : Type 0 where

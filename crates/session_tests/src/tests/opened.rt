@@ -10,7 +10,7 @@ use base_types::{NoMemory, RoomName};
 use connection::Answer;
 use keeper::{Access, Attempt, Failing, Forgets, KeepFault, Keeper, Reason};
 use loops::{Admission, Bell, Client, Service};
-use room_lock::{NewRooms, Opening, Prefix, RoomHistories, Rooms};
+use room_lock::{NewRooms, Offered, Opening, Prefix, RoomHistories, Rooms};
 use sessions::{Cause, Host, Observer, Session};
 use std::alloc::Global;
 use std::marker::Brand;
@@ -201,7 +201,7 @@ impl<P: RoomHistories> Keeper<P> for Slow {
 
 /// The rooms `r` and `s`, and one on demand.
 fn plan_one_on_demand(rt: &(impl Abort + AllocGlobal)) -> NewRooms {
-    plan_rooms(rt, "r s").and_on_demand(1)
+    plan_rooms(rt, "r s").and_on_demand(1, Offered::Every)
 }
 
 /// A step of a test: a session says something, and is answered or held.

@@ -1,4 +1,4 @@
-use Rattle.std.proofs.Common.{◌≡◌, ◌<◌, List, inl, inr, refl, sym, ap, ◌∙◌, subst, arith}
+use Rattle.std.proofs.Common.{◌≡◌, List, inl, inr, refl, sym, ap, ◌∙◌, subst, arith}
 use Rattle.std.specs.Prelude.{Contains, IsSome}
 use Rattle.std.specs.Map.{keys_of}
 use Rattle.std.proofs.lemmas.Map.Made.{lookup_key_same}
@@ -29,28 +29,19 @@ returns-in-Some-clause-no_room g c =
     let there : Contains c.args.self.now.names name = subst (λ (l : List Bytes). Contains l name) names (exactly.0 (subst IsSome (sym c.in-Some.is) refl)) in
     (λ is serves. absurd (cc is), λ absent. absurd (absent (inl there)))
 
-pub returns-then-most-eq0-clause-no_room : goal.returns-then-most-eq0-clause-no_room
-returns-then-most-eq0-clause-no_room g c = (λ is serves. go serves, λ absent. refl)
+pub returns-then-not-may_open-clause-no_room : goal.returns-then-not-may_open-clause-no_room
+returns-then-not-may_open-clause-no_room g c = (λ is serves. go serves, λ absent. refl)
   where
     go : Serves c.args.self.now c.args.name.now → ⊥
     go (inl there) = not_among (λ p. p.2.now) c.args.name.now c.self.inside.rooms.entries c.get_full.result c.args.self.now.names c.get_full.ensures.value c.in_default.is (ap (λ (v : RoomsView). v.names) c.self.view_is) there
-    go (inr some) =
-        (let none : c.most.result ≡ 0 = c.if-most-eq0.true in
-        let most : c.most.result ≡ c.args.self.now.others = c.most.ensures ∙ ap (λ (v : RoomsView). v.others) c.self.view_is in
-        omega (arith, none, most, some))
+    go (inr offered) = absurd (cc (sym (c.may_open.ensures.1 offered) ∙ c.if-not-may_open.true))
 
 pub returns-in-Some-opening_of-clause-open : goal.returns-in-Some-opening_of-clause-open
 returns-in-Some-opening_of-clause-open g c =
     let other = not_among (λ p. p.2.now) c.args.name.now c.self.inside.rooms.entries c.get_full.result c.args.self.now.names c.get_full.ensures.value c.in_default.is (ap (λ (v : RoomsView). v.names) c.self.view_is) in
-    let most : c.most.result ≡ c.args.self.now.others = c.most.ensures ∙ ap (λ (v : RoomsView). v.others) c.self.view_is in
-    let not_none = c.if-most-eq0.false in
-    let some : 0 < c.args.self.now.others = grind (arith, most, not_none) in
-    (inr some, opening_of_other c.args.self.now c.args.name.now c.in-Some-opening_of.opening other c.in-Some-opening_of.ensures)
+    (inr (c.may_open.ensures.0 c.if-not-may_open.false), opening_of_other c.args.self.now c.args.name.now c.in-Some-opening_of.opening other c.in-Some-opening_of.ensures)
 
 pub returns-in-None-clause-closed : goal.returns-in-None-clause-closed
 returns-in-None-clause-closed g c = λ is.
     let other = not_among (λ p. p.2.now) c.args.name.now c.self.inside.rooms.entries c.get_full.result c.args.self.now.names c.get_full.ensures.value c.in_default.is (ap (λ (v : RoomsView). v.names) c.self.view_is) in
-    let most : c.most.result ≡ c.args.self.now.others = c.most.ensures ∙ ap (λ (v : RoomsView). v.others) c.self.view_is in
-    let not_none = c.if-most-eq0.false in
-    let some : 0 < c.args.self.now.others = grind (arith, most, not_none) in
-    (other, some)
+    (other, c.may_open.ensures.0 c.if-not-may_open.false)

@@ -72,9 +72,9 @@ class Server(serving.Server):
     """`grace serve` with a thread for each processor, and its times. The variable WORKERS gives another number of
     threads: a server of version 0.3 needs one for each client."""
 
-    def __init__(self, sessions, rooms, patience=SECONDS, keep=None):
+    def __init__(self, sessions, rooms, patience=SECONDS, keep=None, **options):
         workers = os.environ.get("WORKERS", "0")
-        super().__init__(sessions, int(workers), rooms, patience=patience, keep=keep)
+        super().__init__(sessions, int(workers), rooms, patience=patience, keep=keep, **options)
         self.seconds_to_listen = None
 
     def listen(self):

@@ -26,14 +26,14 @@ export class Handwriting {
    */
   draw(points, began) {
     const stroke = simplify(points, SIMPLIFY_PIXELS / this.page.camera.scale)
-    const change = this.#continue(stroke, began) ?? this.#begin(stroke)
+    const change = this.#continue(stroke, began) ?? this.#begin(stroke, this.page.tools.colour)
     this.#last = change && { change, ended: performance.now() }
   }
 
   /** Makes new objects. Returns the change that made the last one, or null. */
-  #begin(stroke) {
-    const { changes, tools } = this.page
-    const create = ({ texts, ...box }) => changes.create("pen", { ...box, fill: tools.colour, ...texts })
+  #begin(stroke, fill) {
+    const { changes } = this.page
+    const create = ({ texts, ...box }) => changes.create("pen", { ...box, fill, ...texts })
     return changes.step(() => partsOf(stroke).map(create)).at(-1)
   }
 
@@ -44,7 +44,9 @@ export class Handwriting {
     const attributes = withStroke(version.attributes, stroke)
     if (attributes === null) return null
     const change = this.page.changes.put(this.#last.change.object, version, attributes, { isKept: true })
-    change?.done.catch((refusal) => this.#keep(stroke, refusal))
+    // The user may have chosen another colour before the refusal.
+    const { colour } = this.page.tools
+    change?.done.catch((refusal) => this.#keep(stroke, colour, refusal))
     return change
   }
 
@@ -65,7 +67,7 @@ export class Handwriting {
   }
 
   /** A stroke that the room refused as a part of an object becomes an object of its own. */
-  #keep(stroke, { word }) {
-    if (word !== "closed" && word !== "another-room") this.#begin(stroke)
+  #keep(stroke, colour, { word }) {
+    if (word !== "closed" && word !== "another-room") this.#begin(stroke, colour)
   }
 }

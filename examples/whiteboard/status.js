@@ -5,9 +5,14 @@ import { button, html, part } from "./elements.js"
 import { countOf, numberOf } from "./words.js"
 
 const NO_SUCH_ROOM = "There is no drawing under this link, and this server begins no new ones."
+const MAKE_SPACE = "Delete what is not needed, or begin a new drawing."
 
 const WORDS_MILLISECONDS = 10000
 const ACTION_MILLISECONDS = 20000
+
+// A server that keeps its rooms renews one soon after nine tenths of a limit: it looks after each few entries. Where so
+// many more are used, the room could not be renewed.
+const RENEWED_WITHIN = 64
 
 /**
  * Shows a message for some seconds, once, with a button if the user can do something about it. An action of the same
@@ -107,20 +112,22 @@ export class StateLine {
     return [`${numberOf(several)} of ${countOf(objects.length, "object")} ${have} several versions.`]
   }
 
-  /** Whether the drawing is full, or nearly. Deleted objects count too. */
+  /** Whether the drawing is full, or nearly. Deleted objects count too, until the room is renewed. */
   #full() {
     const { room } = this.board
     const entries = room.record.length + room.pending.length
     const objects = this.board.all().length
     if (entries >= LIMITS.entries) return ["The drawing is full: nothing can be changed any more."]
     if (objects >= LIMITS.objects) return ["The drawing is full: no more objects fit."]
-    if (isNearly(objects, LIMITS.objects)) return [nearlyFull(objects, LIMITS.objects, "objects")]
-    return isNearly(entries, LIMITS.entries) ? [nearlyFull(entries, LIMITS.entries, "entries")] : []
+    // Without a connection the line has more to say, and should not break into two.
+    const help = room.state === "open" ? [MAKE_SPACE] : []
+    if (isNearly(objects, LIMITS.objects)) return [nearlyFull(objects, LIMITS.objects, "objects"), ...help]
+    return isNearly(entries, LIMITS.entries) ? [nearlyFull(entries, LIMITS.entries, "entries"), ...help] : []
   }
 }
 
-/** Whether a count is at least nine tenths of a limit. The server's log warns at the same counts. */
-const isNearly = (count, limit) => count * 10 >= limit * 9
+/** Whether nine tenths of a limit are used, and so much more that the room will not be renewed as it is. */
+const isNearly = (count, limit) => (count - RENEWED_WITHIN) * 10 >= limit * 9
 
 const nearlyFull = (count, limit, noun) =>
   `The drawing is nearly full: it has ${numberOf(count)} of ${numberOf(limit)} ${noun}.`

@@ -107,11 +107,11 @@ export class Page {
     if (!this.changes.isActing) this.deletionMessages.tell(lost, news.objects, selected)
   }
 
-  /** The drawing goes on in another room. The link to it stays the same. */
+  /** The drawing goes on in another room. The link to it stays the same, so the page tells only what is different. */
   #goOn(roomName, news) {
     this.deletionMessages.forget()
     if (news.text !== null) showOldDrawing(roomName, news)
-    else this.say(renewedWords(news.copies.length))
+    else if (news.copies.length > 0) this.say(renewedWords(news.copies.length))
   }
 
   #load() {

@@ -49,7 +49,6 @@ export const separateWords = (count, shape) =>
 /** That the drawing goes on in another room, where so many versions became objects of their own. */
 export function renewedWords(copies) {
   const words = "This drawing goes on in a new room, under the same link."
-  if (copies === 0) return words
   if (copies === 1) return `${words} One of your changes met one of somebody else's, and is a new object there.`
   return `${words} ${numberOf(copies)} of your changes met those of others, and are new objects there.`
 }

@@ -13,6 +13,7 @@ import { TESTS as reconnecting } from "./reconnecting.js"
 import { TESTS as loading } from "./loading_anew.js"
 import { TESTS as renewals } from "./renewals.js"
 import { TESTS as renewedRooms } from "./renewed_rooms.js"
+import { TESTS as manyStrokes } from "./many_strokes.js"
 import { TESTS as handshakes } from "./handshakes.js"
 
 // The time limit of a test. The histories have none: a slow program needs long for them.
@@ -35,7 +36,7 @@ let passed = 0
 let failed = 0
 const groups = [
   rows, numbers, types, histories, transfers, rooms, standing, reconnecting, loading, renewals, renewedRooms,
-  handshakes,
+  manyStrokes, handshakes,
 ]
 for (const [name, test] of groups.flat()) {
   if (words.length > 0 && !words.some((word) => name.includes(word))) continue

@@ -104,7 +104,7 @@ const startedAgain = (what) => async (client, proxy, server) => {
   expectEqual("the news", [room, other, late].map(({ news }) => news), [[goesOn([[[1, 1], [3, 1]]])], [goesOn()], []])
 }
 
-/** A room on demand is renewed while two clients draw. Both go on, and nothing is lost or refused. */
+/** A room is renewed while two clients draw. Both go on, and nothing is lost or refused. */
 async function inUse(client, proxy, server) {
   const clients = [await client(server), await client(server)]
   let number = 0
@@ -148,6 +148,9 @@ async function late(client, proxy, server) {
 async function reloaded(client, proxy, server) {
   const storage = new Storage()
   const first = await client(proxy, { storage })
+  // With its join the room is nearly full. The server looks again after eight entries, or at a start.
+  const other = await client(server)
+  other.close()
   const [, rect] = first.objects()
   cutOff(proxy, CUT_BEFORE)
   first.put(rect, [], { x: 5 })
@@ -167,8 +170,9 @@ export const TESTS = [
   ["renewed at a start, with a change that it has", withRoom(JOINS - 2, AT_A_START, startedAgain(CUT_AFTER))],
   ["renewed on demand, with a change that it lacks", withRoom(JOINS - 2, ON_DEMAND, startedAgain(CUT_BEFORE))],
   ["renewed on demand, with a change that it has", withRoom(JOINS - 2, ON_DEMAND, startedAgain(CUT_AFTER))],
+  ["renewed while they draw", withRoom(JOINS - 2, AT_A_START, inUse)],
   ["renewed on demand, while they draw", withRoom(JOINS - 2, ON_DEMAND, inUse)],
   ["renewed at a start, before it came", withRoom(JOINS, AT_A_START, late)],
   ["renewed on demand, when it comes", withRoom(JOINS, ON_DEMAND, late)],
-  ["renewed at a start, and reloaded", withRoom(JOINS - 1, AT_A_START, reloaded)],
+  ["renewed at a start, and reloaded", withRoom(JOINS - 2, AT_A_START, reloaded)],
 ]

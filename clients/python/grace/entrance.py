@@ -75,6 +75,10 @@ class Entrance:
                 self._wait(NOT_SERVED, NOT_SERVED_SECONDS)
                 end = time.monotonic() + self._back_seconds
 
+    def back_newest(self, site):
+        """The reply to `back` as a site of the newest room, or None as for `back`. Raises `Refused`."""
+        return self.follow(lambda: self._back_unless_ended(site))
+
     def back_as_any(self, name):
         """The reply to `back` as any site that is free, to read a room that has ended. Raises `RenewedAs`."""
         end = time.monotonic() + self._back_seconds
@@ -118,6 +122,29 @@ class Entrance:
         record = self._load(at)
         self._request(["leave"], "left")
         return Following(name, nobody_in(record), record, False)
+
+    def _back_unless_ended(self, site):
+        """The reply to `back`, or None as for `back`. Raises `RenewedAs` if the room has ended."""
+        try:
+            back = self.back(site)
+        except Refused as refusal:
+            if refusal.word == "no-such-site" and site > 1:
+                # It may be a site of a newer room.
+                self._follow_end(self._back_as_first_free(self.name))
+            raise
+        self._follow_end(back)
+        return back
+
+    def _follow_end(self, back):
+        """Raises `RenewedAs` if the room to which a client came back has ended. The server let it in to read that. Does
+        nothing without a reply."""
+        if back is None:
+            return
+        *_, entries = self._request(["pull", back[1] - 1], "entries")
+        if entries[0][0] == "next":
+            self._request(["leave"], "left")
+            self.join(False)
+            raise ProtocolFault("The server let a client join a room that has ended.")
 
     def _load(self, length):
         """Pulls this many entries of the room."""

@@ -325,12 +325,13 @@ class NetworkThread:
 
     def _loads_own(self, site, made):
         """Loads the record. Returns false if another client was in the room as this site, and made operations that this
-        one has not seen. In a room that has ended, that does not matter: the pending changes get a site of nobody."""
-        has_record = bool(self.room_state.record)
+        one has not seen. In a room that has ended, that does not matter: the pending changes get a site of nobody. A
+        client that was given its site and has not entered yet has seen none."""
+        has_seen = bool(self.room_state.record) and self.options.site is None
         self._load()
         pending, drawing = self.room_state.pending, self.room_state.drawing
         following = pending[0].name[1] if pending else drawing.count(site) + 1
-        if not has_record or following == made + 1:
+        if not has_seen or following == made + 1:
             return True
         if self.room_state.has_ended:
             self._become_nobody()
@@ -357,8 +358,7 @@ class NetworkThread:
         site = self.room_state.site or given
         try:
             is_first = not self.room_state.record
-            ask = lambda: self.entrance.back(site)
-            back = self.entrance.follow(ask) if is_first else ask()
+            back = self.entrance.back_newest(site) if is_first else self.entrance.back(site)
         except RenewedAs as renewed:
             self._leave_behind(renewed.room)
             return None

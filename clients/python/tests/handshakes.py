@@ -211,7 +211,8 @@ def other_answers():
 def not_served_back():
     """While the server cannot serve the room, a client that comes back asks again as its site."""
     replies = [
-        '["no",0,21,"not-served"]', '["no",1,20,"site-in-use"]', '["back",1,1,0]', '["entries",1,0,[["join",1]]]',
+        '["no",0,21,"not-served"]', '["no",1,20,"site-in-use"]', '["back",1,1,0]',
+        *['["entries",1,0,[["join",1]]]'] * 2,
     ]
     events = EventLog("state")
     with ScriptedServer(replies) as server:
@@ -220,7 +221,8 @@ def not_served_back():
         with Room(server.name, "r", **options) as room:
             expect_equal("whether it is in the room", room.entered(PATIENCE), True)
             expect_equal("the site", room.site, 1)
-    expect_equal("the requests", server.requests[:4], ['["back","r",1]'] * 3 + ['["pull",0]'])
+    # It looks first whether the room has ended.
+    expect_equal("the requests", server.requests[:5], ['["back","r",1]'] * 3 + ['["pull",0]'] * 2)
     words = [it.words for it in events.of("state")]
     wanted = "The server cannot open this room now: it may have no place for one more. Trying again."
     expect_equal("whether it says so", wanted in words, True)

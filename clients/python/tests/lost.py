@@ -195,6 +195,20 @@ def draw(source, author, value):
     return value
 
 
+def given_site():
+    """The connection is cut while a client loads that was given its site. It comes back as that site."""
+    with Server(3, 4) as server, Relay(server.address[1]) as relay:
+        with open_rooms(server.name) as (first,):
+            for number in range(100):
+                first.create("rect", {"x": number})
+            agree(first)
+        relay.cut_once('["pull",64]', CUT_BEFORE)
+        with open_rooms(relay.name, site=1) as (room,):
+            expect_equal("who it is", (relay.cuts, room.site, sites(room), len(room.objects())), (1, 1, [1], 100))
+            room.create("line").done.result(PATIENCE)
+            expect_equal("the next name", operations(room)[-1][1], (1, 101))
+
+
 TESTS = [
     ("cut before the server had it", partial(cut_once, CUT_BEFORE)),
     ("cut after the server had it", partial(cut_once, CUT_AFTER)),
@@ -202,6 +216,7 @@ TESTS = [
     ("a join that was cut after the server had it", partial(join_cut, CUT_AFTER)),
     ("drawn without a connection", drawn_apart),
     ("the old site in use by another", in_use),
+    ("a given site, cut while it loads", given_site),
     ("a server that was started anew", another_room),
     ("closed with changes", closed_with_changes),
     ("cuts by chance", by_chance),

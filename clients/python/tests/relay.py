@@ -112,6 +112,7 @@ class Relay:
                 await asyncio.wait([beside], timeout=CUT_SECONDS)
             finally:
                 self.abort(writer, server)
+                await asyncio.wait([beside])
 
     async def answer(self, writer, lines):
         """Answers a handshake by these lines and a short page, and ends the connection."""

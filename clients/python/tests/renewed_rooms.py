@@ -3,13 +3,13 @@
 import contextlib
 from functools import partial
 
-from grace import Renewed
+from grace import Refused, Renewed, Room
 from lib.keeping import KeepingServer, OnDemandServer, room_folder
 from lib.records import compact
 from lib.serving import expect_equal
 from relay import CUT_AFTER, CUT_BEFORE, PASS, Relay
 from renewals import GOES_ON, shown
-from rooms import PATIENCE, EventLog, agree, open_rooms, wait_until
+from rooms import PATIENCE, EventLog, agree, expect_error, open_rooms, wait_until
 
 # A room is nearly full at this number of joins.
 JOINS = 231
@@ -126,11 +126,11 @@ def closed():
         expect_equal("what both show", (shown(room), shown(other)), (both, both))
 
 
-def in_use():
-    """A room on demand is renewed while two clients draw. Both go on, and nothing is lost or refused."""
+def in_use(on_demand):
+    """A room is renewed while two clients draw. Both go on, and nothing is lost or refused."""
     events = EventLog("renewed", "refusal", "reset")
     with (
-        served(JOINS - 2, ON_DEMAND) as (server, _, _),
+        served(JOINS - 2, on_demand) as (server, _, _),
         open_rooms(server.name, server.name, listeners=events.listeners) as (room, other),
     ):
         for number in range(1, 100):
@@ -169,13 +169,31 @@ def late(on_demand):
         expect_equal("the news", events.news, [])
 
 
+def given_site(on_demand):
+    """A client that is given its site comes back as that of the newest room, though the first one had such a site too.
+    One that the newest room never had is refused."""
+    with served(JOINS, on_demand) as (server, relay, _):
+        with open_rooms(server.name, server.name) as (_, room):
+            before = room.name, room.site
+        with open_rooms(relay.name, site=3) as (room,):
+            expect_equal("who it is", ((room.name, room.site), len(room.record)), (before, 5))
+        asked = [text for text in relay.texts if text.startswith(('["join"', '["back"'))]
+        expect_equal("how it entered", asked, ['["back","r",3]', '["join","r"]', '["back","r.2",3]'])
+        with Room(server.name, "r", site=4) as room:
+            refusal = expect_error("a site that only the first room had", Refused, room.entered, PATIENCE)
+            expect_equal("its word", refusal.word, "no-such-site")
+
+
 TESTS = [
     ("renewed at a start, with a change that it lacks", partial(started_again, AT_A_START, CUT_BEFORE)),
     ("renewed at a start, with a change that it has", partial(started_again, AT_A_START, CUT_AFTER)),
     ("renewed on demand, with a change that it lacks", partial(started_again, ON_DEMAND, CUT_BEFORE)),
     ("renewed on demand, with a change that it has", partial(started_again, ON_DEMAND, CUT_AFTER)),
     ("renewed on demand, when it was closed", closed),
-    ("renewed on demand, while they draw", in_use),
+    ("renewed while they draw", partial(in_use, AT_A_START)),
+    ("renewed on demand, while they draw", partial(in_use, ON_DEMAND)),
     ("renewed at a start, before it came", partial(late, AT_A_START)),
     ("renewed on demand, when it comes", partial(late, ON_DEMAND)),
+    ("renewed at a start, with a given site", partial(given_site, AT_A_START)),
+    ("renewed on demand, with a given site", partial(given_site, ON_DEMAND)),
 ]

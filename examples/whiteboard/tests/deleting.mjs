@@ -9,8 +9,14 @@ import {
 
 const LAKE = '.version[aria-label^="Rectangle “Lake”"]'
 
+// How far three people drag a version: upwards, so that it is not under what the page tells below.
+const APART = [[-60, -80], [0, -30], [60, -160]]
+
 /** Returns the tag of a version. */
 const tag = (object, letter) => `.tag[data-object="${object}"][data-letter="${letter}"]`
+
+/** Moves by a key and deletes at once. After half a second the page would send the move. */
+const moveAndDelete = (page, key) => Promise.all([page.key("ArrowRight"), page.key(key)])
 
 /** A key deletes the focused version, together with the moves by arrow keys just before. */
 export async function deleteByKey(first, second, room) {
@@ -20,8 +26,7 @@ export async function deleteByKey(first, second, room) {
     await draw(first, "ellipse", [40, 40], [160, 120])
     await second.waitUntil("the new object", `${COUNT} === ${count + 1}`)
     await tabTo(first, `document.activeElement === ${newest}`)
-    await first.key("ArrowRight")
-    expectEqual(key, await added(room, 1, () => first.key(key)), [["drop"]])
+    expectEqual(key, await added(room, 1, () => moveAndDelete(first, key)), [["drop"]])
     for (const page of [first, second]) await page.waitUntil("it is gone", `${COUNT} === ${count}`)
     expectEqual("what has the focus", await first.look("document.activeElement.id"), "board")
     expect("nothing is selected", (await first.look(HEADING)).startsWith("Objects"))
@@ -70,7 +75,7 @@ export async function deleteVersion(first, second, room) {
  */
 export async function keepOnly(pages, room) {
   const [first, second, third] = pages
-  const object = await allDrag(pages, '.version[aria-label="Line"]', [[-60, -80], [0, 30], [60, -160]])
+  const object = await allDrag(pages, '.version[aria-label="Line"]', APART)
   const version = (letter) => `.version[data-object="${object}"][data-letter="${letter}"]`
   const old = await second.look(BODIES)
   await second.click('[data-focus="pick-B"]')
@@ -84,12 +89,11 @@ export async function keepOnly(pages, room) {
     expectEqual("what is left", (await page.look(BODIES))[`${object}A`], old[`${object}B`])
     expectEqual("what is said of a deletion", await page.look(NOTICE), null)
   }
-  await allDrag(pages, version("A"), [[-60, -80], [0, 30], [60, -160]])
+  await allDrag(pages, version("A"), APART)
   await third.click('[data-focus="pick-C"]')
   const bodies = await second.look(BODIES)
   await first.click(tag(object, "C"))
-  await first.key("ArrowRight")
-  expectEqual("what a key does", await added(room, 1, () => first.key("Delete")), [["drop"]])
+  expectEqual("what a key does", await added(room, 1, () => moveAndDelete(first, "Delete")), [["drop"]])
   await third.waitUntil("two versions", `document.querySelectorAll(".card").length === 2`)
   const { [`${object}C`]: _, ...others } = bodies
   expectEqual("the others", await third.look(BODIES), others)
@@ -97,8 +101,7 @@ export async function keepOnly(pages, room) {
   expectEqual("the buttons", await third.look(`document.querySelector('[data-focus="keep-only"], .delete')`), null)
   await third.picture(join(PICTURES, "pick-again.png"))
   await first.click(tag(object, "A"))
-  await first.key("ArrowRight")
-  expectEqual("what a key does", await added(room, 1, () => first.key("Delete")), [["drop"]])
+  expectEqual("what a key does", await added(room, 1, () => moveAndDelete(first, "Delete")), [["drop"]])
   await third.waitUntil("one version", `document.querySelectorAll('.version[data-object="${object}"]').length === 1`)
   expectEqual("what is left", (await third.look(BODIES))[`${object}A`], bodies[`${object}B`])
 }

@@ -1,22 +1,30 @@
-/** A drawing that is nearly full, or full: the page warns, and opens in time. */
+/** A drawing that fills up. It goes on in a new room; where it cannot, the page warns. The page opens in time. */
 
+import { existsSync } from "node:fs"
 import { join } from "node:path"
 import { expect, expectEqual } from "../../../clients/js/tests/checks.js"
 import {
-  COUNT, HEADING, LIST, PICTURES, STATE, draw, faults, isOpen, linesOf, step, withRecord,
+  COUNT, HEADING, LIST, PICTURES, STATE, TOLD, draw, faults, isOpen, linesOf, noteMessages, step, withRecord,
 } from "./people.mjs"
 
 const OPENED_MILLISECONDS = 30000
+// A room is renewed if it draws at most 6,144 objects.
+export const TOO_MANY = 6200
+// More than the entries after which the server looks whether a room is nearly full.
+const MOST_DRAWN = 40
+const HELPS = "Delete what is not needed, or begin a new drawing."
 
 export async function full(browser) {
-  await step("the objects are nearly used up", () => warns(browser, recordOf(7372, 7373), "objects",
-    "The drawing is nearly full: it has 7,373 of 8,192 objects."))
+  await step("the objects are nearly used up", () => warns(browser, recordOf(7436, 7437), "objects",
+    `The drawing is nearly full: it has 7,437 of 8,192 objects. ${HELPS}`))
   await step("the objects are used up", () => warns(browser, recordOf(8191, 8192), "last-object",
     "The drawing is full: no more objects fit."))
-  await step("the entries are nearly used up", () => warns(browser, recordOf(32, 14744), "entries",
-    "The drawing is nearly full: it has 14,746 of 16,384 entries."))
-  await step("the entries are used up", () => warns(browser, recordOf(32, 16382), "last-entry",
+  await step("the entries are nearly used up", () => warns(browser, recordOf(TOO_MANY, 14808), "entries",
+    `The drawing is nearly full: it has 14,810 of 16,384 entries. ${HELPS}`))
+  await step("the entries are used up", () => warns(browser, recordOf(TOO_MANY, 16382), "last-entry",
     "The drawing is full: nothing can be changed any more."))
+  await step("nine tenths of the entries are used", () => goesOn(browser))
+  await step("the entries are used up before a start", () => renewedAtStart(browser))
 }
 
 /** The lines of a record with this many objects and entries. Its author puts values to the objects in turn. */
@@ -32,7 +40,7 @@ export function recordOf(objects, entries) {
   return linesOf([["join", 1], ...operations])
 }
 
-/** Opens a room with this record, and draws an object. The page says these words then, and not before. */
+/** Opens a room with this record, and draws an object. The page says these words then, and nothing like it before. */
 const warns = (browser, record, word, words) => withRecord(record, async (address) => {
   const start = performance.now()
   const page = await browser.open(address, 1240, 720)
@@ -42,7 +50,8 @@ const warns = (browser, record, word, words) => withRecord(record, async (addres
   console.log(`        opened in ${Math.round(opened)} ms`)
   expect(`it opens within ${OPENED_MILLISECONDS} ms: ${Math.round(opened)}`, opened <= OPENED_MILLISECONDS)
   const objects = await page.look(COUNT)
-  expect(`what it says before: ${await page.look(STATE)}`, !(await page.look(STATE)).includes(words))
+  const before = await page.look(STATE)
+  expect(`what it says before: ${before}`, !before.includes(words.split(":")[0]))
   await draw(page, "rect", [300, 300], [380, 360])
   await page.waitUntil("the words", `${STATE}.includes(${JSON.stringify(words)})`)
   expectEqual("the objects", await page.look(COUNT), objects + 1)
@@ -53,4 +62,39 @@ const warns = (browser, record, word, words) => withRecord(record, async (addres
   await page.picture(join(PICTURES, `full-${word}.png`))
   faults(page)
   await page.close()
+})
+
+/** A room that draws few objects goes on in a new one. The page does not warn, and tells nothing. */
+const goesOn = (browser) => withRecord(recordOf(32, 14738), async (address, folder) => {
+  const page = await browser.open(address, 1240, 720)
+  await isOpen(page)
+  await noteMessages(page)
+  let drawn = 0
+  for (; drawn < MOST_DRAWN && !existsSync(join(folder, "people.2.record")); drawn++) {
+    await draw(page, "rect", [300 + 20 * drawn, 300], [310 + 20 * drawn, 360])
+    expectEqual("what it says", await page.look(`/full/.test(${STATE})`), false)
+  }
+  expect("there is a new room", drawn < MOST_DRAWN)
+  await isOpen(page)
+  expectEqual("what it tells", await page.look(TOLD), [])
+  expectEqual("what it says then", await page.look(STATE), "Connected.")
+  expectEqual("the objects", await page.look(COUNT), 32 + drawn)
+  faults(page)
+  await page.close()
+})
+
+/** A start renews a room whose entries are used up. Two people draw on. */
+const renewedAtStart = (browser) => withRecord(recordOf(32, 16382), async (address) => {
+  const pages = []
+  for (let person = 0; person < 2; person++) {
+    pages.push(await browser.open(address, 1240, 720))
+    await isOpen(pages[person])
+    await draw(pages[person], "rect", [300 + 100 * person, 300], [380 + 100 * person, 360])
+  }
+  for (const page of pages) {
+    await page.waitUntil("both objects", `${COUNT} === 34`)
+    expectEqual("what it says", await page.look(STATE), "Connected.")
+  }
+  faults(...pages)
+  for (const page of pages) await page.close()
 })

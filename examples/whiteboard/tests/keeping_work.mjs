@@ -4,7 +4,7 @@ import { join } from "node:path"
 import { expect, expectEqual, waitUntil } from "../../../clients/js/tests/checks.js"
 import { CUT_BEFORE, PASS, Proxy } from "../../../clients/js/tests/proxy.js"
 import { CONTROL, SHIFT } from "./chromium.mjs"
-import { recordOf } from "./full.mjs"
+import { TOO_MANY, recordOf } from "./full.mjs"
 import {
   COUNT, MESSAGES, PICTURES, added, allDrag, draw, faults, isOpen, linesOf, onScreen, pageOf, step, twoPeople, watch,
   withRecord,
@@ -71,7 +71,7 @@ const withoutObjects = (browser) => withPage(browser, recordOf(OBJECTS - 1, OBJE
 })
 
 /** A step that cannot be undone stays until the user skips it, and none before it is undone in its place. */
-const withoutEntries = (browser) => withPage(browser, recordOf(32, ENTRIES - 4), async (page, room) => {
+const withoutEntries = (browser) => withPage(browser, recordOf(TOO_MANY, ENTRIES - 4), async (page, room) => {
   const body = (object) => `.version[data-object="${object}"] .body`
   await page.click(body("1,20"))
   expectEqual("a colour", await added(room, 1, () => page.click('[data-colour="#e4572e"]')),
@@ -157,7 +157,8 @@ const undoRefusedLater = (browser) => withManyVersions(browser, async (parts) =>
   await whileCutOff(parts, undo, () => changeVersion(room, letter))
   const words = "This can't be undone: This object has reached its limit of versions."
   await page.waitUntil("why", `${MESSAGES}.includes(${JSON.stringify(words)})`)
-  expect("the step is there again", await page.look(CAN_UNDO))
+  // The buttons are drawn in the next frame.
+  await page.waitUntil("the step is there again", CAN_UNDO)
   expect("nothing is to be redone", !(await page.look(CAN_REDO)))
 })
 

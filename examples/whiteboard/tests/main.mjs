@@ -12,6 +12,7 @@ import { looking } from "./looking.mjs"
 import { opening } from "./opening.mjs"
 import { COUNT, PICTURES, counts, faults, isOpen, serve, step, watch } from "./people.mjs"
 import { plan } from "./plan.mjs"
+import { renewedInUse } from "./renewed_in_use.mjs"
 import { renewing } from "./renewing.mjs"
 import { saving } from "./saving.mjs"
 import { sharing } from "./sharing.mjs"
@@ -91,6 +92,7 @@ async function all(browser) {
   await saving(browser)
   await sharing(browser)
   await renewing(browser)
+  await renewedInUse(browser)
   await step("a whiteboard that is killed and started again", () => connections.killed(browser))
   await step("a whiteboard whose room is gone", () => connections.roomGone())
   await step("a whiteboard at another address", () => connections.atAnotherAddress(browser))

@@ -96,6 +96,20 @@ export async function draw(page, tool, from, to) {
   await page.drag(await onScreen(page, from), await onScreen(page, to))
 }
 
+/** Takes the pen. Returns what draws with it along these places of the drawing. */
+export async function readyStroke(page, places) {
+  await page.click('[data-tool="pen"]')
+  const onPage = []
+  for (const place of places) onPage.push(await onScreen(page, place))
+  return () => page.dragAlong(onPage)
+}
+
+/** Draws with the pen along these places of the drawing. */
+export async function stroke(page, places) {
+  const drawIt = await readyStroke(page, places)
+  await drawIt()
+}
+
 /** Returns the screen position of a place of the drawing. */
 export function onScreen(page, [x, y]) {
   return page.look(`(() => {
@@ -124,6 +138,9 @@ export async function allDrag(pages, selector, steps) {
   const [first] = pages
   const object = await first.look(`document.querySelector('${selector}').dataset.object`)
   const from = await first.middleOf(`${selector} .body`)
+  // The button of a message may lie over it for some seconds.
+  const isFree = `document.elementFromPoint(${from}).closest(".version")?.dataset.object === "${object}"`
+  for (const page of pages) await page.waitUntil("nothing lies over it", isFree)
   for (const page of pages) await page.press(from)
   for (const [place, page] of pages.entries()) {
     const to = [from[0] + steps[place][0], from[1] + steps[place][1]]
@@ -171,13 +188,13 @@ export async function twoPeople(browser, act) {
 /** The lines of a record with these entries. */
 export const linesOf = (entries) => entries.map((entry) => `${JSON.stringify(entry)}\n`).join("")
 
-/** Runs an action with a whiteboard whose room has a record of these lines, and ends it. */
+/** Runs an action with a whiteboard whose room has a record of these lines, and its folder. Ends the whiteboard. */
 export async function withRecord(record, act) {
   const folder = await mkdtemp(join(tmpdir(), "whiteboard-room-"))
   await writeFile(join(folder, "people.record"), record)
   const { server, address } = await serve("--keep", folder)
   try {
-    await act(address)
+    await act(address, folder)
   } finally {
     endAll(server)
     await rm(folder, { recursive: true })
@@ -192,3 +209,17 @@ export async function signalRoom(server, signal) {
 
 /** The messages that the page shows for some seconds. */
 export const MESSAGES = `[...document.querySelectorAll("#refusals p")].map((one) => one.textContent)`
+
+/** All messages and notices since `noteMessages`, also those that are gone. */
+export const TOLD = "told"
+
+/** Notes what the page tells from now on. */
+export const noteMessages = (page) => page.look(`(() => {
+  window.told = []
+  const note = (changes) => {
+    for (const { addedNodes } of changes) for (const { textContent } of addedNodes) told.push(textContent)
+  }
+  for (const id of ["refusals", "kept", "reset"]) {
+    new MutationObserver(note).observe(document.getElementById(id), { childList: true })
+  }
+})()`)

@@ -1,7 +1,7 @@
 /** A room that is renewed: the pages go on in the next one. */
 
 import { join } from "node:path"
-import { expectEqual } from "../../../clients/js/tests/checks.js"
+import { expectEqual, waitUntil } from "../../../clients/js/tests/checks.js"
 import { startRenewingServer } from "../../../clients/js/tests/renewing_port.js"
 import { CONTROL } from "./chromium.mjs"
 import {
@@ -38,7 +38,7 @@ export async function renewing(browser) {
   }
 }
 
-/** Both pages go on, show the same, and keep what is selected. The address stays. */
+/** Both pages go on, show the same, keep what is selected, and tell nothing. The address stays. */
 async function renewed(first, second, server, href) {
   await draw(first, "line", [30, 30], [90, 60])
   await first.key("Delete")
@@ -47,8 +47,9 @@ async function renewed(first, second, server, href) {
   for (const page of [first, second]) await page.waitUntil("both objects", `${COUNT} === 2`)
   const places = await second.look(PLACES)
   server.renew()
-  for (const page of [first, second]) await page.waitUntil("the message", `${MESSAGES}.includes("${GOES_ON}")`)
-  await isOpen(first)
+  await waitUntil("both are in the new room", () => server.newest.sites.size === 2)
+  for (const page of [first, second]) await isOpen(page)
+  for (const page of [first, second]) expectEqual("what it tells", await page.look(MESSAGES), [])
   await first.picture(join(PICTURES, "renewed.png"))
   expectEqual("the record", server.newest.name, "r.2")
   expectEqual("what is shown", await second.look(PLACES), places)

@@ -2,10 +2,12 @@
 
 import { join } from "node:path"
 import { Refused } from "../../../clients/js/grace.js"
-import { expect, expectEqual } from "../../../clients/js/tests/checks.js"
+import { expect, expectEqual, waitUntil } from "../../../clients/js/tests/checks.js"
 import { Handwriting } from "../handwriting.js"
 import { CONTROL, SHIFT } from "./chromium.mjs"
-import { COUNT, PICTURES, VERSIONS, added, draw, onScreen, signalRoom, step, twoPeople } from "./people.mjs"
+import {
+  COUNT, PICTURES, VERSIONS, added, draw, onScreen, readyStroke, signalRoom, step, stroke, twoPeople,
+} from "./people.mjs"
 
 // Longer than the time in which a stroke goes into the object of the one before.
 const LATER_MILLISECONDS = 2300
@@ -14,6 +16,7 @@ export const sketching = (browser) => twoPeople(browser, async ({ first, second,
   await step("strokes of the pen", () => strokes(first, second, room))
   await step("a stroke that takes several objects", () => longStroke(first, second, room))
   await step("strokes that go into one object", () => handwriting(first, second, room))
+  await step("a long text by hand", () => longText(first, second, room))
   await step("strokes that begin another object", () => otherObjects(first, room))
   await step("two people write at once", () => bothWrite(first, second, room))
   await step("a stroke after another has moved the object", () => strokeAfterMove(first, second, room))
@@ -25,20 +28,6 @@ export const sketching = (browser) => twoPeople(browser, async ({ first, second,
   await step("a colour of one's own", () => ownColour(first, room))
   await first.picture(join(PICTURES, "sketched.png"))
 })
-
-/** Takes the pen. Returns what draws with it along these places of the drawing. */
-async function readyStroke(page, places) {
-  await page.click('[data-tool="pen"]')
-  const onPage = []
-  for (const place of places) onPage.push(await onScreen(page, place))
-  return () => page.dragAlong(onPage)
-}
-
-/** Draws with the pen along these places of the drawing. */
-async function stroke(page, places) {
-  const drawIt = await readyStroke(page, places)
-  await drawIt()
-}
 
 /** A stroke has the points at which it turns, relative to its corner. Points between them are left out. */
 async function strokes(first, second, room) {
@@ -124,6 +113,36 @@ async function handwriting(first, second, room) {
   expectEqual("a move by the other", moved, [["put", [["x", 810], ["y", 60]]]])
   await first.waitUntil("all strokes there", `${STROKES}.startsWith("M 820 70 ")`)
   await second.key("Escape")
+}
+
+const LINES = 4
+const LETTERS = 12
+// The points of a letter. An object takes some 20 such letters.
+const POINTS = 14
+const ALL_STROKES = `[...document.querySelectorAll("path.body")].flatMap((one) =>
+  one.getAttribute("d").split(/ (?=M)/))`
+
+/** A person who writes on fills one object after another, and no stroke is lost. */
+async function longText(first, second, room) {
+  await later()
+  const letter = (_, place) => Array.from({ length: POINTS }, (_, point) =>
+    [700 + 30 * (place % LETTERS) + point, 640 + 30 * Math.floor(place / LETTERS) + 20 * (point % 2)])
+  const letters = Array.from({ length: LINES * LETTERS }, letter)
+  const before = await second.look(ALL_STROKES)
+  const start = room.record.length
+  await strokesOf(first, letters)
+  const all = [...before, ...letters.map((points) => `M ${points.map((point) => point.join(" ")).join(" L ")}`)]
+  for (const page of [first, second]) {
+    await page.waitUntil("all strokes", `(${ALL_STROKES}).length === ${all.length}`)
+    expectEqual("the strokes", await page.look(ALL_STROKES), all)
+  }
+  await waitUntil("an entry of each", () => room.record.length === start + letters.length)
+  const objects = room.record.slice(start).filter(([word]) => word === "new").length
+  expect(`the objects: ${objects}`, objects > 1 && objects < letters.length / 2)
+  await first.picture(join(PICTURES, "long-text.png"))
+  for (let back = 0; back < letters.length; back++) await first.key("z", CONTROL)
+  await second.waitUntil("all is taken back", `(${ALL_STROKES}).length === ${before.length}`)
+  await first.key("Escape")
 }
 
 /** A stroke in another colour, far away, later, or after the object has changed begins another object. */
@@ -212,7 +231,7 @@ async function strokeWhileDragged(first, second, room, server) {
   for (const page of [first, second]) await page.key("Escape")
 }
 
-/** A stroke that the room refuses as a part of an object becomes an object of its own. */
+/** A stroke that the room refuses as a part of an object becomes an object of its own, in the colour of the stroke. */
 async function refusedStroke() {
   const made = []
   const changeOf = (done, attributes = {}) =>
@@ -223,10 +242,13 @@ async function refusedStroke() {
     put: () => changeOf(Promise.reject(new Refused("too-many-versions"))),
   }
   const room = { has: () => true, versions: () => [changes.last.version] }
-  const handwriting = new Handwriting({ changes, room, camera: { scale: 1 }, tools: { colour: "#3a86c8" } })
+  const tools = { colour: "#3a86c8" }
+  const handwriting = new Handwriting({ changes, room, camera: { scale: 1 }, tools })
   for (const x of [100, 110]) handwriting.draw([[x, 100], [x, 140]], performance.now())
+  tools.colour = "#e4572e"
   await new Promise((resolve) => setTimeout(resolve))
-  expectEqual("the objects", made.map(({ x, "points-0": text }) => [x, text]), [[100, "0,0 0,40"], [110, "0,0 0,40"]])
+  expectEqual("the objects", made.map(({ x, fill, "points-0": text }) => [x, fill, text]),
+    [[100, "#3a86c8", "0,0 0,40"], [110, "#3a86c8", "0,0 0,40"]])
 }
 
 async function textOnShape(first, second, room) {

@@ -137,6 +137,35 @@ def test_declined(record, others):
             server.warnings()
 
 
+def many_versions(joins=60, versions=32):
+    """Returns the file of a room with so many joins, and an object of so many versions: as many joins has the room that
+    goes on with it."""
+    puts = [["put", [site, 1], [[1, 1]], [1, 1], [], [["x", site]]] for site in range(2, versions + 2)]
+    return text_of([*(["join", site] for site in range(1, joins + 1)), ["new", [1, 1], [], "rect", []], *puts])
+
+
+@cases([("all stay", True), ("all but one leave", False)])
+def test_joins_of_all(stay):
+    """A room goes on while the next one would not have a quarter of its joins left once all who are in have joined it."""
+    record = many_versions()
+    sites = range(record.count(b'"join"') + 1, JOINS + 1)
+    with folder_of({OLD: record}) as folder, server_of(folder) as server:
+        for site in sites:
+            client = server.client()
+            expect_equal("the reply", json.loads(client.ask(["join", "plan"]))[2], site)
+            if not stay and site < JOINS:
+                client.close()
+        for seq in range(1, 17):
+            reply = json.loads(client.ask(["new", seq, [[JOINS, seq - 1]] if seq > 1 else [], "line", []]))
+            if reply[0] == "no":
+                break
+        if not stay:
+            wait_until("the record has ended", lambda: has_ended(folder))
+        expect_equal("whether all was taken", reply[0] == "made" and not has_ended(folder), stay)
+        server.kill()
+        server.warnings()
+
+
 def test_other_rooms():
     """A server that has only the rooms of the command line and of their chains opens no other, and leaves no file of one.
     A room with a number is opened once its chain reaches it."""

@@ -1,6 +1,6 @@
 /**
- * Checks of arguments: room names, kinds, keys, values, object names and version identifiers. An error message starts
- * with the key or the argument, and says what is wrong with it.
+ * Checks of arguments: room names, kinds, keys, values, notes, object names and version identifiers. An error message
+ * starts with the key or the argument, and says what is wrong with it.
  */
 
 import { LIMITS, codeOf, idOf } from "./forms.js"
@@ -63,6 +63,18 @@ export function asValue(value, key) {
     throw new RangeError(`${key}: ${value} may be rounded; use a BigInt beyond 2^53 - 1`)
   }
   return exact(value)
+}
+
+/**
+ * Checks a note.
+ * @param {unknown} text
+ * @returns {string}
+ * @throws {TypeError} it is not a string, or has an unpaired surrogate
+ * @throws {RangeError} it exceeds 256 bytes in UTF-8
+ */
+export function asNote(text) {
+  if (typeof text !== "string") throw new TypeError(`the note must be a string, not ${quote(text)}`)
+  return asText(text, "the note")
 }
 
 function asText(text, key) {

@@ -270,6 +270,8 @@ export interface RoomEvents {
     copies: [object: Name, copy: Name][]
     text: string | null
   }
+  /** Some note of the room has changed. `notes` is what `room.notes` is now. */
+  notes: { notes: Map<number, string> }
 }
 
 /** A client in a room. */
@@ -320,6 +322,21 @@ export class Room {
    * @throws {TypeError} there is no such event
    */
   on<Event extends keyof RoomEvents>(event: Event, listener: (news: RoomEvents[Event]) => void): () => void
+
+  /**
+   * This client's own note: a string of at most 256 bytes in UTF-8, which others in the room see while this client is
+   * in it. The empty string is none. Set it as often as you like: the client sends the newest one, at most ten times a
+   * second, and again every 20 seconds. It sets the note again after each reconnect, and in the room's successor.
+   */
+  get note(): string
+  /** @throws {TypeError | RangeError} the note is too long or no string. Nothing has changed. */
+  set note(text: string)
+  /**
+   * All notes of the room as the server last told them, the own one too: site and text, by site in ascending order.
+   * Each call gives a new copy. It is empty while the client is not in the room, and if the server does not know notes.
+   * A client asks for notes once you have listened for `notes`, read this or set `note`.
+   */
+  get notes(): Map<number, string>
 
   /** @throws {Refused | TypeError | RangeError} nothing has changed */
   create(kind: string, attributes?: Attributes): Change

@@ -1,6 +1,6 @@
 /** A room: its objects and versions, the changes of this client, and the session with the server. */
 
-import { asAttributes, asId, asKind, asName, asPairs, asRoomName, asSeen } from "./arguments.js"
+import { asAttributes, asId, asKind, asName, asNote, asPairs, asRoomName, asSeen } from "./arguments.js"
 import { Change, HeldChanges, joinSeen, latestName, renameOperation } from "./change.js"
 import { Connection, Lost } from "./connection.js"
 import { ConnectionState } from "./connection_state.js"
@@ -11,6 +11,7 @@ import {
   Denied, LIMITS, ProtocolFault, Refused, RenewedAs, codeOf, entryOf, nameOf, operationOf, requestOf,
 } from "./forms.js"
 import { writeText } from "./json_text.js"
+import { Notes } from "./notes.js"
 import { NO_WEB_SOCKET, addressOf, storageOf, withDefaults } from "./options.js"
 import { Passage, takeAlong } from "./passage.js"
 import { Backoff } from "./pause.js"
@@ -49,6 +50,7 @@ const LEFT_BEHIND = "This drawing went on in another room without your last chan
  *   with pending changes that could not go on in their object: each as `[object, copy]`, where `copy` is an object of
  *   its own. If the pending changes could not be taken along, `text` has the old record and them, as for `reset`;
  *   otherwise it is null.
+ * - `notes` with `{ notes }`: some note of the room has changed. `notes` is what `room.notes` is now.
  */
 export class Room {
   #address
@@ -56,9 +58,10 @@ export class Room {
   #firstName
   #entrance
   #saved
-  #events = new Events("change", "state", "progress", "refusal", "reset", "renewed")
+  #events = new Events("change", "state", "progress", "refusal", "reset", "renewed", "notes")
   #connectionState
   #waits
+  #notes = new Notes((notes) => this.#events.emit("notes", { notes }))
   #site = null
   #record = []
   #drawing = new Drawing()
@@ -263,13 +266,49 @@ export class Room {
 
   /**
    * Adds a listener.
-   * @param {"change" | "state" | "progress" | "refusal" | "reset" | "renewed"} event
+   * @param {"change" | "state" | "progress" | "refusal" | "reset" | "renewed" | "notes"} event
    * @param {(news: any) => void} listener
    * @returns {() => void} removes the listener
    * @throws {TypeError} there is no such event
    */
   on(event, listener) {
-    return this.#events.on(event, listener)
+    const end = this.#events.on(event, listener)
+    if (event === "notes") this.#useNotes()
+    return end
+  }
+
+  // ---- notes
+
+  /**
+   * This client's own note: a string of at most 256 bytes in UTF-8, which others in the room see while this client is
+   * in it. The empty string is none. Set it as often as you like: the client sends the newest one, at most ten times a
+   * second. It sets the note again after each reconnect, and in the room's successor.
+   * @type {string}
+   */
+  get note() {
+    return this.#notes.own
+  }
+
+  /** @throws {TypeError | RangeError} the note is no string, has an unpaired surrogate, or exceeds 256 bytes */
+  set note(text) {
+    this.#notes.own = asNote(text)
+    this.#useNotes()
+  }
+
+  /**
+   * All notes of the room as the server last told them, the own one too: a copy, by site in ascending order. It is
+   * empty while the client is not in the room, and if the server does not know notes. The first call has the client ask
+   * for the notes, so listen for `notes`.
+   * @type {Map<number, string>}
+   */
+  get notes() {
+    this.#useNotes()
+    return this.#notes.all
+  }
+
+  #useNotes() {
+    this.#notes.use()
+    this.#wakeIfIn()
   }
 
   // ---- changing
@@ -426,7 +465,7 @@ export class Room {
     this.#saveChanges()
     this.#waits.hurry()
     this.#connectionState.update()
-    if (this.#connectionState.isIn) this.#wake()
+    this.#wakeIfIn()
     this.#emitChange([codeOf(operation.object)])
     return change
   }
@@ -473,6 +512,7 @@ export class Room {
         await this.#serve().finally(() => backoff.lasted(Date.now() - start))
       } catch (fault) {
         this.#connection?.close()
+        this.#notes.leave()
         if (this.#isClosing) return
         if (!(fault instanceof Lost)) return this.#closeBecauseOf(fault)
         this.#connectionState.leave("waiting", `${fault.message} Trying again.`)
@@ -510,6 +550,7 @@ export class Room {
     this.#isLoaded = true
     this.#show()
     if (isFirst) this.#emitProgress()
+    this.#notes.enter()
     this.#connectionState.enter(`Connected as site ${this.#site}.`)
   }
 
@@ -538,6 +579,7 @@ export class Room {
 
   async #leave() {
     if (!this.#isIn) return
+    this.#notes.leave()
     await this.#request(["leave"], "left")
     this.#isIn = false
   }
@@ -724,23 +766,31 @@ export class Room {
     }
   }
 
-  /** Sends changes and waits for news until the connection is lost. At most one wait is outstanding. */
+  /**
+   * Sends changes and waits for news until the connection is lost. At most one wait, and one question about notes, is
+   * outstanding.
+   */
   async #serve() {
-    let wait = null
+    let [wait, question] = [null, null]
     while (!this.#isClosing) {
       if (this.hasEnded) {
-        wait = null
+        wait = question = null
         this.#isEntering = true
         await this.#finishEntering()
       }
+      if (question === null && this.#notes.timeLeft <= 0) question = this.#ask(wait)
       if (wait === null && this.#isWaitDue()) wait = this.#waits.send(this.#connection, this.#record.length)
-      if (this.#pending.length === 0) await this.#sleepUntilWork(wait)
+      if (this.#pending.length === 0) await this.#sleepUntilWork(wait, question)
       const [change] = this.#pending
       const reply = change === undefined ? null : this.#startChange(change)
       // A server that held the wait answers it now, before the change.
       if (wait !== null && (reply !== null || wait.isAnswered)) {
         await this.#finishWait(wait, reply !== null)
         wait = null
+      }
+      if (question?.isAnswered) {
+        await this.#finishQuestion(question)
+        question = null
       }
       if (reply !== null) await this.#finishChange(change, reply)
     }
@@ -751,13 +801,28 @@ export class Room {
     return this.#record.length < this.#length || (this.#pending.length === 0 && this.#waits.timeLeft <= 0)
   }
 
-  /** Waits until a change is made, the outstanding wait is answered, or the next one is due. */
-  #sleepUntilWork(wait) {
-    if (wait !== null) return this.#sleep(Infinity, wait.reply)
-    return this.#sleep(this.#waits.timeLeft, this.#connection.ended)
+  /** Waits until there is something to send, or an outstanding wait or question is answered. */
+  #sleepUntilWork(wait, question) {
+    const times = []
+    if (wait === null) times.push(this.#waits.timeLeft)
+    if (question === null) times.push(this.#notes.timeLeft)
+    const replies = [wait, question].filter((one) => one !== null).map(({ reply }) => reply)
+    const end = replies.length > 0 ? Promise.race(replies) : this.#connection.ended
+    return this.#sleep(Math.min(...times), end)
   }
 
-  /** Waits this long. A new change, the end of the room, or `end` ends the wait early. */
+  /** Sends a request about notes, behind the outstanding wait if there is one. */
+  #ask(wait) {
+    if (wait !== null) wait.isQuestionBehind = true
+    return this.#notes.send(this.#connection)
+  }
+
+  /** Ends the sleep of a client that is in the room. */
+  #wakeIfIn() {
+    if (this.#connectionState.isIn) this.#wake()
+  }
+
+  /** Waits this long. A new change or note, the end of the room, or `end` ends the wait early. */
   async #sleep(milliseconds, end = new Promise(() => {})) {
     let timer
     const slept = new Promise((resolve) => {
@@ -831,14 +896,30 @@ export class Room {
   }
 
   /** Shows what a wait brought. */
-  async #finishWait(wait, isMessageBehind) {
+  async #finishWait(wait, isChangeBehind) {
     try {
       const entries = this.#entriesOf(await wait.reply, wait.from)
-      if (entries.length === 0 && !isMessageBehind) this.#waits.broughtNothing(wait)
+      if (entries.length === 0 && !wait.isQuestionBehind) {
+        this.#notes.mayHaveChanged()
+        if (!isChangeBehind) this.#waits.broughtNothing(wait)
+      }
       this.#append(entries)
     } catch (fault) {
       // Coming back finds the other record.
       throw fault.word === "too-far" ? new Lost(SHORTER_RECORD) : fault
+    }
+  }
+
+  /** Takes the notes of the reply to a question. */
+  async #finishQuestion({ reply }) {
+    const answer = await reply
+    if (this.#isClosing) return
+    try {
+      const [, , notes] = this.#checked(answer, "notes")
+      if (this.#notes.receive(notes)) this.#waits.hurry()
+    } catch (fault) {
+      if (fault.word !== "bad-message") throw fault
+      this.#notes.giveUp()
     }
   }
 
@@ -1024,10 +1105,11 @@ export class Room {
   }
 
   #end(words) {
-    if (this.state === "closed") return
+    if (this.#isClosing) return
     this.#isClosing = true
     this.#connection?.close()
     this.#wake()
+    this.#notes.leave()
     const pending = this.#pending.splice(0)
     this.#connectionState.leave("closed", words)
     this.#reject(pending, new Refused("closed"))

@@ -1,4 +1,7 @@
-/** The waits for news. The server holds each until there is an entry, another message comes, or 25 seconds are over. */
+/**
+ * The waits for news. The server holds each until there is an entry, another message comes, or 25 seconds are over. It
+ * also answers one when a note has changed, if the session has asked for notes.
+ */
 
 import { HOLD_MILLISECONDS } from "./connection.js"
 import { writeText } from "./json_text.js"
@@ -8,8 +11,10 @@ import { Pause } from "./pause.js"
 const AT_ONCE_MILLISECONDS = 1000
 
 /**
- * An outstanding wait. `reply` is the promise of the reply, which `isAnswered` says has come.
- * @typedef {{ from: number, reply: Promise<any[]>, sentAt: number, isAnswered: boolean }} Wait
+ * An outstanding wait. `reply` is the promise of the reply, which `isAnswered` says has come. `isQuestionBehind` says
+ * whether the client has sent a request about notes behind it.
+ * @typedef {{ from: number, reply: Promise<any[]>, sentAt: number, isAnswered: boolean, isQuestionBehind: boolean }}
+ *   Wait
  */
 
 /** Sends waits, and decides when the next one is due: at once, unless the server does not hold them. */
@@ -41,7 +46,7 @@ export class Waits {
    */
   send(connection, from) {
     const reply = connection.request(writeText(["wait", from]), HOLD_MILLISECONDS)
-    const wait = { from, reply, sentAt: performance.now(), isAnswered: false }
+    const wait = { from, reply, sentAt: performance.now(), isAnswered: false, isQuestionBehind: false }
     reply.then(() => (wait.isAnswered = true), () => {})
     return wait
   }

@@ -51,6 +51,7 @@ export class Nudges {
   #begin(name, version, isResize, room) {
     const shape = shapeOf(room.kind(name), version.attributes)
     const release = room.hold()
+    this.page.others.holds.tell(name)
     if (this.page.board.selected === null || keyOf(this.page.board.selected) !== keyOf(name) ||
       this.page.board.picked(name) !== version) this.page.select(name, version)
     return { name, version, shape, isResize, sum: [0, 0], release, timer: null }

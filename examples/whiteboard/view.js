@@ -16,6 +16,7 @@ export class View {
   #isPanelOld = true
   #frames = new Frames(() => this.#draw())
   #panel = null
+  #overlay = null
 
   /** @param {import("./board.js").Board} board */
   constructor(board) {
@@ -38,6 +39,15 @@ export class View {
   set panel(panel) {
     this.#panel = panel
     this.change([])
+  }
+
+  /**
+   * What is drawn above the drawing in each frame.
+   * @param {{ draw: () => void }} overlay
+   */
+  set overlay(overlay) {
+    this.#overlay = overlay
+    this.look()
   }
 
   /**
@@ -100,6 +110,7 @@ export class View {
     this.specks.draw()
     this.marks.draw()
     this.edges.draw()
+    this.#overlay?.draw()
     part("scale").textContent = `${Math.round(scale * 100) || (scale * 100).toFixed(1)} %`
     if (!this.#isPanelOld) return
     this.#isPanelOld = false

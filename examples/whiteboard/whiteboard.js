@@ -19,7 +19,10 @@ import { Handwriting } from "./handwriting.js"
 import { Keys } from "./keys.js"
 import { placeOfPage } from "./links.js"
 import { Nudges } from "./nudges.js"
+import { Others } from "./others.js"
 import { Panel } from "./panel.js"
+import { People } from "./people.js"
+import { PeopleList } from "./people_list.js"
 import { RefusedChanges } from "./refused_changes.js"
 import { Sharing } from "./sharing.js"
 import { StateLine, say, showOldDrawing, showProgress } from "./status.js"
@@ -38,6 +41,9 @@ export class Page {
     this.board = new Board(this.room)
     this.view = new View(this.board)
     this.camera = this.view.camera
+    this.people = new People(this.board, this.view.sheet.element, (event) => this.camera.placeOf(event))
+    this.peopleList = new PeopleList(this.people)
+    this.others = new Others(this.people, this.view)
     this.refusedChanges = new RefusedChanges(this)
     this.changes = new Changes(this)
     this.deletedObjects = new DeletedObjects(this)
@@ -53,6 +59,7 @@ export class Page {
     this.state = new StateLine(this.board)
     this.panel = new Panel(this, part("panel"))
     this.view.panel = this
+    this.view.overlay = this.others
     part("room").textContent = roomName
     this.#listen(roomName)
   }
@@ -68,6 +75,7 @@ export class Page {
   /** Selects an object or none, and picks a version if one is given. */
   select(name, version) {
     const before = this.board.selected
+    this.others.holds.tell(name)
     this.board.selected = name
     if (version !== undefined && this.board.shown(name).length > 1) this.board.pick(name, version)
     this.view.change([before, name].filter((one) => one !== null && this.room.has(one)))

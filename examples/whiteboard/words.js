@@ -53,6 +53,37 @@ export function renewedWords(copies) {
   return `${words} ${numberOf(copies)} of your changes met those of others, and are new objects there.`
 }
 
+/** A person who has not told a name. */
+export const guestWords = (site) => `Guest ${site}`
+
+// More people than these are only counted.
+const NAMED = 3
+
+/** People by their names: `Anna, Ben and Carla`. */
+export function peopleWords(names) {
+  if (names.length > NAMED) return countOf(names.length, "person", "people")
+  return names.length < 2 ? names.join() : `${names.slice(0, -1).join(", ")} and ${names.at(-1)}`
+}
+
+/** Who else moves an object, or otherwise who has selected it. */
+export function heldWords(moving, selecting) {
+  const names = moving.length > 0 ? moving : selecting
+  if (moving.length > 0) return `${peopleWords(names)} ${names.length > 1 ? "are" : "is"} moving this`
+  return `${peopleWords(names)} ${names.length > 1 ? "have" : "has"} selected this`
+}
+
+/** Who came and who left. */
+export function arrivalWords(come, left) {
+  const words = []
+  if (come.length > 0) words.push(`${peopleWords(come)} ${come.length > 1 ? "are" : "is"} here.`)
+  if (left.length > 0) words.push(`${peopleWords(left)} ${left.length > 1 ? "have" : "has"} left.`)
+  return words.join(" ")
+}
+
+/** The first letters of the first words of a name. */
+export const initialsOf = (name) =>
+  name.split(" ").slice(0, 2).map((word) => [...word][0]).join("").toUpperCase()
+
 /** Versions by their letters. */
 export function versionWords(places) {
   const letters = places.map(letterOf)

@@ -10,6 +10,7 @@ NO_SUCH_ROOM = '["no",0,4,"no-such-room"]'
 REPLIES = {
     "join": "joined", "back": "back", "new": "made", "put": "taken", "drop": "taken", "set": "taken",
     "show": "versions", "list": "objects", "pull": "entries", "wait": "entries", "leave": "left",
+    "note": "notes", "notes": "notes",
 }
 WORDS = dict(enumerate((
     "bad-message", "not-joined", "already-joined", "no-such-room", "room-full", "record-full", "wrong-seq",
@@ -23,6 +24,7 @@ OF_BACK = {"no-such-site", "site-in-use"}
 INSIDE = {
     "join": {3}, "back": {3}, "new": {6, 7, 8, 9, 10, 16, 22}, "put": {*range(6, 16), 18, 22},
     "drop": {*range(6, 14), 15, 18, 22}, "set": {*range(6, 16), 18, 22}, "show": {11}, "list": {17}, "pull": {17}, "wait": {17}, "leave": set(),
+    "note": set(), "notes": set(),
 }
 OUTSIDE = {"join": {4, 5, 6, 21, 22}, "back": {4, 19, 20, 21}}
 

@@ -58,6 +58,8 @@ class Transcript:
         if reply[0] == "no" and reply[3] in BY_SESSION | OF_BACK:
             return
         request = json.loads(request)
+        if request[0] in ("note", "notes"):
+            return
         if reply[0] in ("joined", "back"):
             self.room, self.site = request[1], reply[2]
             self.made = reply[3] if reply[0] == "back" else 0

@@ -115,6 +115,27 @@ WAITS = TWO_VERSIONS + """
 WAIT_FOR_MORE = ONE_PUT + """
 1 ["wait",4] -> ["entries",4,4,[]]
 """
+NOTES = r"""
+1 ["join","r"] -> ["joined",0,1]
+2 ["join","r"] -> ["joined",1,2]
+1 ["notes"] -> ["notes",2,[]]
+2 ["note","at 5, 9"] -> ["notes",2,[[2,"at 5, 9"]]]
+1 ["note","\u00e9\u0001\""] -> ["notes",2,[[1,"é\u0001\""],[2,"at 5, 9"]]]
+2 ["notes"] -> ["notes",2,[[1,"é\u0001\""],[2,"at 5, 9"]]]
+1 ["new",1,[],"rect",[]] -> ["made",2,[1,1]]
+1 ["note","b"] -> ["notes",3,[[1,"b"],[2,"at 5, 9"]]]
+3 ["notes"] -> ["no",0,2,"not-joined"]
+3 ["note","x"] -> ["no",0,2,"not-joined"]
+3 ["join","a"] -> ["joined",0,1]
+3 ["note","of another room"] -> ["notes",1,[[1,"of another room"]]]
+2 ["notes"] -> ["notes",3,[[1,"b"],[2,"at 5, 9"]]]
+2 ["leave"] -> ["left",3]
+1 ["notes"] -> ["notes",3,[[1,"b"]]]
+2 ["back","r",2] -> ["back",3,2,0]
+2 ["notes"] -> ["notes",3,[[1,"b"]]]
+1 ["note",""] -> ["notes",3,[]]
+1 ["pull",0] -> ["entries",3,0,[["join",1],["join",2],["new",[1,1],[],"rect",[]]]]
+"""
 REPLACED = ONE_PUT + """
 1 ["put",3,[[1,2]],[1,1],[],[["x",6]]] -> ["taken",4,[[]]]
 2 ["put",1,[[1,1]],[1,1],[],[["x",5]]] -> ["taken",5,[[[1,3]],[[2,1]]]]
@@ -368,6 +389,7 @@ ROWS = [
     ("pages, leaving and joining anew", PAGES),
     ("pages of the record, and the same ones again", PAGES_OF_THE_RECORD),
     ("waits, answered as pulls", WAITS),
+    ("notes of sites that are in", NOTES),
     ("a value that was replaced", REPLACED),
     ("letters of all kinds", OTHER_LETTERS),
     ("two that agree against one", TWO_AGAINST_ONE),

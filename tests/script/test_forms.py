@@ -166,6 +166,18 @@ NO_PAGES = """
 ["wait",null]
 """
 
+NO_NOTES = """
+["note"]
+["note","a","b"]
+["note",1]
+["note",null]
+["note",["a"]]
+["notes","a"]
+["notes",0]
+["notes",null]
+["Note","a"]
+"""
+
 
 def rows_of(text):
     """Returns the lines of a text that begins and ends with a line feed."""
@@ -179,6 +191,8 @@ def rows_of(text):
     ("drops", NO_DROPS),
     ("puts in the old form", NO_OLD_PUTS),
     ("pages", NO_PAGES),
+    ("notes", NO_NOTES),
+    ("a note that is too long", f'["note","{257 * "a"}"]\n["note","{129 * "é"}"]'),
     ("lists in lists", f'{127 * "["}{127 * "]"}\n{128 * "["}{128 * "]"}'),
 ])
 def test_no_request(text):
@@ -348,6 +362,8 @@ OTHER_REPLIES = """
 ["objects",5,65535,16384,[]]
 ["entries",5,3,[["join",3],["put",[2,1],[[1,1]],[1,1],[],[["x",9]]]]]
 ["entries",5,65535,[["set",[1,2],[[1,1]],[1,1],[],"x",5],["drop",[1,2],[[1,1]],[1,1],[]]]]
+["notes",5,[]]
+["notes",5,[[1,"at 5, 9"],[256,""]]]
 ["no",5,5,"room-full"]
 ["no",5,6,"record-full"]
 ["no",5,7,"wrong-seq"]
@@ -404,6 +420,14 @@ NO_REPLIES = """
 ["entries",5,4,[["leave"]]]
 ["entries",5,4,[["join",0]]]
 ["entries",5,4,["join",1]]
+["notes",5]
+["notes",5,[[1]]]
+["notes",5,[[1,1]]]
+["notes",5,[[0,"a"]]]
+["notes",5,[[257,"a"]]]
+["notes",5,[[1,"a","b"]]]
+["notes",5,[[1,"a"],[1,"b"]]]
+["notes",5,[[2,"a"],[1,"b"]]]
 """
 
 JOIN = '[1,["join","r"],["joined",0,1]]'
@@ -420,6 +444,12 @@ def test_replies():
     """The checker reads replies of each form, of any length, and compares them with the rules'."""
     expect_verdicts([f'[1,["leave"],{reply}]' for reply in rows_of(OTHER_REPLIES)], "wrong reply line 2")
     expect_verdicts([f'[1,["leave"],["left",5{20_000 * " "}]]', '[2,["join","r"],["joined",2,2]]'], "holds")
+
+
+def test_notes():
+    """A request about notes is no line of a transcript."""
+    lines = ['[1,["notes"],["notes",5,[]]]', '[1,["note","a"],["notes",5,[[1,"a"]]]]', '[1,["note","a"],["left",5]]']
+    expect_verdicts(lines, "bad transcript line 2")
 
 
 def test_no_replies():

@@ -9,6 +9,7 @@ import { TESTS as histories } from "./random_histories.js"
 import { TESTS as transfers } from "./transfers.js"
 import { TESTS as rooms } from "./rooms.js"
 import { TESTS as standing } from "./standing.js"
+import { TESTS as notes } from "./notes.js"
 import { TESTS as reconnecting } from "./reconnecting.js"
 import { TESTS as loading } from "./loading_anew.js"
 import { TESTS as renewals } from "./renewals.js"
@@ -27,7 +28,9 @@ function inTime(name, test) {
   const late = new Promise((_, fail) => {
     timer = setTimeout(() => fail(new Error(`not done after ${SECONDS} s`)), SECONDS * 1000)
   })
-  return Promise.race([test(), late]).finally(() => clearTimeout(timer))
+  // A test that is no promise may throw at once.
+  const done = Promise.resolve().then(test)
+  return Promise.race([done, late]).finally(() => clearTimeout(timer))
 }
 
 build()
@@ -35,7 +38,7 @@ const words = process.argv.slice(2)
 let passed = 0
 let failed = 0
 const groups = [
-  rows, numbers, types, histories, transfers, rooms, standing, reconnecting, loading, renewals, renewedRooms,
+  rows, numbers, types, histories, transfers, rooms, standing, notes, reconnecting, loading, renewals, renewedRooms,
   manyStrokes, handshakes,
 ]
 for (const [name, test] of groups.flat()) {

@@ -9,11 +9,13 @@ import { renewalOf } from "./program.js"
 const PAGE = 64
 const JOINED = ["join", "back"]
 
-/** A room: its record, the drawing of it, and the sites that sessions are in. */
+/** A room: its record, the drawing of it, the sites that sessions are in, and their notes. */
 class ServedRoom {
   drawing = new Drawing()
   record = []
   sites = new Set()
+  notes = new Map()
+  noteChanges = 0
 
   constructor(name, entries) {
     this.name = name
@@ -29,6 +31,14 @@ class ServedRoom {
     if (operation !== null) this.drawing.add(operation)
     this.record.push(entry)
   }
+
+  /** Sets the note of a site; the empty text removes it. */
+  note(site, text) {
+    if (text === (this.notes.get(site) ?? "")) return
+    this.notes.set(site, text)
+    if (text === "") this.notes.delete(site)
+    this.noteChanges += 1
+  }
 }
 
 /** A client's session. */
@@ -37,6 +47,8 @@ class Session {
   site = null
   // From where the client waits for news, or null.
   waitsFrom = null
+  // How often notes had changed when the client last heard of them, or null if it has not asked for them.
+  #heardNotes = null
 
   constructor(server) {
     this.server = server
@@ -44,9 +56,13 @@ class Session {
     queueMicrotask(() => this.socket.onopen())
   }
 
+  /** Whether the client has heard of all changes of notes, or has not asked for them. */
+  get hasHeardNotes() {
+    return this.#heardNotes === null || this.#heardNotes === this.room.noteChanges
+  }
+
   end() {
-    this.room?.sites.delete(this.site)
-    this.room = null
+    if (this.room !== null) this.#leave()
     this.server.sessions.delete(this)
     this.socket.onclose({})
   }
@@ -56,6 +72,7 @@ class Session {
     if (this.waitsFrom === null) return
     this.#reply(this.#page(this.waitsFrom))
     this.waitsFrom = null
+    this.#hearNotes()
   }
 
   #take(text) {
@@ -73,14 +90,17 @@ class Session {
   }
 
   #answer([word, ...rest]) {
-    if (word === "wait" && rest[0] === this.room.record.length) this.waitsFrom = rest[0]
+    const isHeld = word === "wait" && rest[0] === this.room.record.length && this.hasHeardNotes
+    if (isHeld) this.waitsFrom = rest[0]
     else this.#reply(this.#answerTo(word, rest))
+    if (word === "wait") this.#hearNotes()
   }
 
   #answerTo(word, rest) {
     if (JOINED.includes(word)) return this.#enter(word, ...rest)
     if (word === "pull" || word === "wait") return this.#page(rest[0])
     if (word === "leave") return this.#leave()
+    if (word === "note" || word === "notes") return this.#note(...rest)
     return this.#change(word, rest)
   }
 
@@ -109,14 +129,31 @@ class Session {
 
   #sit(room) {
     this.room = room
+    this.#heardNotes = null
     room.sites.add(this.site)
   }
 
   #leave() {
-    const at = this.room.record.length
-    this.room.sites.delete(this.site)
+    const { room } = this
+    room.sites.delete(this.site)
+    room.note(this.site, "")
     this.room = null
-    return ["left", at]
+    this.server.tellNotes(room)
+    return ["left", room.record.length]
+  }
+
+  #hearNotes() {
+    if (this.#heardNotes !== null) this.#heardNotes = this.room.noteChanges
+  }
+
+  /** The answer to a request about notes, which sets the own one if there is a text. */
+  #note(text) {
+    const { room } = this
+    if (!this.server.knowsNotes) return ["no", 0, 1, "bad-message"]
+    if (text !== undefined) room.note(this.site, text)
+    this.#heardNotes = room.noteChanges
+    this.server.tellNotes(room)
+    return ["notes", room.record.length, [...room.notes].sort(([one], [other]) => one - other)]
   }
 
   #page(from) {
@@ -145,6 +182,8 @@ export class RenewingServer {
   before = () => {}
   /** Whether the port accepts no client. */
   isDown = false
+  /** Whether it answers requests about notes. */
+  knowsNotes = true
 
   /** @param {any[][]} [entries] of the first room */
   constructor(entries = []) {
@@ -176,6 +215,11 @@ export class RenewingServer {
     old.add(["next", start.length])
     this.#open(`r.${this.rooms.size + 1}`, start)
     this.#tell(old)
+  }
+
+  /** Answers the waits of a room where notes have changed that the client has not heard of. */
+  tellNotes(room) {
+    for (const session of this.sessions) if (session.room === room && !session.hasHeardNotes) session.endWait()
   }
 
   /** Ends all connections. */

@@ -37,6 +37,9 @@ room.on("renewed", ({ oldRoom, newRoom, words, copies, text }) => {
   const names: Name[] = copies.flat()
   void (oldRoom + newRoom + words + (text ?? "") + names.length + room.name + room.hasEnded)
 })
+room.on("notes", ({ notes }) => void notes.get(1)?.length)
+room.note = `${room.note}!`
+const notes: [site: number, text: string][] = [...room.notes]
 const tell = (news: RoomEvents["progress"]): boolean => news.isLoaded
 room.on("progress", tell)
 endChange()
@@ -87,7 +90,7 @@ if (fault instanceof Denied) void (fault.status === 401 && fault.reason)
 if (fault instanceof Lost) void fault.pauseMilliseconds.toFixed()
 if (fault instanceof Lost || fault instanceof ProtocolFault) void fault.message
 const most: 256 = LIMITS.sites
-void [done, site, end, looked, changes, keys, most, made.isSent, made.made, made.kind, made.operation.word]
+void [notes, done, site, end, looked, changes, keys, most, made.isSent, made.made, made.kind, made.operation.word]
 void drawing.versions([1, 1])
 room.close()
 
@@ -107,6 +110,10 @@ new Room("ws://localhost:7000/", "r", { pause: 20 })
 const state: State = "offline"
 // @ts-expect-error it can't be assigned
 room.isLoaded = true
+// @ts-expect-error a note is a string
+room.note = 5
+// @ts-expect-error it can't be assigned
+room.notes = new Map()
 // @ts-expect-error changes are made by a room
 new Change()
 // @ts-expect-error null is no value

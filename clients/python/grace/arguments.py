@@ -1,5 +1,5 @@
-"""Checks of arguments: room names, kinds, keys, values, object names, version identifiers, and fields of the handshake.
-An error message starts with the key or the argument, and says what is wrong with it."""
+"""Checks of arguments: room names, kinds, keys, values, notes, object names, version identifiers, and fields of the
+handshake. An error message starts with the key or the argument, and says what is wrong with it."""
 
 import re
 
@@ -45,8 +45,16 @@ def as_value(value, key):
     return value
 
 
+def as_note(text):
+    """Checks a note. Raises `TypeError` if it is not a string. Raises `ValueError` if it exceeds 256 bytes in UTF-8 or
+    has an unpaired surrogate."""
+    if not isinstance(text, str):
+        raise TypeError(f"the note must be a string, not {text!r:.80}")
+    return as_text(text, "the note")
+
+
 def as_text(text, key):
-    """Checks a string value."""
+    """Checks a string value or a note."""
     try:
         size = len(text.encode())
     except UnicodeEncodeError as fault:

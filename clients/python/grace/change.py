@@ -129,6 +129,13 @@ class Reset:
 
 
 @dataclass(frozen=True)
+class Noted:
+    """News of the event `notes`: some note of the room has changed. `notes` is what `Room.notes` is now."""
+
+    notes: dict
+
+
+@dataclass(frozen=True)
 class Renewed:
     """News of the event `renewed`: the room `old_room` has ended, and the client is in `new_room`, which draws the
     same. The news `Changed` before it has the new names of objects. `copies` lists versions with pending changes that

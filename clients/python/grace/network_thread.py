@@ -11,6 +11,7 @@ import time
 from collections import deque
 from dataclasses import dataclass
 
+from .change import Noted
 from .connection_state import ConnectionState
 from .entrance import Entrance, nobody_in
 from .forms import Denied, Lost, ProtocolFault, Refused, RenewedAs, operation_of, read_text, request_of, write_text
@@ -41,9 +42,9 @@ class Owed:
 
 class NetworkThread:
     """Connects, joins, sends changes, waits for news, and reconnects. `room_state` is the client's copy of the room,
-    which `lock` protects. `listeners` has the listeners of each event."""
+    which `lock` protects, and `notes` too. `listeners` has the listeners of each event."""
 
-    def __init__(self, address, name, options, lock, listeners):
+    def __init__(self, address, name, options, lock, listeners, notes):
         self.address, self.options = address, options
         self.first_name = name
         self.entrance = Entrance(name, options.back_seconds, self._request, self._wait_outside)
@@ -52,6 +53,7 @@ class NetworkThread:
         # Notified when something changes that a caller may wait for.
         self.news = threading.Condition(lock)
         self.listeners = listeners
+        self.notes = notes
         self.events = deque()
         self.wait_timer = WaitTimer(options.pause_seconds, options.longest_pause_seconds)
         self.connection_state = ConnectionState(self.emit, self._pending_time, self._silent_time)
@@ -105,6 +107,7 @@ class NetworkThread:
         if self.is_closing:
             return
         self.is_closing = True
+        self._leave_notes()
         self.connection_state.leave("closed", words)
         self.room_state.close()
         self.wake()
@@ -230,6 +233,7 @@ class NetworkThread:
         self._tries += 1
         try:
             with self._locked():
+                self._leave_notes()
                 self.connection_state.leave("waiting", f"{fault} Trying again.")
             self._sleep(wait)
         except Lost:
@@ -302,6 +306,7 @@ class NetworkThread:
             self.room_state.show()
             if is_first:
                 self.emit("progress", self.room_state.progress())
+            self.notes.enter()
             self.connection_state.enter(f"Connected as site {self.room_state.site}.")
 
     def _rejoin(self):
@@ -349,8 +354,18 @@ class NetworkThread:
 
     def _leave(self):
         if self._is_in:
+            with self._locked():
+                self._leave_notes()
             self._request(["leave"], "left")
             self._is_in = False
+
+    def _leave_notes(self):
+        """The session is in no room any more."""
+        if self.notes.leave():
+            self._emit_notes()
+
+    def _emit_notes(self):
+        self.emit("notes", Noted(dict(self.notes.all)))
 
     def _request_back(self):
         """The reply to `back`, or None if the client cannot rejoin as its old site."""
@@ -507,6 +522,10 @@ class NetworkThread:
             with self.lock:
                 change = self.room_state.pending[0] if self.room_state.pending else None
                 refreshes = self.refreshes_asked
+                is_question_due = self.notes.is_due()
+            if is_question_due:
+                self._ask_for_notes()
+                continue
             if self._wait_from is None and self._is_wait_due():
                 self._send_wait()
             if change is not None:
@@ -526,14 +545,21 @@ class NetworkThread:
 
     def _await_news(self):
         """Waits until there is something to send, the outstanding wait is answered, or the next one is due."""
+        due = self.notes.due()
+        seconds = due - time.monotonic()
+
+        def has_work():
+            return self._has_work() or self.notes.due() < due
+
         if self._wait_from is None:
-            self._sleep(self.wait_timer.time_left(), self._has_work)
+            self._sleep(min(seconds, self.wait_timer.time_left()), has_work)
             return
-        self._sleep(math.inf, lambda: self._replies or self._has_work())
+        self._sleep(seconds, lambda: self._replies or has_work())
         if self._replies:
             self._finish_wait()
 
     def _has_work(self):
+        """Whether there is a change or a refresh to send."""
         return bool(self.room_state.pending) or self.refreshes_asked > self.refreshes_done
 
     def _finish_refreshes(self, refreshes):
@@ -588,10 +614,29 @@ class NetworkThread:
         except Refused as refusal:
             # Coming back finds the other record.
             raise Lost(SHORTER_RECORD) if refusal.word == "too-far" else refusal
-        if not entries and not is_message_behind:
+        if not entries:
             with self._locked():
-                self.wait_timer.brought_nothing()
+                self.notes.may_have_changed()
+                if not is_message_behind:
+                    self.wait_timer.brought_nothing()
         self._append(entries)
+
+    def _ask_for_notes(self):
+        """Sends the request about notes that is due, and takes the notes of the reply."""
+        with self._locked():
+            request = self.notes.next_request()
+        try:
+            *_, pairs = self._request(request, "notes")
+        except Refused as refusal:
+            if refusal.word != "bad-message":
+                raise
+            with self._locked():
+                self.notes.give_up()
+            return
+        with self._locked():
+            if self.notes.receive(pairs):
+                self.wait_timer.hurry()
+                self._emit_notes()
 
     def _send(self, change):
         """Sends a change and processes the reply."""

@@ -3,13 +3,14 @@
 import threading
 from types import SimpleNamespace
 
-from .arguments import as_attributes, as_headers, as_kind, as_pairs, as_room_name
+from .arguments import as_attributes, as_headers, as_kind, as_note, as_pairs, as_room_name
 from .forms import Denied, Refused
 from .handshake import Address, fields_of
 from .network_thread import NetworkThread
+from .notes import Notes
 from .room_state import RoomState
 
-EVENTS = ("change", "state", "progress", "refusal", "reset", "renewed")
+EVENTS = ("change", "state", "progress", "refusal", "reset", "renewed", "notes")
 
 
 class Hold:
@@ -46,7 +47,8 @@ class Room:
     - `renewed` (`Renewed`): the room has ended, and the drawing goes on in another one. Names of objects and
       identifiers of versions are others there. `Change` and `Version` objects go on to work: a version that was read
       before the last renewal stands for the one that it became. So pass a `Version`, not its identifier. A program that
-      keeps names replaces them by `renamed` of the event `change`, all at once."""
+      keeps names replaces them by `renamed` of the event `change`, all at once.
+    - `notes` (`Noted`): some note of the room has changed."""
 
     def __init__(
         self, address, name, *, site=None, context=None, headers=(), room_in_path=False, pause_seconds=0.02,
@@ -93,9 +95,11 @@ class Room:
         )
         self._lock = threading.RLock()
         self._listeners = {event: [] for event in EVENTS}
+        self._notes = Notes()
+        self._network = None
         for event, listener in (listeners or {}).items():
             self.on(event, listener)
-        self._network = NetworkThread(place, name, options, self._lock, self._listeners)
+        self._network = NetworkThread(place, name, options, self._lock, self._listeners, self._notes)
         self._state = self._network.room_state = RoomState(self._network.emit)
         self._network.thread.start()
 
@@ -209,6 +213,8 @@ class Room:
             raise ValueError(f"there is no event {event!r}; the events are {', '.join(EVENTS)}")
         with self._lock:
             self._listeners[event].append(listener)
+            if event == "notes":
+                self._use_notes()
 
         def end():
             with self._lock:
@@ -216,6 +222,37 @@ class Room:
                     self._listeners[event].remove(listener)
 
         return end
+
+    # ---- notes
+
+    @property
+    def note(self):
+        """This client's own note: a string of at most 256 bytes in UTF-8, which others in the room see while this
+        client is in it. The empty string is none. Set it as often as you like: the client sends the newest one, at most
+        ten times a second, and again every 20 seconds. It sets the note again after each reconnect, and in the room's
+        successor. Setting it raises `TypeError` or `ValueError` if it is invalid. Nothing has changed then."""
+        return self._notes.own
+
+    @note.setter
+    def note(self, text):
+        text = as_note(text)
+        with self._lock:
+            self._notes.own = text
+            self._use_notes()
+
+    @property
+    def notes(self):
+        """All notes of the room as the server last told them, the own one too: a new dictionary from site to text, by
+        site in ascending order. It is empty while the client is not in the room, and if the server does not know notes.
+        The client asks for notes once you have listened for `notes`, read this or set `note`."""
+        with self._lock:
+            self._use_notes()
+            return dict(self._notes.all)
+
+    def _use_notes(self):
+        self._notes.use()
+        if self._network is not None:
+            self._network.wake()
 
     # ---- changing
 

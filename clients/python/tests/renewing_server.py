@@ -18,11 +18,12 @@ PAGE = 64
 
 
 class ServedRoom:
-    """A room: its record, the drawing of it, and the sites that sessions are in."""
+    """A room: its record, the drawing of it, the sites that sessions are in, and their notes."""
 
     def __init__(self, name, entries):
         self.name = name
         self.drawing, self.record, self.sites = Drawing(), [], set()
+        self.notes, self.note_changes = {}, 0
         for entry in entries:
             self.add(entry)
 
@@ -38,6 +39,13 @@ class ServedRoom:
             self.drawing.add(operation)
         self.record.append(entry)
 
+    def note(self, site, text):
+        """Sets the note of a site; the empty text removes it."""
+        if text != self.notes.pop(site, ""):
+            self.note_changes += 1
+        if text:
+            self.notes[site] = text
+
 
 class Session:
     """A client's session. All but its thread hold the server's lock."""
@@ -47,6 +55,18 @@ class Session:
         self.room = self.site = None
         # From where the client waits for news, or None.
         self.waits_from = None
+        # How often notes had changed when the client last heard of them, or None if it has not asked for them.
+        self.heard_notes = None
+
+    @property
+    def has_heard_notes(self):
+        """Whether the client has heard of all changes of notes, or has not asked for them."""
+        return self.heard_notes in (None, self.room.note_changes)
+
+    def hear_notes(self):
+        """The client hears of all changes of notes, if it has asked for them."""
+        if self.heard_notes is not None:
+            self.heard_notes = self.room.note_changes
 
     def serve(self):
         """Serves the client to its end."""
@@ -84,16 +104,19 @@ class Session:
         self.server.requests.append(text)
         self.server.before(text)
         word, *rest = frozen(json.loads(text))
-        if word == "wait" and rest[0] == len(self.room.record):
+        if word == "wait" and rest[0] == len(self.room.record) and self.has_heard_notes:
             self.waits_from = rest[0]
         else:
             self.reply(self.answer_to(word, rest))
+        if word == "wait":
+            self.hear_notes()
 
     def end_wait(self):
         """Answers a held wait."""
         if self.waits_from is not None:
             start, self.waits_from = self.waits_from, None
             self.reply(self.page(start))
+            self.hear_notes()
 
     def reply(self, reply):
         """Sends a reply."""
@@ -109,6 +132,8 @@ class Session:
                 return self.page(*rest)
             case "leave":
                 return ["left", self.leave()]
+            case "note" | "notes":
+                return self.note(*rest)
         return self.change(word, *rest)
 
     def enter(self, word, name, site=None):
@@ -129,6 +154,7 @@ class Session:
             return ["no", at, 19, "no-such-site"]
         self.room, self.site = room, site or len(joins) + 1
         room.sites.add(self.site)
+        self.heard_notes = None
         if word == "back":
             return ["back", at, site, room.drawing.count(site)]
         self.server.add(("join", self.site))
@@ -140,7 +166,19 @@ class Session:
             return 0
         self.room.sites.discard(self.site)
         room, self.room = self.room, None
+        room.note(self.site, "")
+        self.server.tell_notes(room)
         return len(room.record)
+
+    def note(self, text=None):
+        """Returns the reply to a request about notes, which sets the own one if there is a text."""
+        if not self.server.knows_notes:
+            return ["no", 0, 1, "bad-message"]
+        if text is not None:
+            self.room.note(self.site, text)
+        self.heard_notes = self.room.note_changes
+        self.server.tell_notes(self.room)
+        return ["notes", len(self.room.record), sorted(self.room.notes.items())]
 
     def page(self, start):
         """Returns a page of the record."""
@@ -161,7 +199,7 @@ class Session:
 
 class RenewingServer:
     """The server. `requests` has the messages of the clients. `before` is called with each one before it is
-    answered."""
+    answered. `knows_notes` says whether it answers requests about notes."""
 
     def __init__(self):
         self.lock = threading.RLock()
@@ -169,6 +207,7 @@ class RenewingServer:
         self.sessions = set()
         self.requests = []
         self.before = lambda text: None
+        self.knows_notes = True
 
     def __enter__(self):
         self.listener = socket.create_server(("127.0.0.1", 0))
@@ -219,6 +258,12 @@ class RenewingServer:
         """Answers the waits of a room."""
         for session in self.sessions:
             if session.room is room:
+                session.end_wait()
+
+    def tell_notes(self, room):
+        """Answers the waits of a room where notes have changed that the client has not heard of."""
+        for session in self.sessions:
+            if session.room is room and not session.has_heard_notes:
                 session.end_wait()
 
     def cut(self):

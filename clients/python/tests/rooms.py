@@ -177,7 +177,7 @@ def refused_here():
             (lambda: Room("127.0.0.1:1", "R"), ValueError, "the room's name 'R' isn't 1 to 64 of a-z, 0-9 and -"),
             (lambda: Room("http://h/", "r"), ValueError, "http://h/ is not an address such as ws://127.0.0.1:7000/"),
             (lambda: room.on("news", print), ValueError,
-             "there is no event 'news'; the events are change, state, progress, refusal, reset, renewed"),
+             "there is no event 'news'; the events are change, state, progress, refusal, reset, renewed, notes"),
             (lambda: room.put((9, 9), (), {"x": 1}), Refused, "This object does not exist."),
             (lambda: room.put(made.name, [(1, 1)], {"x": 1}), Refused,
              "This version does not exist any more, so please choose again."),

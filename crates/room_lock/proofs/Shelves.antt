@@ -56,7 +56,7 @@ part_with shelf (suc k) (suc j) part found is false e =
 -- ---- a room's shelf
 
 -- with a place more, which is empty
-push_found : (shelf : Shelf) (k : ℕ) (found : PartView) → get_or (shelf ++ None ∷ []) k None ≡ Some found → get_or shelf k None ≡ Some found
+pub push_found : (shelf : Shelf) (k : ℕ) (found : PartView) → get_or (shelf ++ None ∷ []) k None ≡ Some found → get_or shelf k None ≡ Some found
 push_found [] zero found is = is
 push_found [] (suc k) found is = is
 push_found (x ∷ xs) zero found is = is

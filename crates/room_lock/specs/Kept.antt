@@ -4,15 +4,17 @@ use Rattle.rules.specs.declared.history.Entry.{Entry}
 use Rattle.rules.specs.declared.limits.LimitValues.{LimitValues}
 use Rattle.shared_history.specs.Beginnings.{Beginning}
 use Rattle.openings.specs.Openings.{OpeningView}
+use Rattle.notes.specs.Notes.{NotePlaces}
 use Rattle.room_core.specs.Room.{Room}
 use Rattle.room_lock.specs.Sites.{is_of_site}
 use Rattle.room_lock.specs.Shelves.{Shelf, IsShelfOf}
 
--- a room: its opening, its record, and the parts of the sites that no session is in as
+-- a room: its opening, its record, the parts of the sites that no session is in as, and the notes
 pub record RoomView : Type 0 where
   pub opening : OpeningView
   pub entries : List Entry
   pub shelf : Shelf
+  pub notes : NotePlaces
 
 -- the front is that prefix of the history of this opening which has these entries
 abbrev pub IsBeginningOf : OpeningView → Beginning → List Entry → Type 0

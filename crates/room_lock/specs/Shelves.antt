@@ -1,10 +1,11 @@
 -- The parts of a room's sites that no session is in as.
-use Rattle.std.specs.Prelude.{◌≡◌, ℕ, zero, suc, Bool, List, Option, Some, None, is_some, length}
+use Rattle.std.specs.Prelude.{◌≡◌, ◌≢◌, ℕ, zero, suc, Bool, true, List, Option, Some, None, is_some, length}
 use Rattle.std.specs.Prelude.{map, slice_index_or, slice_set, nat_le, ◌&&◌, not, count_by}
 use Rattle.std.specs.List.{range_with_len}
 use mathlib.Core.List.{IsPrefix}
 use Rattle.rules.specs.declared.history.Entry.{Entry}
 use Rattle.rules.specs.Records.{sites}
+use Rattle.notes.specs.Notes.{NotePlaces, notes_at}
 use Rattle.openings.specs.Openings.{OpeningView}
 use Rattle.room_lock.specs.Sites.{is_of_site}
 use Rattle.room_lock.specs.Passes.{PartView}
@@ -31,6 +32,10 @@ is_away shelf site =
 -- how many sites a session is in as
 abbrev pub count_away : Shelf → ℕ
 count_away shelf = count_by (λ part. not (is_some part)) shelf
+
+-- a site with a note is one that a session is in as
+abbrev pub AreOfSitesIn : Shelf → NotePlaces → Type 0
+AreOfSitesIn shelf notes = (site : ℕ) → notes_at notes site ≢ None → is_away shelf site ≡ true
 
 -- the part belongs to this site of the room of this opening, and has seen a prefix of its record
 pub record IsPartFor (opening : OpeningView) (r : List Entry) (site : ℕ) (part : PartView)

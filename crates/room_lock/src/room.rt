@@ -18,7 +18,9 @@ ghost use Rattle.room_lock.specs.steps.Ends.{IsEndOver};
 ghost use Rattle.room_lock.specs.declared.fault.CloseFault.TheVariants as close_fault;
 ghost use Rattle.room_lock.specs.Shelves.{count_away, full_shelf, is_away, part_of, with_at};
 ghost use Rattle.room_lock.specs.Told.{IsBackOver, IsBackRefusalOver, IsCallOver, IsJoinOver};
-ghost use Rattle.room_lock.specs.Told.{IsLeaveOver, IsRefusalOver};
+ghost use Rattle.room_lock.specs.Told.{IsLeaveOver, IsNotesCallOver, IsRefusalOver};
+ghost use Rattle.wire.specs.Notes.{notes_after, with_note};
+ghost use Rattle.notes.specs.Notes.{notes_at};
 
 use crate::account::Account;
 use crate::closing::{RoomRecord, added_together};
@@ -26,12 +28,14 @@ use crate::entrance::Entrance;
 use crate::fault::{CallFault, CloseFault};
 use crate::in_use::InUse;
 use crate::new_room::NewRoom;
+use crate::noted::Noted;
 use crate::part::Part;
 use crate::pass::Pass;
 use crate::prefix::Prefix;
 use crate::restoring::fill_shelf;
 use crate::shelf::{all_parts, count_away, is_any_away, is_away, put_part, take_part};
 use base_types::{NoMemory, RoomName};
+use notes::Notes;
 use openings::{NewOpening, Opening, Register, RoomHistories};
 use room_core::RoomState;
 use rules::Entry;
@@ -39,20 +43,22 @@ use shared_history::open;
 use std::alloc::Global;
 use std::marker::Model;
 use std::sync::{Arc, Wait};
-use wire::{Reply, Request};
+use wire::{NoteRequest, Reply, Request};
 
 /// What a room's lock guards: the room and its history. The shelf holds the parts of the sites that
-/// no session is in as.
+/// no session is in as. Only other sites have notes.
 #[derive(Drop)]
 pub(crate) struct Room<P: RoomHistories> {
     state: RoomState,
     account: Account,
     opening: Opening<P>,
     shelf: Vec<Option<Part<P>>>,
+    notes: Notes,
 }
 
 impl<P: RoomHistories> Model for Room<P> {
     ghost use Rattle.room_lock.specs.Kept.{IsRoomKept, RoomView};
+    ghost use Rattle.room_lock.specs.Shelves.{AreOfSitesIn};
 
     ghost Value = { RoomView };
 
@@ -60,10 +66,11 @@ impl<P: RoomHistories> Model for Room<P> {
       opening = r.opening;
       entries = r.state.room.entries;
       shelf = r.shelf.items;
+      notes = r.notes;
     } };
 
-    ghost invariant = { λ r. IsRoomKept P.limits r.opening r.state.room r.account
-        r.shelf.items };
+    ghost invariant = { λ r. IsRoomKept P.limits r.opening r.state.room r.account r.shelf.items
+        × AreOfSitesIn r.shelf.items r.notes };
 }
 
 impl<P: RoomHistories> Room<P> {
@@ -89,6 +96,7 @@ impl<P: RoomHistories> Room<P> {
         ensures entries { IfOk result (λ room. room.entries ≡ new.state.room.entries) }
         ensures shelf { IfOk result (λ room.
             room.shelf ≡ full_shelf room.opening new.state.room.entries) }
+        ensures notes { IfOk result (λ room. room.notes ≡ []) }
     {
         let NewRoom { place, name, state } = new;
         let (history, mut front) = open();
@@ -107,6 +115,7 @@ impl<P: RoomHistories> Room<P> {
             account,
             opening,
             shelf,
+            notes: Notes::none(alloc),
         })
     }
 
@@ -136,6 +145,11 @@ impl<P: RoomHistories> Room<P> {
         ensures { result ≡ length self.now.entries }
     {
         len_of(&self.state)
+    }
+
+    /// How often its notes have changed.
+    pub(crate) fn count_note_changes(&self) -> u64 {
+        self.notes.count_changes()
     }
 
     /// Returns whether a session is in as this site.
@@ -183,6 +197,7 @@ impl<P: RoomHistories> Room<P> {
         ensures same_shelf { IfOk result (IfRefused (λ prefix reply.
             self.new.shelf ≡ self.old.shelf)) }
         ensures opening { self.new.opening ≡ self.old.opening }
+        ensures notes { self.new.notes ≡ self.old.notes }
         ensures err { OnErr result (self.new ≡ self.old) }
     {
         self.shelf.reserve(1)?;
@@ -225,6 +240,7 @@ impl<P: RoomHistories> Room<P> {
         ensures shelf { self.new.shelf ≡ with_at self.old.shelf site None }
         ensures entries { self.new.entries ≡ self.old.entries }
         ensures opening { self.new.opening ≡ self.old.opening }
+        ensures notes { self.new.notes ≡ self.old.notes }
     {
         let _entries = len_of(&self.state);
         if let Some(in_use) = InUse::of(self, site) {
@@ -255,9 +271,10 @@ impl<P: RoomHistories> Room<P> {
         ensures written { let room = room_of P.limits self.old.entries
             in let outcome = answer room pass.old.part.site request
             in OnOk result (self.new.entries ≡ (room_after room outcome).entries) }
-        // The room's opening and its shelf are unchanged:
+        // The room's opening, its shelf and its notes are unchanged:
         ensures shelf { self.new.shelf ≡ self.old.shelf }
         ensures opening { self.new.opening ≡ self.old.opening }
+        ensures notes { self.new.notes ≡ self.old.notes }
         ensures torn { (place : _) → (result ≡ Err (call_fault.Torn place))
             ↔ (first_difference self.old.entries pass.old.part.seen ≡ Some place) }
         ensures err { OnErr result ((self.new ≡ self.old) × (pass.new ≡ pass.old)) }
@@ -292,9 +309,11 @@ impl<P: RoomHistories> Room<P> {
             self.old.entries whole.entries)) }
         ensures whole { IfOk result (λ found. IfSome found (λ whole.
             whole ≡ record { opening = self.old.opening; entries = self.new.entries })) }
-        // The room's opening and its shelf are unchanged, and all of it if the record stays open:
+        // The room's opening, its shelf and its notes are unchanged, and all of it if the record stays
+        // open:
         ensures shelf { self.new.shelf ≡ self.old.shelf }
         ensures opening { self.new.opening ≡ self.old.opening }
+        ensures notes { self.new.notes ≡ self.old.notes }
         ensures open { result ≡ Ok None → self.new ≡ self.old }
         ensures err { OnErr result (self.new ≡ self.old) }
     {
@@ -310,7 +329,49 @@ impl<P: RoomHistories> Room<P> {
         Ok(Some(self.prefix()))
     }
 
-    /// Takes a pass back; its site leaves. Returns the pass if what it has seen is no prefix of the
+    /// Carries out a request about notes of the pass's site. `Torn` if what the pass has seen is no
+    /// prefix of the record, or if the site's part is on the shelf, which never occurs.
+    pub(crate) fn note(
+        &mut self,
+        alloc: Global,
+        pass: &mut Pass<P>,
+        request: NoteRequest,
+    ) -> Result<Noted, CallFault>
+        requires { pass.old.part.opening ≡ self.old.opening }
+        ensures answer { IfOk result (λ noted.
+            IsNotesCallOver P.limits self.old.entries self.old.shelf self.old.notes
+            pass.old pass.new request noted.reply) }
+        // Only the site's own note changes:
+        ensures notes { OnOk result (notes_at self.new.notes
+            ≡ notes_after pass.old.part.site request (notes_at self.old.notes)) }
+        ensures same { self.new ≡ record self.old { notes = self.new.notes } }
+        ensures torn { (place : _) → result ≡ Err (call_fault.Torn place)
+            → (first_difference self.old.entries pass.old.part.seen ≡ Some place)
+            ⊎ (is_away self.old.shelf pass.old.part.site ≡ false) }
+        ensures err { OnErr result ((self.new ≡ self.old) × (pass.new ≡ pass.old)) }
+    {
+        let at = len_of(&self.state);
+        if let Some(place) = self.torn_place(pass.part.seen()) {
+            return Err(CallFault::Torn { place });
+        }
+        let site = pass.part.site;
+        if !self.is_away(site) {
+            return Err(CallFault::Torn { place: at });
+        }
+        let had = self.notes.count_changes();
+        let notes = self.notes.list_after(alloc, site, &request)?;
+        self.notes.carry_out(site, request)?;
+        pass.part.seen = self.prefix();
+        let changes = self.notes.count_changes();
+        let at = at as u32;
+        Ok(Noted {
+            reply: Reply::Notes { at, notes },
+            changes,
+            is_change: changes != had,
+        })
+    }
+
+    /// Takes a pass back; its site leaves, and its note is removed. Returns the pass if what it has seen is no prefix of the
     /// record, or if the site's part is on the shelf.
     pub(crate) fn hand_back(&mut self, pass: Pass<P>) -> Result<(Prefix<P>, Reply), Pass<P>>
         requires { pass.part.opening ≡ self.old.opening }
@@ -318,9 +379,12 @@ impl<P: RoomHistories> Room<P> {
             IsLeaveOver P.limits self.old.entries pass.part left.1) }
         ensures prefix { IfOk result (λ left.
             left.0 ≡ record { opening = self.old.opening; entries = self.old.entries }) }
-        // The part is at its site's place on the shelf, and nothing else changes:
+        // The part is at its site's place on the shelf, the site has no note, and nothing else
+        // changes:
         ensures shelf { OnOk result
             (self.new.shelf ≡ with_at self.old.shelf pass.part.site (Some pass.part)) }
+        ensures notes { OnOk result
+            (notes_at self.new.notes ≡ with_note pass.part.site None (notes_at self.old.notes)) }
         ensures entries { self.new.entries ≡ self.old.entries }
         ensures opening { self.new.opening ≡ self.old.opening }
         ensures pass_given_back { IfErr result (λ back. (back ≡ pass)
@@ -334,8 +398,12 @@ impl<P: RoomHistories> Room<P> {
         }
         let prefix = self.prefix();
         let Pass { part } = pass;
+        let site = part.site;
         match put_part(&mut self.shelf, part) {
-            Ok(()) => Ok((prefix, Reply::Left { at })),
+            Ok(()) => {
+                self.notes.remove(site);
+                Ok((prefix, Reply::Left { at }))
+            }
             Err(part) => Err(Pass { part }),
         }
     }
@@ -355,6 +423,7 @@ impl<P: RoomHistories> Room<P> {
             account: _,
             opening: _,
             shelf,
+            notes: _,
         } = self;
         let own = count_of_sites(&state);
         let entries = state.into_entries();

@@ -18,17 +18,19 @@ ghost use Rattle.room_lock.specs.Rooms.{IsListOf, IsOffered, IsOnDemand, Serves}
 ghost use Rattle.room_lock.specs.Lookups.{IfKnown, IfNew, IfOpen};
 ghost use Rattle.room_lock.specs.steps.Stages.{IsOpenAs};
 ghost use Rattle.room_lock.specs.Told.{IsBack, IsBackRefusalOver, IsCall, IsJoin, IsLeaveOver};
-ghost use Rattle.room_lock.specs.Told.{IsRefusalOver};
+ghost use Rattle.room_lock.specs.Told.{IsNotesCall, IsRefusalOver};
 
 use crate::closing::{RoomRecord, close_all, close_others};
 use crate::entrance::Entrance;
 use crate::fault::{CallFault, CloseFault};
 use crate::lookup::{Lookup, Opened};
 use crate::news::News;
+use crate::noted::Noted;
 use crate::offered::Offered;
 use crate::others::Others;
 use crate::pass::Pass;
 use crate::prefix::Prefix;
+use crate::progress::Progress;
 use crate::slot::{Slot, Stage};
 use base_types::{NoMemory, RoomName};
 use crossbeam_utils::CachePadded;
@@ -39,7 +41,7 @@ use rules::Limits;
 use std::alloc::Global;
 use std::marker::Model;
 use std::sync::{MutexGuard, Wait};
-use wire::{Reply, Request};
+use wire::{NoteRequest, Reply, Request};
 
 /// Rooms, each behind a lock of its own: those that are open from the start, by name, and those that
 /// are opened on demand. Each lock has its own cache line, so threads in different rooms do not
@@ -201,14 +203,17 @@ impl<P: RoomHistories> Rooms<P> {
         !self.is_first(whole.opening()) && self.others.close_idle(rt, name, whole)
     }
 
-    /// The number of entries in the record of the pass's room, or `None` if the pass belongs to
-    /// other rooms. Waits for the room's lock. Constant time.
-    pub fn count_entries(&self, rt: &impl Wait, pass: &Pass<P>) -> Option<usize>
+    /// How much has been done in the pass's room, or `None` if the pass belongs to other rooms. Waits
+    /// for the room's lock. Constant time.
+    pub fn progress(&self, rt: &impl Wait, pass: &Pass<P>) -> Option<Progress>
         ensures first { pass.now.part.opening.number < length self.now.names → IsSome result }
         ensures none { ¬ (MayBeOf self.now pass.now.part.opening) → IsNone result }
     {
         match &*self.lock(rt, pass.opening())? {
-            Stage::Open(room) => Some(room.count_entries()),
+            Stage::Open(room) => Some(Progress {
+                entries: room.count_entries(),
+                note_changes: room.count_note_changes(),
+            }),
             Stage::Free => unreachable!(),
         }
     }
@@ -324,7 +329,39 @@ impl<P: RoomHistories> Rooms<P> {
         }
     }
 
+    /// Carries out a request about notes of the pass's site: only this site's note changes. Returns
+    /// all notes of the room. The pass has then seen the room's whole record, to which nothing is
+    /// added. Waits for the room's lock. Linear in the greatest number of sites.
+    ///
+    /// # Errors
+    /// The pass is unchanged. That no note has changed is a clause of the room under its lock.
+    /// `NoMemory` if an allocation failed.
+    /// `Torn` if the pass belongs to other rooms. The room under its lock also tells a pass that
+    /// has seen more than the record, or whose site is free, which never occurs.
+    pub fn note(
+        &self,
+        rt: &impl Wait,
+        alloc: Global,
+        pass: &mut Pass<P>,
+        request: NoteRequest,
+    ) -> Result<Noted, CallFault>
+        ensures answer { IfOk result (λ noted.
+            IsNotesCall P.limits pass.old pass.new request noted.reply) }
+        ensures err { OnErr result (pass.new ≡ pass.old) }
+        ensures other_rooms { ¬ (MayBeOf self.now pass.old.part.opening)
+            → result ≡ Err (call_fault.Torn 0) }
+    {
+        let Some(mut stage) = self.lock(rt, pass.opening()) else {
+            return Err(CallFault::Torn { place: 0 });
+        };
+        match &mut *stage {
+            Stage::Open(room) => room.note(alloc, pass, request),
+            Stage::Free => unreachable!(),
+        }
+    }
+
     /// Takes a pass back, and replies as to a `leave` of its site, with the record at that time.
+    /// Removes the site's note.
     /// Allocates nothing. Waits for the room's lock. That the site is then free for a coming back
     /// is a clause of the room under its lock.
     ///

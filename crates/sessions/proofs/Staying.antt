@@ -7,7 +7,8 @@ use Rattle.rules.specs.declared.limits.LimitValues.{LimitValues}
 use Rattle.wire.specs.declared.reply.Reply.{Reply}
 use Rattle.wire.specs.declared.request.Request.{Request}
 use Rattle.wire.specs.declared.request.Request.TheVariants.{Join, Back, Leave, Change, Show, List as Listing, Pull}
-use Rattle.wire_reader.specs.steps.Reads.{request_read}
+use Rattle.wire.specs.declared.note.NoteRequest.{NoteRequest}
+use Rattle.wire_reader.specs.steps.Reads.{request_read, note_request_read}
 use Rattle.scope.specs.Scopes.{allows}
 use Rattle.scope.specs.declared.scope.Scope.{Scope}
 use Rattle.room_lock.specs.InOrder.{IsOpeningFor}
@@ -16,7 +17,7 @@ use Rattle.room_lock.specs.Rooms.{RoomsView}
 use Rattle.sessions.specs.Sessions.{SessionView}
 use Rattle.rules.specs.declared.refusal.Refusal.TheVariants.{BadMessage}
 use Rattle.room_lock.specs.Told.{IsBack, IsRefusalOver}
-use Rattle.sessions.specs.Turns.{IsAnswer, IsAnswerInside, IsAnswerOutside, IsBackRefusal, IsCallBy, IsEntering, IsJoinBy, IsLetIn, IsPermittedJoin, IsRefused, IsSentOn, IsTurn, IsTurnedAway, MayBeShut, MayEnter}
+use Rattle.sessions.specs.Turns.{IsAnswer, IsAnswerInside, IsAnswerOutside, IsBackRefusal, IsCallBy, IsEntering, IsJoinBy, IsLetIn, IsNotesAnswer, IsNotesBy, IsPermittedJoin, IsRefused, IsSentOn, IsTurn, IsTurnedAway, MayBeShut, MayEnter}
 
 -- the pass is of the named room, which the scope allows
 abbrev pub IsInNamed : Scope → RoomsView → Bytes → PassView → Type 0
@@ -118,41 +119,60 @@ outside_allowed limits rooms permitted denied scope now (Show object) told reply
 outside_allowed limits rooms permitted denied scope now (Listing from) told reply is = absurd (cc is.2)
 outside_allowed limits rooms permitted denied scope now (Pull from waits) told reply is = absurd (cc is.2)
 
+-- so does a request about notes
+notes_stay : (limits : LimitValues) (was now : PassView) (request : NoteRequest) (told : Option PrefixView) (reply : Reply)
+    → IsNotesBy limits was (Some now) request told reply → IsSameRoom was now
+notes_stay limits was now request told reply is =
+    let same : now ≡ is.0 = cc is.3 in
+    subst (IsSameRoom was) (sym same) (ap (λ p. p.room) is.1.3.now_is, ap (λ p. p.part.opening) is.1.3.now_is)
+
+notes_told : (limits : LimitValues) (was : PassView) (new : Option PassView) (request : NoteRequest) (told : PrefixView) (reply : Reply)
+    → IsNotesBy limits was new request (Some told) reply → told.opening ≡ was.part.opening
+notes_told limits was new request told reply is =
+    let same : told ≡ prefix_of is.0.part = cc is.2 in
+    ap (λ p. p.opening) same ∙ ap (λ p. p.part.opening) is.1.3.now_is
+
 module _ (limits : LimitValues) (rooms : RoomsView) (permitted denied : ℕ → Type 0) (scope : Scope) (told : Option PrefixView) (reply : Reply) where
-  -- what an answer to the bytes says of the passes before and after, whether or not they are a request
-  abbrev pub IsAnswered : Option PassView → Option PassView → Option Request → Type 0
-  IsAnswered was now read = MatchOption read (IsRefused BadMessage was now told reply) (λ request. IsAnswer limits rooms permitted denied scope was now request told reply)
+  -- what an answer to the bytes says of the passes before and after, whatever they are read as
+  abbrev pub AreNotesAnswered : Option PassView → Option PassView → Option NoteRequest → Type 0
+  AreNotesAnswered was now asked = MatchOption asked (IsRefused BadMessage was now told reply) (λ request. IsNotesAnswer limits was now request told reply)
 
-  pub answered_stays : (was now : PassView) (read : Option Request) → IsAnswered (Some was) (Some now) read → IsSameRoom was now
-  answered_stays was now None is = unmoved was now (cc is.2)
-  answered_stays was now (Some request) is = inside_stays limits was now request told reply is
+  abbrev pub IsAnswered : Option PassView → Option PassView → Option Request → Option NoteRequest → Type 0
+  IsAnswered was now read asked = MatchOption read (AreNotesAnswered was now asked) (λ request. IsAnswer limits rooms permitted denied scope was now request told reply)
 
-  pub answered_allowed : (now : PassView) (read : Option Request) → IsAnswered None (Some now) read → allows scope now.room ≡ true
-  answered_allowed now None is = absurd (cc is.2)
-  answered_allowed now (Some request) is = outside_allowed limits rooms permitted denied scope now request told reply is
+  pub answered_stays : (was now : PassView) (read : Option Request) (asked : Option NoteRequest) → IsAnswered (Some was) (Some now) read asked → IsSameRoom was now
+  answered_stays was now None None is = unmoved was now (cc is.2)
+  answered_stays was now None (Some request) is = notes_stay limits was now request told reply is
+  answered_stays was now (Some request) asked is = inside_stays limits was now request told reply is
 
-pub answered_told : (limits : LimitValues) (rooms : RoomsView) (permitted denied : ℕ → Type 0) (scope : Scope) (was : PassView) (new : Option PassView) (told : PrefixView) (reply : Reply) (read : Option Request)
-    → IsAnswered limits rooms permitted denied scope (Some told) reply (Some was) new read → told.opening ≡ was.part.opening
-answered_told limits rooms permitted denied scope was new told reply None is = absurd (cc is.1)
-answered_told limits rooms permitted denied scope was new told reply (Some request) is = inside_told limits was new request told reply is
+  pub answered_allowed : (now : PassView) (read : Option Request) (asked : Option NoteRequest) → IsAnswered None (Some now) read asked → allows scope now.room ≡ true
+  answered_allowed now None None is = absurd (cc is.2)
+  answered_allowed now None (Some request) is = absurd (cc is.2)
+  answered_allowed now (Some request) asked is = outside_allowed limits rooms permitted denied scope now request told reply is
+
+pub answered_told : (limits : LimitValues) (rooms : RoomsView) (permitted denied : ℕ → Type 0) (scope : Scope) (was : PassView) (new : Option PassView) (told : PrefixView) (reply : Reply) (read : Option Request) (asked : Option NoteRequest)
+    → IsAnswered limits rooms permitted denied scope (Some told) reply (Some was) new read asked → told.opening ≡ was.part.opening
+answered_told limits rooms permitted denied scope was new told reply None None is = absurd (cc is.1)
+answered_told limits rooms permitted denied scope was new told reply None (Some request) is = notes_told limits was new request told reply is
+answered_told limits rooms permitted denied scope was new told reply (Some request) asked is = inside_told limits was new request told reply is
 
 module _ (limits : LimitValues) (rooms : RoomsView) (permitted denied : ℕ → Type 0) (old new : SessionView) (bytes : Bytes) where
   pub turn_stays : (was now : PassView) (told : Option PrefixView) (reply : Reply) → old.pass ≡ Some was → new.pass ≡ Some now
       → IsTurn limits rooms permitted denied old new bytes told reply → IsSameRoom was now
   turn_stays was now told reply before after is =
-      answered_stays limits rooms permitted denied old.scope told reply was now (request_read bytes)
-      (subst (λ p. IsAnswered limits rooms permitted denied old.scope told reply (Some was) p (request_read bytes)) after
-      (subst (λ p. IsAnswered limits rooms permitted denied old.scope told reply p new.pass (request_read bytes)) before is.1))
+      answered_stays limits rooms permitted denied old.scope told reply was now (request_read bytes) (note_request_read bytes)
+      (subst (λ p. IsAnswered limits rooms permitted denied old.scope told reply (Some was) p (request_read bytes) (note_request_read bytes)) after
+      (subst (λ p. IsAnswered limits rooms permitted denied old.scope told reply p new.pass (request_read bytes) (note_request_read bytes)) before is.1))
 
   pub turn_allowed : (now : PassView) (told : Option PrefixView) (reply : Reply) → old.pass ≡ None → new.pass ≡ Some now
       → IsTurn limits rooms permitted denied old new bytes told reply → allows old.scope now.room ≡ true
   turn_allowed now told reply before after is =
-      answered_allowed limits rooms permitted denied old.scope told reply now (request_read bytes)
-      (subst (λ p. IsAnswered limits rooms permitted denied old.scope told reply None p (request_read bytes)) after
-      (subst (λ p. IsAnswered limits rooms permitted denied old.scope told reply p new.pass (request_read bytes)) before is.1))
+      answered_allowed limits rooms permitted denied old.scope told reply now (request_read bytes) (note_request_read bytes)
+      (subst (λ p. IsAnswered limits rooms permitted denied old.scope told reply None p (request_read bytes) (note_request_read bytes)) after
+      (subst (λ p. IsAnswered limits rooms permitted denied old.scope told reply p new.pass (request_read bytes) (note_request_read bytes)) before is.1))
 
   pub turn_told : (was : PassView) (told : PrefixView) (reply : Reply) → old.pass ≡ Some was
       → IsTurn limits rooms permitted denied old new bytes (Some told) reply → told.opening ≡ was.part.opening
   turn_told was told reply before is =
-      answered_told limits rooms permitted denied old.scope was new.pass told reply (request_read bytes)
-      (subst (λ p. IsAnswered limits rooms permitted denied old.scope (Some told) reply p new.pass (request_read bytes)) before is.1)
+      answered_told limits rooms permitted denied old.scope was new.pass told reply (request_read bytes) (note_request_read bytes)
+      (subst (λ p. IsAnswered limits rooms permitted denied old.scope (Some told) reply p new.pass (request_read bytes) (note_request_read bytes)) before is.1)

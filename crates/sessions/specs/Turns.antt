@@ -10,10 +10,11 @@ use Rattle.rules.specs.declared.refusal.Refusal.TheVariants.{BadMessage, NotJoin
 use Rattle.rules.specs.declared.refusal.Refusal.TheVariants.{NoSuchRoom, NotServed}
 use Rattle.wire.specs.declared.request.Request.{Request}
 use Rattle.wire.specs.declared.request.Request.TheVariants.{Join, Back, Leave, Pull}
+use Rattle.wire.specs.declared.note.NoteRequest.{NoteRequest}
 use Rattle.wire.specs.declared.reply.Reply.{Reply}
 use Rattle.wire.specs.declared.reply.Reply.TheVariants.{No, Renewed}
 use Rattle.wire.specs.Texts.{reply_text}
-use Rattle.wire_reader.specs.steps.Reads.{request_read}
+use Rattle.wire_reader.specs.steps.Reads.{request_read, note_request_read}
 use Rattle.scope.specs.Scopes.{allows}
 use Rattle.scope.specs.declared.scope.Scope.{Scope}
 use Rattle.openings.specs.Openings.{OpeningView}
@@ -21,7 +22,7 @@ use Rattle.room_lock.specs.InOrder.{IsOpeningFor}
 use Rattle.room_lock.specs.Rooms.{IsOnDemand, RoomsView, Serves}
 use Rattle.room_lock.specs.Passes.{PassView, PrefixView, prefix_of}
 use Rattle.room_lock.specs.Told.{IsBack, IsBackRefusalOver, IsCall, IsJoin, IsLeaveOver}
-use Rattle.room_lock.specs.Told.{IsRefusalOver}
+use Rattle.room_lock.specs.Told.{IsNotesCall, IsRefusalOver}
 use Rattle.keeper.specs.Chains.{IsLater}
 use Rattle.sessions.specs.Sessions.{SessionView}
 
@@ -36,6 +37,13 @@ abbrev pub IsCallBy : LimitValues → PassView → Option PassView → Request �
 IsCallBy limits was new request told reply =
     (now : PassView) × IsCall limits was now request reply × (told ≡ Some (prefix_of now.part))
     × (new ≡ Some now)
+
+-- a request about notes by the session's pass, in the same way
+abbrev pub IsNotesBy : LimitValues → PassView → Option PassView → NoteRequest → Option PrefixView
+    → Reply → Type 0
+IsNotesBy limits was new request told reply =
+    (now : PassView) × IsNotesCall limits was now request reply
+    × (told ≡ Some (prefix_of now.part)) × (new ≡ Some now)
 
 -- A leave: the session's pass is handed back, and the session is in no room. The reply reports on
 -- the record at that time.
@@ -156,12 +164,25 @@ IsAnswer limits rooms permitted denied scope (Some was) new request told reply =
 IsAnswer limits rooms permitted denied scope None new request told reply =
     IsAnswerOutside limits rooms permitted denied scope new request told reply
 
+-- the answer to a request about notes, which only a session that is in a room may ask
+abbrev pub IsNotesAnswer : LimitValues → Option PassView → Option PassView → NoteRequest
+    → Option PrefixView → Reply → Type 0
+IsNotesAnswer limits (Some was) new request told reply = IsNotesBy limits was new request told reply
+IsNotesAnswer limits None new request told reply = IsRefused NotJoined None new told reply
+
+-- the answer to bytes that may be such a request, and are no other one
+abbrev pub IsNotesTurn : LimitValues → Option PassView → Option PassView → Bytes
+    → Option PrefixView → Reply → Type 0
+IsNotesTurn limits old new bytes told reply =
+    MatchOption (note_request_read bytes) (IsRefused BadMessage old new told reply)
+    (λ request. IsNotesAnswer limits old new request told reply)
+
 -- the answer to a message; the session keeps its scope
 abbrev pub IsTurn : LimitValues → RoomsView → (ℕ → Type 0) → (ℕ → Type 0) → SessionView
     → SessionView → Bytes → Option PrefixView → Reply → Type 0
 IsTurn limits rooms permitted denied old new bytes told reply =
     (new.scope ≡ old.scope)
-    × MatchOption (request_read bytes) (IsRefused BadMessage old.pass new.pass told reply)
+    × MatchOption (request_read bytes) (IsNotesTurn limits old.pass new.pass bytes told reply)
     (λ request.
     IsAnswer limits rooms permitted denied old.scope old.pass new.pass request told reply)
 

@@ -3,14 +3,15 @@
 ghost use Rattle.std.specs.Prelude.{◌≡◌, IfOk};
 ghost use Rattle.sessions.specs.Sessions.{scope_for};
 
+use crate::chime::Chime;
 use base_types::NoMemory;
 use loops::Bell;
 use room_lock::{RoomHistories, Rooms};
 use scope::Scope;
 use std::alloc::Global;
 
-/// What sessions are served with: the runtime, the allocator, the rooms, the observer, the keeper
-/// and the bell, and whether each session is confined to one room.
+/// What sessions are served with: the runtime, the allocator, the rooms, the observer, the keeper,
+/// the bell and the chime, and whether each session is confined to one room.
 #[derive(Drop)]
 pub struct Host<'a, P: RoomHistories, R, O, K> {
     /// The runtime.
@@ -25,6 +26,8 @@ pub struct Host<'a, P: RoomHistories, R, O, K> {
     pub keeper: &'a K,
     /// The bell that wakes the loops of a room in which sessions wait for entries.
     pub bell: &'a Bell,
+    /// The chime that rings the bell for changes of notes.
+    pub chime: &'a Chime,
     /// A session may enter only the room of its request's path.
     pub is_confining: bool,
 }

@@ -2,6 +2,7 @@
 #![tactic(auto)]
 
 mod cause;
+mod chime;
 mod host;
 mod keeper_threads;
 pub mod laws;
@@ -15,6 +16,7 @@ mod talk;
 mod warning_observer;
 
 pub use cause::{Cause, MessageFault};
+pub use chime::{Chime, Stroke};
 pub use host::Host;
 pub use observer::Observer;
 pub use session::Session;

@@ -17,7 +17,8 @@ ghost use Rattle.keeper.specs.Accesses.{IfKnown, IfNew};
 ghost use Rattle.keeper.specs.Chains.{IsLater};
 ghost use Rattle.scope.specs.Scopes.{allows};
 ghost use Rattle.sessions.specs.Turns.{IsAnswer, IsCallBy, IsPermitted, IsTextOfTurn, IsTurn, IsWait};
-ghost use Rattle.sessions.specs.Turns.{AsksToOpen, IsWaitInRoom, MayEnter, MayStand};
+ghost use Rattle.sessions.specs.Turns.{AsksToOpen, IsNotesBy, IsNotesTurn, IsWaitInRoom, MayEnter};
+ghost use Rattle.sessions.specs.Turns.{MayStand};
 
 use crate::cause::MessageFault;
 use crate::host::Host;
@@ -30,13 +31,24 @@ use room_lock::{Entrance, Lookup, Pass, Prefix, RoomHistories};
 use scope::Scope;
 use std::marker::Model;
 use std::sync::Wait;
-use wire::{Refusal, Request};
-use wire_reader::{ReadFault, Scratch, read_request};
+use wire::{NoteRequest, Refusal, Request};
+use wire_reader::{ReadFault, Scratch, read_note_request, read_request};
+
+/// What a session has heard of the notes of its room.
+#[derive(Clone, Copy, Debug, PartialEq, Eq)]
+struct Heard {
+    /// How often notes had changed.
+    changes: u64,
+    /// How often the room had been rung before that.
+    rings: u64,
+}
 
 /// A session's pass, and the name of its room. Contracts see the pass.
 struct Inside<P: RoomHistories> {
     room: RoomName,
     pass: Pass<P>,
+    /// What the session last heard of notes, once it has asked for them.
+    heard_notes: Option<Heard>,
 }
 
 impl<P: RoomHistories> Model for Inside<P> {
@@ -65,6 +77,36 @@ impl<P: RoomHistories> Model for Session<P> {
     ghost Value = { SessionView };
 
     ghost view = { λ s. record { scope = s.scope; pass = s.inside } };
+}
+
+impl<P: RoomHistories> Inside<P> {
+    /// Returns whether the room's record has exactly this many entries, and there is no news of notes.
+    fn waits_at<R: Wait, O, K>(&mut self, host: &Host<'_, P, R, O, K>, from: u32) -> bool
+        ensures { self.new ≡ self.old }
+    {
+        let Some(progress) = host.rooms.progress(host.rt, &self.pass) else {
+            return false;
+        };
+        let now = Heard {
+            changes: progress.note_changes,
+            rings: host.chime.count_rings(self.pass.place()),
+        };
+        progress.entries == from as usize && !self.hears_of_notes(now)
+    }
+
+    /// Returns whether there is news of notes: one has changed, and the room was rung since. The session
+    /// has heard of it then. For one that has not asked for notes there is none.
+    fn hears_of_notes(&mut self, now: Heard) -> bool
+        ensures { self.new ≡ self.old }
+    {
+        match self.heard_notes {
+            Some(heard) if heard.changes != now.changes && heard.rings != now.rings => {
+                self.heard_notes = Some(now);
+                true
+            }
+            _ => false,
+        }
+    }
 }
 
 impl<P: RoomHistories> Session<P> {
@@ -123,24 +165,36 @@ impl<P: RoomHistories> Session<P> {
             inside,
             awaited: _,
         } = self;
-        if let Some(Inside { room: _, pass }) = inside
-            && let Err(stray) = host.rooms.hand_back(host.rt, pass)
-        {
-            stray.give_up();
+        let Some(
+            Inside {
+                room: _,
+                pass,
+                heard_notes,
+            },
+        ) = inside
+        else {
+            return;
+        };
+        let place = pass.place();
+        match host.rooms.hand_back(host.rt, pass) {
+            Ok(_) if heard_notes.is_some() => host.chime.strike(host.rt, place),
+            Ok(_) => {}
+            Err(stray) => stray.give_up(),
         }
     }
 
     /// Answers one message, and returns the text of the reply with what it reports of a room. Or
     /// holds the message: then it is `None`, and nothing has changed.
     /// The session itself refuses five things. These are bytes that are no request, `join` and
-    /// `back` in a room, other requests in no room, rooms that do not exist or are not in its
+    /// `back` in a room, all others in no room, rooms that do not exist or are not in its
     /// scope, and rooms that cannot be opened now, or for which the keeper has no permit. It tells
     /// who asks for a room whose chain goes on elsewhere of the newest room. Every other request is
     /// one call of the rooms: `join` and `back` may give a pass, `leave` hands it back, and the rest
     /// call the room by it.
     /// With `may_hold` it holds a `wait` in a room whose record has exactly the number of entries
     /// that the request names. It also holds a `join` or `back` of a room that is being opened.
-    /// Without, a `wait` is a pull, and such a room is not served.
+    /// Without, a `wait` is a pull, and such a room is not served. A session that has asked for the
+    /// notes of its room has its `wait` answered when one has changed since.
     /// The text may be sent once what it reports is kept. The session's own refusals report
     /// nothing.
     /// The scratch is memory for reading; nothing of an earlier message counts. Keep one between
@@ -196,19 +250,52 @@ impl<P: RoomHistories> Session<P> {
                 }
                 Ok(Some(self.ask(host, request)?))
             }
-            Err(ReadFault::Bad) => Ok(Some(SessionReply::own_refusal(Refusal::BadMessage))),
+            Err(ReadFault::Bad) => Ok(Some(self.ask_notes(host, scratch, bytes)?)),
             Err(ReadFault::NoMemory) => Err(MessageFault::NoMemory),
         }
     }
 
-    /// Returns whether the request waits for the entry behind all that the room's record has.
-    fn waits<R: Wait, O, K>(&self, host: &Host<'_, P, R, O, K>, request: &Request) -> bool
-        ensures { IsTrue result → IsWaitInRoom self.now.pass request.now }
+    /// Answers bytes that may be a request about notes, and are no other one. On `Err` nothing has
+    /// changed.
+    fn ask_notes<R: Wait, O: Observer, K>(
+        &mut self,
+        host: &Host<'_, P, R, O, K>,
+        scratch: &mut Scratch,
+        bytes: &[u8],
+    ) -> Result<SessionReply<P>, MessageFault>
+        ensures ok { IfOk result (λ answer. IsNotesTurn P.limits self.old.pass self.new.pass bytes.now
+            answer.told answer.reply) }
+        ensures scope { self.new.scope ≡ self.old.scope }
+        ensures err { OnErr result (self.new ≡ self.old) }
     {
-        let (Some(inside), Request::Pull { from, waits: true }) = (&self.inside, request) else {
+        let request = match read_note_request(host.alloc, scratch, bytes) {
+            Ok(request) => request,
+            Err(ReadFault::Bad) => return Ok(SessionReply::own_refusal(Refusal::BadMessage)),
+            Err(ReadFault::NoMemory) => return Err(MessageFault::NoMemory),
+        };
+        match &mut self.inside {
+            Some(inside) => {
+                let (reply, heard) = note_by(host, &mut inside.pass, request)?;
+                inside.heard_notes = Some(heard);
+                Ok(reply)
+            }
+            None => Ok(SessionReply::own_refusal(Refusal::NotJoined)),
+        }
+    }
+
+    /// Returns whether the request waits for the entry behind all that the room's record has, and there
+    /// is no news of notes.
+    fn waits<R: Wait, O, K>(&mut self, host: &Host<'_, P, R, O, K>, request: &Request) -> bool
+        ensures wait { IsTrue result → IsWaitInRoom self.old.pass request.now }
+        ensures same { self.new ≡ self.old }
+    {
+        let Request::Pull { from, waits: true } = request else {
             return false;
         };
-        host.rooms.count_entries(host.rt, &inside.pass) == Some(*from as usize)
+        match &mut self.inside {
+            Some(inside) => inside.waits_at(host, *from),
+            None => false,
+        }
     }
 
     /// Returns whether the request asks for a room that is being opened. The session then waits for
@@ -386,11 +473,23 @@ impl<P: RoomHistories> Session<P> {
             (λ was. ¬ (MayBeOf host.now.rooms.now was.part.opening) →
             result ≡ Err message_fault.Torn) }
     {
-        let Some(Inside { room, pass }) = self.inside.take() else {
+        let Some(
+            Inside {
+                room,
+                pass,
+                heard_notes,
+            },
+        ) = self.inside.take()
+        else {
             return Ok(SessionReply::own_refusal(Refusal::NotJoined));
         };
         match host.rooms.hand_back(host.rt, pass) {
-            Ok((told, reply)) => Ok(SessionReply::of_room(told, reply)),
+            Ok((told, reply)) => {
+                if heard_notes.is_some() {
+                    host.chime.strike(host.rt, told.place());
+                }
+                Ok(SessionReply::of_room(told, reply))
+            }
             Err(pass) => {
                 self.go_in(room, pass);
                 Err(MessageFault::Torn)
@@ -444,7 +543,12 @@ impl<P: RoomHistories> Session<P> {
         requires name { room ≡ pass.room }
         ensures { self.new ≡ record self.old { pass = Some pass } }
     {
-        match self.inside.replace(Inside { room, pass }) {
+        let inside = Inside {
+            room,
+            pass,
+            heard_notes: None,
+        };
+        match self.inside.replace(inside) {
             None => {}
             Some(_) => unreachable!(),
         }
@@ -520,4 +624,26 @@ fn call_by<P: RoomHistories, R: Wait, O, K>(
 {
     let reply = host.rooms.call(host.rt, host.alloc, pass, request)?;
     Ok(SessionReply::of_room(pass.part().prefix(), reply))
+}
+
+/// Carries out a request about notes by this pass, and strikes the chime if one has changed. Gives what
+/// the session has heard of notes then. On `Err` the pass is as it was.
+fn note_by<P: RoomHistories, R: Wait, O, K>(
+    host: &Host<'_, P, R, O, K>,
+    pass: &mut Pass<P>,
+    request: NoteRequest,
+) -> Result<(SessionReply<P>, Heard), MessageFault>
+    ensures ok { IfOk result (λ noted. IsNotesBy P.limits
+        pass.old (Some pass.new) request noted.0.told noted.0.reply) }
+    ensures err { OnErr result (pass.new ≡ pass.old) }
+{
+    let place = pass.place();
+    let rings = host.chime.count_rings(place);
+    let noted = host.rooms.note(host.rt, host.alloc, pass, request)?;
+    let changes = noted.changes;
+    if noted.is_change {
+        host.chime.strike(host.rt, place);
+    }
+    let reply = SessionReply::of_room(pass.part().prefix(), noted.reply);
+    Ok((reply, Heard { changes, rings }))
 }

@@ -18,9 +18,10 @@ use Rattle.rules.specs.declared.version.Version.{Version}
 use Rattle.rules.specs.declared.version.Shown.{Shown}
 use Rattle.rules.specs.declared.version.Shown.TheVariants.{Attrs, Gone}
 use Rattle.wire.specs.declared.reply.Reply.{Reply}
-use Rattle.wire.specs.declared.reply.Reply.TheVariants.{Joined, Returned, Made, Taken, Versions, Objects, Entries, Left, Renewed, No}
-use Rattle.wire.specs.Form.{list_form, whole_form, name_form, names_form, value_form, attr_form, attrs_form, shown_form, version_form, object_form, body_form, operation_form, entry_form, request_form, reply_form}
+use Rattle.wire.specs.declared.reply.Reply.TheVariants.{Joined, Returned, Made, Taken, Versions, Objects, Entries, Left, Notes, Renewed, No}
+use Rattle.wire.specs.Form.{list_form, whole_form, name_form, names_form, value_form, attr_form, attrs_form, shown_form, version_form, object_form, note_form, body_form, operation_form, entry_form, request_form, reply_form}
 use Rattle.rules.specs.Refusals.{code_of, word_of}
+use Rattle.wire.specs.Notes.{Note}
 
 abbrev IsShallow : ℕ → Data → Type 0
 IsShallow n d = depth d ≤ n
@@ -72,6 +73,9 @@ shallow_version v = shallow_list 2 (names_form v.id ∷ shown_form v.shown ∷ [
 shallow_object : (o : (ℕ × ℕ) × List ℕ) → IsShallow 3 (object_form o)
 shallow_object o = shallow_list 2 (name_form o.0 ∷ string o.1 ∷ []) (shallow_name 1 o.0, (shallow_text 2 o.1, tt))
 
+shallow_note : (n : Note) → IsShallow 3 (note_form n)
+shallow_note n = shallow_list 2 (whole_form n.0 ∷ string n.1 ∷ []) (shallow_whole 2 n.0, (shallow_text 2 n.1, tt))
+
 shallow_fields : (n : ℕ) (s : List ℕ) (ds : List Data) → AllByRecursion (IsShallow n) ds → IsShallow (suc n) (list_form (string s ∷ ds))
 shallow_fields n s ds h = shallow_list n (string s ∷ ds) (shallow_text n s, h)
 
@@ -114,5 +118,7 @@ shallow_reply (Entries at from entries) =
     shallow_fields 4 (codes "entries") (whole_form at ∷ whole_form from ∷ list_form (map entry_form entries) ∷ [])
     (shallow_whole 4 at, (shallow_whole 4 from, (shallow_list 3 (map entry_form entries) (shallow_map 3 entry_form shallow_entry entries), tt)))
 shallow_reply (Left at) = shallow_fields 4 (codes "left") (whole_form at ∷ []) (shallow_whole 4 at, tt)
+shallow_reply (Notes at notes) =
+    shallow_fields 4 (codes "notes") (whole_form at ∷ list_form (map note_form notes) ∷ []) (shallow_whole 4 at, (shallow_list 3 (map note_form notes) (shallow_map 3 note_form shallow_note notes), tt))
 shallow_reply (Renewed at room) = shallow_fields 4 (codes "renewed") (whole_form at ∷ string room ∷ []) (shallow_whole 4 at, (shallow_text 4 room, tt))
 shallow_reply (No at refusal) = shallow_fields 4 (codes "no") (whole_form at ∷ whole_form (code_of refusal) ∷ string (word_of refusal) ∷ []) (shallow_whole 4 at, (shallow_whole 4 (code_of refusal), (shallow_text 4 (word_of refusal), tt)))

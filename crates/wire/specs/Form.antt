@@ -28,10 +28,13 @@ use Rattle.rules.specs.declared.version.Version.{Version}
 use Rattle.rules.specs.declared.version.Shown.{Shown}
 use Rattle.rules.specs.declared.version.Shown.TheVariants.{Attrs, Gone}
 use Rattle.rules.specs.Refusals.{code_of, word_of}
-use Rattle.wire.specs.Rising.{rise, attr_before, id_before, version_before}
+use Rattle.wire.specs.Notes.{Note}
+use Rattle.wire.specs.Rising.{rise, attr_before, id_before, site_before, version_before}
 use Rattle.wire.specs.declared.reply.Reply.{Reply}
 use Rattle.wire.specs.declared.reply.Reply.TheVariants.{Joined, Returned, Made, Taken, Versions}
-use Rattle.wire.specs.declared.reply.Reply.TheVariants.{Objects, Entries, Left, Renewed, No}
+use Rattle.wire.specs.declared.reply.Reply.TheVariants.{Objects, Entries, Left, Notes, Renewed, No}
+use Rattle.wire.specs.declared.note.NoteRequest.{NoteRequest}
+use Rattle.wire.specs.declared.note.NoteRequest.TheVariants as note
 
 -- a JSON list of these values
 abbrev pub list_form : List Data → Data
@@ -180,6 +183,21 @@ pub record IsRequestText (bytes : List ℕ) (q : Request) : Type 0 where
   pub short : length bytes ≤ MAX_REQUEST_LEN
   pub text : IsTextOf IsRequestForm IsRequest bytes q
 
+-- the form of a request about notes
+abbrev pub note_request_form : NoteRequest → Data
+note_request_form (note.Set text) = list_form (string (codes "note") ∷ string text ∷ [])
+note_request_form note.Read = list_form (string (codes "notes") ∷ [])
+
+-- such a request in range
+abbrev pub IsNoteRequest : NoteRequest → Type 0
+IsNoteRequest (note.Set text) = is_value_text text ≡ true
+IsNoteRequest note.Read = Unit {0}
+
+-- the bytes are a text of such a request, of at most 16,384 bytes
+pub record IsNoteRequestText (bytes : List ℕ) (q : NoteRequest) : Type 0 where
+  pub short : length bytes ≤ MAX_REQUEST_LEN
+  pub text : IsTextOf (λ d q. d ≡ note_request_form q) IsNoteRequest bytes q
+
 -- what is shown of a version: its attributes, or that it is gone
 abbrev pub shown_form : Shown → Data
 shown_form (Attrs attrs) = attrs_form attrs
@@ -192,6 +210,10 @@ version_form v = list_form (names_form v.id ∷ shown_form v.shown ∷ [])
 -- an object with its kind
 abbrev pub object_form : (ℕ × ℕ) × List ℕ → Data
 object_form o = list_form (name_form o.0 ∷ string o.1 ∷ [])
+
+-- a note: its site and its text
+abbrev pub note_form : Note → Data
+note_form n = list_form (whole_form n.0 ∷ string n.1 ∷ [])
 
 -- the form of a record's entry, with bodies in these forms
 abbrev pub entry_form_by : (Body → WordAndFields) → Entry → Data
@@ -253,6 +275,8 @@ reply_form (Entries at from entries) =
     (string (codes "entries") ∷ whole_form at ∷ whole_form from
     ∷ list_form (map entry_form entries) ∷ [])
 reply_form (Left at) = list_form (string (codes "left") ∷ whole_form at ∷ [])
+reply_form (Notes at notes) =
+    list_form (string (codes "notes") ∷ whole_form at ∷ list_form (map note_form notes) ∷ [])
 reply_form (Renewed at room) =
     list_form (string (codes "renewed") ∷ whole_form at ∷ string room ∷ [])
 reply_form (No at refusal) =
@@ -293,6 +317,14 @@ AreIds ids = AllByRecursion IsId ids × (rise id_before ids ≡ true)
 abbrev pub IsObject : (ℕ × ℕ) × List ℕ → Type 0
 IsObject o = (is_op_name o.0 ≡ true) × (is_kind o.1 ≡ true)
 
+-- a note in range
+abbrev pub IsNote : Note → Type 0
+IsNote n = (is_site n.0 ≡ true) × (is_value_text n.1 ≡ true)
+
+-- the notes of a room, in range
+abbrev pub AreNotes : List Note → Type 0
+AreNotes notes = AllByRecursion IsNote notes × (rise site_before notes ≡ true)
+
 -- a reply in range
 abbrev pub IsReply : Reply → Type 0
 IsReply (Joined at site) = (is_at at ≡ true) × (is_site site ≡ true)
@@ -307,6 +339,7 @@ IsReply (Objects at from total objects) =
 IsReply (Entries at from entries) = (is_at at ≡ true) × (is_from from ≡ true)
     × AllByRecursion IsEntry entries
 IsReply (Left at) = is_at at ≡ true
+IsReply (Notes at notes) = (is_at at ≡ true) × AreNotes notes
 IsReply (Renewed at room) = (is_at at ≡ true) × (is_room_name room ≡ true)
 IsReply (No at refusal) = is_at at ≡ true
 

@@ -1,4 +1,5 @@
 pub mod Lines
+pub mod Notes
 pub mod Replies
 pub mod Form
 pub mod Rising

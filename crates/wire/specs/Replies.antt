@@ -4,7 +4,7 @@ use Rattle.wire.specs.declared.reply.EntryKind.{EntryKind}
 use Rattle.wire.specs.declared.reply.EntryKind.TheVariants as kind
 use Rattle.wire.specs.declared.reply.Reply.{Reply}
 use Rattle.wire.specs.declared.reply.Reply.TheVariants.{Joined, Returned, Made, Taken, Versions}
-use Rattle.wire.specs.declared.reply.Reply.TheVariants.{Objects, Entries, Left, Renewed, No}
+use Rattle.wire.specs.declared.reply.Reply.TheVariants.{Objects, Entries, Left, Notes, Renewed, No}
 
 -- the number of entries before the call
 abbrev pub at_of : Reply → ℕ
@@ -16,6 +16,7 @@ at_of (Versions at name kind versions) = at
 at_of (Objects at from total objects) = at
 at_of (Entries at from entries) = at
 at_of (Left at) = at
+at_of (Notes at notes) = at
 at_of (Renewed at room) = at
 at_of (No at refusal) = at
 

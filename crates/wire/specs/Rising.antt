@@ -1,10 +1,11 @@
 -- Lists in strictly rising order.
-use Rattle.std.specs.Prelude.{ℕ, Bool, true, ◌&&◌, List, [], ◌∷◌}
+use Rattle.std.specs.Prelude.{ℕ, Bool, true, ◌&&◌, nat_lt, List, [], ◌∷◌}
 use Rattle.std.specs.Ordering.{is_lt}
 use Rattle.base_types.specs.VersionIds.{id_cmp}
 use Rattle.rules.specs.AttrLists.{Attr}
 use Rattle.rules.specs.Versions.{key_cmp}
 use Rattle.rules.specs.declared.version.Version.{Version}
+use Rattle.wire.specs.Notes.{Note}
 
 -- each comes before the next one
 unfoldable pub rise : {X : Type 0} → (X → X → Bool) → List X → Bool
@@ -19,6 +20,10 @@ id_before m n = is_lt (id_cmp m n)
 -- versions, by their identifiers
 abbrev pub version_before : Version → Version → Bool
 version_before v w = id_before v.id w.id
+
+-- notes, by their sites
+abbrev pub site_before : Note → Note → Bool
+site_before m n = nat_lt m.0 n.0
 
 -- attributes, by their keys
 abbrev pub attr_before : Attr → Attr → Bool

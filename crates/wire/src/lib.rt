@@ -4,11 +4,13 @@
 
 pub mod laws;
 mod lists;
+mod note;
 mod reply;
 mod request;
 mod write;
 
-pub use lists::{EntryList, IdList, ObjectList, VersionList};
+pub use lists::{EntryList, IdList, NoteList, ObjectList, VersionList};
+pub use note::NoteRequest;
 pub use reply::{EntryKind, Reply};
 pub use request::{MAX_FROM, MAX_REQUEST_LEN, Request};
 pub use rules::Refusal;

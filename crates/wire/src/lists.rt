@@ -6,7 +6,7 @@ ghost use Rattle.std.specs.Arc.{arc_value};
 ghost use Rattle.wire.specs.steps.Pages.{entries_text};
 ghost use Rattle.wire.specs.Texts.{entry_text};
 
-use base_types::{Kind, NoMemory, OpName, VersionId};
+use base_types::{Kind, NoMemory, OpName, ValueText, VersionId};
 use rules::{Entry, Version};
 use std::alloc::Global;
 use std::marker::Model;
@@ -161,6 +161,56 @@ impl Eq for ObjectList {
     ghost use Rattle.wire.specs.steps.Equality.{same_objects-equivalence};
 
     ghost laws = { same_objects-equivalence };
+}
+
+/// Notes, each with its site.
+#[derive(Drop)]
+pub struct NoteList {
+    notes: Vec<(u32, ValueText)>,
+}
+
+impl Model for NoteList {
+    ghost use Rattle.std.specs.Prelude.{List};
+    ghost use Rattle.wire.specs.Notes.{Note};
+
+    ghost Value = { List Note };
+
+    ghost view = { λ list. list.notes.items };
+}
+
+impl NoteList {
+    /// These notes, in their order. Takes no memory.
+    pub fn from_vec(notes: Vec<(u32, ValueText)>) -> NoteList
+        ensures { result ≡ notes.items }
+    {
+        NoteList { notes }
+    }
+
+    /// The notes with their sites.
+    pub fn as_slice(&self) -> &[(u32, ValueText)]
+        ensures { result.now ≡ self.now }
+    {
+        &self.notes
+    }
+}
+
+impl PartialEq for NoteList {
+    ghost use Rattle.std.specs.Cmp.{partial_equiv_from_equiv};
+    ghost use Rattle.wire.specs.steps.Equality.{same_notes, same_notes-equivalence};
+
+    ghost eq = { same_notes };
+
+    ghost laws = { partial_equiv_from_equiv same_notes-equivalence };
+
+    fn eq(&self, other: &NoteList) -> bool {
+        self.notes.as_slice() == other.notes.as_slice()
+    }
+}
+
+impl Eq for NoteList {
+    ghost use Rattle.wire.specs.steps.Equality.{same_notes-equivalence};
+
+    ghost laws = { same_notes-equivalence };
 }
 
 /// Entries of a record. Each is shared with the record that stores it. A list may have its text,

@@ -3,7 +3,7 @@
 ghost use Rattle.std.specs.Prelude.{◌≡◌};
 ghost use Rattle.wire.specs.steps.Equality.{same_entrance, same_change, same_listing, same_page};
 
-use crate::lists::{EntryList, IdList, ObjectList, VersionList};
+use crate::lists::{EntryList, IdList, NoteList, ObjectList, VersionList};
 use base_types::{Kind, OpName, RoomName};
 use rules::Refusal;
 
@@ -56,6 +56,11 @@ pub enum Reply {
     Left {
         at: u32,
     },
+    /// All notes of the room, in order of site.
+    Notes {
+        at: u32,
+        notes: NoteList,
+    },
     /// The room that the request named has ended. Its chain goes on in this room, the newest.
     Renewed {
         at: u32,
@@ -95,6 +100,7 @@ impl Reply {
             | Reply::Objects { at, .. }
             | Reply::Entries { at, .. }
             | Reply::Left { at }
+            | Reply::Notes { at, .. }
             | Reply::Renewed { at, .. }
             | Reply::No { at, .. } => *at,
         }
@@ -135,6 +141,13 @@ impl PartialEq for Reply {
             (Reply::Versions { .. }, _) => same_listing(self, other),
             (Reply::Objects { .. } | Reply::Entries { .. }, _) => same_page(self, other),
             (Reply::Left { at }, Reply::Left { at: other_at }) => *at == *other_at,
+            (
+                Reply::Notes { at, notes },
+                Reply::Notes {
+                    at: other_at,
+                    notes: other_notes,
+                },
+            ) => *at == *other_at && *notes == *other_notes,
             (
                 Reply::Renewed { at, room },
                 Reply::Renewed {

@@ -4,13 +4,14 @@ use Rattle.json.specs.Token.{Token}
 use Rattle.base_types.specs.declared.op_name.TheConstants.{MAX_SITE}
 use Rattle.wire.specs.declared.request.TheConstants.{MAX_FROM}
 use Rattle.wire.specs.declared.reply.Reply.TheVariants.{Joined, Returned, Made, Taken, Versions}
-use Rattle.wire.specs.declared.reply.Reply.TheVariants.{Objects, Entries, Left, Renewed, No}
+use Rattle.wire.specs.declared.reply.Reply.TheVariants.{Objects, Entries, Left, Notes, Renewed, No}
 use Rattle.wire_reader.specs.steps.Reading.{list_in, end_at, field_at, whole_in}
 use Rattle.wire_reader.specs.steps.Reading.{name_in}
 use Rattle.wire_reader.specs.steps.Reading.{kind_in, room_in}
 use Rattle.wire_reader.specs.steps.Entries.{entry_of}
 use Rattle.wire_reader.specs.steps.Reading.{◌>>=◌}
-use Rattle.wire_reader.specs.steps.Replies.{joined_at, returned_at, made_at, taken_at, versions_at, objects_at, entries_at, left_at, renewed_at, no_at, at_in, ids_in, versions_in, object_in, refusal_fields}
+use Rattle.wire_reader.specs.steps.Replies.{joined_at, returned_at, made_at, taken_at, versions_at, objects_at, entries_at, left_at, notes_at, renewed_at, no_at, at_in, ids_in, versions_in, object_in, refusal_fields}
+use Rattle.wire_reader.specs.steps.Notes.{notes_in}
 use Rattle.wire_reader.specs.steps.Streams.{rest_in}
 use Rattle.wire_reader.proofs.Tokens.{rest_then}
 
@@ -45,6 +46,10 @@ entries_steps n ts = rest_then (field_at at_in (field_at (whole_in 0 MAX_FROM) (
 pub left_steps : (n : ℕ) (ts : List Token) → rest_in left_at n ts ≡ (rest_in (field_at at_in end_at) n ts >>= λ q. Some ((Left q.0.0), q.1))
 unfolding left_at
 left_steps n ts = rest_then (field_at at_in end_at) (λ p. Some (Left p.0)) n ts
+
+pub notes_steps : (n : ℕ) (ts : List Token) → rest_in notes_at n ts ≡ (rest_in (field_at at_in (field_at notes_in end_at)) n ts >>= λ q. Some ((Notes q.0.0 q.0.1.0), q.1))
+unfolding notes_at
+notes_steps n ts = rest_then (field_at at_in (field_at notes_in end_at)) (λ p. Some (Notes p.0 p.1.0)) n ts
 
 pub renewed_steps : (n : ℕ) (ts : List Token) → rest_in renewed_at n ts ≡ (rest_in (field_at at_in (field_at room_in end_at)) n ts >>= λ q. Some ((Renewed q.0.0 q.0.1.0), q.1))
 unfolding renewed_at

@@ -1,6 +1,7 @@
 pub mod Reading
 pub mod Bodies
 pub mod Requests
+pub mod Notes
 pub mod Entries
 pub mod Replies
 pub mod Faults

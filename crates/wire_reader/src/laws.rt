@@ -2,10 +2,11 @@
 
 ghost use Rattle.std.specs.Prelude.{◌≡◌, ◌↔◌, List, ℕ, Some};
 ghost use Rattle.rules.specs.declared.history.Entry.{Entry};
+ghost use Rattle.wire.specs.declared.note.NoteRequest.{NoteRequest};
 ghost use Rattle.wire.specs.declared.request.Request.{Request};
 ghost use Rattle.wire.specs.declared.reply.Reply.{Reply};
-ghost use Rattle.wire.specs.Form.{IsRequestText, IsEntryText, IsReplyText};
-ghost use Rattle.wire_reader.specs.steps.Reads.{request_read, entry_read, reply_read};
+ghost use Rattle.wire.specs.Form.{IsRequestText, IsNoteRequestText, IsEntryText, IsReplyText};
+ghost use Rattle.wire_reader.specs.steps.Reads.{request_read, note_request_read, entry_read, reply_read};
 
 /// Bytes are a text of at most one request.
 #[tactic(auto, using(crate::proofs::RequestTexts::one_request))]
@@ -19,6 +20,22 @@ pub fn one_request()
 pub fn requests_by_form()
     ensures { (bytes : List ℕ) (q : Request) →
         (request_read bytes ≡ Some q) ↔ IsRequestText bytes q }
+{}
+
+/// Bytes are a text of at most one request about notes, and then of no other request.
+#[tactic(auto, using(crate::proofs::NoteTexts::one_note_request, crate::proofs::NoteTexts::no_other_request))]
+pub fn one_note_request()
+    ensures one { (bytes : List ℕ) (p q : NoteRequest)
+        → IsNoteRequestText bytes p → IsNoteRequestText bytes q → p ≡ q }
+    ensures apart { (bytes : List ℕ) (p : NoteRequest) (q : Request)
+        → IsNoteRequestText bytes p → ¬ IsRequestText bytes q }
+{}
+
+/// The request about notes that bytes are read as is the one that they are a text of.
+#[tactic(auto, using(crate::proofs::NoteTexts::note_requests_by_form))]
+pub fn note_requests_by_form()
+    ensures { (bytes : List ℕ) (q : NoteRequest) →
+        (note_request_read bytes ≡ Some q) ↔ IsNoteRequestText bytes q }
 {}
 
 /// Bytes are a text of at most one entry.

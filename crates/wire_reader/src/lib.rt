@@ -1,4 +1,4 @@
-//! Requests, replies and entries of a record from JSON. A put of one pair is also read from its old
+//! Requests, requests about notes, replies and entries of a record from JSON. A put of one pair is also read from its old
 //! form, which begins with the word `set`.
 #![tactic(auto)]
 
@@ -7,6 +7,7 @@ mod entry;
 mod exchange;
 mod fault;
 pub mod laws;
+mod note;
 mod part;
 mod reply;
 mod request;
@@ -17,5 +18,6 @@ pub use entry::read_entry;
 pub use exchange::read_exchange;
 pub use fault::{ReadFault, if_in_form};
 pub use json::Scratch;
+pub use note::read_note_request;
 pub use reply::read_reply;
 pub use request::read_request;

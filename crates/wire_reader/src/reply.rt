@@ -7,11 +7,12 @@ ghost use Rattle.rules.specs.declared.version.Shown.TheVariants.{Gone};
 ghost use Rattle.wire.specs.Rising.{rise, attr_before, id_before, version_before};
 ghost use Rattle.wire.specs.Form.{IsReplyText};
 ghost use Rattle.wire_reader.specs.steps.Reading.{Gives, whole_in, id_in};
-ghost use Rattle.wire_reader.specs.steps.Replies.{at_in, ids_in, shown_attrs_at, shown_in, version_in, versions_in, object_in, joined_at, returned_at, made_at, taken_at, versions_at, objects_at, entries_at, left_at, renewed_at, refusal_with, refusal_fields, no_at, reply_of};
+ghost use Rattle.wire_reader.specs.steps.Replies.{at_in, ids_in, shown_attrs_at, shown_in, version_in, versions_in, object_in, joined_at, returned_at, made_at, taken_at, versions_at, objects_at, entries_at, left_at, notes_at, renewed_at, refusal_with, refusal_fields, no_at, reply_of};
 ghost use Rattle.wire_reader.specs.steps.Reads.{reply_read};
 ghost use Rattle.wire_reader.specs.steps.Streams.{next_in, rest_in, Takes};
 
 use crate::fault::ReadFault;
+use crate::note::notes_of;
 use crate::part::{Part, id_of, kind_of, list_of, name_of, others_of, read_text, room_of};
 use crate::rising::rising;
 use crate::token::{begins_list, close_list, open_list, string_of, text_of, whole_of, word_of};
@@ -268,6 +269,16 @@ fn left_of(reader: &mut Reader<'_>) -> Result<Reply, ReadFault>
     Ok(Reply::Left { at })
 }
 
+fn all_notes_of(alloc: Global, reader: &mut Reader<'_>) -> Result<Reply, ReadFault>
+    ensures { (n : ℕ) → 2 ≤ n → Takes (λ reply. reply) result
+        (rest_in notes_at n reader.old) reader.new }
+{
+    let at = at_of(reader)?;
+    let notes = notes_of(alloc, reader)?;
+    close_list(reader)?;
+    Ok(Reply::Notes { at, notes })
+}
+
 fn renewed_of(alloc: Global, reader: &mut Reader<'_>) -> Result<Reply, ReadFault>
     ensures { (n : ℕ) → Takes (λ reply. reply) result
         (rest_in renewed_at n reader.old) reader.new }
@@ -330,6 +341,7 @@ impl Part for Reply {
             "objects" => objects_of(alloc, reader),
             "entries" => entries_of(alloc, reader),
             "left" => left_of(reader),
+            "notes" => all_notes_of(alloc, reader),
             "renewed" => renewed_of(alloc, reader),
             "no" => no_of(reader),
             _ => Err(ReadFault::Bad),

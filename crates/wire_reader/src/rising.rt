@@ -2,10 +2,10 @@
 
 ghost use Rattle.std.specs.Prelude.{◌≡◌, Bool, Some, None, if◌then◌else◌};
 ghost use Rattle.wire_reader.specs.steps.Reading.{Gives};
-ghost use Rattle.wire.specs.Rising.{rise, id_before, attr_before, version_before};
+ghost use Rattle.wire.specs.Rising.{rise, id_before, attr_before, site_before, version_before};
 
 use crate::fault::ReadFault;
-use base_types::{Key, Value, VersionId};
+use base_types::{Key, Value, ValueText, VersionId};
 use rules::Version;
 
 /// A value with an order in which a list may have to increase.
@@ -36,6 +36,14 @@ impl Ranked for (Key, Value) {
     ghost before = { attr_before };
 
     fn is_before(&self, next: &(Key, Value)) -> bool {
+        self.0 < next.0
+    }
+}
+
+impl Ranked for (u32, ValueText) {
+    ghost before = { site_before };
+
+    fn is_before(&self, next: &(u32, ValueText)) -> bool {
         self.0 < next.0
     }
 }

@@ -24,7 +24,7 @@ use Rattle.rules.proofs.Founded.{history_if_legal}
 use Rattle.wire.specs.declared.request.Request.{Request}
 use Rattle.wire.specs.declared.request.Request.TheVariants as request
 use Rattle.wire.specs.declared.reply.Reply.{Reply}
-use Rattle.wire.specs.declared.reply.Reply.TheVariants.{Joined, Returned, Made, Taken, Versions, Objects, Entries, Left, Renewed, No}
+use Rattle.wire.specs.declared.reply.Reply.TheVariants.{Joined, Returned, Made, Taken, Versions, Objects, Entries, Left, Notes, Renewed, No}
 use Rattle.wire.specs.Form.{IsEntry, IsObject, IsReply, IsRequest, is_at, is_from}
 use Rattle.room_core.specs.Room.{Room, all_objects, with_entry}
 use Rattle.drawing.specs.Shown.{ids_with, shown_by}
@@ -63,6 +63,10 @@ within_push b r (Next count) w a =
 
 within : (b : LimitValues) (r : List Entry) → IsLegal b r → IsWithin b r
 within b = kept_by_admitted b (IsWithin b) (λ r e l. within_push b r e) (record { joins = omega arith; short = omega arith })
+
+-- so its length is in range
+pub short_if_legal : (room : Room) (limits : LimitValues) → limits ≡ room.limits → limits.entries ≤ 16384 → IsLegal room.limits room.entries → length room.entries ≤ 16384
+short_if_legal room limits same most legal = let w = (within room.limits room.entries legal).short in omega (arith, w, ap (λ l. l.entries) same, most)
 
 -- ---- answers
 
@@ -254,5 +258,6 @@ moved_in_range (Versions at name kind vs) site range e = absurd (cc)
 moved_in_range (Objects at from total page) site range e = absurd (cc)
 moved_in_range (Entries at from page) site range e = absurd (cc)
 moved_in_range (Left at) site range e = absurd (cc)
+moved_in_range (Notes at notes) site range e = absurd (cc)
 moved_in_range (Renewed at room) site range e = absurd (cc)
 moved_in_range (No at why) site range e = absurd (cc)

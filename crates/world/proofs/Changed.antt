@@ -7,23 +7,32 @@ use Rattle.std.proofs.lemmas.List.{get_or-set_same, get_or-set_other, length-map
 use Rattle.wire.specs.declared.request.Request.{Request}
 use Rattle.wire.specs.declared.reply.Reply.{Reply}
 use Rattle.wire.specs.Entering.{room_to_enter}
-use Rattle.wire_reader.specs.steps.Reads.{request_read}
+use Rattle.wire_reader.specs.steps.Reads.{request_read, note_request_read}
+use Rattle.wire.specs.declared.note.NoteRequest.{NoteRequest}
+use Rattle.wire.specs.Notes.{Notes, no_notes}
+use Rattle.notes.specs.Notes.{notes_at}
 use Rattle.room_core.specs.Room.{Room, with_entry}
 use Rattle.room_core.specs.Answers.{Outcome}
 use Rattle.world.specs.declared.seats.Seat.{Seat}
 use Rattle.world.specs.declared.seats.Asker.{Asker}
-use Rattle.world.specs.Alone.{Message, Alone, no_site, answer_to, move_of, after_move, after_reply, use_after, alone_answer, alone_after}
+use Rattle.world.specs.Alone.{Message, Alone, no_site, answer_to, move_of, after_move, after_reply, use_after, noted_by, notes_after_move, alone_answer, alone_after}
 use Rattle.world.specs.Rooms.{Rooms, place_of, named_place, owner_from, owner_of, after_at, rooms_after}
-use Rattle.world.specs.State.{WorldState, Named, names_in, names_of, seat_of, no_room, rooms_in, room_at, is_used, uses_in, use_at, site_at, alone_at, rooms_of, SeatsWithin}
+use Rattle.world.specs.State.{WorldState, Named, names_in, names_of, seat_of, no_room, rooms_in, room_at, is_used, uses_in, use_at, notes_in, notes_of, site_at, alone_at, rooms_of, SeatsWithin}
 use Rattle.world.specs.steps.Steps.{asker_answer, place_answer, asker_of, seat_in, IsMoved}
 use Rattle.world.proofs.Places.{place_of_within}
 use Rattle.world.proofs.SeatMaps.{seat_within}
 
-pub alone_same : (a b : Alone) → a.room ≡ b.room → a.site_of ≡ b.site_of → a.in_use ≡ b.in_use → a ≡ b
-alone_same a b e f g =
-    ap (λ r. record { room = r; site_of = a.site_of; in_use = a.in_use }) e
-    ∙ ap (λ (h : ℕ → Option ℕ). record { room = b.room; site_of = h; in_use = a.in_use }) f
-    ∙ ap (λ (h : ℕ → Bool). record { room = b.room; site_of = b.site_of; in_use = h }) g
+pub alone_same : (a b : Alone) → a.room ≡ b.room → a.site_of ≡ b.site_of → a.in_use ≡ b.in_use → a.notes ≡ b.notes → a ≡ b
+alone_same a b e f g n =
+    ap (λ r. record { room = r; site_of = a.site_of; in_use = a.in_use; notes = a.notes }) e
+    ∙ ap (λ (h : ℕ → Option ℕ). record { room = b.room; site_of = h; in_use = a.in_use; notes = a.notes }) f
+    ∙ ap (λ (h : ℕ → Bool). record { room = b.room; site_of = b.site_of; in_use = h; notes = a.notes }) g
+    ∙ ap (λ (h : Notes). record { room = b.room; site_of = b.site_of; in_use = b.in_use; notes = h }) n
+
+-- a request that is about no notes changes none, but where it leaves
+pub not_noted : (who : Option ℕ) (request : Request) (asked : Option NoteRequest) (notes : Notes) → noted_by who (Some request) asked notes ≡ notes
+not_noted None request asked notes = refl
+not_noted (Some site) request asked notes = refl
 
 pub rooms_same : (a b : Rooms) → a.inside ≡ b.inside → a.alone ≡ b.alone → a ≡ b
 rooms_same a b e f = ap (λ (i : ℕ → Option ℕ). record { inside = i; alone = a.alone }) e ∙ ap (λ (g : ℕ → Alone). record { inside = b.inside; alone = g }) f
@@ -79,6 +88,9 @@ module _ (state new : WorldState) (message : Message) (place : ℕ) (outcome : O
     (rooms : rooms_in new.rooms ≡ set (rooms_in state.rooms) place (with_entry (room_at state.rooms place) outcome.1))
     (uses : uses_in new.rooms ≡ set (uses_in state.rooms) place (use_after outcome.0 (site_at place (seat_of state.seats message.session)) (use_at state.rooms place)))
     (seats : IsMoved state.seats new.seats outcome.0 message.session place)
+    (noted : notes_in new.rooms ≡ set (notes_in state.rooms) place
+    (notes_after_move (move_of outcome.0) (site_at place (seat_of state.seats message.session))
+    (noted_by (site_at place (seat_of state.seats message.session)) (request_read message.bytes) (note_request_read message.bytes) (notes_of state.rooms place))))
   where
     inside_is : (rooms_of new).inside ≡ (after_at (rooms_of state) message (Some place)).inside
     inside_is = fun_ext (λ q. ap (option_map (λ (seat : Seat). seat.place)) (seats q) ∙ inside-moved place outcome.0 message.session (seat_of state.seats) q
@@ -93,7 +105,11 @@ module _ (state new : WorldState) (message : Message) (place : ℕ) (outcome : O
         ∙ ap (λ (o : Outcome). after_reply o.0 (λ site. site) message.session (alone_at state place).site_of s) (sym is_answer)))
         (ap (λ (uses : List (ℕ → Bool)). get_or uses place no_site) uses
         ∙ get_or-set_same (uses_in state.rooms) place _ no_site (rw (length-map state.rooms (λ room. is_used room.in_use)) within)
-        ∙ ap (λ (o : Outcome). use_after o.0 (site_at place (seat_of state.seats message.session)) (use_at state.rooms place)) (sym is_answer)))
+        ∙ ap (λ (o : Outcome). use_after o.0 (site_at place (seat_of state.seats message.session)) (use_at state.rooms place)) (sym is_answer))
+        (ap (λ (all : List Notes). get_or all place no_notes) noted
+        ∙ get_or-set_same (notes_in state.rooms) place _ no_notes (rw (length-map state.rooms (λ room. notes_at room.notes)) within)
+        ∙ ap (λ (o : Outcome). notes_after_move (move_of o.0) (site_at place (seat_of state.seats message.session))
+        (noted_by (site_at place (seat_of state.seats message.session)) (request_read message.bytes) (note_request_read message.bytes) (notes_of state.rooms place))) (sym is_answer)))
 
     there : (q : ℕ) → eqb place q ≡ false → alone_at new q ≡ alone_at state q
     there q ne = alone_same _ _
@@ -102,6 +118,8 @@ module _ (state new : WorldState) (message : Message) (place : ℕ) (outcome : O
         (fun_ext (λ s. ap (site_at q) (seats s) ∙ site_at_other-moved place q outcome.0 message.session (seat_of state.seats) s ne (apart q ne)))
         (ap (λ (uses : List (ℕ → Bool)). get_or uses q no_site) uses
         ∙ get_or-set_other (uses_in state.rooms) place q _ no_site (λ e. eqb-false place q ne (sym e)))
+        (ap (λ (all : List Notes). get_or all q no_notes) noted
+        ∙ get_or-set_other (notes_in state.rooms) place q _ no_notes (λ e. eqb-false place q ne (sym e)))
 
     each : (b : Bool) (q : ℕ) → eqb place q ≡ b → alone_at new q ≡ cond b (alone_after (alone_at state place) message) (alone_at state q)
     each true q e = here q (eqb-true place q e)
@@ -148,9 +166,9 @@ asks_of names session (Some seat) request asker e =
     })
 
 -- a request is answered by who asks
-by_asker : (room : Room) (in_use : ℕ → Bool) (who : Option ℕ) (request : Request) → answer_to room in_use who (Some request) ≡ asker_answer room in_use who request
-by_asker room in_use None request = refl
-by_asker room in_use (Some site) request = refl
+by_asker : (alone : Alone) (who : Option ℕ) (request : Request) (asked : Option NoteRequest) → answer_to alone who (Some request) asked ≡ asker_answer alone.room alone.in_use who request
+by_asker alone None request asked = refl
+by_asker alone (Some site) request asked = refl
 
 module _ (state : WorldState) (message : Message) (request : Request)
     (is_request : request_read message.bytes ≡ Some request)
@@ -172,17 +190,29 @@ module _ (state : WorldState) (message : Message) (request : Request)
             let room = room_at state.rooms asker.place in
             let in_use = use_at state.rooms asker.place in
             let who = site_at asker.place (seat_of state.seats message.session) in
-            ap (answer_to room in_use who) is_request ∙ by_asker room in_use who request ∙ ap (λ w. asker_answer room in_use w request) asks.site
+            let asked = note_request_read message.bytes in
+            let alone = alone_at state asker.place in
+            ap (λ r. answer_to alone who r asked) is_request ∙ by_asker alone who request asked ∙ ap (λ w. asker_answer room in_use w request) asks.site
 
         pub asked_after : (new : WorldState) → asker.place < length state.rooms
             → rooms_in new.rooms ≡ set (rooms_in state.rooms) asker.place (with_entry (room_at state.rooms asker.place) (place_answer state.rooms asker.place asker.site request).1)
             → uses_in new.rooms ≡ set (uses_in state.rooms) asker.place (use_after (place_answer state.rooms asker.place asker.site request).0 asker.site (use_at state.rooms asker.place))
             → IsMoved state.seats new.seats (place_answer state.rooms asker.place asker.site request).0 asker.session asker.place
+            → notes_in new.rooms ≡ set (notes_in state.rooms) asker.place (notes_after_move (move_of (place_answer state.rooms asker.place asker.site request).0) asker.site (notes_of state.rooms asker.place))
             → rooms_of new ≡ rooms_after (names_of state) (rooms_of state) message
-        asked_after new within rooms uses seats =
+        asked_after new within rooms uses seats notes =
             let outcome = place_answer state.rooms asker.place asker.site request in
             let used = subst (λ who. uses_in new.rooms ≡ set (uses_in state.rooms) asker.place (use_after outcome.0 who (use_at state.rooms asker.place))) (sym asks.site) uses in
+            let who = site_at asker.place (seat_of state.seats message.session) in
+            let move = move_of outcome.0 in
+            let asked = note_request_read message.bytes in
+            let had = notes_of state.rooms asker.place in
+            let kept : notes_after_move move who (noted_by who (request_read message.bytes) asked had) ≡ notes_after_move move asker.site had =
+            ap (λ r. notes_after_move move who (noted_by who r asked had)) is_request
+            ∙ ap (notes_after_move move who) (not_noted who request asked had)
+            ∙ ap (λ w. notes_after_move move w had) asks.site in
             rooms_of-changed state new message asker.place outcome within asks.apart answer_is rooms used (rw asks.session_is at seats)
+            (notes ∙ ap (set (notes_in state.rooms) asker.place) (sym kept))
             ∙ ap (after_at (rooms_of state) message) (sym owner_is)
 
 -- whoever asks a room asks one that is there

@@ -10,10 +10,14 @@ use Rattle.wire.specs.Lines.{lines_of, onto_first}
 use Rattle.wire.specs.steps.OneLine.{IsOneLine}
 use Rattle.wire.specs.declared.reply.Reply.TheVariants.{No}
 use Rattle.wire.specs.Texts.{reply_text}
-use Rattle.wire_reader.specs.steps.Reads.{request_read, reply_read}
+use Rattle.wire.specs.declared.request.Request.{Request}
+use Rattle.wire.specs.declared.note.NoteRequest.{NoteRequest}
+use Rattle.wire.specs.Notes.{Notes}
+use Rattle.wire_reader.specs.steps.Reads.{request_read, note_request_read, reply_read}
+use Rattle.room_core.specs.Room.{with_entry}
 use Rattle.room_core.specs.Shown.{HasObject}
-use Rattle.world.specs.Alone.{Message, message_of, Alone, answer_to, after_reply, use_after, alone_reply, alone_after}
-use Rattle.world.specs.Rooms.{Rooms, named_place, lone_answer, owner_from, owner_of, reply_at, after_at, reply_to, rooms_after}
+use Rattle.world.specs.Alone.{Message, message_of, Alone, answer_to, notes_or_bad, move_of, noted_by, notes_after_move, after_reply, use_after, alone_reply, alone_after}
+use Rattle.world.specs.Rooms.{Rooms, named_place, lone_answer, notes_refusal, owner_from, owner_of, reply_at, after_at, reply_to, rooms_after}
 use Rattle.world.specs.State.{WorldState, names_of, rooms_of}
 use Rattle.world.specs.Script.{message_in, text_for, rooms_for, lines_out, lines_end, output_of}
 use Rattle.world.specs.declared.script.TheConstants.{LINE_LIMIT}
@@ -28,28 +32,53 @@ pub no_request : (bytes : List ℕ) → 16384 < length bytes → request_read by
 unfolding request_read
 no_request bytes long = rw (lt-leb (length bytes) 16384 long) refl
 
-alone_bad : (alone : Alone) (m : Message) → request_read m.bytes ≡ None → alone_reply alone m ≡ No 0 BadMessage
-alone_bad alone m e = ap (λ r. (answer_to alone.room alone.in_use (alone.site_of m.session) r).0) e
+pub no_note_request : (bytes : List ℕ) → 16384 < length bytes → note_request_read bytes ≡ None
+unfolding note_request_read
+no_note_request bytes long = rw (lt-leb (length bytes) 16384 long) refl
 
-pub bad_reply : (names : List (List ℕ)) (rooms : Rooms) (m : Message) → request_read m.bytes ≡ None → reply_to names rooms m ≡ No 0 BadMessage
-bad_reply names rooms m e = elim (rooms.inside m.session) as (λ o. reply_at rooms m (owner_from o (named_place names (request_read m.bytes))) ≡ No 0 BadMessage) [
-  | None ↦ ap (λ r. reply_at rooms m (named_place names r)) e ∙ ap lone_answer e
-  | Some place ↦ alone_bad (rooms.alone place) m e
+-- the bytes are a request of no kind
+pub record IsBad (bytes : List ℕ) : Type 0 where
+  pub request : request_read bytes ≡ None
+  pub note : note_request_read bytes ≡ None
+
+pub bad_if_long : (bytes : List ℕ) → 16384 < length bytes → IsBad bytes
+bad_if_long bytes long = record { request = no_request bytes long; note = no_note_request bytes long }
+
+alone_bad : (alone : Alone) (m : Message) → IsBad m.bytes → alone_reply alone m ≡ No 0 BadMessage
+alone_bad alone m bad =
+    ap (λ r. (answer_to alone (alone.site_of m.session) r (note_request_read m.bytes)).0) bad.request
+    ∙ ap (λ a. (notes_or_bad alone.room alone.notes (alone.site_of m.session) a).0) bad.note
+
+pub bad_reply : (names : List (List ℕ)) (rooms : Rooms) (m : Message) → IsBad m.bytes → reply_to names rooms m ≡ No 0 BadMessage
+bad_reply names rooms m bad = elim (rooms.inside m.session) as (λ o. reply_at rooms m (owner_from o (named_place names (request_read m.bytes))) ≡ No 0 BadMessage) [
+  | None ↦ ap (λ r. reply_at rooms m (named_place names r)) bad.request ∙ ap (λ r. lone_answer r (note_request_read m.bytes)) bad.request ∙ ap (λ a. No 0 (notes_refusal a)) bad.note
+  | Some place ↦ alone_bad (rooms.alone place) m bad
 ]
 
-alone_kept : (alone : Alone) (m : Message) → request_read m.bytes ≡ None → alone_after alone m ≡ alone
-alone_kept alone m e =
-    let bad = alone_bad alone m e in
-    alone_same _ _ (rw e refl) (ap (λ r. after_reply r (λ site. site) m.session alone.site_of) bad) (ap (λ r. use_after r (alone.site_of m.session) alone.in_use) bad)
+un_noted : (who : Option ℕ) (asks : Option Request) (asked : Option NoteRequest) (notes : Notes) → asks ≡ None → asked ≡ None → noted_by who asks asked notes ≡ notes
+un_noted None asks asked notes e f = refl
+un_noted (Some site) (Some request) asked notes e f = refl
+un_noted (Some site) None None notes e f = refl
+un_noted (Some site) None (Some request) notes e f = absurd cc
 
-kept_at : (b : Bool) (rooms : Rooms) (m : Message) (place other : ℕ) → eqb place other ≡ b → request_read m.bytes ≡ None → cond b (alone_after (rooms.alone place) m) (rooms.alone other) ≡ rooms.alone other
-kept_at true rooms m place other t e = alone_kept (rooms.alone place) m e ∙ ap rooms.alone (eqb-true place other t)
-kept_at false rooms m place other t e = refl
+alone_kept : (alone : Alone) (m : Message) → IsBad m.bytes → alone_after alone m ≡ alone
+alone_kept alone m bad =
+    let reply = alone_bad alone m bad in
+    let who = alone.site_of m.session in
+    alone_same _ _
+    (ap (λ r. with_entry alone.room (answer_to alone who r (note_request_read m.bytes)).1) bad.request ∙ ap (λ a. with_entry alone.room (notes_or_bad alone.room alone.notes who a).1) bad.note)
+    (ap (λ r. after_reply r (λ site. site) m.session alone.site_of) reply) (ap (λ r. use_after r who alone.in_use) reply)
+    (ap (λ r. notes_after_move (move_of r) who (noted_by who (request_read m.bytes) (note_request_read m.bytes) alone.notes)) reply
+    ∙ un_noted who (request_read m.bytes) (note_request_read m.bytes) alone.notes bad.request bad.note)
 
-pub bad_after : (names : List (List ℕ)) (rooms : Rooms) (m : Message) → request_read m.bytes ≡ None → rooms_after names rooms m ≡ rooms
-bad_after names rooms m e = elim (rooms.inside m.session) as (λ o. after_at rooms m (owner_from o (named_place names (request_read m.bytes))) ≡ rooms) [
-  | None ↦ ap (λ r. after_at rooms m (named_place names r)) e
-  | Some place ↦ rooms_same _ _ (ap (λ r. after_reply r (λ site. place) m.session rooms.inside) (alone_bad (rooms.alone place) m e)) (fun_ext (λ other. kept_at (eqb place other) rooms m place other refl e))
+kept_at : (b : Bool) (rooms : Rooms) (m : Message) (place other : ℕ) → eqb place other ≡ b → IsBad m.bytes → cond b (alone_after (rooms.alone place) m) (rooms.alone other) ≡ rooms.alone other
+kept_at true rooms m place other t bad = alone_kept (rooms.alone place) m bad ∙ ap rooms.alone (eqb-true place other t)
+kept_at false rooms m place other t bad = refl
+
+pub bad_after : (names : List (List ℕ)) (rooms : Rooms) (m : Message) → IsBad m.bytes → rooms_after names rooms m ≡ rooms
+bad_after names rooms m bad = elim (rooms.inside m.session) as (λ o. after_at rooms m (owner_from o (named_place names (request_read m.bytes))) ≡ rooms) [
+  | None ↦ ap (λ r. after_at rooms m (named_place names r)) bad.request
+  | Some place ↦ rooms_same _ _ (ap (λ r. after_reply r (λ site. place) m.session rooms.inside) (alone_bad (rooms.alone place) m bad)) (fun_ext (λ other. kept_at (eqb place other) rooms m place other refl bad))
 ]
 
 -- ---- two ends of one long line
@@ -87,13 +116,13 @@ abbrev SameAnswer : List (List ℕ) → Rooms → Option Message → Option Mess
 SameAnswer names rooms o p =
     (text_for names rooms o ≡ text_for names rooms p) × (rooms_for names rooms o ≡ rooms_for names rooms p) × (LineShows names rooms o → LineShows names rooms p) × (LineShows names rooms p → LineShows names rooms o)
 
-bad_shows : (names : List (List ℕ)) (rooms : Rooms) (m n : Message) → request_read m.bytes ≡ None → request_read n.bytes ≡ None → n.session ≡ m.session
+bad_shows : (names : List (List ℕ)) (rooms : Rooms) (m n : Message) → IsBad m.bytes → IsBad n.bytes → n.session ≡ m.session
     → LineShows names rooms (Some m) → LineShows names rooms (Some n)
 bad_shows names rooms m n e f same shows at object kind versions is_read =
     let replies = bad_reply names rooms m e ∙ sym (bad_reply names rooms n f) in
     let rooms_are = bad_after names rooms m e ∙ sym (bad_after names rooms n f) in
     let owners_are : owner_of names rooms n ≡ owner_of names rooms m =
-    ap (λ q. owner_from (rooms.inside q) (named_place names (request_read n.bytes))) same ∙ ap (λ r. owner_from (rooms.inside m.session) (named_place names r)) (f ∙ sym e) in
+    ap (λ q. owner_from (rooms.inside q) (named_place names (request_read n.bytes))) same ∙ ap (λ r. owner_from (rooms.inside m.session) (named_place names r)) (f.request ∙ sym e.request) in
     let there = shows at object kind versions (ap (λ r. reply_read (reply_text r)) replies ∙ is_read) in
     record {
       place = there.place;
@@ -103,8 +132,8 @@ bad_shows names rooms m n e f same shows at object kind versions is_read =
 
 same_bad : (names : List (List ℕ)) (rooms : Rooms) (m : Message) (more : List ℕ) → 16384 < length m.bytes → 16384 < length more → SameAnswer names rooms (Some m) (Some (message_of m.session more))
 same_bad names rooms m more long longer =
-    let e = no_request m.bytes long in
-    let f = no_request more longer in (
+    let e = bad_if_long m.bytes long in
+    let f = bad_if_long more longer in (
       ap (λ r. decimal m.session ++ (32 ∷ reply_text r) ++ 10 ∷ []) (bad_reply names rooms m e ∙ sym (bad_reply names rooms (message_of m.session more) f)),
       bad_after names rooms m e ∙ sym (bad_after names rooms (message_of m.session more) f),
       bad_shows names rooms m (message_of m.session more) e f refl,

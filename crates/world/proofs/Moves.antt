@@ -18,7 +18,8 @@ use Rattle.wire.specs.declared.reply.Reply.TheVariants.{Joined, Returned, No}
 use Rattle.drawing.specs.Shown.{shown_by}
 use Rattle.room_core.specs.Room.{Room, with_entry}
 use Rattle.room_core.specs.Answers.{Outcome, answer, entry_or_refusal, has_site, join_answer, operation_by, operation_reply, reply_alone, site_answer}
-use Rattle.world.specs.Alone.{answer_to, move_of, outside_answer}
+use Rattle.wire.specs.declared.note.NoteRequest.{NoteRequest}
+use Rattle.world.specs.Alone.{Alone, answer_to, move_of, outside_answer}
 
 -- the answer lets its session in, as a site that has joined and that nobody is in as
 pub record Enters (room : Room) (in_use : ℕ → Bool) (who : Option ℕ) (outcome : Outcome) : Type 0 where
@@ -143,9 +144,12 @@ module _ (room : Room) where
       unfolding answer
       inside_moves asks = of_anyone (has_site room site) asks
 
-    -- so of each answer
-    pub answer_moves : (who : Option ℕ) (asks : Option Request) → Moves room in_use who (answer_to room in_use who asks)
-    answer_moves None None = inl refl
-    answer_moves (Some site) None = inl refl
-    answer_moves None (Some asks) = outside_moves asks
-    answer_moves (Some site) (Some asks) = inside_moves site asks
+-- so of each answer
+pub answer_moves : (alone : Alone) → ((site : ℕ) → alone.in_use site ≡ true → has_site alone.room site ≡ true)
+    → (who : Option ℕ) (asks : Option Request) (asked : Option NoteRequest) → Moves alone.room alone.in_use who (answer_to alone who asks asked)
+answer_moves alone joined None None None = inl refl
+answer_moves alone joined None None (Some asked) = inl refl
+answer_moves alone joined (Some site) None None = inl refl
+answer_moves alone joined (Some site) None (Some asked) = inl refl
+answer_moves alone joined None (Some asks) asked = outside_moves alone.room alone.in_use joined asks
+answer_moves alone joined (Some site) (Some asks) asked = inside_moves alone.room alone.in_use joined site asks

@@ -5,9 +5,11 @@ use Rattle.std.proofs.lemmas.List.{map-set, length-map}
 use Rattle.std.proofs.lemmas.List.Quantifiers.{position-Some}
 use Rattle.room_core.specs.Room.{Room}
 use Rattle.wire.specs.declared.request.Request.{Request}
-use Rattle.world.specs.Alone.{use_after}
+use Rattle.wire.specs.Notes.{Notes}
+use Rattle.notes.specs.Notes.{notes_at}
+use Rattle.world.specs.Alone.{no_site, use_after, move_of, notes_after_move}
 use Rattle.world.specs.Rooms.{place_of}
-use Rattle.world.specs.State.{Named, names_in, rooms_in, room_at, is_used, uses_in, use_at}
+use Rattle.world.specs.State.{Named, names_in, no_room, rooms_in, room_at, is_used, uses_in, use_at, notes_in, notes_of}
 use Rattle.world.specs.steps.Steps.{asker_answer, place_answer}
 
 -- one room is replaced by another of its name
@@ -39,6 +41,42 @@ uses_after rooms i old new who request lt e f =
     (f
     ∙ ap (λ room. use_after (asker_answer room (is_used old.in_use) who request).0 who (is_used old.in_use)) (room_at_read rooms i old lt e)
     ∙ ap (λ (in_use : ℕ → Bool). use_after (asker_answer (room_at rooms i) in_use who request).0 who in_use) (use_at_read rooms i old lt e))
+
+pub notes_of_read : (rooms : List Named) (i : ℕ) (room : Named) → i < length rooms → room ≡ get_or rooms i room → notes_at room.notes ≡ notes_of rooms i
+notes_of_read [] i room lt e = absurd (omega arith)
+notes_of_read (r ∷ rs) zero room lt e = ap (λ (x : Named). notes_at x.notes) e
+notes_of_read (r ∷ rs) (suc i) room lt e = notes_of_read rs i room (omega arith) e
+
+-- the notes, once those of the room at a place are these
+pub notes_set : (rooms : List Named) (i : ℕ) (new : Named) (target : Notes) → notes_at new.notes ≡ target → notes_in (set rooms i new) ≡ set (notes_in rooms) i target
+notes_set rooms i new target e = map-set (λ (room : Named). notes_at room.notes) rooms i new ∙ ap (set (notes_in rooms) i) e
+
+-- once the room at a place has answered
+pub notes_after_answer : (rooms : List Named) (i : ℕ) (old new : Named) (who : Option ℕ) (request : Request) → i < length rooms → old ≡ get_or rooms i old
+    → notes_at new.notes ≡ notes_after_move (move_of (asker_answer old.room (is_used old.in_use) who request).0) who (notes_at old.notes)
+    → notes_in (set rooms i new) ≡ set (notes_in rooms) i (notes_after_move (move_of (place_answer rooms i who request).0) who (notes_of rooms i))
+notes_after_answer rooms i old new who request lt e f =
+    notes_set rooms i new _
+    (f
+    ∙ ap (λ room. notes_after_move (move_of (asker_answer room (is_used old.in_use) who request).0) who (notes_at old.notes)) (room_at_read rooms i old lt e)
+    ∙ ap (λ (in_use : ℕ → Bool). notes_after_move (move_of (asker_answer (room_at rooms i) in_use who request).0) who (notes_at old.notes)) (use_at_read rooms i old lt e)
+    ∙ ap (notes_after_move (move_of (place_answer rooms i who request).0) who) (notes_of_read rooms i old lt e))
+
+-- what stands at a place stays there
+pub set_same : {A : Type 0} (xs : List A) (i : ℕ) (other : A) → set xs i (get_or xs i other) ≡ xs
+set_same [] i other = refl
+set_same (x ∷ xs) zero other = refl
+set_same (x ∷ xs) (suc i) other = ap (λ ys. x ∷ ys) (set_same xs i other)
+
+-- the room at a place is replaced by one with other notes
+pub same_rooms : (rooms : List Named) (i : ℕ) (old new : Named) → i < length rooms → old ≡ get_or rooms i old → new.room ≡ old.room → rooms_in (set rooms i new) ≡ rooms_in rooms
+same_rooms rooms i old new lt e f = rooms_set rooms i new (room_at rooms i) (f ∙ room_at_read rooms i old lt e) ∙ set_same (rooms_in rooms) i no_room
+
+pub same_uses : (rooms : List Named) (i : ℕ) (old new : Named) → i < length rooms → old ≡ get_or rooms i old → new.in_use ≡ old.in_use → uses_in (set rooms i new) ≡ uses_in rooms
+same_uses rooms i old new lt e f =
+    map-set (λ (room : Named). is_used room.in_use) rooms i new
+    ∙ ap (set (uses_in rooms) i) (ap is_used f ∙ use_at_read rooms i old lt e)
+    ∙ set_same (uses_in rooms) i no_site
 
 -- the names stand in the rooms' order
 first_of : (rooms : List Named) (name : List ℕ) → position_or_len (λ room. bytes_eq room.name name) rooms ≡ position_or_len (λ other. bytes_eq other name) (names_in rooms)

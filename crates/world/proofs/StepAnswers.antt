@@ -1,29 +1,35 @@
 -- One message and its answer: what is shown of an object is shown of the message's own room.
-use Rattle.std.proofs.Common.{◌≡◌, ℕ, ◌<◌, Bool, cond, List, length, set, Option, Some, None, Result, Ok, Err, IfOk, OnOk, refl, sym, ap, ◌∙◌, subst}
+use Rattle.std.proofs.Common.{◌≡◌, ℕ, ◌<◌, Bool, false, cond, eqb, List, length, set, Option, Some, None, Result, Ok, Err, IfOk, OnOk, refl, sym, ap, ◌∙◌, subst}
+use Rattle.std.specs.Option.{option_map}
 use Rattle.std.proofs.lemmas.Bool.{eq-eqb}
 use Rattle.base_types.specs.Names.{Name}
 use Rattle.base_types.specs.Texts.{Bytes}
 use Rattle.rules.specs.declared.refusal.Refusal.{Refusal}
-use Rattle.rules.specs.declared.refusal.Refusal.TheVariants.{BadMessage}
+use Rattle.rules.specs.declared.refusal.Refusal.TheVariants.{BadMessage, NotJoined}
 use Rattle.rules.specs.declared.version.Version.{Version}
 use Rattle.rules.specs.Records.{IsLegal}
 use Rattle.wire.specs.declared.request.Request.{Request}
-use Rattle.wire.specs.declared.reply.Reply.TheVariants.{Versions, No}
+use Rattle.wire.specs.declared.note.NoteRequest.{NoteRequest}
+use Rattle.wire.specs.declared.reply.Reply.{Reply}
+use Rattle.wire.specs.declared.reply.Reply.TheVariants.{Versions, No, Notes as NotesOf}
+use Rattle.wire.specs.Notes.{all_notes, notes_after}
 use Rattle.wire.specs.Texts.{reply_text}
-use Rattle.wire_reader.specs.steps.Reads.{request_read, reply_read}
+use Rattle.wire_reader.specs.steps.Reads.{request_read, note_request_read, reply_read}
 use Rattle.room_core.specs.Room.{Room, with_entry}
-use Rattle.room_core.specs.Answers.{Outcome}
+use Rattle.room_core.specs.Answers.{Outcome, reply_alone}
 use Rattle.room_core.specs.Shown.{HasObject}
 use Rattle.room_core.proofs.Shows.{IsShownBy, has_if_shown}
 use Rattle.world.specs.declared.seats.Asker.{Asker}
-use Rattle.world.specs.Alone.{Message, use_after, alone_answer, alone_after}
-use Rattle.world.specs.Rooms.{Rooms, owner_of, reply_at, after_at, reply_to, rooms_after}
-use Rattle.world.specs.State.{WorldState, names_of, rooms_in, room_at, uses_in, use_at, seat_of, alone_at, rooms_of}
+use Rattle.world.specs.declared.seats.Seat.{Seat}
+use Rattle.world.specs.Alone.{Message, answer_to, no_site, notes_or_bad, use_after, move_of, noted_by, notes_after_move, alone_answer, alone_after}
+use Rattle.world.specs.Rooms.{Rooms, named_place, lone_answer, notes_refusal, owner_from, owner_of, reply_at, after_at, reply_to, rooms_after}
+use Rattle.world.specs.State.{WorldState, names_of, no_room, rooms_in, room_at, uses_in, use_at, notes_in, notes_of, seat_of, site_at, alone_at, rooms_of}
 use Rattle.world.specs.steps.Steps.{place_answer, asker_of, IsTextFor, RepliesTo}
 use Rattle.world.specs.Shown.{OwnerHasObject, ShowsGroups}
 use Rattle.world.specs.Run.{IsAnswer}
-use Rattle.world.proofs.Changed.{owner_is, answer_is, asked_after}
-use Rattle.world.proofs.LongLines.{bad_reply, bad_after}
+use Rattle.world.proofs.Places.{set_same}
+use Rattle.world.proofs.Changed.{owner_is, answer_is, asked_after, rooms_of-changed}
+use Rattle.world.proofs.LongLines.{IsBad, bad_reply, bad_after}
 use Rattle.world.proofs.RoomShows.{room_shows}
 
 -- the room at a place, which the message is of, answers with versions
@@ -82,8 +88,8 @@ refusal_answer state message why text is_reply is_rooms t = record {
   names = refl;
 }
 
--- the bytes are no request
-pub bad_answer : (state : WorldState) (message : Message) (text : List ℕ) → request_read message.bytes ≡ None → IsTextFor text (No 0 BadMessage) → IsAnswer state message text state
+-- the bytes are a request of no kind
+pub bad_answer : (state : WorldState) (message : Message) (text : List ℕ) → IsBad message.bytes → IsTextFor text (No 0 BadMessage) → IsAnswer state message text state
 bad_answer state message text e t =
     refusal_answer state message BadMessage text (bad_reply (names_of state) (rooms_of state) message e) (bad_after (names_of state) (rooms_of state) message e) t
 
@@ -97,8 +103,9 @@ pub room_answer : (state : WorldState) (message : Message) (request : Request) (
     → RepliesTo asker (place_answer state.rooms asker.place asker.site request).0 text state.seats new.seats
     → rooms_in new.rooms ≡ set (rooms_in state.rooms) asker.place (with_entry (room_at state.rooms asker.place) (place_answer state.rooms asker.place asker.site request).1)
     → uses_in new.rooms ≡ set (uses_in state.rooms) asker.place (use_after (place_answer state.rooms asker.place asker.site request).0 asker.site (use_at state.rooms asker.place))
+    → notes_in new.rooms ≡ set (notes_in state.rooms) asker.place (notes_after_move (move_of (place_answer state.rooms asker.place asker.site request).0) asker.site (notes_of state.rooms asker.place))
     → IsAnswer state message text new
-room_answer state message request is_request asker found new text within legal names replies rooms uses =
+room_answer state message request is_request asker found new text within legal names replies rooms uses notes =
     let owner = owner_is state message request is_request asker found in
     let answer = answer_is state message request is_request asker found in
     let is_reply : reply_to (names_of state) (rooms_of state) message ≡ (place_answer state.rooms asker.place asker.site request).0 =
@@ -107,10 +114,82 @@ room_answer state message request is_request asker found new text within legal n
       is_text = replies.is_text ∙ ap reply_text (sym is_reply);
       is_read = replies.is_read ∙ ap Some (sym is_reply);
       shown = owner_shows state message asker.place asker.site request text owner answer legal replies.is_read;
-      rooms = asked_after state message request is_request asker found new within rooms uses replies.moves;
+      rooms = asked_after state message request is_request asker found new within rooms uses replies.moves notes;
       names = names;
     }
 
-pub if_ok_and : {T E Q S : Type 0} (r : Result T E) (P R : T → Type 0) → ((x : T) → P x → Q → S → R x) → IfOk r P → OnOk r Q → OnOk r S → IfOk r R
-if_ok_and (Ok x) P R f p q s = f x p q s
-if_ok_and (Err y) P R f p q s = tt
+-- ---- a request about notes
+
+-- the reply to a site of the room at a place
+abbrev pub notes_reply : WorldState → Seat → NoteRequest → Reply
+notes_reply state seat request =
+    NotesOf (length (room_at state.rooms seat.place).entries) (all_notes (notes_after seat.site request (notes_of state.rooms seat.place)))
+
+module _ (state : WorldState) (message : Message) (request : NoteRequest)
+    (no_request : request_read message.bytes ≡ None)
+    (is_asked : note_request_read message.bytes ≡ Some request)
+  where
+    owner_by : (seat : Option Seat) → seat_of state.seats message.session ≡ seat → owner_of (names_of state) (rooms_of state) message ≡ owner_from (option_map (λ (s : Seat). s.place) seat) None
+    owner_by seat e =
+        ap (λ s. owner_from (option_map (λ (s : Seat). s.place) s) (named_place (names_of state) (request_read message.bytes))) e
+        ∙ ap (λ r. owner_from (option_map (λ (s : Seat). s.place) seat) (named_place (names_of state) r)) no_request
+
+    -- of a session that is in no room
+    pub outside_note : (text : List ℕ) → seat_of state.seats message.session ≡ None → IsTextFor text (No 0 NotJoined) → IsAnswer state message text state
+    outside_note text out t =
+        let owner = owner_by None out in
+        refusal_answer state message NotJoined text
+        (ap (reply_at (rooms_of state) message) owner ∙ ap (λ r. lone_answer r (note_request_read message.bytes)) no_request ∙ ap (λ a. No 0 (notes_refusal a)) is_asked)
+        (ap (after_at (rooms_of state) message) owner) t
+
+    module _ (seat : Seat) (inside : seat_of state.seats message.session ≡ Some seat) where
+      in_as : site_at seat.place (seat_of state.seats message.session) ≡ Some seat.site
+      in_as = ap (site_at seat.place) inside ∙ ap (λ (b : Bool). cond b (Some seat.site) None) (eq-eqb seat.place seat.place refl)
+
+      elsewhere : (other : ℕ) → eqb seat.place other ≡ false → site_at other (seat_of state.seats message.session) ≡ None
+      elsewhere other ne = ap (site_at other) inside ∙ ap (λ (b : Bool). cond b (Some seat.site) None) ne
+
+      outcome_is : alone_answer (alone_at state seat.place) message ≡ reply_alone (notes_reply state seat request)
+      outcome_is =
+          let alone = alone_at state seat.place in
+          ap (λ r. answer_to alone (alone.site_of message.session) r (note_request_read message.bytes)) no_request
+          ∙ ap (λ a. notes_or_bad alone.room alone.notes (alone.site_of message.session) a) is_asked
+          ∙ ap (λ who. notes_or_bad alone.room alone.notes who (Some request)) in_as
+
+      noted_is : noted_by (site_at seat.place (seat_of state.seats message.session)) (request_read message.bytes) (note_request_read message.bytes) (notes_of state.rooms seat.place)
+          ≡ notes_after seat.site request (notes_of state.rooms seat.place)
+      noted_is =
+          let notes = notes_of state.rooms seat.place in
+          ap (λ who. noted_by who (request_read message.bytes) (note_request_read message.bytes) notes) in_as
+          ∙ ap (λ r. noted_by (Some seat.site) r (note_request_read message.bytes) notes) no_request
+          ∙ ap (λ a. noted_by (Some seat.site) None a notes) is_asked
+
+      -- of a session that is in a room: only the note of its site changes
+      pub inside_note : (new : WorldState) (text : List ℕ) → seat.place < length state.rooms → IsTextFor text (notes_reply state seat request)
+          → names_of new ≡ names_of state → new.seats ≡ state.seats → rooms_in new.rooms ≡ rooms_in state.rooms → uses_in new.rooms ≡ uses_in state.rooms
+          → notes_in new.rooms ≡ set (notes_in state.rooms) seat.place (notes_after seat.site request (notes_of state.rooms seat.place))
+          → IsAnswer state message text new
+      inside_note new text within t names seats rooms uses notes =
+          let owner = owner_by (Some seat) inside in
+          let is_reply : reply_to (names_of state) (rooms_of state) message ≡ notes_reply state seat request =
+          ap (reply_at (rooms_of state) message) owner ∙ ap (λ (o : Outcome). o.0) outcome_is in
+          let changed = rooms_of-changed state new message seat.place (reply_alone (notes_reply state seat request)) within elsewhere outcome_is
+          (rooms ∙ sym (set_same (rooms_in state.rooms) seat.place no_room))
+          (uses ∙ sym (set_same (uses_in state.rooms) seat.place no_site))
+          (λ other. ap (λ s. seat_of s other) seats)
+          (notes ∙ ap (set (notes_in state.rooms) seat.place) (sym noted_is)) in
+          record {
+            is_text = t.is_text ∙ ap reply_text (sym is_reply);
+            is_read = t.is_read ∙ ap Some (sym is_reply);
+            shown = λ at object kind versions e. let same : notes_reply state seat request ≡ Versions at object kind versions = cc in absurd (cc);
+            rooms = changed ∙ ap (after_at (rooms_of state) message) (sym owner);
+            names = names;
+          }
+
+pub if_ok_with : {T E Q : Type 0} (r : Result T E) (P R : T → Type 0) → ((x : T) → P x → Q → R x) → IfOk r P → OnOk r Q → IfOk r R
+if_ok_with (Ok x) P R f p q = f x p q
+if_ok_with (Err y) P R f p q = tt
+
+pub if_ok_and : {T E Q S V : Type 0} (r : Result T E) (P R : T → Type 0) → ((x : T) → P x → Q → S → V → R x) → IfOk r P → OnOk r Q → OnOk r S → OnOk r V → IfOk r R
+if_ok_and (Ok x) P R f p q s v = f x p q s v
+if_ok_and (Err y) P R f p q s v = tt

@@ -1,13 +1,16 @@
 -- One room alone, and the sessions in it.
-use Rattle.std.specs.Prelude.{ℕ, ◌==◌, Bool, true, false, List, [], ◌∷◌, Option, Some, None}
+use Rattle.std.specs.Prelude.{ℕ, ◌==◌, Bool, true, false, List, [], ◌∷◌, Option, Some, None, length}
 use Rattle.std.specs.Prelude.{option_map, if◌then◌else◌}
 use Rattle.rules.specs.declared.refusal.Refusal.TheVariants.{BadMessage, NotJoined}
 use Rattle.wire.specs.declared.request.Request.{Request}
 use Rattle.wire.specs.declared.request.Request.TheVariants.{Join, Back}
 use Rattle.wire.specs.declared.reply.Reply.{Reply}
+use Rattle.wire.specs.declared.note.NoteRequest.{NoteRequest}
 use Rattle.wire.specs.declared.reply.Reply.TheVariants.{Joined, Returned, Left, No}
+use Rattle.wire.specs.declared.reply.Reply.TheVariants.{Notes as NotesOf}
+use Rattle.wire.specs.Notes.{Notes, all_notes, notes_after, with_note}
 use Rattle.wire.specs.Texts.{reply_text}
-use Rattle.wire_reader.specs.steps.Reads.{request_read}
+use Rattle.wire_reader.specs.steps.Reads.{request_read, note_request_read}
 use Rattle.room_core.specs.Room.{Room, with_entry}
 use Rattle.room_core.specs.Answers.{Outcome, reply_alone, join_answer, back_reply, answer}
 
@@ -26,18 +29,31 @@ outside_answer room in_use (Join name) = join_answer room
 outside_answer room in_use (Back name site) = reply_alone (back_reply room (in_use site) site)
 outside_answer room in_use _ = reply_alone (No 0 NotJoined)
 
--- the answer to a message in a room, of a site of the room or of nobody there
-abbrev pub answer_to : Room → (ℕ → Bool) → Option ℕ → Option Request → Outcome
-answer_to room in_use who None = reply_alone (No 0 BadMessage)
-answer_to room in_use None (Some request) = outside_answer room in_use request
-answer_to room in_use (Some site) (Some request) = answer room site request
+-- the answer to a request about notes, of a site of the room or of nobody there
+abbrev pub notes_answer : Room → Notes → Option ℕ → NoteRequest → Outcome
+notes_answer room notes None request = reply_alone (No 0 NotJoined)
+notes_answer room notes (Some site) request =
+    reply_alone (NotesOf (length room.entries) (all_notes (notes_after site request notes)))
 
--- a room alone: its record, the site of each session that is in it, and whether somebody is in as a
--- site
+-- the answer to bytes that may be one, and are no other request
+abbrev pub notes_or_bad : Room → Notes → Option ℕ → Option NoteRequest → Outcome
+notes_or_bad room notes who None = reply_alone (No 0 BadMessage)
+notes_or_bad room notes who (Some request) = notes_answer room notes who request
+
+-- a room alone: its record, the site of each session that is in it, whether somebody is in as a
+-- site, and the notes of the sites
 pub record Alone : Type 0 where
   pub room : Room
   pub site_of : ℕ → Option ℕ
   pub in_use : ℕ → Bool
+  pub notes : Notes
+
+-- the answer to a message in a room, of a site of the room or of nobody there: to a request, or else
+-- to one about notes
+abbrev pub answer_to : Alone → Option ℕ → Option Request → Option NoteRequest → Outcome
+answer_to alone who None asked = notes_or_bad alone.room alone.notes who asked
+answer_to alone None (Some request) asked = outside_answer alone.room alone.in_use request
+answer_to alone (Some site) (Some request) asked = answer alone.room site request
 
 -- no site is in use
 abbrev pub no_site : ℕ → Bool
@@ -72,10 +88,21 @@ use_after_move (Some None) (Some was) in_use site = if was == site then false el
 abbrev pub use_after : Reply → Option ℕ → (ℕ → Bool) → ℕ → Bool
 use_after reply was in_use site = use_after_move (move_of reply) was in_use site
 
+-- the notes after a message, which is a request, or else one about notes
+abbrev pub noted_by : Option ℕ → Option Request → Option NoteRequest → Notes → Notes
+noted_by (Some site) None (Some asked) notes = notes_after site asked notes
+noted_by _ _ _ notes = notes
+
+-- who leaves has no note any more
+abbrev pub notes_after_move : Option (Option ℕ) → Option ℕ → Notes → Notes
+notes_after_move (Some None) (Some was) notes = with_note was None notes
+notes_after_move _ _ notes = notes
+
 -- the answer to a message of the room, and the room after it
 abbrev pub alone_answer : Alone → Message → Outcome
 alone_answer alone message =
-    answer_to alone.room alone.in_use (alone.site_of message.session) (request_read message.bytes)
+    answer_to alone (alone.site_of message.session)
+    (request_read message.bytes) (note_request_read message.bytes)
 
 abbrev pub alone_reply : Alone → Message → Reply
 alone_reply alone message = (alone_answer alone message).0
@@ -85,6 +112,10 @@ alone_after alone message = record {
   room = with_entry alone.room (alone_answer alone message).1;
   site_of = after_reply (alone_reply alone message) (λ site. site) message.session alone.site_of;
   in_use = use_after (alone_reply alone message) (alone.site_of message.session) alone.in_use;
+  notes =
+      notes_after_move (move_of (alone_reply alone message)) (alone.site_of message.session)
+      (noted_by (alone.site_of message.session)
+      (request_read message.bytes) (note_request_read message.bytes) alone.notes);
 }
 
 -- the texts of the replies to the room's messages, one after the other, and the room after them all

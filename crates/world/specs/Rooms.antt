@@ -4,11 +4,12 @@ use Rattle.std.specs.Prelude.{option_and_then, position, bytes_eq, if◌then◌e
 use Rattle.rules.specs.declared.refusal.Refusal.{Refusal}
 use Rattle.rules.specs.declared.refusal.Refusal.TheVariants.{BadMessage, NotJoined, NoSuchRoom}
 use Rattle.wire.specs.declared.request.Request.{Request}
+use Rattle.wire.specs.declared.note.NoteRequest.{NoteRequest}
 use Rattle.wire.specs.declared.reply.Reply.{Reply}
 use Rattle.wire.specs.declared.reply.Reply.TheVariants.{No}
 use Rattle.wire.specs.Entering.{room_to_enter}
 use Rattle.wire.specs.Texts.{reply_text}
-use Rattle.wire_reader.specs.steps.Reads.{request_read}
+use Rattle.wire_reader.specs.steps.Reads.{request_read, note_request_read}
 use Rattle.world.specs.Alone.{Message, Alone, after_reply, alone_reply, alone_after}
 
 -- the place of the first room of this name
@@ -40,12 +41,16 @@ abbrev pub lone_refusal : Option (List ℕ) → Refusal
 lone_refusal (Some name) = NoSuchRoom
 lone_refusal None = NotJoined
 
-abbrev pub lone_answer : Option Request → Reply
-lone_answer None = No 0 BadMessage
-lone_answer (Some request) = No 0 (lone_refusal (room_to_enter request))
+abbrev pub notes_refusal : Option NoteRequest → Refusal
+notes_refusal (Some asked) = NotJoined
+notes_refusal None = BadMessage
+
+abbrev pub lone_answer : Option Request → Option NoteRequest → Reply
+lone_answer None asked = No 0 (notes_refusal asked)
+lone_answer (Some request) asked = No 0 (lone_refusal (room_to_enter request))
 
 abbrev pub lone_reply : Message → Reply
-lone_reply message = lone_answer (request_read message.bytes)
+lone_reply message = lone_answer (request_read message.bytes) (note_request_read message.bytes)
 
 abbrev pub reply_at : Rooms → Message → Option ℕ → Reply
 reply_at rooms message None = lone_reply message

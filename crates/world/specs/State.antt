@@ -4,16 +4,19 @@ use Rattle.std.specs.Prelude.{None, option_map, slice_index_or, replicate, if◌
 use Rattle.std.specs.Map.{lookup}
 use Rattle.base_types.specs.declared.op_name.TheConstants.{MAX_SITE}
 use Rattle.rules.specs.declared.limits.LimitValues.{LimitValues}
+use Rattle.wire.specs.Notes.{Notes, no_notes}
+use Rattle.notes.specs.Notes.{NotePlaces, notes_at}
 use Rattle.room_core.specs.Room.{Room, empty_room}
 use Rattle.world.specs.declared.seats.Seat.{Seat}
 use Rattle.world.specs.Alone.{Alone, no_site}
 use Rattle.world.specs.Rooms.{Rooms}
 
--- a room under its name, and for each site whether somebody is in as it
+-- a room under its name, for each site whether somebody is in as it, and the notes
 pub record Named : Type 0 where
   pub name : List ℕ
   pub room : Room
   pub in_use : List Bool
+  pub notes : NotePlaces
 
 -- a world: its rooms in order, and the seat of each session that is in one
 pub record WorldState : Type 0 where
@@ -62,6 +65,13 @@ uses_in rooms = map (λ room. is_used room.in_use) rooms
 abbrev pub use_at : List Named → ℕ → ℕ → Bool
 use_at rooms place = slice_index_or (uses_in rooms) place no_site
 
+-- the notes, of the room at a place
+abbrev pub notes_in : List Named → List Notes
+notes_in rooms = map (λ room. notes_at room.notes) rooms
+
+abbrev pub notes_of : List Named → ℕ → Notes
+notes_of rooms place = slice_index_or (notes_in rooms) place no_notes
+
 abbrev pub site_at : ℕ → Option Seat → Option ℕ
 site_at place None = None
 site_at place (Some seat) = if seat.place == place then Some seat.site else None
@@ -71,6 +81,7 @@ alone_at state place = record {
   room = room_at state.rooms place;
   site_of = λ session. site_at place (seat_of state.seats session);
   in_use = use_at state.rooms place;
+  notes = notes_of state.rooms place;
 }
 
 abbrev pub rooms_of : WorldState → Rooms
@@ -82,7 +93,13 @@ rooms_of state = record {
 -- rooms of these names, and nobody in them
 abbrev pub empty_rooms : List (List ℕ) → LimitValues → List Named
 empty_rooms names limits =
-    map (λ name. record { name = name; room = empty_room limits; in_use = no_sites }) names
+    map
+    (λ name. record {
+      name = name;
+      room = empty_room limits;
+      in_use = no_sites;
+      notes = [];
+    }) names
 
 abbrev pub new_world : List (List ℕ) → LimitValues → WorldState
 new_world names limits = record { rooms = empty_rooms names limits; seats = [] }

@@ -4,11 +4,11 @@
 ghost use Rattle.std.specs.Prelude.{◌≡◌, ◌↔◌, ℕ, map, option_map, Some, None, IfOk, OnOk, OnErr, IsErrOf, string_bytes, bytes_eq};
 ghost use Rattle.base_types.specs.Repeats.{first_repeat};
 ghost use Rattle.rules.specs.declared.refusal.Refusal.{Refusal};
-ghost use Rattle.wire_reader.specs.steps.Reads.{request_read};
+ghost use Rattle.wire_reader.specs.steps.Reads.{request_read, note_request_read};
 ghost use Rattle.wire.specs.declared.reply.Reply.TheVariants.{No};
 ghost use Rattle.wire.specs.Entering.{room_to_enter};
-ghost use Rattle.world.specs.Alone.{message_of};
-ghost use Rattle.world.specs.Rooms.{place_of, lone_refusal};
+ghost use Rattle.world.specs.Alone.{Message, message_of};
+ghost use Rattle.world.specs.Rooms.{place_of, lone_refusal, notes_refusal};
 ghost use Rattle.world.specs.State.{WorldState, names_in, names_of, new_world};
 ghost use Rattle.world.specs.steps.Steps.{asker_of, IsTextFor};
 ghost use Rattle.world.specs.Run.{IsAnswer, AnswersSomeOf};
@@ -22,14 +22,14 @@ mod sites;
 
 use base_types::{NoMemory, RoomName, RoomsFault, repeated_name};
 pub use fault::ScriptFault;
-use named_room::{NamedRoom, answer_at, empty_rooms, place_of};
+use named_room::{NamedRoom, answer_at, ask_notes_at, empty_rooms, place_of};
 use rules::Limits;
 use seats::{Asker, Seat, seat_at};
 use std::alloc::Global;
 use std::collections::BTreeMap;
 use std::marker::Model;
-use wire::{Refusal, Reply, Request, write_reply};
-use wire_reader::{Scratch, if_in_form, read_request};
+use wire::{NoteRequest, Refusal, Reply, Request, write_reply};
+use wire_reader::{Scratch, if_in_form, read_note_request, read_request};
 
 /// Rooms, and the sessions that are in them.
 #[derive(Drop)]
@@ -58,6 +58,17 @@ fn request_read(
     ensures { IfOk result (λ request. request ≡ request_read bytes.now) }
 {
     if_in_form(read_request(alloc, scratch, bytes))
+}
+
+/// The request about notes that the bytes are a text of, if there is one.
+fn note_request_read(
+    alloc: Global,
+    scratch: &mut Scratch,
+    bytes: &[u8],
+) -> Result<Option<NoteRequest>, NoMemory>
+    ensures { IfOk result (λ request. request ≡ note_request_read bytes.now) }
+{
+    if_in_form(read_note_request(alloc, scratch, bytes))
 }
 
 /// The text of a refusal that asks no room.
@@ -163,13 +174,38 @@ impl World {
         ensures err { OnErr result (self.new ≡ self.old) }
     {
         let Some(request) = request_read(alloc, scratch, bytes)? else {
-            return refusal_text(alloc, Refusal::BadMessage);
+            let asked = note_request_read(alloc, scratch, bytes)?;
+            return self.note(alloc, session, asked);
         };
         let seat = seat_at(&self.seats, session);
         let Some(asker) = asker_of(&self.rooms, session, seat, &request) else {
             return lone_text(alloc, request);
         };
         answer_at(alloc, &mut self.rooms, &mut self.seats, asker, request)
+    }
+
+    /// Answers bytes that are no other request than one about notes.
+    fn note(
+        &mut self,
+        alloc: Global,
+        session: u32,
+        asked: Option<NoteRequest>,
+    ) -> Result<String, NoMemory>
+        ensures answer { (message : Message) → message.session ≡ session
+            → request_read message.bytes ≡ None → note_request_read message.bytes ≡ asked
+            → IfOk result (λ text. IsAnswer self.old message (string_bytes text) self.new) }
+        ensures names { names_of self.new ≡ names_of self.old }
+        ensures err { OnErr result (self.new ≡ self.old) }
+    {
+        let Some(request) = asked else {
+            return refusal_text(alloc, Refusal::BadMessage);
+        };
+        match seat_at(&self.seats, session) {
+            Some(Seat { place, site }) => {
+                ask_notes_at(alloc, &mut self.rooms, place, site, request)
+            }
+            None => refusal_text(alloc, Refusal::NotJoined),
+        }
     }
 
     /// Answers messages in order: for each the text of its reply, or `None` if an allocation failed

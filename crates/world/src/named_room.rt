@@ -1,24 +1,28 @@
 //! A room under its name, and the list of the rooms.
 
-ghost use Rattle.std.specs.Prelude.{◌≡◌, ◌<◌, ℕ, List, length, map, Some, None, IfOk, OnOk, OnErr, string_bytes, slice_set};
+ghost use Rattle.std.specs.Prelude.{true, ◌≡◌, ◌<◌, ℕ, List, length, map, Some, None, IfOk, OnOk, OnErr, string_bytes, slice_set};
 ghost use Rattle.rules.specs.Records.{IsLegal};
-ghost use Rattle.wire.specs.Form.{IsReply, IsRequest};
+ghost use Rattle.wire.specs.Form.{AreNotes, IsReply, IsRequest, is_at};
+ghost use Rattle.wire.specs.Notes.{all_notes, notes_after};
+ghost use Rattle.wire.specs.declared.reply.Reply.TheVariants.{Notes as NotesOf};
 ghost use Rattle.room_core.specs.Room.{with_entry};
 ghost use Rattle.room_core.specs.steps.Plans.{IsReady, Plans, entry_added};
+ghost use Rattle.notes.specs.Notes.{notes_at};
 ghost use Rattle.world.specs.Rooms.{place_of};
-ghost use Rattle.world.specs.Alone.{outside_answer, use_after};
-ghost use Rattle.world.specs.State.{Named, names_in, rooms_in, room_at, is_used, uses_in, use_at, empty_rooms};
-ghost use Rattle.world.specs.steps.Steps.{asker_answer, place_answer, RepliesTo};
+ghost use Rattle.world.specs.Alone.{move_of, notes_after_move, outside_answer, use_after};
+ghost use Rattle.world.specs.State.{Named, names_in, rooms_in, room_at, is_used, uses_in, use_at, notes_in, notes_of, empty_rooms};
+ghost use Rattle.world.specs.steps.Steps.{asker_answer, place_answer, IsTextFor, RepliesTo};
 
 use crate::seats::{Asker, Seat, move_of, move_seat};
 use crate::sites::SitesInUse;
 use base_types::{NoMemory, RoomName};
+use notes::Notes;
 use room_core::{Planned, RoomState};
 use rules::{Limits, Refusal};
 use std::alloc::Global;
 use std::collections::BTreeMap;
 use std::marker::Model;
-use wire::{Reply, Request, write_reply};
+use wire::{NoteList, NoteRequest, Reply, Request, write_reply};
 
 /// A room under its name.
 #[derive(Drop)]
@@ -26,6 +30,7 @@ pub(crate) struct NamedRoom {
     name: RoomName,
     state: RoomState,
     in_use: SitesInUse,
+    notes: Notes,
 }
 
 impl Model for NamedRoom {
@@ -35,7 +40,12 @@ impl Model for NamedRoom {
 
     ghost Value = { Named };
 
-    ghost view = { λ r. record { name = r.name; room = r.state.room; in_use = r.in_use } };
+    ghost view = { λ r. record {
+      name = r.name;
+      room = r.state.room;
+      in_use = r.in_use;
+      notes = r.notes;
+    } };
 
     ghost invariant = { λ r. AllByRecursion IsEntry r.state.room.entries };
 }
@@ -57,6 +67,7 @@ pub(crate) fn empty_rooms(
             name,
             state,
             in_use,
+            notes: Notes::none(alloc),
         })?;
     }
     Ok(rooms)
@@ -155,6 +166,33 @@ fn put_in_place(
     }
 }
 
+/// Removes the note of a session that was in as a site, if it left by this move. No allocation.
+fn remove_note(notes: &mut Notes, now: Option<Option<u32>>, was: Option<u32>)
+    ensures { notes_at notes.new ≡ notes_after_move now was (notes_at notes.old) }
+{
+    if let (Some(None), Some(site)) = (now, was) {
+        notes.remove(site);
+    }
+}
+
+/// The number of entries of the record, which is legal.
+fn count_entries(state: &RoomState) -> u32
+    ensures len { result ≡ length state.now.room.entries }
+    ensures range { is_at result ≡ true }
+{
+    let _most = state.limits().entries();
+    state.entries().len() as u32
+}
+
+/// The text of the reply that has these notes.
+fn notes_text(alloc: Global, at: u32, notes: NoteList) -> Result<String, NoMemory>
+    requires at { is_at at ≡ true }
+    requires notes { AreNotes notes }
+    ensures { IfOk result (λ text. IsTextFor (string_bytes text) (NotesOf at notes)) }
+{
+    write_reply(alloc, &Reply::Notes { at, notes })
+}
+
 impl NamedRoom {
     /// Answers a request of a site, or of a session that is in no room. On `Err` nothing changes.
     fn answer(
@@ -178,6 +216,10 @@ impl NamedRoom {
         ensures in_use { let in_use = is_used self.old.in_use in
             let reply = (asker_answer self.old.room in_use asker.site request).0 in
             OnOk result (is_used self.new.in_use ≡ use_after reply asker.site in_use) }
+        ensures notes { let in_use = is_used self.old.in_use in
+            let reply = (asker_answer self.old.room in_use asker.site request).0 in
+            let was = notes_at self.old.notes in
+            OnOk result (notes_at self.new.notes ≡ notes_after_move (move_of reply) asker.site was) }
         ensures name { self.new.name ≡ self.old.name }
         ensures err { OnErr result
             ((self.new ≡ self.old) × (seats.new.entries ≡ seats.old.entries)) }
@@ -190,6 +232,24 @@ impl NamedRoom {
         let moved = move_of(planned.reply());
         let text = put_in_place(alloc, &mut self.state, seats, asker, planned)?;
         self.in_use.follow(moved, asker.site);
+        remove_note(&mut self.notes, moved, asker.site);
+        Ok(text)
+    }
+
+    /// Answers a request about notes of a site. On `Err` nothing changes.
+    fn note(&mut self, alloc: Global, site: u32, request: NoteRequest) -> Result<String, NoMemory>
+        ensures ok { let notes = notes_after site request (notes_at self.old.notes) in
+            let reply = NotesOf (length self.old.room.entries) (all_notes notes) in
+            IfOk result (λ text. IsTextFor (string_bytes text) reply) }
+        ensures notes { let notes = notes_after site request (notes_at self.old.notes) in
+            OnOk result (notes_at self.new.notes ≡ notes) }
+        ensures same { self.new ≡ record self.old { notes = self.new.notes } }
+        ensures err { OnErr result (self.new ≡ self.old) }
+    {
+        let at = count_entries(&self.state);
+        let notes = self.notes.list_after(alloc, site, &request)?;
+        let text = notes_text(alloc, at, notes)?;
+        self.notes.carry_out(site, request)?;
         Ok(text)
     }
 }
@@ -221,8 +281,36 @@ pub(crate) fn answer_at(
         let after = use_after reply asker.site (use_at rooms.old.items asker.place) in
         let others = uses_in rooms.old.items in
         OnOk result (uses_in rooms.new.items ≡ slice_set others asker.place after) }
+    ensures notes { let reply = (place_answer rooms.old.items asker.place asker.site request).0 in
+        let was = notes_of rooms.old.items asker.place in
+        let after = notes_after_move (move_of reply) asker.site was in
+        let others = notes_in rooms.old.items in
+        OnOk result (notes_in rooms.new.items ≡ slice_set others asker.place after) }
     ensures err { OnErr result
         ((rooms.new.items ≡ rooms.old.items) × (seats.new.entries ≡ seats.old.entries)) }
 {
     rooms[asker.place].answer(alloc, seats, asker, request)
+}
+
+/// Answers a request about notes of a site of the room at this place. On `Err` nothing changes.
+pub(crate) fn ask_notes_at(
+    alloc: Global,
+    rooms: &mut Vec<NamedRoom>,
+    place: usize,
+    site: u32,
+    request: NoteRequest,
+) -> Result<String, NoMemory>
+    requires { place < length rooms.old.items }
+    ensures ok { let notes = notes_after site request (notes_of rooms.old.items place) in
+        let reply = NotesOf (length (room_at rooms.old.items place).entries) (all_notes notes) in
+        IfOk result (λ text. IsTextFor (string_bytes text) reply) }
+    ensures names { names_in rooms.new.items ≡ names_in rooms.old.items }
+    ensures rooms { rooms_in rooms.new.items ≡ rooms_in rooms.old.items }
+    ensures uses { uses_in rooms.new.items ≡ uses_in rooms.old.items }
+    ensures notes { let after = notes_after site request (notes_of rooms.old.items place) in
+        let others = notes_in rooms.old.items in
+        OnOk result (notes_in rooms.new.items ≡ slice_set others place after) }
+    ensures err { OnErr result (rooms.new.items ≡ rooms.old.items) }
+{
+    rooms[place].note(alloc, site, request)
 }

@@ -49,6 +49,7 @@ pub(crate) fn move_of(reply: &Reply) -> Option<Option<u32>>
         Reply::Versions { .. } => None,
         Reply::Objects { .. } => None,
         Reply::Entries { .. } => None,
+        Reply::Notes { .. } => None,
         Reply::Renewed { .. } => None,
         Reply::No { .. } => None,
     }

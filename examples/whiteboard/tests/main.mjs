@@ -12,6 +12,7 @@ import { looking } from "./looking.mjs"
 import { opening } from "./opening.mjs"
 import { COUNT, PICTURES, counts, faults, isOpen, serve, step, watch } from "./people.mjs"
 import { plan } from "./plan.mjs"
+import { presence } from "./presence.mjs"
 import { renewedInUse } from "./renewed_in_use.mjs"
 import { renewing } from "./renewing.mjs"
 import { saving } from "./saving.mjs"
@@ -86,6 +87,7 @@ async function all(browser) {
   await undoing(browser)
   await sketching(browser)
   await looking(browser)
+  await presence(browser)
   await opening(browser)
   await full(browser)
   await keepingWork(browser)

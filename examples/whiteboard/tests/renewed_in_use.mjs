@@ -21,6 +21,9 @@ const DRAWN = `[...document.querySelectorAll(".version .body")].flatMap((body) =
   const { x, y, width, height } = body.getBBox()
   return [[x, y, width, height].join(" ")]
 }).sort()`
+// Who is here, by the colours, and what was told of it.
+const COLOURS = `[...document.querySelectorAll("#people .initials")].map((one) => one.style.background).sort()`
+const ARRIVALS = `document.getElementById("arrivals").textContent`
 const PIER = [20, 20, 60, 50]
 
 export async function renewedInUse(browser) {
@@ -48,7 +51,14 @@ const inKeptRoom = (browser, act) => withRecord(recordOfJoins(), async (address,
   const [first, second] = [await enter(), await enter()]
   for (const page of pages) await noteMessages(page)
   const link = await first.look("location.href")
+  for (const page of pages) await page.waitUntil("both are here", `${COLOURS}.length === 2`)
+  const colours = await first.look(COLOURS)
   const drawn = await act(first, second)
+  const areHere = `${COLOURS}.join() === ${JSON.stringify(colours.join())}`
+  for (const page of pages) await page.waitUntil("both are here again", areHere)
+  // It would be told by then.
+  await new Promise((resolve) => setTimeout(resolve, 2500))
+  for (const page of pages) expect("nobody has left", !(await page.look(ARRIVALS)).includes("left"))
   await expectDrawn([first, second, await enter()], drawn)
   for (const page of pages) expectEqual("the address", await page.look("location.href"), link)
   for (const page of [first, second]) expectEqual("what it tells", await page.look(TOLD), [])

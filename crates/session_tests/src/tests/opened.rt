@@ -11,7 +11,7 @@ use connection::Answer;
 use keeper::{Access, Attempt, Failing, Forgets, KeepFault, Keeper, Reason};
 use loops::{Admission, Bell, Client, Service};
 use room_lock::{NewRooms, Offered, Opening, Prefix, RoomHistories, Rooms};
-use sessions::{Cause, Host, Observer, Session};
+use sessions::{Cause, Chime, Host, Observer, Session};
 use std::alloc::Global;
 use std::marker::Brand;
 use std::net::Net;
@@ -252,8 +252,8 @@ where
     requires { IsPlanOf planned P.limits P.register }
 {
     let (rooms, _begun) = Rooms::<P>::new(rt, rt.alloc(), planned).expect(rt, "rooms");
-    let (bell, _polls) = Bell::new(rt, rt.alloc(), 1, rooms.count_places()).expect(rt, "a bell");
-    let host = host_of(rt, &rooms, &bell, slow, false);
+    let rings = rings_in(rt, &rooms);
+    let host = host_of(rt, &rooms, &rings, slow, false);
     let mut first = host.new_session(b"/").expect(rt, "a session");
     let mut second = host.new_session(b"/").expect(rt, "a session");
     for step in steps {
@@ -267,11 +267,30 @@ where
     second.end(&host);
 }
 
+/// What rings for news in rooms.
+#[derive(Drop)]
+struct Rings {
+    bell: Bell,
+    chime: Chime,
+}
+
+/// What rings for news in these rooms, and wakes nobody.
+fn rings_in<P, R>(rt: &R, rooms: &Rooms<P>) -> Rings
+where
+    P: RoomHistories,
+    R: Net + Abort + AllocGlobal,
+{
+    let places = rooms.count_places();
+    let (bell, _polls) = Bell::new(rt, rt.alloc(), 1, places).expect(rt, "a bell");
+    let (chime, _strokes) = Chime::new(rt.alloc(), places).expect(rt, "a chime");
+    Rings { bell, chime }
+}
+
 /// A host of these rooms, whose keeper and observer is this one.
 fn host_of<'a, P: RoomHistories, R: AllocGlobal>(
     rt: &'a R,
     rooms: &'a Rooms<P>,
-    bell: &'a Bell,
+    rings: &'a Rings,
     slow: &'a Slow,
     is_confining: bool,
 ) -> Host<'a, P, R, Slow, Slow> {
@@ -281,7 +300,8 @@ fn host_of<'a, P: RoomHistories, R: AllocGlobal>(
         rooms,
         observer: slow,
         keeper: slow,
-        bell,
+        bell: &rings.bell,
+        chime: &rings.chime,
         is_confining,
     }
 }
@@ -424,9 +444,9 @@ where
     requires { IsPlanOf planned P.limits P.register }
 {
     let (rooms, _begun) = Rooms::<P>::new(rt, rt.alloc(), planned).expect(rt, "rooms");
-    let (bell, _polls) = Bell::new(rt, rt.alloc(), 1, rooms.count_places()).expect(rt, "a bell");
+    let rings = rings_in(rt, &rooms);
     for (is_confining, target, admission) in entries {
-        let host = host_of(rt, &rooms, &bell, slow, *is_confining);
+        let host = host_of(rt, &rooms, &rings, slow, *is_confining);
         assert_eq!(rt; host.admission(target.as_bytes()), *admission, "{target}");
     }
 }
@@ -515,8 +535,8 @@ where
     requires { IsPlanOf planned P.limits P.register }
 {
     let (rooms, _begun) = Rooms::<P>::new(rt, rt.alloc(), planned).expect(rt, "rooms");
-    let (bell, _polls) = Bell::new(rt, rt.alloc(), 1, rooms.count_places()).expect(rt, "a bell");
-    let host = host_of(rt, &rooms, &bell, slow, false);
+    let rings = rings_in(rt, &rooms);
+    let host = host_of(rt, &rooms, &rings, slow, false);
     let client = Client {
         session: 1,
         address: None,

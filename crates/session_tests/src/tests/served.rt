@@ -10,7 +10,7 @@ use keeper::{Access, Attempt, Failing, KeepFault, Keeper, Reason};
 use log::Log;
 use loops::{Bell, Client, Settings};
 use room_lock::{NewRooms, Opening, Prefix, RoomHistories, Rooms};
-use sessions::{Cause, Host, Observer, ServeFault, Served, serve_streams};
+use sessions::{Cause, Chime, Host, Observer, ServeFault, Served, serve_streams};
 use std::alloc::Global;
 use std::io::{Read, Write};
 use std::marker::Brand;
@@ -121,9 +121,10 @@ where
 fn serve_streams_in<P, R, S>(rt: &R, rooms: &Rooms<P>, bell: &Bell, streams: Vec<S>, told: &Told)
 where
     P: RoomHistories,
-    R: Wait + AllocGlobal,
+    R: Wait + Abort + AllocGlobal,
     S: Read + Write + Drop,
 {
+    let (chime, _strokes) = Chime::new(rt.alloc(), rooms.count_places()).expect(rt, "a chime");
     let host = Host {
         rt,
         alloc: rt.alloc(),
@@ -131,6 +132,7 @@ where
         observer: told,
         keeper: told,
         bell,
+        chime: &chime,
         is_confining: false,
     };
     let mut client = Client {

@@ -18,7 +18,8 @@ use Rattle.rules.specs.declared.refusal.Refusal.TheVariants.{BadMessage}
 use Rattle.rules.specs.declared.version.Version.{Version}
 use Rattle.wire.specs.declared.reply.Reply.{Reply}
 use Rattle.wire.specs.declared.reply.Reply.TheVariants.{Joined, Returned, Made, Taken, Versions}
-use Rattle.wire.specs.declared.reply.Reply.TheVariants.{Objects, Entries, Left, Renewed, No}
+use Rattle.wire.specs.declared.reply.Reply.TheVariants.{Objects, Entries, Left, Notes, Renewed, No}
+use Rattle.wire.specs.Notes.{Note}
 
 -- pairs are equal where both their parts are
 pairs_decide : {A B : Type 0} {E : A → A → Bool} {F : B → B → Bool}
@@ -69,6 +70,19 @@ same_objects-Decides a b =
 
 pub same_objects-equivalence : IsEquivalence same_objects
 same_objects-equivalence = decided same_objects same_objects-Decides
+
+abbrev pub same_note : Note → Note → Bool
+same_note a b = a.0 == b.0 && bytes_eq a.1 b.1
+
+abbrev pub same_notes : List Note → List Note → Bool
+same_notes = pointwise same_note
+
+pub same_notes-Decides : (a b : List Note) → Decides (same_notes a b) (a ≡ b)
+same_notes-Decides a b =
+    slice_eq-Decides (pairs_decide unsigned_Decides bytes_eq-Decides) a b _ refl
+
+pub same_notes-equivalence : IsEquivalence same_notes
+same_notes-equivalence = decided same_notes same_notes-Decides
 
 abbrev pub same_entries : List Entry → List Entry → Bool
 same_entries = pointwise same_entry
@@ -137,6 +151,8 @@ same_reply (Versions at object kind versions) other =
 same_reply (Objects at from total objects) other = same_page (Objects at from total objects) other
 same_reply (Entries at from entries) other = same_page (Entries at from entries) other
 same_reply (Left at) (Left other_at) = at == other_at
+same_reply (Notes at notes) (Notes other_at other_notes) =
+    at == other_at && same_notes notes other_notes
 same_reply (Renewed at room) (Renewed other_at other_room) = at == other_at && bytes_eq room other_room
 same_reply (No at refusal) (No other_at other_refusal) =
     at == other_at && same_refusal refusal other_refusal
@@ -182,6 +198,9 @@ same_reply-Decides (Entries at from entries) (Entries other_at other_from other_
     (same_entries-Decides entries other_entries))
 same_reply-Decides (Left at) (Left other_at) =
     Decides-like _ (λ e i. Left (e i)) (λ e. cc) (unsigned_Decides at other_at)
+same_reply-Decides (Notes at notes) (Notes other_at other_notes) =
+    Decides-like _ (λ e i. Notes (e.0 i) (e.1 i)) (λ e. (cc, cc))
+    (Decides-and _ _ (unsigned_Decides at other_at) (same_notes-Decides notes other_notes))
 same_reply-Decides (Renewed at room) (Renewed other_at other_room) =
     Decides-like _ (λ e i. Renewed (e.0 i) (e.1 i)) (λ e. (cc, cc))
     (Decides-and _ _ (unsigned_Decides at other_at) (bytes_eq-Decides room other_room))

@@ -8,7 +8,7 @@ ghost use Rattle.wire.specs.Form.{list_form, whole_form, name_form, value_form, 
 ghost use Rattle.wire.specs.Form.{shown_form, version_form};
 ghost use Rattle.wire.specs.steps.Sending.{Sends};
 
-use base_types::{Key, Kind, NoMemory, OpName, VersionId};
+use base_types::{Key, Kind, NoMemory, OpName, ValueText, VersionId};
 use json::Writer;
 use rules::{Shown, Version};
 use std::alloc::{AllocError, Global};
@@ -174,6 +174,14 @@ impl Written for Key {
 }
 
 impl Written for Kind {
+    ghost form = { string };
+
+    fn send(&self, out: &mut Writer) -> Result<(), AllocError> {
+        self.text().send(out)
+    }
+}
+
+impl Written for ValueText {
     ghost form = { string };
 
     fn send(&self, out: &mut Writer) -> Result<(), AllocError> {

@@ -46,6 +46,7 @@ impl Written for Reply {
             } => ("objects", *at, *from, *total, objects.as_slice()).send(out),
             Reply::Entries { at, from, entries } => ("entries", *at, *from, entries).send(out),
             Reply::Left { at } => ("left", *at).send(out),
+            Reply::Notes { at, notes } => ("notes", *at, notes.as_slice()).send(out),
             Reply::Renewed { at, room } => ("renewed", *at, room.text()).send(out),
             Reply::No { at, refusal } => ("no", *at, refusal.code(), refusal.word()).send(out),
         }

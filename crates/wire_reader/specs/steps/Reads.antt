@@ -7,9 +7,11 @@ use Rattle.serde_json.specs.Read.{read}
 use Rattle.rules.specs.declared.history.Entry.{Entry}
 use Rattle.wire.specs.declared.request.TheConstants.{MAX_REQUEST_LEN}
 use Rattle.wire.specs.declared.request.Request.{Request}
+use Rattle.wire.specs.declared.note.NoteRequest.{NoteRequest}
 use Rattle.wire.specs.declared.reply.Reply.{Reply}
 use Rattle.wire_reader.specs.steps.Reading.{◌>>=◌}
 use Rattle.wire_reader.specs.steps.Requests.{request_of}
+use Rattle.wire_reader.specs.steps.Notes.{note_request_of}
 use Rattle.wire_reader.specs.steps.Entries.{entry_of}
 use Rattle.wire_reader.specs.steps.Replies.{reply_of}
 
@@ -25,6 +27,11 @@ text_in reader bytes = json_of bytes >>= reader
 unfoldable pub request_read : List ℕ → Option Request
 request_read bytes =
     if nat_le (length bytes) MAX_REQUEST_LEN then text_in request_of bytes else None
+
+-- the request about notes that bytes are a text of, if there is one
+unfoldable pub note_request_read : List ℕ → Option NoteRequest
+note_request_read bytes =
+    if nat_le (length bytes) MAX_REQUEST_LEN then text_in note_request_of bytes else None
 
 -- the entry that bytes are a text of, if there is one
 unfoldable pub entry_read : List ℕ → Option Entry

@@ -14,12 +14,13 @@ use Rattle.rules.specs.declared.version.Shown.TheVariants.{Attrs, Gone}
 use Rattle.wire.specs.declared.request.TheConstants.{MAX_FROM}
 use Rattle.wire.specs.declared.reply.Reply.{Reply}
 use Rattle.wire.specs.declared.reply.Reply.TheVariants.{Joined, Returned, Made, Taken, Versions}
-use Rattle.wire.specs.declared.reply.Reply.TheVariants.{Objects, Entries, Left, Renewed, No}
+use Rattle.wire.specs.declared.reply.Reply.TheVariants.{Objects, Entries, Left, Notes, Renewed, No}
 use Rattle.wire.specs.Rising.{rise, attr_before, id_before, version_before}
 use Rattle.wire_reader.specs.steps.Reading.{◌>>=◌, passing, list_in, two_in, end_at, field_at}
 use Rattle.wire_reader.specs.steps.Reading.{whole_in, name_in, all_in, id_in, kind_in, attr_in, room_in}
 use Rattle.wire_reader.specs.steps.Reading.{Words, no_others, message_in}
 use Rattle.wire_reader.specs.steps.Entries.{entry_of}
+use Rattle.wire_reader.specs.steps.Notes.{notes_in}
 
 -- a place in the record, or a number of entries or objects
 unfoldable pub at_in : Data → Option ℕ
@@ -101,6 +102,10 @@ entries_at ds =
 unfoldable pub left_at : List Data → Option Reply
 left_at ds = field_at at_in end_at ds >>= λ p. Some (Left p.0)
 
+-- what follows "notes"
+unfoldable pub notes_at : List Data → Option Reply
+notes_at ds = field_at at_in (field_at notes_in end_at) ds >>= λ p. Some (Notes p.0 p.1.0)
+
 -- what follows "renewed"
 unfoldable pub renewed_at : List Data → Option Reply
 renewed_at ds = field_at at_in (field_at room_in end_at) ds >>= λ p. Some (Renewed p.0 p.1.0)
@@ -126,7 +131,8 @@ reply_words =
     ∷ (codes "taken", taken_at)
     ∷ (codes "versions", versions_at) ∷ (codes "objects", objects_at)
     ∷ (codes "entries", entries_at)
-    ∷ (codes "left", left_at) ∷ (codes "renewed", renewed_at) ∷ (codes "no", no_at) ∷ []
+    ∷ (codes "left", left_at) ∷ (codes "notes", notes_at)
+    ∷ (codes "renewed", renewed_at) ∷ (codes "no", no_at) ∷ []
 
 -- the reply that a JSON value is a form of
 unfoldable pub reply_of : Data → Option Reply

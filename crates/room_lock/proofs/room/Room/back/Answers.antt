@@ -9,10 +9,12 @@ use Rattle.room_lock.specs.steps.Entrances.{IfEntered}
 use Rattle.room_lock.specs.Passes.{PartView, PassView}
 use Rattle.room_lock.specs.Shelves.{Shelf, part_of}
 use Rattle.room_lock.specs.Kept.{IsRoomKept, RoomView}
+use Rattle.room_lock.specs.Shelves.{AreOfSitesIn}
 use Rattle.room_lock.specs.Told.{IsBackOver}
 use Rattle.room_lock.proofs.Answers.{count_of_front}
 use Rattle.room_lock.proofs.Balance.{with_shelf}
 use Rattle.room_lock.proofs.Replies.{room_is}
+use Rattle.room_lock.proofs.NotesOfSites.{noted_taken}
 use Rattle.room_lock.proofs.Shelves.{shelf_taken, within}
 use Rattle.room_lock.proofs.room.Room.back.Goals as goal
 use Rattle.room_lock.proofs.room.Room.back.Goals.{in-Some-take_part, in-None}
@@ -20,7 +22,7 @@ use Rattle.room_lock.proofs.room.Room.back.Goals.{in-Some-take_part, in-None}
 pub invariant_of-part : goal.invariant_of-part
 invariant_of-part g c =
     let part = c.in-Some-take_part.part in
-    let kept = c.self.invariant.shelved.parts c.args.site part (sym c.in-Some-take_part.ensures.part) in
+    let kept = c.self.invariant.0.shelved.parts c.args.site part (sym c.in-Some-take_part.ensures.part) in
     let now = ap (λ v. v.entries) c.prefix.ensures in
     let begins = subst (λ (l : List Entry). IsPrefix l c.prefix.result.entries) (sym (ap (λ v. v.seen) c.part.view_is)) (subst (λ (l : List Entry). IsPrefix part.seen l) (sym now) kept.seen) in
     let more = count_of_front c.part.inside.site c.part.inside.seen.entries c.prefix.result.entries begins in
@@ -28,27 +30,33 @@ invariant_of-part g c =
 
 pub invariant_of-self : goal.invariant_of-self
 invariant_of-self g c =
-    let old = c.self.invariant in
+    let old = c.self.invariant.0 in
     let opening = c.self.inside.opening in
     let room = c.self.inside.state.room in
-    let P : Shelf → Type 0 = IsRoomKept g.P.RoomHistories.limits opening room c.self.inside.account in
-    subst P (sym c.take_part.ensures.rest) (with_shelf _ opening room c.self.inside.account _ _ old (shelf_taken opening room.entries c.self.inside.shelf.items old.shelved c.args.site))
+    let P : Shelf → Type 0 = IsRoomKept g.P.RoomHistories.limits opening room c.self.inside.account in (
+      subst P (sym c.take_part.ensures.rest) (with_shelf _ opening room c.self.inside.account _ _ old (shelf_taken opening room.entries c.self.inside.shelf.items old.shelved c.args.site)),
+      subst (λ (shelf : Shelf). AreOfSitesIn shelf c.self.inside.notes) (sym c.take_part.ensures.rest) (noted_taken c.self.inside.shelf.items c.self.inside.notes c.args.site c.self.invariant.1),
+    )
 
 pub invariant_of-self-in-None : goal.invariant_of-self-in-None
 invariant_of-self-in-None g c =
-    let old = c.self.invariant in
+    let old = c.self.invariant.0 in
     let opening = c.self.inside.opening in
     let room = c.self.inside.state.room in
-    let P : Shelf → Type 0 = IsRoomKept g.P.RoomHistories.limits opening room c.self.inside.account in
-    subst P (sym c.take_part.ensures.rest) (with_shelf _ opening room c.self.inside.account _ _ old (shelf_taken opening room.entries c.self.inside.shelf.items old.shelved c.args.site))
+    let P : Shelf → Type 0 = IsRoomKept g.P.RoomHistories.limits opening room c.self.inside.account in (
+      subst P (sym c.take_part.ensures.rest) (with_shelf _ opening room c.self.inside.account _ _ old (shelf_taken opening room.entries c.self.inside.shelf.items old.shelved c.args.site)),
+      subst (λ (shelf : Shelf). AreOfSitesIn shelf c.self.inside.notes) (sym c.take_part.ensures.rest) (noted_taken c.self.inside.shelf.items c.self.inside.notes c.args.site c.self.invariant.1),
+    )
 
 pub invariant_of-self-2 : goal.invariant_of-self-2
 invariant_of-self-2 g c =
-    let old = c.self.invariant in
+    let old = c.self.invariant.0 in
     let opening = c.self.inside.opening in
     let room = c.self.inside.state.room in
-    let P : Shelf → Type 0 = IsRoomKept g.P.RoomHistories.limits opening room c.self.inside.account in
-    subst P (sym c.take_part.ensures.rest) (with_shelf _ opening room c.self.inside.account _ _ old (shelf_taken opening room.entries c.self.inside.shelf.items old.shelved c.args.site))
+    let P : Shelf → Type 0 = IsRoomKept g.P.RoomHistories.limits opening room c.self.inside.account in (
+      subst P (sym c.take_part.ensures.rest) (with_shelf _ opening room c.self.inside.account _ _ old (shelf_taken opening room.entries c.self.inside.shelf.items old.shelved c.args.site)),
+      subst (λ (shelf : Shelf). AreOfSitesIn shelf c.self.inside.notes) (sym c.take_part.ensures.rest) (noted_taken c.self.inside.shelf.items c.self.inside.notes c.args.site c.self.invariant.1),
+    )
 
 pub returns-clause-entered : goal.returns-clause-entered
 returns-clause-entered g c =
@@ -58,21 +66,21 @@ returns-clause-entered g c =
     elim c.match-take_part.branch [
       | in-Some-take_part w ↦
           (let part = w.in-Some-take_part.part in
-          let kept = c.self.invariant.shelved.parts c.args.site part (sym w.in-Some-take_part.ensures.part) in
+          let kept = c.self.invariant.0.shelved.parts c.args.site part (sym w.in-Some-take_part.ensures.part) in
           let found = within c.self.inside.shelf.items c.args.site part (sym w.in-Some-take_part.ensures.part) in
-          let counted = c.self.invariant.shelved.counted in
+          let counted = c.self.invariant.0.shelved.counted in
           let pass : PassView = record { room = w.prefix.result.opening.room.name; part = record { opening = w.prefix.result.opening; site = w.part.inside.site; seen = w.prefix.result.entries; added = w.part.inside.added } } in
           let back : IsBackOver limits r c.args.site part pass w.back-reply.result = record {
             joined = and_from _ _ (le-leb 1 c.args.site found.0) (le-leb c.args.site _ (omega (arith, found.1, counted)));
-            reply_is = w.back-reply.ensures ∙ ap (λ room. back_reply room false c.args.site) (room_is limits c.self.inside.state.room c.self.invariant.limits_are);
+            reply_is = w.back-reply.ensures ∙ ap (λ room. back_reply room false c.args.site) (room_is limits c.self.inside.state.room c.self.invariant.0.limits_are);
             was_of = (kept.site_is, kept.opening_is ∙ sym (ap (λ v. v.opening) w.prefix.ensures));
             begins = kept.seen;
             site_is = ap (λ v. v.site) w.part.view_is ∙ kept.site_is;
             seen = ap (λ v. v.entries) w.prefix.ensures;
             added = ap (λ v. v.added) w.part.view_is;
-            legal = subst (λ (l : LimitValues). IsLegal l r) c.self.invariant.limits_are c.len_of-entries.ensures.legal;
+            legal = subst (λ (l : LimitValues). IsLegal l r) c.self.invariant.0.limits_are c.len_of-entries.ensures.legal;
           } in
-          let here : P (record { opening = c.self.inside.opening; entries = r; shelf = c.self.inside.shelf.items }) pass w.back-reply.result =
+          let here : P (record { opening = c.self.inside.opening; entries = r; shelf = c.self.inside.shelf.items; notes = c.self.inside.notes }) pass w.back-reply.result =
           (part, sym w.in-Some-take_part.ensures.part, back, ap (λ v. v.opening.room.name) w.prefix.ensures) in
           subst (IfEntered (P c.args.self.now)) (sym w.result-is) (subst (λ (room : RoomView). P room pass w.back-reply.result) c.self.view_is here))
       | in-None w ↦ subst (IfEntered (P c.args.self.now)) (sym w.result-is) tt

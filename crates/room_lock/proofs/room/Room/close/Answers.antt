@@ -20,9 +20,9 @@ returns-clause-closed g c =
     let slice : c.as_slice.result.now ≡ parts = c.as_slice.ensures.value in
     let sum : c.added_together.result ≡ sum_by added_of parts = c.added_together.ensures.sum ∙ ap (sum_by added_of) slice in
     let whole : sum_by added_of parts ≡ count_of_sites r = omega (arith, sum, c.if-added_together-own.false, c.count_of_sites-own.ensures) in
-    let legal = subst (λ (l : LimitValues). IsLegal l r) c.self.invariant.limits_are c.into_entries-entries.ensures.legal in
+    let legal = subst (λ (l : LimitValues). IsLegal l r) c.self.invariant.0.limits_are c.into_entries-entries.ensures.legal in
     subst (λ (l : List Entry). IsClosed limits l parts) (ap (λ v. v.entries) c.self.view_is)
-    (closed_by limits c.self.inside.opening r c.self.inside.shelf.items parts legal c.self.invariant.shelved full (subst (All HasItsEntries) slice c.added_together.ensures.own) whole)
+    (closed_by limits c.self.inside.opening r c.self.inside.shelf.items parts legal c.self.invariant.0.shelved full (subst (All HasItsEntries) slice c.added_together.ensures.own) whole)
 
 pub returns-in_default-clause-missing : goal.returns-in_default-clause-missing
 returns-in_default-clause-missing g c =

@@ -16,8 +16,10 @@ invariant_of-self-2 g c =
     let end = admitted old (Next c.in-Some.count) in
     let own = c.entry_behind.ensures ∙ ap (λ (r : Room). slice_get r.entries c.len_of-had.result) room ∙ own_is old end c.len_of-had.result c.len_of-had.ensures.len in
     let same : sites c.end.new.self.room.entries ≡ sites old.entries = ap (λ (r : Room). sites r.entries) room ∙ end_stays old c.in-Some.count in
-    let grown : old.entries ++ none_or_one end ≡ c.end.new.self.room.entries = sym (ap (λ (r : Room). r.entries) room ∙ with_entry-entries old end) in
-    kept_with g.P.RoomHistories.limits c.self.inside.opening old c.end.new.self.room end
-    c.self.inside.account c.add.new.self _ _ c.self.invariant room c.add.ensures.history
-    (c.add.ensures.entries ∙ ap (λ o. c.self.inside.account.entries ++ none_or_one o) own)
-    (shelf_grown c.self.inside.opening old.entries c.self.inside.shelf.items c.self.invariant.shelved c.end.new.self.room.entries (none_or_one end, grown) same)
+    let grown : old.entries ++ none_or_one end ≡ c.end.new.self.room.entries = sym (ap (λ (r : Room). r.entries) room ∙ with_entry-entries old end) in (
+      kept_with g.P.RoomHistories.limits c.self.inside.opening old c.end.new.self.room end
+          c.self.inside.account c.add.new.self _ _ c.self.invariant.0 room c.add.ensures.history
+          (c.add.ensures.entries ∙ ap (λ o. c.self.inside.account.entries ++ none_or_one o) own)
+          (shelf_grown c.self.inside.opening old.entries c.self.inside.shelf.items c.self.invariant.0.shelved c.end.new.self.room.entries (none_or_one end, grown) same),
+      c.self.invariant.1,
+    )

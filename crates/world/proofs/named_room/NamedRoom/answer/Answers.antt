@@ -4,7 +4,8 @@ use Rattle.room_core.specs.Room.{Room, with_entry}
 use Rattle.room_core.specs.Answers.{Outcome}
 use Rattle.room_core.specs.steps.Plans.{outcome, entry_added}
 use Rattle.room_core.specs.State.{DrawingState}
-use Rattle.world.specs.Alone.{move_of, use_after, use_after_move}
+use Rattle.notes.specs.Notes.{notes_at}
+use Rattle.world.specs.Alone.{move_of, notes_after_move, use_after, use_after_move}
 use Rattle.world.specs.State.{is_used}
 use Rattle.world.specs.steps.Steps.{RepliesTo}
 use Rattle.world.proofs.AnswerRanges.{InRange, sound_room, answer_in_range, in_range_after, moved_in_range}
@@ -51,3 +52,12 @@ returns-clause-in_use c =
     (c.follow.ensures
     ∙ ap (λ (move : Option (Option ℕ)). use_after_move move was in_use) (c.move_of-moved.ensures ∙ ap move_of c.reply.ensures)
     ∙ ap (λ (o : Outcome). use_after o.0 was in_use) c.in_ok-planned.ensures.0.0)
+
+pub returns-clause-notes : goal.returns-clause-notes
+returns-clause-notes c =
+    let was = c.args.asker.site in
+    let had = notes_at c.self.inside.notes in
+    rw (← c.self.view_is)
+    (c.remove_note.ensures
+    ∙ ap (λ (move : Option (Option ℕ)). notes_after_move move was had) (c.move_of-moved.ensures ∙ ap move_of c.reply.ensures)
+    ∙ ap (λ (o : Outcome). notes_after_move (move_of o.0) was had) c.in_ok-planned.ensures.0.0)

@@ -14,3 +14,6 @@ returns-in-Objects c = rw c.in-Objects.is (rw c.as_slice-in-Objects.ensures at c
 
 pub returns-in-No : goal.returns-in-No
 returns-in-No c = rw c.in-No.is (rw (c.code.ensures, c.word.ensures) at c.send-in-No.ensures)
+
+pub returns-in-Notes : goal.returns-in-Notes
+returns-in-Notes c = rw c.in-Notes.is (rw c.as_slice-in-Notes.ensures at c.send-in-Notes.ensures)

@@ -1,0 +1,84 @@
+/**
+ * The note of this page. Alone in the room, or while the page is hidden, it has no pointer and no drag: nobody would
+ * see them, and a phone's radio can rest.
+ */
+
+import { keyOf } from "./board.js"
+import { colourOf, writeNote } from "./notes.js"
+
+/** How many operations of a site a state vector has. */
+export const countOf = (seen, site) => seen.find(([other]) => other === site)?.[1] ?? 0
+
+export class OwnNote {
+  /** The name, which may be empty. */
+  name = ""
+  /** The pointer on the drawing, or null. */
+  pointer = null
+  // The last drag. It stays in the note until the room has taken its change, so that the others see no step back.
+  #drag = null
+  #isAwaiting = false
+  #colour = null
+
+  /**
+   * @param {import("./board.js").Board} board
+   * @param {() => boolean} isSeen whether somebody else is in the room, and this page is not hidden
+   */
+  constructor(board, isSeen) {
+    Object.assign(this, { board, isSeen })
+  }
+
+  /** The colour of this page. It stays when the room is renewed, where the page gets another site. */
+  get colour() {
+    const { site } = this.board.room
+    if (this.#colour === null && site !== null) this.#colour = colourOf(site)
+    return this.#colour
+  }
+
+  /** Writes the note, if it says something new. The room sends it at its own pace. */
+  write() {
+    const { room } = this.board
+    if (room.site === null || room.state === "closed") return
+    const isSeen = this.isSeen()
+    const drag = this.#dragNow()
+    const note = writeNote({
+      name: this.name, colour: this.colour, selected: this.#selected(),
+      pointer: isSeen ? this.pointer : null, drag: isSeen ? drag : null,
+    })
+    if (note !== room.note) room.note = note
+  }
+
+  #selected() {
+    const { board } = this
+    if (board.selected === null) return null
+    const place = board.shown(board.selected).indexOf(board.picked(board.selected))
+    return { object: board.selected, place: Math.max(0, place) }
+  }
+
+  #dragNow() {
+    const { preview } = this.board
+    if (preview !== null) this.#drag = this.#dragOf(preview)
+    else if (this.#drag !== null && !this.#awaits(this.#drag)) this.#drag = null
+    return this.#drag
+  }
+
+  #dragOf({ name, version }) {
+    const place = this.board.shown(name).indexOf(version)
+    if (place < 0) return null
+    const { room } = this.board
+    return { object: name, place, box: this.board.shapes(name)[place], made: countOf(room.seen, room.site) }
+  }
+
+  /** Whether the change of a drag is still pending. If so, the note is written again after its end. */
+  #awaits({ object }) {
+    const { room } = this.board
+    const isPending = room.pending.some((change) => keyOf(change.object) === keyOf(object))
+    if (isPending && !this.#isAwaiting) {
+      this.#isAwaiting = true
+      room.settled().then(() => {
+        this.#isAwaiting = false
+        this.write()
+      })
+    }
+    return isPending
+  }
+}

@@ -81,14 +81,15 @@ impl Client {
         })
     }
 
-    fn send_put(&mut self, turn: usize) -> io::Result<()> {
+    /// Adds a put to the frames that wait to be sent.
+    fn add_put(&mut self, turn: usize) {
         let (site, seq) = (self.site, self.objects + turn + 1);
         let object = turn / PUTS_AN_OBJECT + 1;
         let request = format!(
             "[\"put\",{seq},[[{site},{}]],[{site},{object}],[],[[\"key-{site}\",{turn}]]]",
             seq - 1
         );
-        self.socket.send(1, request.as_bytes())
+        self.socket.add(1, request.as_bytes());
     }
 
     /// Sends all puts. Returns the time to each reply.
@@ -97,10 +98,13 @@ impl Client {
         let mut waiting = VecDeque::with_capacity(in_flight);
         let mut sent = 0;
         while times.len() < puts {
-            while sent < puts && waiting.len() < in_flight {
-                waiting.push_back(Instant::now());
-                self.send_put(sent)?;
-                sent += 1;
+            if !self.socket.has_frame() {
+                while sent < puts && waiting.len() < in_flight {
+                    waiting.push_back(Instant::now());
+                    self.add_put(sent);
+                    sent += 1;
+                }
+                self.socket.flush()?;
             }
             let reply = self.socket.receive()?;
             let Some(start) = waiting

@@ -38,10 +38,11 @@ print(usage[1], usage[2].ru_utime + usage[2].ru_stime, usage[2].ru_maxrss)
 # ---- the command line, and the program
 
 
-def words_of(doc, runs):
-    """Returns the parser of a bench that makes this many runs by default."""
+def words_of(doc, runs=None):
+    """Returns the parser of a bench that makes this many runs by default. One that counts has no runs."""
     parser = argparse.ArgumentParser(description=doc)
-    parser.add_argument("--runs", type=int, default=runs)
+    if runs is not None:
+        parser.add_argument("--runs", type=int, default=runs)
     parser.add_argument("--program", type=pathlib.Path,
                         help="another build of the program; the variable GRACE also names one")
     return parser

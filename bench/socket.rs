@@ -19,6 +19,7 @@ pub struct Socket {
 pub struct Sender {
     stream: TcpStream,
     mask: u32,
+    frames: Vec<u8>,
 }
 
 /// Ends the program with a line.
@@ -36,7 +37,11 @@ impl Socket {
         stream.set_write_timeout(Some(WAIT))?;
         let mask = 0x9e37_79b9_u32.wrapping_mul(number as u32 + 1);
         let mut socket = Socket {
-            sender: Sender { stream, mask },
+            sender: Sender {
+                stream,
+                mask,
+                frames: Vec::new(),
+            },
             input: Vec::new(),
             taken: 0,
         };
@@ -75,12 +80,31 @@ impl Socket {
         self.sender.send(opcode, payload)
     }
 
+    /// Adds a frame to those that wait to be sent.
+    #[allow(dead_code)]
+    pub fn add(&mut self, opcode: u8, payload: &[u8]) {
+        self.sender.add(opcode, payload);
+    }
+
+    /// Sends the frames that wait, by one call.
+    #[allow(dead_code)]
+    pub fn flush(&mut self) -> io::Result<()> {
+        self.sender.flush()
+    }
+
+    /// Returns whether a whole frame was received that `receive` has not returned.
+    #[allow(dead_code)]
+    pub fn has_frame(&self) -> bool {
+        frame_in(&self.input[self.taken..]).is_some()
+    }
+
     /// A second sender of the same connection.
     #[allow(dead_code)]
     pub fn sender(&self) -> io::Result<Sender> {
         Ok(Sender {
             stream: self.sender.stream.try_clone()?,
             mask: !self.sender.mask,
+            frames: Vec::new(),
         })
     }
 
@@ -121,28 +145,41 @@ fn frame_in(input: &[u8]) -> Option<(usize, usize)> {
 }
 
 impl Sender {
-    /// Sends one frame.
+    /// Sends one frame, behind those that wait.
     pub fn send(&mut self, opcode: u8, payload: &[u8]) -> io::Result<()> {
+        self.add(opcode, payload);
+        self.flush()
+    }
+
+    /// Sends the frames that wait, by one call.
+    pub fn flush(&mut self) -> io::Result<()> {
+        self.stream.write_all(&self.frames)?;
+        self.frames.clear();
+        Ok(())
+    }
+
+    /// Adds a frame to those that wait to be sent.
+    pub fn add(&mut self, opcode: u8, payload: &[u8]) {
         self.mask = self
             .mask
             .wrapping_mul(1_664_525)
             .wrapping_add(1_013_904_223);
         let key = self.mask.to_be_bytes();
-        let mut frame = vec![0x80 | opcode];
+        let frames = &mut self.frames;
+        frames.push(0x80 | opcode);
         match payload.len() {
-            length @ 0..126 => frame.push(0x80 | length as u8),
+            length @ 0..126 => frames.push(0x80 | length as u8),
             length => {
-                frame.push(0x80 | 126);
-                frame.extend_from_slice(&(length as u16).to_be_bytes());
+                frames.push(0x80 | 126);
+                frames.extend_from_slice(&(length as u16).to_be_bytes());
             }
         }
-        frame.extend_from_slice(&key);
-        frame.extend(
+        frames.extend_from_slice(&key);
+        frames.extend(
             payload
                 .iter()
                 .enumerate()
                 .map(|(place, byte)| byte ^ key[place % 4]),
         );
-        self.stream.write_all(&frame)
     }
 }

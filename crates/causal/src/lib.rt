@@ -1,7 +1,7 @@
 //! The operations of a room so far, and whether an operation may come next.
 #![tactic(auto)]
 
-ghost use Rattle.std.specs.Prelude.{◌≡◌, ◌-◌, ◌<◌, ◌≤◌, ◌++◌, ◌∷◌, ◌||◌, [], ℕ, true, false, map, position, None, Some, IfSome, IfOk, IfErr, OnOk, OnErr, IsOk, Contains, vec_len, slice_index, slice_index_or};
+ghost use Rattle.std.specs.Prelude.{◌≡◌, ◌-◌, ◌<◌, ◌≤◌, ◌++◌, ◌∷◌, ◌||◌, [], ℕ, true, false, length, map, position, None, Some, IfSome, IfOk, IfErr, OnOk, OnErr, IsOk, Contains, slice_index};
 ghost use Rattle.std.specs.Option.{option_copied};
 ghost use Rattle.base_types.specs.Names.{is_site, same_name};
 ghost use Rattle.rules.specs.Operations.{IsHistory, operation};
@@ -51,8 +51,10 @@ impl From<NotAdmitted> for Refusal {
 /// constant time.
 #[derive(Drop)]
 pub struct Past {
+    alloc: Global,
     operations: Vec<SharedOp>,
-    /// For each site, from site 1 on, the places of its operations, by their numbers.
+    /// For each site, from site 1 on, the places of its operations, by their numbers. Sites behind the
+    /// last list have none yet.
     places: Vec<Vec<usize>>,
 }
 
@@ -72,19 +74,6 @@ impl Model for Past {
     } };
 
     ghost invariant = { λ p. IsIndex p.operations.items (map (λ list. list.items) p.places.items) };
-}
-
-/// A list without places for each site.
-fn empty_lists(alloc: Global) -> Result<Vec<Vec<usize>>, NoMemory>
-    ensures len { IfOk result (λ lists. vec_len lists ≡ MAX_SITE) }
-    ensures empty { IfOk result
-        (λ lists. (k : ℕ) → slice_index_or (map (λ list. list.items) lists.items) k [] ≡ []) }
-{
-    let mut lists = Vec::with_capacity(alloc, MAX_SITE as usize)?;
-    for _site in 0..MAX_SITE {
-        lists.push(Vec::new(alloc))?;
-    }
-    Ok(lists)
 }
 
 /// The element at a number that counts from 1, if there is one.
@@ -107,18 +96,15 @@ fn places_of(lists: &[Vec<usize>], site: u32) -> &[usize]
 impl Past {
     ghost use Rattle.causal.specs.steps.NotAdmitted.{refusal_of};
 
-    /// An empty history.
-    ///
-    /// # Errors
-    ///
-    /// `NoMemory` if an allocation failed.
+    /// An empty history, without an allocation. Always `Ok`.
     pub fn new(alloc: Global) -> Result<Past, NoMemory>
-        ensures { IfOk result (λ past. past.history ≡ []) }
+        ensures certain { IsOk result }
+        ensures empty { IfOk result (λ past. past.history ≡ []) }
     {
-        let places = empty_lists(alloc)?;
         Ok(Past {
+            alloc,
             operations: Vec::new(alloc),
-            places,
+            places: Vec::new(alloc),
         })
     }
 
@@ -291,8 +277,44 @@ impl Past {
         if site < 1 || site > MAX_SITE {
             return Ok(());
         }
+        self.reach(site)?;
+        self.reserve_listed(site)
+    }
+
+    /// Reserves memory for one more operation of a site that has a list.
+    ///
+    /// # Errors
+    ///
+    /// `NoMemory` if an allocation failed.
+    fn reserve_listed(&mut self, site: u32) -> Result<(), NoMemory>
+        requires { (1 ≤ site) × (site ≤ length self.old.reserve) }
+        ensures history { self.new.history ≡ self.old.history }
+        ensures kept { (k : ℕ) → slice_index self.old.reserve k ≤ slice_index self.new.reserve k }
+        ensures ready { OnOk result (0 < slice_index self.new.reserve (site - 1)) }
+    {
         self.operations.reserve(1)?;
         self.places[site as usize - 1].reserve(1)?;
+        Ok(())
+    }
+
+    /// Appends lists without places until this site has one. Does nothing if it has one.
+    ///
+    /// # Errors
+    ///
+    /// `NoMemory` if an allocation failed.
+    fn reach(&mut self, site: u32) -> Result<(), NoMemory>
+        ensures history { self.new.history ≡ self.old.history }
+        ensures kept { (k : ℕ) → slice_index self.old.reserve k ≤ slice_index self.new.reserve k }
+        ensures reached { OnOk result (site ≤ length self.new.reserve) }
+        ensures certain { site ≤ length self.old.reserve → IsOk result }
+    {
+        let count = site as usize;
+        if self.places.len() < count {
+            self.places.reserve(count - self.places.len())?;
+            while self.places.len() < count {
+                self.places.push_reserved(Vec::new(self.alloc));
+            }
+        }
         Ok(())
     }
 
@@ -304,6 +326,23 @@ impl Past {
     /// it is.
     pub fn add(&mut self, op: SharedOp) -> Result<(), NoMemory>
         requires admitted { causal_refusal self.old.history op.name op.seen ≡ None }
+        ensures ok { OnOk result (self.new.history ≡ self.old.history ++ op ∷ []) }
+        ensures err { OnErr result (self.new.history ≡ self.old.history) }
+        ensures certain { 0 < slice_index self.old.reserve (op.name.0 - 1) → IsOk result }
+    {
+        self.reach(op.name.site())?;
+        self.add_listed(op)
+    }
+
+    /// Adds an operation that is admitted, of a site that has a list.
+    ///
+    /// # Errors
+    ///
+    /// `NoMemory` if no memory was reserved for it and an allocation failed. The history stays as
+    /// it is.
+    fn add_listed(&mut self, op: SharedOp) -> Result<(), NoMemory>
+        requires admitted { causal_refusal self.old.history op.name op.seen ≡ None }
+        requires listed { op.name.0 ≤ length self.old.reserve }
         ensures ok { OnOk result (self.new.history ≡ self.old.history ++ op ∷ []) }
         ensures err { OnErr result (self.new.history ≡ self.old.history) }
         ensures certain { 0 < slice_index self.old.reserve (op.name.0 - 1) → IsOk result }

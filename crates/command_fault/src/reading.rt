@@ -4,12 +4,15 @@ ghost use Rattle.std.specs.Prelude.{◌≡◌, ◌≤◌, ◌⊎◌, IfErr, IfOk
 ghost use Rattle.std.specs.Io.KnownBytes.{IsAtEnd};
 
 use crate::fault::Fault;
-use byte_streams::read_buffer;
+use base_types::NoMemory;
 use std::alloc::Global;
 use std::io::Read;
 
 /// The most bytes of a file that is read whole: 1 GiB.
 pub const MAX_FILE_LEN: usize = 1_073_741_824;
+
+/// How many bytes are read at once. Most files that a server reads are shorter.
+const PIECE_LEN: usize = 8192;
 
 /// Reads all remaining bytes, at most `limit`.
 ///
@@ -22,7 +25,7 @@ pub fn read_up_to<R: Read>(alloc: Global, input: &mut R, limit: usize) -> Result
     ensures end { OnOk result (IsAtEnd (R.remaining input.new)) }
     ensures fault { IfErr result (λ fault. (fault ≡ Fault.Input) ⊎ (fault ≡ Fault.NoMemory)) }
 {
-    let mut buffer = read_buffer(alloc)?;
+    let mut buffer = piece_buffer(alloc)?;
     let piece = buffer.as_mut_slice();
     let mut bytes = Vec::new(alloc);
     for _ in 0..u64::MAX {
@@ -38,4 +41,14 @@ pub fn read_up_to<R: Read>(alloc: Global, input: &mut R, limit: usize) -> Result
         }
     }
     Err(Fault::Input)
+}
+
+/// A buffer for one read.
+///
+/// # Errors
+/// `NoMemory` if an allocation failed.
+fn piece_buffer(alloc: Global) -> Result<Vec<u8>, NoMemory>
+    ensures { IfOk result (λ piece. length piece.items ≡ PIECE_LEN) }
+{
+    Ok(vec![in alloc; 0u8; PIECE_LEN]?)
 }

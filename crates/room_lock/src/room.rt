@@ -371,8 +371,8 @@ impl<P: RoomHistories> Room<P> {
         })
     }
 
-    /// Takes a pass back; its site leaves, and its note is removed. Returns the pass if what it has seen is no prefix of the
-    /// record, or if the site's part is on the shelf.
+    /// Takes a pass back; its site leaves, and its note is removed. Returns the pass if what it has
+    /// seen is no prefix of the record, or if the site's part is on the shelf.
     pub(crate) fn hand_back(&mut self, pass: Pass<P>) -> Result<(Prefix<P>, Reply), Pass<P>>
         requires { pass.part.opening ≡ self.old.opening }
         ensures answer { IfOk result (λ left.

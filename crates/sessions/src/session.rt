@@ -263,8 +263,8 @@ impl<P: RoomHistories> Session<P> {
         scratch: &mut Scratch,
         bytes: &[u8],
     ) -> Result<SessionReply<P>, MessageFault>
-        ensures ok { IfOk result (λ answer. IsNotesTurn P.limits self.old.pass self.new.pass bytes.now
-            answer.told answer.reply) }
+        ensures ok { IfOk result (λ answer. IsNotesTurn P.limits self.old.pass self.new.pass
+            bytes.now answer.told answer.reply) }
         ensures scope { self.new.scope ≡ self.old.scope }
         ensures err { OnErr result (self.new ≡ self.old) }
     {

@@ -301,9 +301,11 @@ pub(crate) fn ask_notes_at(
     request: NoteRequest,
 ) -> Result<String, NoMemory>
     requires { place < length rooms.old.items }
+    // The reply.
     ensures ok { let notes = notes_after site request (notes_of rooms.old.items place) in
         let reply = NotesOf (length (room_at rooms.old.items place).entries) (all_notes notes) in
         IfOk result (λ text. IsTextFor (string_bytes text) reply) }
+    // The rooms after it.
     ensures names { names_in rooms.new.items ≡ names_in rooms.old.items }
     ensures rooms { rooms_in rooms.new.items ≡ rooms_in rooms.old.items }
     ensures uses { uses_in rooms.new.items ≡ uses_in rooms.old.items }

@@ -5,7 +5,7 @@ use Rattle.std.specs.Prelude.{if◌then◌else◌}
 use Rattle.std.specs.Option.{option_map_or}
 use Rattle.std.specs.List.{list_any}
 use Rattle.base_types.specs.Names.{Name, same_name}
-use Rattle.base_types.specs.declared.op_name.TheConstants.{MAX_SITE, MAX_SEQ}
+use Rattle.base_types.specs.declared.op_name.TheConstants.{MAX_SEQ}
 use Rattle.base_types.specs.Vectors.{Vector, counts, covers}
 use Rattle.rules.specs.declared.history.Op.{Op}
 use Rattle.rules.specs.Operations.{IsHistory, operation}
@@ -20,13 +20,12 @@ abbrev pub place_of : List (List ℕ) → Name → Option ℕ
 place_of places name =
     if name.1 == 0 then None else slice_get (places_of places name.0) (name.1 - 1)
 
--- The operations are a history whose sites number them from 1, and the lists, one for each site,
--- have their places, by site and then by number: a name is looked up there, and the length of a
--- list is the number of its site's operations.
+-- The operations are a history whose sites number them from 1, and the lists have their places, by
+-- site and then by number: a name is looked up there, and the length of a list is the number of its
+-- site's operations. A site behind the last list has none.
 pub record IsIndex (h : List Op) (places : List (List ℕ)) : Type 0 where
   pub history : IsHistory h
   pub numbered : (op : Op) → Contains h op → op.name.1 ≤ count_at_site h op.name.0
-  pub sites : length places ≡ MAX_SITE
   pub found : (name : Name) → place_of places name ≡ position (λ op. same_name op.name name) h
   pub count : (site : ℕ) → length (places_of places site) ≡ count_at_site h site
   pub small : (site : ℕ) → count_at_site h site ≤ MAX_SEQ

@@ -1,6 +1,6 @@
 use Rattle.std.proofs.Common.{◌≡◌, ◌≤◌, length}
 use Rattle.std.specs.Io.KnownBytes.{Consumes}
-use Rattle.byte_streams.specs.declared.whole.TheConstants.{PIECE_LEN}
+use Rattle.command_fault.specs.declared.reading.TheConstants.{PIECE_LEN}
 use Rattle.command_fault.proofs.reading.read_up_to.Given as goal
 
 abbrev pub invariant-loop : goal.invariant-loop

@@ -14,7 +14,6 @@ import time
 
 from server import Server, program_of, row, titles, words_of
 
-from lib.limit_records import MAX_OBJECTS
 from lib.records import compact
 
 # The entries, and the objects, from which a room is nearly full.

@@ -11,7 +11,7 @@ import pathlib
 import sys
 import tempfile
 
-from server import measured, program_of, row, titles, words_of
+from server import builds_of, compare_words_of, measured, row, titles
 
 
 # ---- what scripts are made of
@@ -398,13 +398,12 @@ def beside(values, digits):
 
 
 def main():
-    parser = words_of(__doc__, 9)
-    parser.add_argument("--against", type=pathlib.Path, metavar="PROGRAM")
+    parser = compare_words_of(__doc__, 9)
     parser.add_argument("--only", default="", metavar="WORD", help="only scripts with WORD in their names")
     parser.add_argument("--old-form", action="store_true", help="write puts of one key as `set`")
     options = parser.parse_args()
     Script.in_old_form = options.old_form
-    programs = [program_of(options)] + ([options.against.resolve()] if options.against else [])
+    programs = builds_of(options)
     titles(heads(len(programs)))
     growths = []
     for name, make, size in CASES:

@@ -4,6 +4,8 @@ import argparse
 import os
 import pathlib
 import re
+import resource
+import statistics
 import subprocess
 import sys
 import time
@@ -13,6 +15,7 @@ ROOT = pathlib.Path(__file__).resolve().parent.parent
 sys.path.append(str(ROOT / "tests"))
 
 from lib import serving
+from lib.websocket_client import TEXT, Connection, frame
 
 # The time limit of a server's start, and of its end.
 SECONDS = 120
@@ -56,6 +59,26 @@ def program_of(options):
     return use_proved_program()
 
 
+def compare_words_of(doc, runs):
+    """Returns the parser of a bench that may compare two builds."""
+    parser = words_of(doc, runs)
+    parser.add_argument("--against", type=pathlib.Path, metavar="PROGRAM",
+                        help="a second build, which is measured in turn with the first")
+    return parser
+
+
+def builds_of(options):
+    """The programs to measure: that of `program_of`, and the one that `--against` names."""
+    programs = [program_of(options)]
+    return programs + [options.against.resolve()] if options.against else programs
+
+
+def use_build(program):
+    """Has servers that start from now on run this program."""
+    os.environ["GRACE"] = str(program)
+    serving.program.cache_clear()
+
+
 def use_proved_program():
     """Has GRACE name the proved program, unless it names one already. Returns the path."""
     if not os.environ.get("GRACE"):
@@ -95,6 +118,15 @@ class Server(serving.Server):
             sys.exit(f"bench: the server exited with {self.process.returncode} and {heads!r:.300}")
 
 
+def allow_open_files(count):
+    """Lets this process and those that it starts have so many open files. Ends with a line if the system does not."""
+    soft, hard = resource.getrlimit(resource.RLIMIT_NOFILE)
+    try:
+        resource.setrlimit(resource.RLIMIT_NOFILE, (max(soft, count), max(hard, count)))
+    except (ValueError, OSError):
+        sys.exit(f"bench: needs {count:,} open files, and the system allows {hard:,}")
+
+
 def measured(command, source="", output=""):
     """Runs a command to its end. Returns its status, processor seconds, peak memory in MiB, and the lines that it
     printed if `output` names no file."""
@@ -102,6 +134,33 @@ def measured(command, source="", output=""):
     *lines, last = subprocess.run(words, stdout=subprocess.PIPE, text=True, check=True).stdout.splitlines()
     status, seconds, peak = re.fullmatch(r"(\d+) ([\d.e-]+) (\d+)", last).groups()
     return int(status), float(seconds), int(peak) / 1024, lines
+
+
+# ---- clients
+
+
+def connect(server):
+    """Returns a connection that has shaken hands. Unlike a client of the tests it records nothing."""
+    connection = Connection(server.address)
+    connection.open()
+    return connection
+
+
+def ask(connection, *messages):
+    """Sends these messages at once. Returns the replies as texts."""
+    connection.send(b"".join(frame(TEXT, message.encode()) for message in messages))
+    return [connection.read_frame()[1].decode() for _ in messages]
+
+
+def expect_reply(reply, start):
+    """Ends the bench with a line unless the reply begins with this text."""
+    if not reply.startswith(start):
+        sys.exit(f"bench: a reply is {reply:.200}, and not {start}..")
+
+
+def median_and_slow(times):
+    """Returns the median and the 99th percentile of these times."""
+    return statistics.median(times), statistics.quantiles(times, n=100)[98] if len(times) > 1 else times[0]
 
 
 # ---- tables

@@ -1,6 +1,8 @@
 """Servers that end while many clients draw, and start again over the same folder."""
 
+import itertools
 import json
+import os
 import random
 import signal
 import time
@@ -10,9 +12,9 @@ from lib.answers import BY_SESSION
 from lib.drawing import Drawer, come_back
 from lib.keeping import KeepingServer, bytes_of, room_folder, expect_kept, whole_lines
 from lib.records import compare_record
-from lib.crowd import Crowd
+from lib.crowd import Crowd, Shares
 from lib.running import OPTIONS, cases
-from lib.serving import CheckFailed, expect_equal
+from lib.serving import CheckFailed, Client, expect_equal
 from lib.websocket_client import SECONDS, Ended
 
 # The time limit of a test, in seconds.
@@ -20,8 +22,11 @@ BOUND = 600
 ROOMS = ["a", "b", "c", "d"]
 CLIENTS = 32
 WORKERS = 4
-# The longest run of a server before its end, and the longest pause of a client after an operation, in seconds.
+# The longest run of a server before its end where each process of clients has a processor, and the longest pause of a
+# client after an operation, in seconds.
 RUN, PAUSE = 2.0, 0.03
+# The seconds in which all clients have to see the end of a server, or to leave.
+PATIENCE = 6 * SECONDS
 
 
 class Person:
@@ -29,6 +34,7 @@ class Person:
 
     def __init__(self, number, room):
         self.room = room
+        self.client = None
         self.drawer = Drawer(None, number)
         # The room has at least this many entries, by all replies; and the number of the site's operations.
         self.least = 0
@@ -58,18 +64,27 @@ class Person:
             raise CheckFailed(f"site {self.drawer.site} made {self.made} operations, but comes back with {made}")
         self.made = made
 
-    def draw(self, client):
-        """Draws until the connection ends."""
+    def connect(self, address):
+        """Connects to the server. Returns the client."""
+        self.client = Client(address, 0)
+        return self.client
+
+    def draw(self, address):
+        """Draws until the server is gone."""
+        self.client = None
         try:
-            self.enter(client)
+            self.enter(self.connect(address))
             while True:
                 self.drawer.submit(self.drawer.next_operation(8))
                 time.sleep(self.drawer.source.uniform(0, PAUSE))
-        except Ended:
+        except (Ended, ConnectionError):
             pass
+        if self.client:
+            self.client.hang_up()
 
-    def finish(self, client):
+    def finish(self, address):
         """Comes back a last time, reads the whole record, and leaves."""
+        client = self.connect(address)
         self.enter(client)
         self.drawer.catch_up()
         self.drawer.submit(self.drawer.next_operation())
@@ -77,50 +92,69 @@ class Person:
         client.close()
 
 
-def share_progress(people):
-    """Raises each person's lower bound to the highest in the room: later replies must cover all earlier ones."""
-    for room in ROOMS:
-        least = max(person.least for person in people if person.room == room)
-        for person in people:
-            if person.room == room:
-                person.least = least
+class Share:
+    """The people of one process."""
+
+    def __init__(self, people):
+        self.people = people
+
+    def together(self, work, address):
+        """All do this work at once. Returns their transcripts, and the entries that each room has at least."""
+        crowd = Crowd()
+        for person in self.people:
+            crowd.start(work, person, address)
+        crowd.end(PATIENCE)
+        least = {room: max((person.least for person in self.people if person.room == room), default=0) for room in ROOMS}
+        return [person.client.transcript for person in self.people if person.client], least
+
+    def share_progress(self, least):
+        """Raises each person's lower bound to that of the room: later replies must cover all earlier ones."""
+        for person in self.people:
+            person.least = least[person.room]
 
 
-def end_under_load(people, folder, transcripts, by):
+def take_results(shares, server):
+    """Waits until all people are done. Returns the transcripts of the server's sessions and of those before."""
+    results = shares.results(PATIENCE)
+    for transcript in itertools.chain(*(transcripts for transcripts, _ in results)):
+        server.other_client().transcript = transcript
+    shares.call(Share.share_progress, {room: max(least[room] for _, least in results) for room in ROOMS})
+    return server.transcripts()
+
+
+def end_under_load(shares, count, folder, transcripts, by):
     """Runs a server while all draw, and ends it at a random moment. Its files must match the transcripts, which are
     returned."""
-    with KeepingServer(folder, ROOMS, 2 * len(people), WORKERS, before=transcripts) as server:
-        crowd = Crowd()
-        for person in people:
-            crowd.start(person.draw, server.connect())
-        time.sleep(random.uniform(0, RUN))
+    with KeepingServer(folder, ROOMS, 2 * count, WORKERS, before=transcripts) as server:
+        shares.begin(Share.together, Person.draw, server.address)
+        time.sleep(random.uniform(0, RUN * max(1, len(shares.processes) / os.cpu_count())))
         server.kill(by)
-        crowd.end()
-        transcripts = server.transcripts()
+        transcripts = take_results(shares, server)
     for room in ROOMS:
         compare_record(room, whole_lines(folder, room), transcripts)
-    share_progress(people)
     return transcripts
 
 
+def finish_all(shares, count, folder, transcripts):
+    """Runs a server to its end, while all come back and leave. The files equal its output, and match the transcripts."""
+    with KeepingServer(folder, ROOMS, count, WORKERS, before=transcripts, patience=PATIENCE) as server:
+        shares.begin(Share.together, Person.finish, server.address)
+        transcripts = take_results(shares, server)
+        records = server.finish()
+    expect_kept(folder, ROOMS, transcripts)
+    for room in ROOMS:
+        expect_equal("the file", bytes_of(folder, room).decode(), "".join(f"{line}\n" for line in records[room]))
+
+
 def end_repeatedly(times, by):
-    """32 clients, or `--crowd` times as many, draw in four rooms. The server is ended this many times and started again. No confirmed entry is lost,
-    and at the end the files equal the server's output."""
-    people = [Person(number, ROOMS[number % len(ROOMS)]) for number in range(OPTIONS.crowd * CLIENTS)]
-    transcripts = []
-    with room_folder() as folder:
+    """32 clients, or `--crowd` times as many in as many processes, draw in four rooms. The server is ended this many
+    times and started again. No confirmed entry is lost, and at the end the files equal the server's output."""
+    count, transcripts = OPTIONS.crowd * CLIENTS, []
+    people = [Person(number, ROOMS[number % len(ROOMS)]) for number in range(count)]
+    with room_folder() as folder, Shares([Share(people[at : at + CLIENTS]) for at in range(0, count, CLIENTS)]) as shares:
         for _ in range(times):
-            transcripts = end_under_load(people, folder, transcripts, by)
-        with KeepingServer(folder, ROOMS, len(people), WORKERS, before=transcripts, patience=6 * SECONDS) as server:
-            crowd = Crowd()
-            for person in people:
-                crowd.start(person.finish, server.connect())
-            crowd.end()
-            records = server.finish()
-            transcripts = server.transcripts()
-        expect_kept(folder, ROOMS, transcripts)
-        for room in ROOMS:
-            expect_equal("the file", bytes_of(folder, room).decode(), "".join(f"{line}\n" for line in records[room]))
+            transcripts = end_under_load(shares, count, folder, transcripts, by)
+        finish_all(shares, count, folder, transcripts)
 
 
 def test_killed():

@@ -32,7 +32,7 @@ def entry_of(site, request):
 
 class Transcript:
     """The requests of one client in order, with their replies. `lines` has for each reply the room, the line of a
-    transcript and the parsed reply."""
+    transcript, and the reply's word and place."""
 
     def __init__(self):
         self.waiting = collections.deque()
@@ -65,7 +65,7 @@ class Transcript:
             self.made = reply[3] if reply[0] == "back" else 0
         elif request[0] == "join":
             return
-        self.lines.append((self.room, f"[{compact(self.site)},{compact(request)},{text}]", reply))
+        self.lines.append((self.room, f"[{compact(self.site)},{compact(request)},{text}]", reply[:2]))
         if reply[0] in ("joined", "made", "taken"):
             self.places.append((self.room, reply[1], compact(entry_of(self.site, request))))
         if reply[0] in ("made", "taken"):

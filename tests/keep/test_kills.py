@@ -104,7 +104,9 @@ class Share:
         for person in self.people:
             crowd.start(work, person, address)
         crowd.end(PATIENCE)
-        least = {room: max((person.least for person in self.people if person.room == room), default=0) for room in ROOMS}
+        least = dict.fromkeys(ROOMS, 0)
+        for person in self.people:
+            least[person.room] = max(least[person.room], person.least)
         return [person.client.transcript for person in self.people if person.client], least
 
     def share_progress(self, least):
@@ -136,7 +138,8 @@ def end_under_load(shares, count, folder, transcripts, by):
 
 
 def finish_all(shares, count, folder, transcripts):
-    """Runs a server to its end, while all come back and leave. The files equal its output, and match the transcripts."""
+    """Runs a server to its end, while all come back and leave. The files equal its output and match the
+    transcripts."""
     with KeepingServer(folder, ROOMS, count, WORKERS, before=transcripts, patience=PATIENCE) as server:
         shares.begin(Share.together, Person.finish, server.address)
         transcripts = take_results(shares, server)
@@ -151,7 +154,8 @@ def end_repeatedly(times, by):
     times and started again. No confirmed entry is lost, and at the end the files equal the server's output."""
     count, transcripts = OPTIONS.crowd * CLIENTS, []
     people = [Person(number, ROOMS[number % len(ROOMS)]) for number in range(count)]
-    with room_folder() as folder, Shares([Share(people[at : at + CLIENTS]) for at in range(0, count, CLIENTS)]) as shares:
+    shares = Shares([Share(people[at : at + CLIENTS]) for at in range(0, count, CLIENTS)])
+    with room_folder() as folder, shares:
         for _ in range(times):
             transcripts = end_under_load(shares, count, folder, transcripts, by)
         finish_all(shares, count, folder, transcripts)

@@ -1,14 +1,17 @@
 """Several processes that serve one folder with rooms on demand, while many people draw and each process is killed."""
 
+import itertools
 import random
 import signal
 import time
 import zlib
+from functools import partial
 
-from lib.crowd import Crowd
+from lib.crowd import FORK, Crowd, Shares
 from lib.keeping import KeepingServer, expect_kept, room_folder
+from lib.on_demand import NOT_SERVED
 from lib.running import OPTIONS
-from lib.serving import CheckFailed, expect_equal
+from lib.serving import CheckFailed, Client, expect_equal
 from lib.websocket_client import SECONDS, Ended, Fault
 
 from keep.test_kills import Person
@@ -18,6 +21,11 @@ BOUND = 900
 PROCESSES, PEOPLE, ROOMS, MOST = 3, 100, 20, 200
 # The time between two kills, the pause of a person after an operation and between attempts to connect, in seconds.
 BETWEEN, PAUSE, AGAIN = 1.5, 0.2, 0.05
+
+
+def patience():
+    """Returns the seconds in which a guest has to get in and out. It allows for a machine that is busy with all of them."""
+    return OPTIONS.crowd * 3 * SECONDS
 
 
 class Processes:
@@ -42,99 +50,131 @@ class Processes:
         self.ended.append(was)
         self.running[number] = self.start(was.address[1])
 
-    def connect(self, room):
-        """Connects over the path of this room, as a proxy does that hashes paths: to the first process in the order of
-        the room that serves it. Returns the client."""
-        bound = time.monotonic() + SECONDS
-        first = zlib.crc32(room.encode())
-        for attempt in range(1_000_000):
-            server = self.running[(first + attempt) % PROCESSES]
-            client = opened(server, room)
-            if client:
-                return client
-            if time.monotonic() > bound:
-                break
-            time.sleep(AGAIN)
-        raise CheckFailed(f"no process serves room {room}")
+    def addresses(self):
+        """Returns the addresses of the processes."""
+        return [server.address for server in self.running]
 
     def end(self):
-        """Ends all processes. Returns the transcripts of all clients."""
+        """Ends all processes."""
         for server in self.running:
             server.kill(signal.SIGKILL)
-        everyone = [client.transcript for server in [*self.ended, *self.running] for client in server.clients]
         for server in [*self.ended, *self.running]:
             server.__exit__()
-        return everyone
-
-
-def opened(server, room):
-    """Returns a client over the path of this room, or None if the process is gone or answers 503."""
-    try:
-        client = server.connect()
-        client.open(f"/{room}")
-        return client
-    except Fault as fault:
-        if "503" not in str(fault):
-            raise
-    except (ConnectionError, Ended):
-        pass
-    return None
 
 
 class Guest(Person):
-    """A person who draws in a room until the end, and comes back whenever the connection is lost."""
+    """A person who draws in a room until the end, and comes back whenever the connection is lost. `clients` has the
+    connections over which the person was let in."""
 
-    def stay(self, processes, is_over):
-        """Draws until `is_over`. Then reads the whole record, and leaves."""
-        while not is_over():
-            self.visit(processes, is_over)
-        for _ in range(PROCESSES + 1):
-            client = processes.connect(self.room)
-            try:
-                self.come_in(client)
-                self.drawer.catch_up()
-                client.ask(["leave"])
-                client.close()
-                return
-            except Ended:
-                client.transcript.hung_up = True
-        raise CheckFailed(f"nobody can leave room {self.room}")
+    def __init__(self, number, room):
+        super().__init__(number, room)
+        self.clients = []
 
-    def visit(self, processes, is_over):
-        """Draws over one connection."""
-        client = processes.connect(self.room)
+    def let_in(self, address):
+        """Connects over the path of the room. Returns whether the process is there and does not answer 503."""
+        client = None
         try:
-            self.come_in(client)
-            while not is_over():
-                self.drawer.submit(self.drawer.next_operation(8))
-                time.sleep(self.drawer.source.uniform(0, OPTIONS.crowd * PAUSE))
-            client.hang_up()
-        except Ended:
-            client.transcript.hung_up = client.is_over = True
-
-    def come_in(self, client):
-        """Enters over a connection that is open."""
+            client = Client(address, 0)
+            client.open(f"/{self.room}")
+        except (ConnectionError, Ended, Fault) as fault:
+            if isinstance(fault, Fault) and "503" not in str(fault):
+                raise
+            if client:
+                client.hang_up()
+            return False
         client.open = lambda: None
-        self.enter(client)
+        self.clients.append(client)
+        return True
+
+    def come_in(self, addresses):
+        """Connects as a proxy does that hashes paths: to the first process in the order of the room that serves it.
+        Then enters. Returns the client."""
+        bound = time.monotonic() + patience()
+        first = zlib.crc32(self.room.encode())
+        for attempt in itertools.count(first):
+            if self.let_in(addresses[attempt % len(addresses)]):
+                break
+            if time.monotonic() > bound:
+                raise CheckFailed(f"no process serves room {self.room}")
+            time.sleep(AGAIN)
+        self.enter(self.clients[-1])
+        return self.clients[-1]
+
+    def ask(self, client, request):
+        """As of any person. Where the room was closed before the join came, another process may serve it by now; then
+        the person connects again."""
+        text = super().ask(client, request)
+        if text == NOT_SERVED:
+            raise Ended
+        return text
+
+    def visit(self, addresses, work):
+        """Enters and does this work with the client. Returns whether the connection lasted."""
+        try:
+            work(self.come_in(addresses))
+            return True
+        except Ended:
+            self.clients[-1].hang_up()
+            return False
+
+    def draw_until(self, over, client):
+        """Draws until that is over, and hangs up."""
+        while not over.is_set():
+            self.drawer.submit(self.drawer.next_operation(8))
+            time.sleep(self.drawer.source.uniform(0, OPTIONS.crowd * PAUSE))
+        client.hang_up()
+
+    def read_and_leave(self, client):
+        """Reads the whole record, and leaves."""
+        self.drawer.catch_up()
+        client.ask(["leave"])
+        client.close()
+
+    def stay(self, addresses, over):
+        """Draws until that is over. Then reads the whole record, and leaves."""
+        while not over.is_set():
+            self.visit(addresses, partial(self.draw_until, over))
+        bound = time.monotonic() + patience()
+        while not self.visit(addresses, self.read_and_leave):
+            if time.monotonic() > bound:
+                raise CheckFailed(f"nobody can leave room {self.room}")
+
+
+class Guests:
+    """The guests of one process of clients. They draw until `over` is set."""
+
+    def __init__(self, guests, over):
+        self.guests, self.over = guests, over
+
+    def stay(self, addresses):
+        """All draw at once. Returns the room and the transcripts of each."""
+        crowd = Crowd()
+        for guest in self.guests:
+            crowd.start(guest.stay, addresses, self.over)
+        crowd.end(patience())
+        expect_equal("the guests without a site", [guest for guest in self.guests if guest.drawer.site is None], [])
+        return [(guest.room, [client.transcript for client in guest.clients]) for guest in self.guests]
 
 
 def test_processes_that_are_killed():
     """People draw in rooms on demand that three processes serve. Each process is killed once and started again. Each
     person comes back as the same site, and nothing is lost that a reply told. `--crowd` times as many people draw in as
-    many times the rooms."""
+    many times the rooms, from as many processes."""
     rooms = [f"room-{number}" for number in range(OPTIONS.crowd * ROOMS)]
-    people = [Guest(number, rooms[number % len(rooms)]) for number in range(OPTIONS.crowd * PEOPLE)]
-    with room_folder() as folder:
-        processes, over = Processes(folder), []
-        crowd = Crowd()
-        for person in people:
-            crowd.start(person.stay, processes, lambda: bool(over))
+    guests = [Guest(number, rooms[number % len(rooms)]) for number in range(OPTIONS.crowd * PEOPLE)]
+    over = FORK.Event()
+    shares = Shares([Guests(guests[at : at + PEOPLE], over) for at in range(0, len(guests), PEOPLE)])
+    with room_folder() as folder, shares:
+        processes = Processes(folder)
+        shares.begin(Guests.stay, processes.addresses())
         for number in random.sample(range(PROCESSES), PROCESSES):
             time.sleep(BETWEEN * OPTIONS.crowd)
             processes.replace(number)
         time.sleep(BETWEEN * OPTIONS.crowd)
-        over.append(True)
-        crowd.end(OPTIONS.crowd * 3 * SECONDS)
-        transcripts = processes.end()
-        expect_equal("the people without a site", [person for person in people if person.drawer.site is None], [])
-        expect_kept(folder, rooms, transcripts)
+        over.set()
+        transcripts = {room: [] for room in rooms}
+        for room, of_guest in itertools.chain(*shares.results(patience())):
+            transcripts[room] += of_guest
+        processes.end()
+        for room in rooms:
+            expect_kept(folder, [room], transcripts[room])

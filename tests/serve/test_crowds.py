@@ -10,7 +10,7 @@ from lib.drawing import Drawer, draw_in_rounds
 from lib.records import compact
 from lib.running import cases
 from lib.serving import CheckFailed, Server, expect_equal, run
-from lib.websocket_client import PING, PONG, SECONDS, TEXT, frame, head, new_key
+from lib.websocket_client import PING, PONG, SECONDS, TEXT, frame
 
 JOIN = '["join","r"]'
 CLIENTS = 64

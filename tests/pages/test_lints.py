@@ -1,0 +1,69 @@
+"""What checkers find in the scripts of shell and of Python, where they are installed."""
+
+import shutil
+import subprocess
+
+from lib.serving import ROOT, CheckFailed, Skipped
+
+# Two warnings of shellcheck are not for these scripts: word splitting is meant in some places, and `$name[` begins a class
+# of characters in a regular expression.
+NOT_FOR_US = "SC2046,SC1087"
+# Folders without sources of ours.
+LEFT_OUT = {".git", "out", "node_modules", "__pycache__", "rooms"}
+# These tests have a variable that nothing reads.
+NOT_CLEAN = {"clients/python/tests/rooms.py"}
+
+
+def files(folder=ROOT):
+    """Yields the files of the repository."""
+    for path in sorted(folder.iterdir()):
+        if path.is_dir() and not path.is_symlink() and path.name not in LEFT_OUT and folder.name != "crates":
+            yield from files(path)
+        elif path.is_file():
+            yield path
+
+
+def first_line_of(path):
+    """Returns the first line of a file that can be run, and nothing of others."""
+    if not path.stat().st_mode & 0o100:
+        return ""
+    with path.open("rb") as file:
+        return file.readline().decode("utf-8", "replace")
+
+
+def shell_scripts():
+    """Returns the paths of the scripts of shell."""
+    return [path for path in files() if first_line_of(path).rstrip().endswith(("/sh", "bash"))]
+
+
+def python_files():
+    """Returns the paths of the files of Python, with and without an ending."""
+    found = [path for path in files() if path.suffix == ".py" or "python3" in first_line_of(path)]
+    return [path for path in found if path.relative_to(ROOT).as_posix() not in NOT_CLEAN]
+
+
+def installed(*names):
+    """Returns the first of these commands that is installed. Skips the test if none is."""
+    for name in names:
+        if shutil.which(name):
+            return name
+    raise Skipped(f"{' and '.join(names)} {'is' if len(names) == 1 else 'are'} not installed")
+
+
+def expect_clean(command):
+    """Expects that a checker ends well, and finds nothing."""
+    done = subprocess.run(command, cwd=ROOT, stdout=subprocess.PIPE, stderr=subprocess.STDOUT, text=True)
+    if done.returncode:
+        raise CheckFailed("; ".join(done.stdout.splitlines()[:20]))
+
+
+def test_shell():
+    """`shellcheck` has no warning of a script of shell."""
+    checker = installed("shellcheck")
+    options = ["--external-sources", "--source-path=SCRIPTDIR", "--severity=warning", "--format=gcc", f"--exclude={NOT_FOR_US}"]
+    expect_clean([checker, *options, *shell_scripts()])
+
+
+def test_python():
+    """`pyflakes` finds nothing in a file of Python."""
+    expect_clean([installed("pyflakes3", "pyflakes"), *python_files()])

@@ -10,6 +10,8 @@ MAX_VERSIONS = 32
 MAX_PAIRS = 16
 # Keys that the puts of an object give.
 MAX_KEYS = 64
+# Bytes of a text that is a value.
+MAX_TEXT = 256
 
 
 class Record:
@@ -52,10 +54,16 @@ def fan(sites, pairs_of, attrs=()):
     return record
 
 
-def many_keys(sites):
+def many_keys(sites, value_of=lambda number, site: 100 * number + site):
     """An object of 80 keys: 16 from its creation, and 64 from the puts of each site."""
-    attrs = [(f"a{number}", number) for number in range(MAX_PAIRS)]
-    return fan(sites, lambda site: [(f"k{number:02}", 100 * number + site) for number in range(MAX_KEYS)], attrs)
+    attrs = [(f"a{number}", value_of(number, 0)) for number in range(MAX_PAIRS)]
+    return fan(sites, lambda site: [(f"k{number:02}", value_of(number, site)) for number in range(MAX_KEYS)], attrs)
+
+
+def longest_answer():
+    """An object of 32 versions of 80 keys with the longest texts, of which each byte but two needs an escape of six. An
+    answer that shows it takes 3.9 million bytes."""
+    return many_keys(MAX_VERSIONS, lambda number, site: "\x01" * (MAX_TEXT - 2) + f"{site:02}")
 
 
 def five_pairs(attrs):

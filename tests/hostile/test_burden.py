@@ -1,0 +1,110 @@
+"""Clients that ask for the longest answers and read next to nothing, until all lines of the server hold as much as they
+may: above 256 MiB lines that stall end after a second, and above 512 MiB nothing more is read."""
+
+import contextlib
+import socket
+import time
+
+from lib.crowd import Shares
+from lib.keeping import KeepingServer, needs_root, room_folder
+from lib.limit_records import longest_answer
+from lib.observing import samples
+from lib.own_network import enter_own_network
+from lib.records import compact
+from lib.serving import CheckFailed, Skipped, expect_equal
+
+# The time limit of a test, in seconds.
+BOUND = 600
+# What all lines may hold before those that stall end, and before nothing more is read, in KiB.
+CROWDED, FULL = 262_144, 524_288
+# The clients. Their answers would take 860 million bytes. A room has at most 256 sites, of which 32 made the object.
+CLIENTS = 220
+# So many ask at a time. The server counts what its lines hold after each round of a loop, so what many ask for in one
+# round comes on top of the limits.
+AT_ONCE = 4
+# A client reads this many bytes each time that so many seconds are over: before the 30 seconds after which any line that
+# stalls ends, and after the second of a crowded server.
+SIP, PAUSE, STALLED = 65_536, 5, 30
+# What the system takes of an answer from the server. The lines hold the rest.
+SEND_BUFFER = 65_536
+# The most memory: a quarter more than the second limit, for the program, the answers in the making, and what lines have
+# sent of an answer, which they keep until all of it is sent.
+THREADS = 4
+MOST = FULL + FULL // 4
+# The seconds in which the server has to be crowded, and then to have ended lines. A loaded machine needs most of them to
+# make the answers.
+PATIENCE = 240
+ENDED = 'grace_sessions_ended_total{cause="stream fault"}'
+
+
+def sip(clients, flags=0):
+    """Each client reads a little, unless the server has ended its line. With MSG_DONTWAIT none waits for it."""
+    for client in clients:
+        with contextlib.suppress(BlockingIOError, ConnectionError):
+            client.socket.recv(SIP, flags)
+
+
+def ended_of(server):
+    """Returns how many lines the server has ended. While it reads nothing it does not say, and they count as 0."""
+    try:
+        return samples(server)[ENDED]
+    except TimeoutError:
+        return 0
+
+
+def ask_in_turn(server, clients, honest):
+    """Some clients ask for the longest answer at a time. When its beginning has come, the next ones ask. Returns the
+    largest memory of the server meanwhile, in KiB, whether it was crowded before any line had ended, and after how many
+    seconds one had."""
+    began = sipped = time.monotonic()
+    was_crowded, ended_after = False, None
+    for at in range(0, len(clients), AT_ONCE):
+        for client in clients[at : at + AT_ONCE]:
+            client.send_request(["show", [1, 1]])
+        sip(clients[at : at + AT_ONCE])
+        if time.monotonic() - sipped > PAUSE:
+            sip(clients[:at], socket.MSG_DONTWAIT)
+            sipped = time.monotonic()
+        honest.expect_reply(["pull", 1], '["entries",1,1,[]]')
+        if ended_after is None and ended_of(server):
+            ended_after = time.monotonic() - began
+        was_crowded = was_crowded or ended_after is None and server.memory()[0] > CROWDED
+    return server.memory()[1], was_crowded, ended_after
+
+
+def wait_until_ended(server, clients):
+    """Waits until the server has ended lines, while the clients read a little. Returns how many."""
+    bound = time.monotonic() + PATIENCE
+    while not ended_of(server):
+        if time.monotonic() > bound:
+            raise CheckFailed("no line has ended")
+        time.sleep(PAUSE)
+        sip(clients, socket.MSG_DONTWAIT)
+    return ended_of(server)
+
+
+def run_crowd(record):
+    """Runs the server and all clients in a network of their own. Returns what `ask_in_turn` returns, and how many lines
+    the server ended."""
+    enter_own_network(SEND_BUFFER)
+    with room_folder({"heavy": record}) as folder, KeepingServer(folder, ["heavy", "light"], 0, THREADS) as server:
+        honest, *clients = [server.client(receive_buffer=SIP) for _ in range(1 + CLIENTS)]
+        for client in (honest, *clients):
+            client.socket.settimeout(PATIENCE)
+            client.reply_to(["join", "light" if client is honest else "heavy"])
+        return *ask_in_turn(server, clients, honest), wait_until_ended(server, clients)
+
+
+def test_crowded():
+    """Lines that stall end, an honest client is served, and the memory stays below the second limit."""
+    needs_root()
+    record = "".join(f"{compact(entry)}\n" for entry in longest_answer().entries).encode()
+    with Shares([record]) as shares:
+        shares.begin(run_crowd)
+        ((most, was_crowded, ended_after, ended),) = shares.results(BOUND)
+    print(f"{ended} of {CLIENTS} lines ended; at most {most:,} KiB", flush=True)
+    if not was_crowded and ended_after and ended_after > STALLED:
+        raise Skipped("the machine is too slow: lines that stalled for 30 seconds ended before the server was crowded")
+    expect_equal("whether it was crowded", was_crowded, True)
+    if most > MOST:
+        raise CheckFailed(f"the server had {most:,} KiB")

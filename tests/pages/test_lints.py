@@ -5,12 +5,12 @@ import subprocess
 
 from lib.serving import ROOT, CheckFailed, Skipped
 
-# Two warnings of shellcheck are not for these scripts: word splitting is meant in some places, and `$name[` begins a class
-# of characters in a regular expression.
+# Two warnings of shellcheck are not for these scripts: word splitting is meant in some places, and `$name[` begins a
+# class of characters in a regular expression.
 NOT_FOR_US = "SC2046,SC1087"
 # Folders without sources of ours.
 LEFT_OUT = {".git", "out", "node_modules", "__pycache__", "rooms"}
-# These tests have a variable that nothing reads.
+# A test there has a variable that nothing reads.
 NOT_CLEAN = {"clients/python/tests/rooms.py"}
 
 
@@ -60,8 +60,8 @@ def expect_clean(command):
 def test_shell():
     """`shellcheck` has no warning of a script of shell."""
     checker = installed("shellcheck")
-    options = ["--external-sources", "--source-path=SCRIPTDIR", "--severity=warning", "--format=gcc", f"--exclude={NOT_FOR_US}"]
-    expect_clean([checker, *options, *shell_scripts()])
+    options = ["--external-sources", "--source-path=SCRIPTDIR", "--severity=warning", "--format=gcc"]
+    expect_clean([checker, *options, f"--exclude={NOT_FOR_US}", *shell_scripts()])
 
 
 def test_python():

@@ -20,6 +20,9 @@ export class Lost extends Error {
 /** How long a server may hold the reply to a wait, in milliseconds. */
 export const HOLD_MILLISECONDS = 25000
 
+// How much too early a timer may be.
+const TIMER_MILLISECONDS = 2
+
 // What to tell people when the server is there again later, by the status of the answer.
 const UNAVAILABLE = {
   502: "The proxy does not reach the server.",
@@ -55,6 +58,8 @@ export class Connection {
   #replyMilliseconds
   // What the server owes, oldest first: each with the time from which it is owed.
   #outstanding = []
+  // When the server last sent what it owed.
+  #answeredAt = -Infinity
   #hasEnded = false
   #resolveEnded
 
@@ -97,10 +102,13 @@ export class Connection {
     return reply
   }
 
-  /** How long the server has owed a reply, in milliseconds; 0 if it owes none. A wait that it may hold is not owed. */
+  /**
+   * How long the server has owed a reply and sent none, in milliseconds; 0 if it owes none. A wait that it may hold is
+   * not owed.
+   */
   get silentMilliseconds() {
     const now = performance.now()
-    return Math.max(0, ...this.#outstanding.map(({ owedFrom }) => now - owedFrom))
+    return Math.max(0, ...this.#outstanding.map(({ owedFrom }) => now - Math.max(owedFrom, this.#answeredAt)))
   }
 
   /** Whether the connection has ended. */
@@ -131,17 +139,28 @@ export class Connection {
 
   /** The next thing that the server owes when it has sent all outstanding ones. */
   #expect(holdMilliseconds) {
-    const milliseconds = holdMilliseconds + this.#replyMilliseconds
     return new Promise((resolve, reject) => {
-      const timer = setTimeout(() => this.#end("The server did not answer in time."), milliseconds)
-      this.#outstanding.push({ resolve, reject, timer, owedFrom: performance.now() + holdMilliseconds })
+      const owed = { resolve, reject, timer: null, owedFrom: performance.now() + holdMilliseconds }
+      this.#outstanding.push(owed)
+      this.#limit(owed, holdMilliseconds + this.#replyMilliseconds)
     })
+  }
+
+  /** Ends the connection after this time, or later if the server has sent other replies meanwhile. */
+  #limit(owed, milliseconds) {
+    owed.timer = setTimeout(() => {
+      const left = Math.max(owed.owedFrom, this.#answeredAt) + this.#replyMilliseconds - performance.now()
+      // A timer may be a little early.
+      if (left > TIMER_MILLISECONDS) this.#limit(owed, left)
+      else this.#end("The server did not answer in time.")
+    }, milliseconds)
   }
 
   #settle(value) {
     const oldest = this.#outstanding.shift()
     if (oldest === undefined) return
     clearTimeout(oldest.timer)
+    this.#answeredAt = performance.now()
     oldest.resolve(value)
   }
 

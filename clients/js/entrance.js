@@ -5,6 +5,7 @@
 
 import { Lost } from "./connection.js"
 import { ProtocolFault, Refused, RenewedAs } from "./forms.js"
+import { loadAll } from "./loading.js"
 import { Pause } from "./pause.js"
 import { isAfter, successorOf } from "./room_names.js"
 
@@ -149,12 +150,18 @@ export class Entrance {
   /** Pulls this many entries of the room. */
   async #load(length) {
     const record = []
-    while (record.length < length) {
-      const [, , , entries] = await this.#session.request(["pull", record.length], "entries")
-      if (!Array.isArray(entries) || entries.length === 0) throw new ProtocolFault("The server sent an empty page.")
-      record.push(...entries)
-    }
+    await loadAll({
+      progress: () => ({ have: record.length, of: length }),
+      pull: (from) => this.#page(from),
+      take: (entries) => record.push(...entries),
+    })
     return record
+  }
+
+  async #page(from) {
+    const [, , , entries] = await this.#session.request(["pull", from], "entries")
+    if (!Array.isArray(entries) || entries.length === 0) throw new ProtocolFault("The server sent an empty page.")
+    return entries
   }
 
   /** The reply to the first `back` as a site that is not in use; null if all are. */

@@ -11,6 +11,7 @@ import {
   Denied, LIMITS, ProtocolFault, Refused, RenewedAs, codeOf, entryOf, nameOf, operationOf, requestOf,
 } from "./forms.js"
 import { writeText } from "./json_text.js"
+import { loadAll } from "./loading.js"
 import { Notes } from "./notes.js"
 import { NO_WEB_SOCKET, addressOf, storageOf, withDefaults } from "./options.js"
 import { Passage, takeAlong } from "./passage.js"
@@ -760,10 +761,18 @@ export class Room {
 
   /** Pulls until the client has all entries. */
   async #load() {
-    while (this.#record.length < this.#length) {
-      if (!this.#isLoaded) this.#emitProgress()
-      await this.#pull()
+    const report = () => {
+      if (!this.#isLoaded && this.#record.length < this.#length) this.#emitProgress()
     }
+    report()
+    await loadAll({
+      progress: () => ({ have: this.#record.length, of: this.#length }),
+      pull: (from) => this.#page(from),
+      take: (entries) => {
+        this.#append(entries)
+        report()
+      },
+    })
   }
 
   /**
@@ -877,11 +886,6 @@ export class Room {
       if (!(fault instanceof Refused) || this.#isClosing) throw fault
       this.#withdraw(change, fault)
     }
-  }
-
-  /** Pulls the next page and shows it. */
-  async #pull() {
-    this.#append(await this.#page(this.#record.length))
   }
 
   async #page(from) {

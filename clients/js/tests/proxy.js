@@ -1,6 +1,6 @@
 /**
- * A proxy between clients and `grace serve`. It can cut connections between a request and its reply, hold waits, and
- * answer handshakes in place of the server. `whatToDo` decides about each message of a client.
+ * A proxy between clients and `grace serve`. It can cut connections between a request and its reply, hold waits, delay
+ * all bytes, and answer handshakes in place of the server. `whatToDo` decides about each message of a client.
  */
 
 import { connect, createServer } from "node:net"
@@ -51,14 +51,21 @@ class Pair {
   /** Passes the held wait on. */
   release() {
     clearTimeout(this.#timer)
-    if (this.#held !== null) this.server.write(this.#held)
+    if (this.#held !== null) this.#write(this.server, this.#held)
     this.#held = null
   }
 
   #fromServer(piece) {
     if (this.#isCutting) return this.cut()
-    this.client.write(piece)
+    this.#write(this.client, piece)
     this.proxy.hear(piece.toString())
+  }
+
+  /** Sends bytes on, after half a round trip. */
+  #write(socket, bytes) {
+    const { roundTripMilliseconds } = this.proxy
+    if (roundTripMilliseconds === 0) socket.write(bytes)
+    else setTimeout(() => socket.write(bytes), roundTripMilliseconds / 2)
   }
 
   #hangUp(last) {
@@ -90,7 +97,7 @@ class Pair {
     this.#bytes = this.#isHandshake ? head : Buffer.alloc(0)
     if (this.#isHandshake) return
     const answer = this.proxy.answer(head.toString())
-    if (answer === undefined) return this.server.write(head)
+    if (answer === undefined) return this.#write(this.server, head)
     this.client.end([...answer, "Content-Length: 4", "", "page"].join("\r\n"))
   }
 
@@ -103,8 +110,8 @@ class Pair {
   #pass(whole, text, frame) {
     this.release()
     const [word, from] = text.startsWith('["wait"') ? JSON.parse(text) : []
-    if (word === undefined || this.proxy.waits === LEFT) return this.server.write(whole)
-    if (this.proxy.waits === AT_ONCE) return this.server.write(asPull(whole, frame))
+    if (word === undefined || this.proxy.waits === LEFT) return this.#write(this.server, whole)
+    if (this.proxy.waits === AT_ONCE) return this.#write(this.server, asPull(whole, frame))
     this.#held = whole
     if (from < this.proxy.length) this.release()
     else this.#timer = setTimeout(() => this.release(), HOLD_MILLISECONDS)
@@ -132,6 +139,8 @@ export class Proxy {
   /** Decides about a message, by its text: returns one of the constants above. */
   whatToDo = () => PASS
   waits = LEFT
+  /** How long a message and its reply are on the line. */
+  roundTripMilliseconds = 0
   cuts = 0
   /** The heads of clients, each with its time, and the answers to the next of them in place of the server's. */
   heads = []

@@ -3,9 +3,11 @@ its successor."""
 
 import math
 import time
+from collections.abc import Callable
 from dataclasses import dataclass
 
 from .forms import Lost, ProtocolFault, Refused, RenewedAs
+from .loading import load_all
 from .pause import Pause
 from .room_names import is_after, successor_of
 
@@ -40,20 +42,30 @@ class Following:
     is_in: bool
 
 
+@dataclass(frozen=True)
+class Session:
+    """What asks for the client. `request` sends a request and returns a reply of this kind. `send_pull` asks for the
+    entries from a place on, and `receive_page` returns those of the oldest pull. `wait` says why the client is not in
+    the room yet, and waits."""
+
+    request: Callable
+    send_pull: Callable
+    receive_page: Callable
+    wait: Callable
+
+
 def nobody_in(record):
     """A site that nobody was in the room with this record."""
     return sum(word == "join" for word, *_ in record) + 1
 
 
 class Entrance:
-    """Asks again while the server has the client's old session, or cannot serve the room. `request` sends a request and
-    returns a reply of this kind. `wait` says why the client is not in the room yet, and waits."""
+    """Asks again while the server has the client's old session, or cannot serve the room."""
 
-    def __init__(self, name, back_seconds, request, wait):
+    def __init__(self, name, back_seconds, session):
         self.name = name
         self._back_seconds = back_seconds
-        self._request = request
-        self._wait = wait
+        self._session = session
 
     def back(self, site):
         """The reply to `back`, or None if the site is still in use when the time is over. While the server cannot serve
@@ -70,9 +82,9 @@ class Entrance:
             if is_served:
                 if time.monotonic() >= end:
                     return None
-                self._wait(STILL_CONNECTED, pause.take())
+                self._session.wait(STILL_CONNECTED, pause.take())
             else:
-                self._wait(NOT_SERVED, NOT_SERVED_SECONDS)
+                self._session.wait(NOT_SERVED, NOT_SERVED_SECONDS)
                 end = time.monotonic() + self._back_seconds
 
     def back_newest(self, site):
@@ -87,7 +99,7 @@ class Entrance:
             reply = self._back_as_first_free(name)
             if reply is not None:
                 return reply
-            self._wait(f"{IN_USE} Trying again.", pause.take())
+            self._session.wait(f"{IN_USE} Trying again.", pause.take())
         raise Lost(IN_USE)
 
     def join(self, has_site):
@@ -120,7 +132,7 @@ class Entrance:
         except RenewedAs:
             _, at, *_ = self.back_as_any(name)
         record = self._load(at)
-        self._request(["leave"], "left")
+        self._session.request(["leave"], "left")
         return Following(name, nobody_in(record), record, False)
 
     def _back_unless_ended(self, site):
@@ -140,21 +152,23 @@ class Entrance:
         nothing without a reply."""
         if back is None:
             return
-        *_, entries = self._request(["pull", back[1] - 1], "entries")
+        *_, entries = self._session.request(["pull", back[1] - 1], "entries")
         if entries[0][0] == "next":
-            self._request(["leave"], "left")
+            self._session.request(["leave"], "left")
             self.join(False)
             raise ProtocolFault("The server let a client join a room that has ended.")
 
     def _load(self, length):
         """Pulls this many entries of the room."""
         record = []
-        while len(record) < length:
-            *_, entries = self._request(["pull", len(record)], "entries")
-            if not isinstance(entries, tuple) or not entries:
-                raise ProtocolFault("The server sent an empty page.")
-            record += entries
+        load_all(lambda: (len(record), length), self._session.send_pull, self._receive_page, record.extend)
         return record
+
+    def _receive_page(self, start):
+        entries = self._session.receive_page(start)
+        if not entries:
+            raise ProtocolFault("The server sent an empty page.")
+        return entries
 
     def _back_as_first_free(self, name):
         """The reply to the first `back` as a site that is not in use; None if all are."""
@@ -182,11 +196,11 @@ class Entrance:
                 if refusal.word not in ASKED_AGAIN and not may_open:
                     raise
                 words = ASKED_AGAIN.get(refusal.word, NOT_THERE_YET)
-            self._wait(words, NOT_SERVED_SECONDS)
+            self._session.wait(words, NOT_SERVED_SECONDS)
 
     def _ask(self, request, kind):
         try:
-            return self._request(request, kind)
+            return self._session.request(request, kind)
         except RenewedAs as renewed:
             _, name, *_ = request
             if not is_after(renewed.room, name):

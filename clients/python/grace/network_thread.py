@@ -13,8 +13,9 @@ from dataclasses import dataclass
 
 from .change import Noted
 from .connection_state import ConnectionState
-from .entrance import Entrance, nobody_in
+from .entrance import Entrance, Session, nobody_in
 from .forms import Denied, Lost, ProtocolFault, Refused, RenewedAs, operation_of, read_text, request_of, write_text
+from .loading import load_all
 from .pause import WaitTimer
 from .room_state import GOES_ON
 from .transfer import draw_same, drawing_of
@@ -34,10 +35,10 @@ CLOSE_SECONDS = 1
 
 @dataclass(frozen=True)
 class Owed:
-    """What the server owes: the time from which it owes it, and the time until which the client waits for it."""
+    """What the server owes: the time from which it owes it, and how many seconds the client then waits for it."""
 
     since: float
-    deadline: float
+    seconds: float
 
 
 class NetworkThread:
@@ -47,7 +48,9 @@ class NetworkThread:
     def __init__(self, address, name, options, lock, listeners, notes):
         self.address, self.options = address, options
         self.first_name = name
-        self.entrance = Entrance(name, options.back_seconds, self._request, self._wait_outside)
+        self.entrance = Entrance(name, options.back_seconds, Session(
+            self._request, self._send_pull, self._receive_page, self._wait_outside,
+        ))
         self.room_state = None
         self.lock = lock
         # Notified when something changes that a caller may wait for.
@@ -68,6 +71,8 @@ class NetworkThread:
         # What the server owes, oldest first, and the replies that have arrived but are not processed.
         self._owed = deque()
         self._replies = deque()
+        # When the server last sent what it owed.
+        self._answered = -math.inf
         # The place from which the outstanding wait asks, or None.
         self._wait_from = None
         self._tries = 0
@@ -118,7 +123,7 @@ class NetworkThread:
 
     def _silent_time(self):
         now = time.monotonic()
-        return max((now - owed.since for owed in self._owed), default=0)
+        return max((now - max(owed.since, self._answered) for owed in self._owed), default=0)
 
     # ---- events and waiting
 
@@ -202,11 +207,15 @@ class NetworkThread:
 
     def _expect(self, hold=0):
         """The server owes a reply, which it may hold this long."""
-        since = time.monotonic() + hold
-        self._owed.append(Owed(since, since + self.options.reply_seconds))
+        self._owed.append(Owed(time.monotonic() + hold, self.options.reply_seconds))
+
+    def _settle(self):
+        """The server has sent the oldest thing that it owed."""
+        self._owed.popleft()
+        self._answered = time.monotonic()
 
     def _deadline(self):
-        return min((owed.deadline for owed in self._owed), default=math.inf)
+        return min((max(owed.since, self._answered) + owed.seconds for owed in self._owed), default=math.inf)
 
     def _check_deadline(self):
         if time.monotonic() >= self._deadline():
@@ -255,8 +264,7 @@ class NetworkThread:
         try:
             if self.is_closing and self._socket.is_open:
                 self._is_leaving = True
-                now = time.monotonic()
-                self._owed.append(Owed(now, now + CLOSE_SECONDS))
+                self._owed.append(Owed(time.monotonic(), CLOSE_SECONDS))
                 self._socket.say_close()
         except Lost:
             pass
@@ -286,7 +294,7 @@ class NetworkThread:
         if context is None and self.address.scheme == "wss":
             context = ssl.create_default_context()
         self._socket.open(self.address, context, self.options.headers)
-        self._owed.popleft()
+        self._settle()
         self._is_in = False
         self.room_state.is_entering = True
         # All that a room has which has ended is in its record.
@@ -499,11 +507,26 @@ class NetworkThread:
 
     def _load(self):
         """Pulls until the client has all entries."""
-        while self.room_state.lacks:
-            with self._locked():
-                if not self.room_state.is_loaded:
-                    self.emit("progress", self.room_state.progress())
-            self._pull()
+        self._report_progress()
+        load_all(self._progress, self._send_pull, self._receive_page, self._take)
+
+    def _report_progress(self):
+        with self._locked():
+            if self.room_state.lacks and not self.room_state.is_loaded:
+                self.emit("progress", self.room_state.progress())
+
+    def _progress(self):
+        return len(self.room_state.record), self.room_state.length
+
+    def _send_pull(self, start):
+        self._start(["pull", start])
+
+    def _receive_page(self, start):
+        return self._entries(self._finish("entries"), start)
+
+    def _take(self, entries):
+        self._append(entries)
+        self._report_progress()
 
     def _serve_and_reset_backoff(self):
         start = time.monotonic()
@@ -579,7 +602,7 @@ class NetworkThread:
     def _finish(self, kind):
         """The reply to the oldest outstanding request. Checks that it is of this kind."""
         reply = read_text(self._replies.popleft() if self._replies else self._socket.read())
-        self._owed.popleft()
+        self._settle()
         match reply:
             case ("no", int(at), _, str(word)):
                 if word == "renewed":

@@ -1,6 +1,6 @@
-"""A relay between clients and `grace serve`. It can cut connections between a request and its reply, hold waits, answer
-handshakes in place of the server, and speak TLS to clients. `what_to_do` decides about each message of a client, by its
-text."""
+"""A relay between clients and `grace serve`. It can cut connections between a request and its reply, hold waits, delay
+messages, answer handshakes in place of the server, and speak TLS to clients. `what_to_do` decides about each message of
+a client, by its text."""
 
 import asyncio
 import contextlib
@@ -54,6 +54,8 @@ class Relay:
         self.context = context
         self.what_to_do = lambda text: PASS
         self.waits = LEFT
+        # How long a message and its reply are on the line.
+        self.round_trip_seconds = 0
         # The heads of clients, and the answers to the next of them in place of the server's.
         self.heads = []
         self.answers = deque()
@@ -105,7 +107,7 @@ class Relay:
                 return self.abort(writer)
             self.writers.add(server)
             beside = asyncio.ensure_future(self.hand_back(answers, writer, cut))
-            server.write(head)
+            self.send(server, head)
             try:
                 await self.hand_on(reader, server, cut)
                 # After a cut the other task meets the reply and disconnects.
@@ -138,25 +140,32 @@ class Relay:
         """Passes a message on, as `waits` says."""
         self.release(server)
         if self.waits == LEFT or not text.startswith('["wait"'):
-            server.write(data)
+            self.send(server, data)
         elif self.waits == AT_ONCE:
-            server.write(as_pull(data))
+            self.send(server, as_pull(data))
         elif json.loads(text)[1] < self.length:
-            server.write(data)
+            self.send(server, data)
         else:
             self.held[server] = data
             self.loop.call_later(HOLD_SECONDS, self.release, server, data)
 
+    def send(self, writer, data):
+        """Sends bytes on, after half a round trip."""
+        if self.round_trip_seconds:
+            self.loop.call_later(self.round_trip_seconds / 2, writer.write, data)
+        else:
+            writer.write(data)
+
     def release(self, server, data=None):
         """Passes the held wait on, if it is this one."""
         if server in self.held and data in (None, self.held[server]):
-            server.write(self.held.pop(server))
+            self.send(server, self.held.pop(server))
 
     async def hand_back(self, answers, writer, cut):
         """Forwards the server's bytes to the client, up to a cut."""
         with contextlib.suppress(OSError):
             while (data := await answers.read(65536)) and not cut.is_set():
-                writer.write(data)
+                self.send(writer, data)
                 self.hear(data)
         self.abort(writer)
 

@@ -48,6 +48,7 @@ const WORDS = {
   "withdrawn": "The server refused an earlier change to this object.",
   "another-room": "The room was started again without this change.",
   "too-long": "The change is too long for one message.",
+  "read-only": "The room takes nobody new, so you can look at it, but not change it.",
 }
 const CODES = Object.keys(WORDS).slice(0, 22)
 
@@ -55,7 +56,8 @@ const CODES = Object.keys(WORDS).slice(0, 22)
  * The server or this library refused a change or a join, which then has no effect. `message` is a sentence for people.
  */
 export class Refused extends Error {
-  /** @param {string} word the server's word, or the library's own: `closed`, `withdrawn`, `another-room`, `too-long` */
+  /** @param {string} word the server's word, or the library's own: `closed`, `withdrawn`, `another-room`, `too-long`,
+   *   `read-only` */
   constructor(word) {
     super(WORDS[word] ?? `The server refused the request: ${word}.`)
     this.name = "Refused"

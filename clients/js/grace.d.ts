@@ -83,7 +83,7 @@ export type ServerWord =
   | "too-many-versions" | "too-many-objects" | "too-far" | "gone" | "no-such-site" | "site-in-use"
   | "not-served" | "renewed"
 /** The library's own words for refusals. */
-export type OwnWord = "closed" | "withdrawn" | "another-room" | "too-long"
+export type OwnWord = "closed" | "withdrawn" | "another-room" | "too-long" | "read-only"
 
 /**
  * The server or this library refused a change or a join, which then has no effect. `message` is a sentence for people.
@@ -237,8 +237,12 @@ export interface Options {
   retryMilliseconds?: readonly number[] | undefined
   /**
    * Where the client saves its state, so that a reloaded page continues as the same site. `true` is `sessionStorage`.
+   * `"person"` is `localStorage`: a page that is opened later continues as a site that this browser had, and each open
+   * tab has its own. That needs `navigator.locks`, so TLS or `localhost`; without it, `"person"` means `true`.
    */
-  storage?: boolean | Storage | undefined
+  storage?: boolean | "person" | Storage | undefined
+  /** Whether to show a room that takes nobody new: false. The client reads it every two seconds, as a free site. */
+  lookIfFull?: boolean | undefined
 }
 
 /** What the listeners of each event receive. */
@@ -293,6 +297,8 @@ export class Room {
   get hasEnded(): boolean
   /** The number of this client's site, from 1 to 256; null before the client has joined. */
   get site(): number | null
+  /** Whether the room takes nobody new, and the client may only look at it. See the option `lookIfFull`. */
+  get isReadOnly(): boolean
   /** The entries that were pulled so far. */
   get record(): readonly Entry[]
   /** The state vector that the next change carries. */

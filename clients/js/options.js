@@ -16,10 +16,14 @@
  * @property {number[]} [retryMilliseconds] the backoff: the waits before the first, second and later attempts to
  *   reconnect. The last one repeats. If the answer to the handshake has `Retry-After`, and the socket tells it, the wait
  *   is at least as long, up to the longest of these
- * @property {boolean | import("./storage.js").Storage} [storage] where the client saves its site, the record and its
- *   pending changes, so that a reloaded page continues as the same site. `true` means the browser's `sessionStorage`,
- *   which each tab has for itself. Two clients must not use one storage for the same room at the same time. The default
- *   saves nothing
+ * @property {boolean | "person" | import("./storage.js").Storage} [storage] where the client saves its site, the record
+ *   and its pending changes, so that a reloaded page continues as the same site. `true` means the browser's
+ *   `sessionStorage`, which each tab has for itself and loses when it is closed. `"person"` means its `localStorage`:
+ *   a page that is opened again later continues as a site that this browser had, and each open tab has a site of its
+ *   own. That needs `navigator.locks`, so TLS or `localhost`; without it, `"person"` means `true`. Of another storage,
+ *   two clients must not use one for the same room at the same time. The default saves nothing
+ * @property {boolean} [lookIfFull] whether to show a room that takes nobody new: the client then reads it every two
+ *   seconds as any site that is free, and `isReadOnly` is true. By default such a room is closed
  */
 
 const DEFAULTS = {
@@ -31,6 +35,7 @@ const DEFAULTS = {
   backMilliseconds: 90000,
   retryMilliseconds: [100, 500, 1000, 2000, 5000],
   storage: false,
+  lookIfFull: false,
 }
 
 export const NO_WEB_SOCKET = "There is no global WebSocket. Pass the option connect, such as " +
@@ -61,11 +66,11 @@ export function addressOf(address, name, { roomInPath }) {
 }
 
 /**
- * The storage that the option selects, or null.
+ * The storage that the option selects, or null. For `"person"` it is that of a page without seats.
  * @param {Options["storage"]} option
  */
 export function storageOf(option) {
-  if (option !== true) return option || null
+  if (option !== true && option !== "person") return option || null
   try {
     return globalThis.sessionStorage ?? null
   } catch {

@@ -16,6 +16,7 @@ import { Notes } from "./notes.js"
 import { NO_WEB_SOCKET, addressOf, storageOf, withDefaults } from "./options.js"
 import { Passage, takeAlong } from "./passage.js"
 import { Backoff } from "./pause.js"
+import { browserOf, takeSeat } from "./seats.js"
 import { SavedState } from "./storage.js"
 import { Transfer, drawSame, drawingOf } from "./transfer.js"
 import { Waits } from "./waits.js"
@@ -32,6 +33,9 @@ const OTHER_ROOM = "The room was started again, and your old drawing is not in i
 const SHORTER_RECORD = "The room was started again."
 const GOES_ON = "This drawing goes on in another room."
 const LEFT_BEHIND = "This drawing went on in another room without your last changes. You can save a copy of them."
+const LOOKING = "The room is full. You can look at it, but not change it."
+// How long a client that may only look at the room waits before it looks again.
+const LOOK_MILLISECONDS = 2000
 
 /**
  * A client in a room. It shows a prefix of the record, and its own changes as soon as they are made.
@@ -74,6 +78,8 @@ export class Room {
   #isEntering = false
   // Whether the session is in the room.
   #isIn = false
+  // Whether the room takes nobody new, so that the client only looks at it, now and then, as a site that is free.
+  #isLooking = false
   #creationPlaces = new Map()
   #pending = []
   // Own changes that the server has accepted, but that no pull has returned yet.
@@ -86,6 +92,7 @@ export class Room {
   #holds = 0
   #isClosing = false
   #fault = null
+  #releaseSeat = () => {}
   #connection = null
   #wake = () => {}
   #settled = []
@@ -115,12 +122,29 @@ export class Room {
       () => (this.#pending.length > 0 ? performance.now() - this.#pending[0].made : null),
       () => this.#connection?.silentMilliseconds ?? 0,
     )
-    this.#restore()
+    const browser = this.#options.storage === "person" ? browserOf() : null
+    if (browser === null) this.#restore()
     // In a later turn, so that the caller can set listeners first.
-    Promise.resolve().then(() => {
-      if (this.#drawing.size > 0) this.#emitChange(this.#drawing.names().map(codeOf))
-      this.#runSession()
-    })
+    Promise.resolve().then(() => this.#start(browser, address))
+  }
+
+  async #start(browser, address) {
+    if (browser !== null) await this.#takeSeat(browser, address)
+    if (this.#drawing.size > 0) this.#emitChange(this.#drawing.names().map(codeOf))
+    this.#runSession()
+  }
+
+  /** Restores the state of a seat of this browser that no other tab has. */
+  async #takeSeat(browser, address) {
+    try {
+      const { storage, number, release } = await takeSeat(browser, address, this.#firstName)
+      if (this.#isClosing) return release()
+      this.#releaseSeat = release
+      this.#saved = new SavedState(storage, address, this.#firstName, number)
+    } catch {
+      // The browser denies the page its locks: the tab has what it saved for itself.
+    }
+    this.#restore()
   }
 
   // ---- reading
@@ -172,6 +196,14 @@ export class Room {
    */
   get site() {
     return this.#site
+  }
+
+  /**
+   * Whether the room takes nobody new, and the client may only look at it. See the option `lookIfFull`.
+   * @type {boolean}
+   */
+  get isReadOnly() {
+    return this.#isLooking
   }
 
   /**
@@ -319,7 +351,7 @@ export class Room {
    * @param {string} kind 1 to 32 characters of a-z, 0-9 and `-`
    * @param {Record<string, Value> | Iterable<[string, Value]>} [attributes] at most 16
    * @returns {Change}
-   * @throws {Refused} `not-joined`, `closed`, `record-full`, `too-many-objects`, `too-long`. Nothing has changed.
+   * @throws {Refused} `not-joined`, `read-only`, `closed`, `record-full`, `too-many-objects`, `too-long`. Nothing has changed.
    * @throws {TypeError | RangeError} the kind or an attribute is invalid. Nothing has changed.
    */
   create(kind, attributes = {}) {
@@ -338,7 +370,7 @@ export class Room {
    *   others have changed since is concurrent with this change, but for what an own change since counts. Without it the
    *   author saw all that is shown
    * @returns {Change}
-   * @throws {Refused} `not-joined`, `closed`, `record-full`, `no-such-object`, `no-such-version`, `gone`,
+   * @throws {Refused} `not-joined`, `read-only`, `closed`, `record-full`, `no-such-object`, `no-such-version`, `gone`,
    *   `object-full`, `too-many-keys`, `too-long`. Nothing has changed.
    * @throws {TypeError | RangeError} an argument is invalid. Nothing has changed.
    */
@@ -436,7 +468,7 @@ export class Room {
   /** The next operation of this client. */
   #next(word, rest) {
     if (this.state === "closed") throw new Refused("closed")
-    if (this.#site === null) throw new Refused("not-joined")
+    if (this.#site === null) throw new Refused(this.#isLooking ? "read-only" : "not-joined")
     if (this.#record.length + this.#pending.length >= LIMITS.entries) throw new Refused("record-full")
     const name = [this.#site, this.#drawing.count(this.#site) + 1]
     return { word, name, seen: this.#drawing.seen(), object: name, ...rest }
@@ -539,8 +571,49 @@ export class Room {
     this.#isIn = false
     this.#isEntering = true
     // All that a room has which has ended is in its record.
-    if (!this.hasEnded && !(await this.#rejoin())) await this.#join()
+    if (!this.hasEnded && !(await this.#rejoin())) await this.#joinOrLook()
     await this.#finishEntering()
+  }
+
+  /** Joins as a new site. If the room takes nobody new, and the option says so, the client looks at it. */
+  async #joinOrLook() {
+    try {
+      await this.#join()
+      this.#isLooking = false
+    } catch (fault) {
+      const isFull = fault.word === "room-full" || fault.word === "record-full"
+      if (!isFull || !this.#options.lookIfFull) throw fault
+      await this.#look()
+    }
+  }
+
+  /**
+   * Reads the room as a site that is free, and leaves at once, so that the person whose site it is can come back. It
+   * makes no change: that person may have unsent changes with the same numbers.
+   */
+  async #look() {
+    this.#isLooking = true
+    const [, at] = await this.#entrance.backAsAny(this.#entrance.name).catch((fault) => {
+      throw fault instanceof RenewedAs ? new Lost(GOES_ON) : fault
+    })
+    this.#isIn = true
+    if (await this.#isOtherRecord(at)) this.#discardRoom()
+    this.#length = Math.max(this.#length, at)
+    await this.#load()
+    await this.#leave()
+  }
+
+  /** Looks again and again, until the room goes on in another one. */
+  async #keepLooking() {
+    while (this.#isLooking) {
+      for (const end = performance.now() + LOOK_MILLISECONDS; performance.now() < end; ) {
+        await this.#sleep(end - performance.now(), this.#connection.ended)
+        if (this.#isClosing || this.#connection.hasEnded) throw new Lost("The connection ended.")
+      }
+      await this.#look()
+      this.#isEntering = this.hasEnded
+      if (this.hasEnded || this.state === "connecting") await this.#finishEntering()
+    }
   }
 
   /** Goes on in the next room while this one has ended. Then shows what was loaded. */
@@ -551,6 +624,7 @@ export class Room {
     this.#isLoaded = true
     this.#show()
     if (isFirst) this.#emitProgress()
+    if (this.#isLooking) return this.#connectionState.enter(LOOKING)
     this.#notes.enter()
     this.#connectionState.enter(`Connected as site ${this.#site}.`)
   }
@@ -657,7 +731,7 @@ export class Room {
     await this.#leave()
     await this.#untilReleased()
     const next = await this.#enterSuccessor()
-    if (next === null) return this.#join()
+    if (next === null) return this.#joinOrLook()
     await this.#untilReleased()
     this.#showAll()
     const [, count] = this.#record.at(-1)
@@ -665,7 +739,7 @@ export class Room {
     if (drawSame(old, drawing)) return this.#switchTo(next, old, drawing, count)
     this.#leaveBehind(next.name)
     await this.#leave()
-    await this.#join()
+    await this.#joinOrLook()
   }
 
   /** Enters the room's successor. The result is null if the client could not take its pending changes along. */
@@ -693,6 +767,7 @@ export class Room {
 
   /** Makes the room's successor the client's room. It begins with `count` entries, which draw what the old one does. */
   #switchTo({ name, site, record }, old, drawing, count) {
+    this.#isLooking = false
     const [oldRoom, all, pending] = [this.#entrance.name, this.#drawing, this.#pending]
     const transfer = new Transfer(old, all, pending.map((change) => change.name), drawing, site)
     this.#passage = new Passage(transfer, all, this.#laterNames, drawing.seen())
@@ -780,6 +855,7 @@ export class Room {
    * outstanding.
    */
   async #serve() {
+    await this.#keepLooking()
     let [wait, question] = [null, null]
     while (!this.#isClosing) {
       if (this.hasEnded) {
@@ -1114,6 +1190,7 @@ export class Room {
     this.#connection?.close()
     this.#wake()
     this.#notes.leave()
+    this.#releaseSeat()
     const pending = this.#pending.splice(0)
     this.#connectionState.leave("closed", words)
     this.#reject(pending, new Refused("closed"))

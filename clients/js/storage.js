@@ -12,6 +12,31 @@ import { isAfter } from "./room_names.js"
  *   void }} Storage the part of the browser's `sessionStorage` that the library uses
  */
 
+/**
+ * What the keys of a client's saved state begin with.
+ * @param {string} address of the server
+ * @param {string} name of the first room
+ * @param {number} seat from 1: which of the clients of this storage it is
+ */
+export const prefixOf = (address, name, seat) => `grace ${address} ${name}${seat === 1 ? "" : ` seat ${seat}`}`
+
+/**
+ * Whether unsent changes are saved under these keys.
+ * @param {Storage} storage
+ * @param {string} prefix as of `prefixOf`
+ */
+export const hasSavedChanges = (storage, prefix) => (storage.getItem(`${prefix} changes`) ?? "[]") !== "[]"
+
+/**
+ * Removes the saved record, which can be loaded again.
+ * @param {Storage} storage
+ * @param {string} prefix as of `prefixOf`
+ */
+export function removeRecord(storage, prefix) {
+  const key = (piece) => `${prefix} record ${piece}`
+  for (let piece = 0; storage.getItem(key(piece)) !== null; piece++) storage.removeItem(key(piece))
+}
+
 // The record is saved in pieces of this many entries, so that new entries rewrite the last piece alone.
 const PIECE = 64
 
@@ -26,11 +51,12 @@ export class SavedState {
    * @param {Storage | null} storage null saves nothing
    * @param {string} address of the server
    * @param {string} name of the first room
+   * @param {number} [seat] which of the clients of this storage it is, from 1
    */
-  constructor(storage, address, name) {
+  constructor(storage, address, name, seat = 1) {
     this.#storage = storage
     this.#name = name
-    this.#prefix = `grace ${address} ${name}`
+    this.#prefix = prefixOf(address, name, seat)
     this.#isFull = storage === null
   }
 
@@ -98,7 +124,7 @@ export class SavedState {
   }
 
   #clearRecord() {
-    for (let piece = 0; this.#has(`record ${piece}`); piece++) this.#remove(`record ${piece}`)
+    removeRecord(this.#storage, this.#prefix)
     this.#remove("changes")
   }
 

@@ -13,6 +13,7 @@ import { TESTS as notes } from "./notes.js"
 import { TESTS as reconnecting } from "./reconnecting.js"
 import { TESTS as loading } from "./loading.js"
 import { TESTS as loadingAnew } from "./loading_anew.js"
+import { TESTS as person } from "./person.js"
 import { TESTS as renewals } from "./renewals.js"
 import { TESTS as renewedRooms } from "./renewed_rooms.js"
 import { TESTS as manyStrokes } from "./many_strokes.js"
@@ -39,8 +40,8 @@ const words = process.argv.slice(2)
 let passed = 0
 let failed = 0
 const groups = [
-  rows, numbers, types, histories, transfers, rooms, standing, notes, reconnecting, loading, loadingAnew, renewals,
-  renewedRooms, manyStrokes, handshakes,
+  rows, numbers, types, histories, transfers, rooms, standing, notes, reconnecting, loading, loadingAnew, person,
+  renewals, renewedRooms, manyStrokes, handshakes,
 ]
 for (const [name, test] of groups.flat()) {
   if (words.length > 0 && !words.some((word) => name.includes(word))) continue

@@ -38,6 +38,7 @@ WORDS = {
     "withdrawn": "The server refused an earlier change to this object.",
     "another-room": "The room was started again without this change.",
     "too-long": "The change is too long for one message.",
+    "read-only": "The room takes nobody new, so you can look at it, but not change it.",
 }
 CODES = {word: code for code, word in enumerate(list(WORDS)[:22], 1)}
 
@@ -52,8 +53,8 @@ DENIED = {
 class Refused(Exception):
     """The server or this module refused a change or a join, which then has no effect.
 
-    `word` is the server's word, or `closed`, `withdrawn`, `another-room` or `too-long`. `code` is the server's code,
-    from 1 to 22, or 0 for the module's own words. `str` gives a sentence for people."""
+    `word` is the server's word, or `closed`, `withdrawn`, `another-room`, `too-long` or `read-only`. `code` is the
+    server's code, from 1 to 22, or 0 for the module's own words. `str` gives a sentence for people."""
 
     def __init__(self, word):
         super().__init__(WORDS.get(word, f"The server refused the request: {word}."))

@@ -23,12 +23,15 @@ from .websocket import WebSocket
 
 SHORTER_RECORD = "The room was started again."
 CLOSED = "The room was closed."
+LOOKING = "The room is full. You can look at it, but not change it."
 
 # A connection that lasted this long resets the backoff. A connection that breaks sooner does not: otherwise the client
 # would reconnect too often.
 STEADY_SECONDS = 5
 # How long a server may hold the reply to a wait.
 HOLD_SECONDS = 25
+# How long a client that may only look at the room waits before it looks again.
+LOOK_SECONDS = 2
 # How long to wait for the server's close frame.
 CLOSE_SECONDS = 1
 
@@ -299,8 +302,47 @@ class NetworkThread:
         self.room_state.is_entering = True
         # All that a room has which has ended is in its record.
         if not self.room_state.has_ended and not self._rejoin():
-            self._join()
+            self._join_or_look()
         self._finish_entering()
+
+    def _join_or_look(self):
+        """Joins as a new site. If the room takes nobody new, and the option says so, the client looks at it."""
+        try:
+            self._join()
+        except Refused as refusal:
+            if refusal.word not in ("room-full", "record-full") or not self.options.look_if_full:
+                raise
+            self._look()
+        else:
+            self.room_state.is_looking = False
+
+    def _look(self):
+        """Reads the room as a site that is free, and leaves at once, so that the person whose site it is can come back.
+        It makes no change: that person may have unsent changes with the same numbers."""
+        self.room_state.is_looking = True
+        try:
+            _, at, *_ = self.entrance.back_as_any(self.entrance.name)
+        except RenewedAs:
+            raise Lost(GOES_ON) from None
+        self._is_in = True
+        is_other_record = self._is_other_record(at)
+        with self._locked():
+            if is_other_record:
+                self.room_state.discard_room()
+            self.room_state.length = max(self.room_state.length, at)
+        self._load()
+        self._leave()
+
+    def _keep_looking(self):
+        """Looks again and again, until the room goes on in another one."""
+        while self.room_state.is_looking:
+            self._sleep(LOOK_SECONDS, lambda: self.refreshes_asked > self.refreshes_done)
+            refreshes = self.refreshes_asked
+            self._look()
+            self._finish_refreshes(refreshes)
+            self.room_state.is_entering = self.room_state.has_ended
+            if self.room_state.has_ended or not self.connection_state.is_in:
+                self._finish_entering()
 
     def _finish_entering(self):
         """Goes on in the next room while this one has ended. Then shows what was loaded."""
@@ -314,8 +356,11 @@ class NetworkThread:
             self.room_state.show()
             if is_first:
                 self.emit("progress", self.room_state.progress())
-            self.notes.enter()
-            self.connection_state.enter(f"Connected as site {self.room_state.site}.")
+            if self.room_state.is_looking:
+                self.connection_state.enter(LOOKING)
+            else:
+                self.notes.enter()
+                self.connection_state.enter(f"Connected as site {self.room_state.site}.")
 
     def _rejoin(self):
         """Rejoins as this client's old site. Returns false if the client must join as a new one."""
@@ -446,11 +491,11 @@ class NetworkThread:
         self._until_released()
         following = self._enter_successor()
         if following is None:
-            self._join()
+            self._join_or_look()
         elif not self._go_on_in(following):
             self._leave_behind(following.name)
             self._leave()
-            self._join()
+            self._join_or_look()
 
     def _enter_successor(self):
         """Enters the room's successor. Returns None if the client could not take its pending changes along."""
@@ -538,6 +583,7 @@ class NetworkThread:
 
     def _serve(self):
         """Sends changes and waits for news until the connection is lost. At most one wait is outstanding."""
+        self._keep_looking()
         while True:
             self._handle_events()
             if self.room_state.has_ended:

@@ -52,7 +52,8 @@ class Room:
 
     def __init__(
         self, address, name, *, site=None, context=None, headers=(), room_in_path=False, pause_seconds=0.02,
-        longest_pause_seconds=1, reply_seconds=15, back_seconds=90, retry_seconds=(0.1, 0.5, 1, 2, 5), listeners=None,
+        longest_pause_seconds=1, reply_seconds=15, back_seconds=90, retry_seconds=(0.1, 0.5, 1, 2, 5), look_if_full=False,
+        listeners=None,
     ):
         """Starts to connect to a room.
 
@@ -80,6 +81,9 @@ class Room:
         reconnect. The last one repeats. If the answer to the handshake has `Retry-After`, the wait is at least as long,
         up to the longest of these. An answer of 401, 403 or 404 closes the room with the error `Denied`.
 
+        A room that takes nobody new closes at once with the refusal `room-full` or `record-full`. With `look_if_full`
+        the client shows it: it reads the room every two seconds as any site that is free, and `is_read_only` is true.
+
         `listeners` maps names of events to listeners that receive all events from the start.
 
         Raises `TypeError` or `ValueError` if the address, the name or a header is invalid."""
@@ -91,7 +95,7 @@ class Room:
         options = SimpleNamespace(
             site=site, context=context, headers=headers, pause_seconds=pause_seconds,
             longest_pause_seconds=longest_pause_seconds, reply_seconds=reply_seconds, back_seconds=back_seconds,
-            retry_seconds=tuple(retry_seconds),
+            retry_seconds=tuple(retry_seconds), look_if_full=look_if_full,
         )
         self._lock = threading.RLock()
         self._listeners = {event: [] for event in EVENTS}
@@ -146,6 +150,11 @@ class Room:
     def site(self):
         """The number of this client's site, from 1 to 256; None before the client has joined."""
         return self._state.site
+
+    @property
+    def is_read_only(self):
+        """Whether the room takes nobody new, and the client may only look at it. See the option `look_if_full`."""
+        return self._state.is_looking
 
     @property
     def record(self):
@@ -260,7 +269,7 @@ class Room:
         """Creates an object with at most 16 attributes: a dictionary, or pairs. It is shown at once, and sent as soon
         as the connection allows. Returns the `Change`.
 
-        Raises `Refused` (`not-joined`, `closed`, `record-full`, `too-many-objects`, `too-long`). Raises `TypeError` or
+        Raises `Refused` (`not-joined`, `read-only`, `closed`, `record-full`, `too-many-objects`, `too-long`). Raises `TypeError` or
         `ValueError` if the kind or an attribute is invalid. Nothing has changed then."""
         kind, attributes = as_kind(kind), as_attributes(attributes)
         return self._change(lambda: self._state.create(kind, attributes))
@@ -269,7 +278,7 @@ class Room:
         """Sets 1 to 16 attributes of one version in a single change. `version` is a version that is shown now, or its
         identifier. Returns the `Change`.
 
-        Raises `Refused` (`not-joined`, `closed`, `record-full`, `no-such-object`, `no-such-version`, `gone`,
+        Raises `Refused` (`not-joined`, `read-only`, `closed`, `record-full`, `no-such-object`, `no-such-version`, `gone`,
         `object-full`, `too-many-keys`, `too-long`). Raises `TypeError` or `ValueError` if an argument is invalid.
         Nothing has changed then."""
         attributes = as_pairs(attributes)

@@ -33,6 +33,8 @@ class RoomState:
         self.is_closed = False
         # Whether the client is joining or rejoining. It shows nothing new until its site is certain.
         self.is_entering = False
+        # Whether the room takes nobody new, so that the client only looks at it, now and then, as a site that is free.
+        self.is_looking = False
         self._reset()
 
     def _reset(self):
@@ -142,7 +144,7 @@ class RoomState:
         if self.is_closed:
             raise Refused("closed")
         if self.site is None:
-            raise Refused("not-joined")
+            raise Refused("read-only" if self.is_looking else "not-joined")
         if len(self.record) + len(self.pending) >= LIMITS.entries:
             raise Refused("record-full")
         return (self.site, self.drawing.count(self.site) + 1), self.drawing.seen()
@@ -297,6 +299,7 @@ class RoomState:
 
     def _take_record(self, following, drawing, count):
         """Takes another record, of which the drawing shows the first entries."""
+        self.is_looking = False
         self.site, self.record, self.drawing = following.site, following.record, drawing
         self.shown_count, self.length = count, len(following.record)
         self._accepted_unpulled = []

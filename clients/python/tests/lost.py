@@ -6,6 +6,7 @@ import time
 from contextlib import contextmanager
 from functools import partial
 
+from grace import Refused, Room
 from grace.forms import frozen
 from relay import CUT_AFTER, CUT_BEFORE, PASS, Relay
 from rooms import PATIENCE, EventLog, agree, wait_until, open_rooms, versions_of
@@ -209,7 +210,44 @@ def given_site():
             expect_equal("the next name", operations(room)[-1][1], (1, 101))
 
 
+def expect_refusal(what, call, word):
+    """Expects that the call is refused with this word."""
+    try:
+        call()
+    except Refused as refusal:
+        expect_equal(what, refusal.word, word)
+    else:
+        raise CheckFailed(f"{what}: it was not refused")
+
+
+def full_room():
+    """A room whose joins are used up is shown, and followed. Its sites stay free for those whose they are."""
+    with Server(10, 4) as server:
+        owner = server.client()
+        for site in range(1, 257):
+            expect_equal("a join", owner.reply_to(["join", "r"])[2], site)
+            owner.ask(["leave"])
+        owner.expect_reply(["back", "r", 1], '["back",256,1,0]')
+        owner.ask(["new", 1, [], "rect", [["x", 1]]])
+        owner.ask(["leave"])
+        with Room(server.name, "r") as closed:
+            expect_refusal("without the option", lambda: closed.entered(PATIENCE), "room-full")
+        with open_rooms(server.name, look_if_full=True) as (room,):
+            expect_equal("what it is", (room.state, room.is_read_only, room.site, room.words),
+                         ("open", True, None, "The room is full. You can look at it, but not change it."))
+            expect_equal("what it shows", room.objects(), [(1, 1)])
+            expect_refusal("a change", lambda: room.create("rect"), "read-only")
+            # Between its looks all sites are free.
+            wait_until("the owner is in", lambda: owner.reply_to(["back", "r", 1])[0] == "back")
+            owner.ask(["put", 2, [[1, 1]], [1, 1], [], [["x", 2]]])
+            wait_until("the news", lambda: versions_of(room, (1, 1)) == [((), {"x": 2})])
+            expect_equal("whether a refresh is answered", room.refresh(PATIENCE), True)
+            expect_equal("what it is then", (room.state, room.is_read_only), ("open", True))
+        owner.close()
+
+
 TESTS = [
+    ("a full room is shown", full_room),
     ("cut before the server had it", partial(cut_once, CUT_BEFORE)),
     ("cut after the server had it", partial(cut_once, CUT_AFTER)),
     ("a join that was cut before the server had it", partial(join_cut, CUT_BEFORE)),

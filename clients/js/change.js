@@ -23,6 +23,14 @@ export class Change {
     this.become(operation, null)
     /** Whether the client has sent it. After a reconnect the client sends it again if the record lacks it. */
     this.isSent = false
+    /**
+     * The version that the change was made from, as it was then. It is null for a creation, and where the program named
+     * a version by its identifier and that is not shown any more.
+     * @type {import("./drawing.js").Version | null}
+     */
+    this.base = null
+    /** Internal: what all changes of its transaction have, or null. */
+    this.transaction = null
     /** When the change was made, in milliseconds of `performance.now()`. */
     this.made = made
     /**

@@ -179,6 +179,11 @@ export class Change {
   /** The version that contains this change, as it was directly after it, or as the new room shows it. */
   get version(): Version
   readonly isSent: boolean
+  /**
+   * The version that the change was made from, as it was then. It is null for a creation, and where the program named a
+   * version by its identifier and that is not shown any more.
+   */
+  readonly base: Version | null
   /** When the change was made, in milliseconds of `performance.now()`. */
   readonly made: number
   /** Resolves when the server has accepted the change. Rejects with `Refused`. You may ignore it. */
@@ -274,6 +279,8 @@ export interface RoomEvents {
     copies: [object: Name, copy: Name][]
     text: string | null
   }
+  /** The program has made these changes, in one transaction. A change outside of `transaction` is one of its own. */
+  transaction: { changes: Change[] }
   /** Some note of the room has changed. `notes` is what `room.notes` is now. */
   notes: { notes: Map<number, string> }
 }
@@ -361,6 +368,11 @@ export class Room {
    * @throws {Refused | TypeError} nothing has changed
    */
   drop(object: Name, version: VersionId | Version): Change
+  /**
+   * Makes the changes of a call together: they are sent one behind the other, and are one step of an `UndoManager`. They
+   * are not atomic: others may see the first before the last, and the server may refuse one and take the others.
+   */
+  transaction<Result>(call: () => Result): Result
   /** Stops showing other people's changes until you call the function that it returns. */
   hold(): () => void
 
@@ -368,6 +380,37 @@ export class Room {
   settled(): Promise<void>
   /** Closes the room and its connection for good. Pending changes reject with `closed`. */
   close(): void
+}
+
+/** A change that could not be undone or redone. */
+export interface Failure {
+  readonly change: Change
+  readonly reason: "changed" | "deleted" | "several-versions" | "left-behind" | "unknown-base" | ServerWord | OwnWord
+  /** A sentence for people. */
+  readonly words: string
+}
+
+/** Undo and redo of what this client did in a room. While it exists, it records the transactions of the program. */
+export class UndoManager {
+  /**
+   * `valueOfAbsent` is the value that undoing a put gives to a key that had none before: `""`. `mostSteps` is how many
+   * steps are kept: 200.
+   */
+  constructor(
+    room: Room,
+    options?: { valueOfAbsent?: (kind: string, key: string) => Value; mostSteps?: number },
+  )
+
+  get canUndo(): boolean
+  get canRedo(): boolean
+  /** Undoes the last step. The result has the new changes, and why others were not made. */
+  undo(): { changes: Change[]; failures: Failure[] }
+  /** Redoes the step that was undone last. */
+  redo(): { changes: Change[]; failures: Failure[] }
+  /** Forgets all steps. */
+  clear(): void
+  /** Ends the recording, and forgets all steps. */
+  end(): void
 }
 
 /** @throws {ProtocolFault} the entry is malformed */

@@ -26,8 +26,9 @@ import { Drawing, Version } from "./drawing.js"
 import { Denied, LIMITS, ProtocolFault, Refused, entryOf, isSameId, operationOf } from "./forms.js"
 import { readText, writeText } from "./json_text.js"
 import { Room } from "./room.js"
+import { UndoManager } from "./undo.js"
 
 export {
-  Change, Denied, Drawing, LIMITS, Lost, ProtocolFault, Refused, Room, Version, entryOf, isSameId, operationOf,
+  Change, Denied, Drawing, LIMITS, Lost, ProtocolFault, Refused, Room, UndoManager, Version, entryOf, isSameId, operationOf,
   readText, writeText,
 }

@@ -8,7 +8,7 @@ import { Drawing, ownerOf } from "./drawing.js"
 import { Entrance, nobodyIn } from "./entrance.js"
 import { Events } from "./events.js"
 import {
-  Denied, LIMITS, ProtocolFault, Refused, RenewedAs, codeOf, entryOf, nameOf, operationOf, requestOf,
+  Denied, LIMITS, ProtocolFault, Refused, RenewedAs, codeOf, entryOf, isSameId, nameOf, operationOf, requestOf,
 } from "./forms.js"
 import { writeText } from "./json_text.js"
 import { loadAll } from "./loading.js"
@@ -36,6 +36,8 @@ const LEFT_BEHIND = "This drawing went on in another room without your last chan
 const LOOKING = "The room is full. You can look at it, but not change it."
 // How long a client that may only look at the room waits before it looks again.
 const LOOK_MILLISECONDS = 2000
+// How many changes of a transaction are in flight. The server reads no more while twice as many replies wait.
+const MOST_CHANGES = 32
 
 /**
  * A client in a room. It shows a prefix of the record, and its own changes as soon as they are made.
@@ -55,6 +57,8 @@ const LOOK_MILLISECONDS = 2000
  *   with pending changes that could not go on in their object: each as `[object, copy]`, where `copy` is an object of
  *   its own. If the pending changes could not be taken along, `text` has the old record and them, as for `reset`;
  *   otherwise it is null.
+ * - `transaction` with `{ changes }`: the program has made these changes, in one transaction. Each change outside of
+ *   `transaction` is one of its own.
  * - `notes` with `{ notes }`: some note of the room has changed. `notes` is what `room.notes` is now.
  */
 export class Room {
@@ -63,7 +67,7 @@ export class Room {
   #firstName
   #entrance
   #saved
-  #events = new Events("change", "state", "progress", "refusal", "reset", "renewed", "notes")
+  #events = new Events("change", "state", "progress", "refusal", "reset", "renewed", "transaction", "notes")
   #connectionState
   #waits
   #notes = new Notes((notes) => this.#events.emit("notes", { notes }))
@@ -93,6 +97,8 @@ export class Room {
   #isClosing = false
   #fault = null
   #releaseSeat = () => {}
+  // The running `transaction`: what marks its changes, and those that it has made. Or null.
+  #transaction = null
   #connection = null
   #wake = () => {}
   #settled = []
@@ -299,7 +305,7 @@ export class Room {
 
   /**
    * Adds a listener.
-   * @param {"change" | "state" | "progress" | "refusal" | "reset" | "renewed" | "notes"} event
+   * @param {"change" | "state" | "progress" | "refusal" | "reset" | "renewed" | "transaction" | "notes"} event
    * @param {(news: any) => void} listener
    * @returns {() => void} removes the listener
    * @throws {TypeError} there is no such event
@@ -357,7 +363,7 @@ export class Room {
   create(kind, attributes = {}) {
     const rest = { kind: asKind(kind), attributes: asAttributes(attributes) }
     if (this.#drawing.size >= LIMITS.objects) throw new Refused("too-many-objects")
-    return this.#change(this.#next("new", rest))
+    return this.#change(this.#next("new", rest), null)
   }
 
   /**
@@ -401,6 +407,26 @@ export class Room {
    */
   drop(object, version) {
     return this.#changeVersion("drop", object, version, {})
+  }
+
+  /**
+   * Makes the changes of a call together: they are sent one behind the other, without waiting for replies, and reported
+   * by one event `change` and one event `transaction`. They are not atomic. Others may see the first ones before the
+   * last, and the server may refuse one and take the others. If the call throws, what it has changed stays.
+   * @template Result
+   * @param {() => Result} call makes changes before it returns. A `transaction` within it is part of this one
+   * @returns {Result} what the call returns
+   */
+  transaction(call) {
+    if (this.#transaction !== null) return call()
+    const transaction = { mark: {}, changes: [] }
+    this.#transaction = transaction
+    try {
+      return call()
+    } finally {
+      this.#transaction = null
+      this.#finishTransaction(transaction.changes)
+    }
   }
 
   /**
@@ -450,11 +476,13 @@ export class Room {
   #baseOf(object, version, seen) {
     const owner = ownerOf(version)
     if (owner === undefined || owner.drawing === this.#drawing) {
-      return { object: asName(object), version: asId(version), seen }
+      const id = asId(version)
+      return { object: asName(object), version: id, seen, shown: owner ? version : this.#shown(object, id) }
     }
     const found = this.#passage?.find(version, seen !== null) ?? null
     if (found === null) throw new Refused("no-such-version")
-    return { object: found.object, version: found.version.id, seen: seen && this.#passage.seen }
+    const { object: name, version: shown } = found
+    return { object: name, version: shown.id, seen: seen && this.#passage.seen, shown }
   }
 
   /** What a change counts whose author saw this: all own changes too, and what the last of them counts. */
@@ -486,12 +514,20 @@ export class Room {
     if (changes >= LIMITS.changes) throw new Refused("object-full")
     const newKeys = (operation.attributes ?? []).map(([key]) => key)
     if (newKeys.length > 0 && new Set([...keys, ...newKeys]).size > LIMITS.keys) throw new Refused("too-many-keys")
-    return this.#change(operation)
+    return this.#change(operation, base.shown)
   }
 
-  #change(operation) {
+  /** The version that is shown under this identifier, or null. */
+  #shown(object, id) {
+    const versions = this.#drawing.has(object) ? this.#drawing.versions(object) : []
+    return versions.find((version) => isSameId(version.id, id)) ?? null
+  }
+
+  #change(operation, base) {
     requestOf(operation)
     const change = new Change(operation, operation.kind ?? this.#drawing.kind(operation.object))
+    change.base = base
+    change.transaction = this.#transaction?.mark ?? null
     this.#held.add(change)
     this.#draw(change, operation)
     this.#pending.push(change)
@@ -499,8 +535,16 @@ export class Room {
     this.#waits.hurry()
     this.#connectionState.update()
     this.#wakeIfIn()
-    this.#emitChange([codeOf(operation.object)])
+    if (this.#transaction === null) this.#finishTransaction([change])
+    else this.#transaction.changes.push(change)
     return change
+  }
+
+  /** Reports changes that were made together. */
+  #finishTransaction(changes) {
+    if (changes.length === 0) return
+    this.#emitChange(changes.map(({ object }) => codeOf(object)))
+    this.#events.emit("transaction", { changes })
   }
 
   /** Shows a change of this client under this operation. */
@@ -866,18 +910,17 @@ export class Room {
       if (question === null && this.#notes.timeLeft <= 0) question = this.#ask(wait)
       if (wait === null && this.#isWaitDue()) wait = this.#waits.send(this.#connection, this.#record.length)
       if (this.#pending.length === 0) await this.#sleepUntilWork(wait, question)
-      const [change] = this.#pending
-      const reply = change === undefined ? null : this.#startChange(change)
+      const sent = this.#sendChanges()
       // A server that held the wait answers it now, before the change.
-      if (wait !== null && (reply !== null || wait.isAnswered)) {
-        await this.#finishWait(wait, reply !== null)
+      if (wait !== null && (sent.length > 0 || wait.isAnswered)) {
+        await this.#finishWait(wait, sent.length > 0)
         wait = null
       }
       if (question?.isAnswered) {
         await this.#finishQuestion(question)
         question = null
       }
-      if (reply !== null) await this.#finishChange(change, reply)
+      await this.#finishChanges(sent)
     }
   }
 
@@ -933,23 +976,46 @@ export class Room {
     return reply
   }
 
-  /** Sends a change. The result is the promise of the reply, or null if a new name made the change too long. */
-  #startChange(change) {
-    try {
-      const text = requestOf(change.operation)
+  /** Sends the oldest pending change, and behind it the others of its transaction. */
+  #sendChanges() {
+    const sent = []
+    const [first] = this.#pending
+    const isNext = (change) => change === first || (first.transaction !== null && change.transaction === first.transaction)
+    for (const change of this.#pending.slice(0, MOST_CHANGES)) {
+      const text = isNext(change) ? this.#textOf(change, first) : null
+      if (text === null) break
       change.isSent = true
-      return this.#connection.request(text)
+      sent.push({ change, reply: this.#connection.request(text) })
+    }
+    return sent
+  }
+
+  /** The request of a change; null if a new name made it too long. It is withdrawn then, as soon as it is the first. */
+  #textOf(change, first) {
+    try {
+      return requestOf(change.operation)
     } catch (refusal) {
-      this.#withdraw(change, refusal)
+      if (change === first) this.#withdraw(change, refusal)
       return null
     }
   }
 
-  /** Processes the reply to a change. */
-  async #finishChange(change, reply) {
+  /** Processes the replies to changes. Behind one that is refused, the server refuses all others for their numbers. */
+  async #finishChanges(sent) {
+    let isRefused = false
+    for (const { change, reply } of sent) {
+      const answer = await reply
+      if (!isRefused) isRefused = !(await this.#finishChange(change, answer))
+    }
+  }
+
+  /** Processes the reply to a change. Returns whether the server has taken it. */
+  async #finishChange(change, answer) {
     const { operation } = change
-    const answer = await reply
-    if (answer[0] === "no" && answer[3] === "renewed") return this.#loadEnd(answer[1])
+    if (answer[0] === "no" && answer[3] === "renewed") {
+      await this.#loadEnd(answer[1])
+      return false
+    }
     try {
       const [, at] = this.#checked(answer, operation.word === "new" ? "made" : "taken")
       this.#length = Math.max(this.#length, at + 1)
@@ -958,9 +1024,11 @@ export class Room {
         this.#acceptedUnpulled.push(change)
         this.#settleFirst()
       }
+      return true
     } catch (fault) {
       if (!(fault instanceof Refused) || this.#isClosing) throw fault
       this.#withdraw(change, fault)
+      return false
     }
   }
 

@@ -18,6 +18,7 @@ import { TESTS as renewals } from "./renewals.js"
 import { TESTS as renewedRooms } from "./renewed_rooms.js"
 import { TESTS as manyStrokes } from "./many_strokes.js"
 import { TESTS as handshakes } from "./handshakes.js"
+import { TESTS as undo } from "./undo.js"
 
 // The time limit of a test. The histories have none: a slow program needs long for them.
 const SECONDS = 180
@@ -41,7 +42,7 @@ let passed = 0
 let failed = 0
 const groups = [
   rows, numbers, types, histories, transfers, rooms, standing, notes, reconnecting, loading, loadingAnew, person,
-  renewals, renewedRooms, manyStrokes, handshakes,
+  renewals, renewedRooms, manyStrokes, handshakes, undo,
 ]
 for (const [name, test] of groups.flat()) {
   if (words.length > 0 && !words.some((word) => name.includes(word))) continue

@@ -1,6 +1,6 @@
 /** Clients of a room that is renewed: they go on in the next one, and no work is lost. */
 
-import { Room, writeText } from "../grace.js"
+import { Room, UndoManager, writeText } from "../grace.js"
 import { isAfter, successorOf } from "../room_names.js"
 import { expectEqual, expectError, numbersFrom, waitUntil } from "./checks.js"
 import { RenewingServer } from "./renewing_server.js"
@@ -468,7 +468,30 @@ const byChance = (areRead) => async (client, server) => {
   return `${server.rooms.size - 1} renewals, ${created.length} objects, ${copies} copies, ${refused.size} refused`
 }
 
+/** Steps from before a renewal can be undone and redone after it, unless the values are others now. */
+async function undone(client, server) {
+  const [room, other] = [await client(), await client()]
+  const undo = new UndoManager(room)
+  const [rect, line] = room.transaction(() => [room.create("rect", { x: 0 }), room.create("line", { y: 0 })])
+  room.transaction(() => {
+    room.put(rect.object, rect.version, { x: 1 })
+    room.put(line.object, line.version, { y: 1 })
+  })
+  await agree(server, room, other)
+  server.renew()
+  await Promise.all([isIn(room, "r.2"), isIn(other, "r.2")])
+  other.put(line.object, [], { y: 2 })
+  await agree(server, room, other)
+  const { changes, failures } = undo.undo()
+  expectEqual("what is undone", [changes.map(({ object }) => object), failures.map(({ reason }) => reason)],
+    [[rect.object], ["changed"]])
+  expectEqual("the values", versionsOf(room, rect.object), [[[], [["x", 0]]]])
+  expectEqual("what can be redone", [undo.redo().changes.length, versionsOf(room, rect.object)], [1, [[[], [["x", 1]]]]])
+  await agree(server, room, other)
+}
+
 export const TESTS = [
+  ["renewed, with steps to undo", withServer(undone)],
   ["names of renewed rooms", names],
   ["renewed while it looks", withServer(looking)],
   ["renewed with unsent work", withServer(unsent)],

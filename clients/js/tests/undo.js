@@ -1,0 +1,241 @@
+/** Transactions, and undo and redo of what one client did. */
+
+import { readFileSync } from "node:fs"
+import { UndoManager } from "../grace.js"
+import { expectEqual, waitUntil } from "./checks.js"
+import { AT_ONCE, CUT_AFTER, PASS, Proxy } from "./proxy.js"
+import { operations } from "./reconnecting.js"
+import { agree, enter, versionsOf, withServer } from "./rooms.js"
+
+/** Returns what is shown: of each object its kind and its versions that are not gone. */
+const shown = (room) => room.objects()
+  .map((name) => [room.kind(name), ...versionsOf(room, name).map(([, attributes]) => attributes)])
+  .filter(([, ...versions]) => versions.some((version) => version !== "gone"))
+
+/** Makes many changes in one transaction. Returns them. */
+const drawMany = (room, count) =>
+  room.transaction(() => Array.from({ length: count }, (_, number) => room.create("rect", { number })))
+
+/** The changes of a transaction are one event, and are sent without waiting for replies. */
+async function sentTogether(client, server) {
+  const proxy = await Proxy.start(server.port)
+  const room = await enter(proxy.address)
+  proxy.roundTripMilliseconds = 200
+  let [unanswered, most] = [0, 0]
+  proxy.whatToDo = (text) => {
+    if (text.startsWith('["new"')) unanswered += 1
+    most = Math.max(most, unanswered)
+    return PASS
+  }
+  const hear = proxy.hear.bind(proxy)
+  proxy.hear = (text) => {
+    unanswered -= text.split('["made",').length - 1
+    hear(text)
+  }
+  const events = []
+  for (const word of ["change", "transaction"]) {
+    room.on(word, ({ objects, changes }) => events.push([word, (objects ?? changes).length]))
+  }
+  const changes = drawMany(room, 100)
+  expectEqual("the events", events, [["change", 100], ["transaction", 100]])
+  const other = await client()
+  await agree(room, other)
+  expectEqual("the most changes in flight", most, 32)
+  expectEqual("their order", operations(other).map((entry) => entry[1]), changes.map(({ name }) => name))
+  room.close()
+  proxy.end()
+}
+
+/** Ten others make 32 versions of an object, the most that it may have: five keys get two values each at once. */
+async function makeMostVersions(client, object) {
+  const others = await Promise.all(Array.from({ length: 10 }, () => client()))
+  const releases = others.map((other) => other.hold())
+  others.forEach((other, place) => other.put(object, [], { [`k${place >> 1}`]: place }))
+  await Promise.all(others.map((other) => other.settled()))
+  releases.forEach((release) => release())
+  await agree(...others)
+  expectEqual("the versions", others[0].versions(object).length, 32)
+  return others[0]
+}
+
+/** The server refuses one change of a transaction, and all behind it for their numbers. The others are sent again. */
+async function oneRefused(client) {
+  const room = await client()
+  const [full, free] = [room.create("rect"), room.create("rect")]
+  await room.settled()
+  const release = room.hold()
+  const other = await makeMostVersions(client, full.object)
+  const changes = room.transaction(() => [
+    room.put(free.object, [], { before: 1 }), room.put(full.object, [], { k0: 99 }),
+    room.put(free.object, [], { after: 2 }), room.create("line"),
+  ])
+  const outcomes = await Promise.all(changes.map(({ done }) => done.then(() => "taken", ({ word }) => word)))
+  expectEqual("the outcomes", outcomes, ["taken", "too-many-versions", "taken", "taken"])
+  release()
+  await agree(room, other)
+  expectEqual("the refusals", room.refused, ["too-many-versions"])
+  const own = operations(other).filter(([, [site]]) => site === room.site).slice(2)
+  expectEqual("what the record has", own.map(([word, [, number]]) => [word, number]), [["put", 3], ["put", 4], ["new", 5]])
+  expectEqual("what both show", shown(room), shown(other))
+}
+
+/** A connection that is cut within a transaction: each change is made once. */
+async function cutWithin(client, server) {
+  const proxy = await Proxy.start(server.port)
+  proxy.waits = AT_ONCE
+  const [room, other] = [await enter(proxy.address), await client()]
+  let changes = 0
+  proxy.whatToDo = (text) => {
+    if (text.startsWith('["new"')) changes += 1
+    return text.startsWith('["new"') && changes === 20 ? CUT_AFTER : PASS
+  }
+  drawMany(room, 50)
+  await agree(room, other)
+  const numbers = operations(other).map((entry) => entry[4][0][1])
+  expectEqual("the changes", [numbers, proxy.cuts], [Array.from({ length: 50 }, (_, number) => number), 1])
+  room.close()
+  proxy.end()
+}
+
+/** A call that throws keeps what it changed, and is one step. */
+async function throwing(client) {
+  const room = await client()
+  const undo = new UndoManager(room)
+  let words = ""
+  try {
+    room.transaction(() => {
+      room.create("rect")
+      room.create("", {})
+    })
+  } catch ({ name }) {
+    words = name
+  }
+  await room.settled()
+  expectEqual("what it threw, and what is shown", [words, shown(room).length], ["TypeError", 1])
+  undo.undo()
+  expectEqual("what is shown then", shown(room), [])
+}
+
+/** A step is undone and redone as one: values come back, and so do objects. */
+async function oneStep(client) {
+  const [room, other] = [await client(), await client()]
+  const undo = new UndoManager(room, { valueOfAbsent: (kind, key) => (key === "fill" ? "none" : "") })
+  const [rect, line] = room.transaction(() => [room.create("rect", { x: 0 }), room.create("line", { y: 1 })])
+  room.transaction(() => {
+    room.put(rect.object, rect.version, { x: 5, fill: "red" })
+    room.drop(line.object, line.version)
+  })
+  const states = [[["rect", [["x", 0]]], ["line", [["y", 1]]]], [["rect", [["fill", "red"], ["x", 5]]]]]
+  expectEqual("what is drawn", shown(room), states[1])
+  const back = undo.undo()
+  const undone = [["rect", [["fill", "none"], ["x", 0]]], ["line", [["y", 1]]]]
+  expectEqual("the first step back", [shown(room), back.failures, back.changes.length], [undone, [], 2])
+  expectEqual("the next ones", [undo.canUndo, undo.canRedo], [true, true])
+  undo.undo()
+  expectEqual("both steps back", [shown(room), undo.canUndo], [[], false])
+  undo.redo()
+  expectEqual("the first step again", shown(room), undone)
+  undo.redo()
+  expectEqual("both steps again", [shown(room), undo.canRedo], [states[1], false])
+  expectEqual("no step more", undo.redo(), { changes: [], failures: [] })
+  undo.undo()
+  room.create("text")
+  expectEqual("a new change forgets what was undone", undo.canRedo, false)
+  await agree(room, other)
+  expectEqual("what both show", shown(other), shown(room))
+}
+
+/** What others did stays, and what they have built on cannot be undone: the manager says why. */
+async function builtOn(client) {
+  const [room, other] = [await client(), await client()]
+  const undo = new UndoManager(room)
+  const names = ["a", "b", "c", "d"].map((word) => room.create("rect", { word }).object)
+  undo.clear()
+  const put = (name) => room.put(name, room.versions(name)[0], { x: 1 })
+  room.transaction(() => names.forEach(put))
+  await agree(room, other)
+  const [changed, dropped, twice] = names
+  other.put(changed, [], { y: 2 })
+  other.drop(dropped, [])
+  const release = other.hold()
+  room.put(twice, [], { z: 3 })
+  other.put(twice, [], { z: 4 })
+  release()
+  await agree(room, other)
+  // The last step is the put of z, which has a version beside it now.
+  undo.undo()
+  const { changes, failures } = undo.undo()
+  expectEqual("what is undone", changes.map(({ object }) => object), [names[3]])
+  expectEqual("what is not", failures.map(({ change, reason }) => [change.object, reason]),
+    [[twice, "several-versions"], [dropped, "deleted"], [changed, "changed"]])
+  expectEqual("what it tells people", failures[2].words, "Somebody has changed it since.")
+  expectEqual("what is left to undo", undo.canUndo, false)
+  await agree(room, other)
+  expectEqual("the values of the last", [...room.versions(names[3])[0].attributes], [["word", "d"], ["x", ""]])
+}
+
+/** The server refuses a change that undoes another: that can be undone again. */
+async function refusedUndo(client) {
+  const room = await client()
+  const undo = new UndoManager(room)
+  const made = room.create("rect", { k0: 7 })
+  room.put(made.object, [], { k0: 8 })
+  await room.settled()
+  const release = room.hold()
+  const other = await makeMostVersions(client, made.object)
+  expectEqual("what is undone at first", undo.undo().changes.length, 1)
+  expectEqual("what can be redone at first", undo.canRedo, true)
+  await waitUntil("the refusal", () => room.refused.length > 0)
+  expectEqual("what can be undone and redone", [room.refused, undo.canUndo, undo.canRedo],
+    [["too-many-versions"], true, false])
+  release()
+  await agree(room, other)
+  expectEqual("what is told then", undo.undo().failures.map(({ reason }) => reason), ["several-versions"])
+  expectEqual("what both show", shown(room), shown(other))
+}
+
+/** An object of more attributes than a creation takes comes back whole. Only so many steps are kept. */
+async function large(client) {
+  const room = await client()
+  const undo = new UndoManager(room, { mostSteps: 3 })
+  const pairs = Array.from({ length: 40 }, (_, number) => [`k${10 + number}`, number])
+  const made = room.create("rect", pairs.slice(0, 16))
+  const next = room.put(made.object, made.version, pairs.slice(16, 32))
+  const last = room.put(made.object, next.version, pairs.slice(32))
+  room.drop(made.object, last.version)
+  undo.undo()
+  expectEqual("what came back", shown(room), [["rect", pairs]])
+  undo.redo()
+  expectEqual("what is gone again", shown(room), [])
+  for (let steps = 0; steps < 3; steps++) expectEqual(`step ${steps}`, undo.canUndo && undo.undo().failures, [])
+  expectEqual("the steps", [undo.canUndo, shown(room).length], [false, 1])
+  undo.end()
+  room.create("line")
+  expectEqual("a manager that has ended", undo.canUndo, false)
+  await room.settled()
+  expectEqual("the refusals", room.refused, [])
+}
+
+/** The program of the README does what the README says. */
+async function readmeProgram(client) {
+  const text = readFileSync(new URL("../README.md", import.meta.url), "utf8")
+  const program = /^ {4}import \{ UndoManager \}[^]*?(?=^At the end)/m.exec(text)[0]
+  const room = await client()
+  const printed = []
+  const console = { log: (...words) => printed.push(words) }
+  new Function("UndoManager", "room", "console", program.replace(/.*import .*\n/, ""))(UndoManager, room, console)
+  await room.settled()
+  expectEqual("what is shown and printed", [shown(room), printed], [[["rect", [["x", 0]]], ["line", [["x", 0]]]], []])
+}
+
+export const TESTS = [
+  ["the program of transactions and undo", withServer(readmeProgram)],
+  ["a transaction is sent together", withServer(sentTogether)],
+  ["a transaction of which one change is refused", withServer(oneRefused)],
+  ["a transaction that is cut", withServer(cutWithin)],
+  ["a transaction that throws", withServer(throwing)],
+  ["undo of a transaction", withServer(oneStep)],
+  ["undo of what others built on", withServer(builtOn)],
+  ["undo that the server refuses", withServer(refusedUndo)],
+  ["undo of a large object", withServer(large)],
+]

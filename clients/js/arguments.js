@@ -93,7 +93,7 @@ function asText(text, key) {
  */
 export function asAttributes(attributes) {
   const pairs = pairsOf(attributes)
-  const read = pairs.map(([key, value]) => [asKey(key), asValue(value, key)])
+  const read = pairs.map(([key, value]) => /** @type {[string, Value]} */ ([asKey(key), asValue(value, key)]))
   const keys = new Set()
   for (const [key] of read) {
     if (keys.has(key)) throw new TypeError(`${key}: the key appears twice`)
@@ -125,6 +125,7 @@ export function asPairs(attributes) {
   return read
 }
 
+/** @type {(name: any) => name is Name} */
 const isName = (name) => Array.isArray(name) && name.length === 2 && name.every(Number.isInteger)
 
 /**
@@ -135,12 +136,13 @@ const isName = (name) => Array.isArray(name) && name.length === 2 && name.every(
  */
 export function asName(object) {
   if (!isName(object)) throw new TypeError("the object must be a name such as [1, 2]")
-  return [...object]
+  const [site, number] = object
+  return [site, number]
 }
 
 /**
  * Checks a base: a `Version` or its identifier.
- * @param {unknown} version
+ * @param {any} version
  * @returns {VersionId}
  * @throws {TypeError}
  */
@@ -157,6 +159,6 @@ export function asId(version) {
  * @throws {TypeError}
  */
 export function asSeen(seen) {
-  if (Array.isArray(seen) && seen.every(isName)) return seen.map((pair) => [...pair])
+  if (Array.isArray(seen) && seen.every(isName)) return seen.map(([site, count]) => [site, count])
   throw new TypeError("seen must be a state vector such as room.seen")
 }

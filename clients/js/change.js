@@ -43,7 +43,12 @@ export class Change {
      * - `renewed` if the drawing went on in another room without this change.
      * @type {Promise<void>}
      */
-    this.done = new Promise((resolve, reject) => Object.assign(this, { resolve, reject }))
+    this.done = new Promise((resolve, reject) => {
+      /** Internal: only the library calls these. @type {(end?: Promise<void>) => void} */
+      this.resolve = resolve
+      /** @type {(refusal: Error) => void} */
+      this.reject = reject
+    })
     this.done.catch(() => {})
   }
 

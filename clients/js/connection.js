@@ -1,10 +1,10 @@
 /** One WebSocket connection to a server. The server answers its requests in order. */
 
-import { DENIED, Denied, ProtocolFault } from "./forms.js"
+import { DENIED, Denied, GraceError, ProtocolFault } from "./forms.js"
 import { readText } from "./json_text.js"
 
 /** The connection failed: it could not be opened, it broke, or a reply took too long. */
-export class Lost extends Error {
+export class Lost extends GraceError {
   name = "Lost"
 
   /**
@@ -38,13 +38,17 @@ const UNAVAILABLE = {
  *   text behind that, and the value of the field `Retry-After`
  */
 
+/** @type {(status: number) => status is 401 | 403 | 404} */
+const isDenial = (status) => status in DENIED
+
 /**
  * The error that a failed connection means.
- * @param {Partial<Answer>} [answer] empty if the socket tells nothing
+ * @param {Partial<Answer> | undefined} answer empty if the socket tells nothing
  */
-function faultOf({ status, reason = "", retryAfter } = {}) {
+function faultOf(answer) {
+  const { status, reason = "", retryAfter } = answer ?? {}
   if (status === undefined) return new Lost("The connection failed.")
-  if (status in DENIED) return new Denied(status, reason)
+  if (isDenial(status)) return new Denied(status, reason)
   if (!(status in UNAVAILABLE)) {
     return new Lost(`The server did not accept the WebSocket handshake: ${`${status} ${reason}`.trimEnd()}.`)
   }

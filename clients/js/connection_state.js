@@ -19,6 +19,7 @@ const SILENT = "The server is not answering. All its places may be taken. Please
 
 /** The connection state, and a timer that reports it again while changes are pending. */
 export class ConnectionState {
+  /** @type {State} */
   state = "connecting"
   words = CONNECTING
   #report

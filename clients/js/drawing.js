@@ -17,7 +17,7 @@ const OWNERS = new WeakMap()
 
 /**
  * Internal: the drawing and the object of a version.
- * @param {unknown} version
+ * @param {any} version
  * @returns {{ drawing: Drawing, name: Name } | undefined} undefined if it is not a `Version`
  */
 export function ownerOf(version) {

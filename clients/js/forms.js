@@ -52,10 +52,15 @@ const WORDS = {
 }
 const CODES = Object.keys(WORDS).slice(0, 22)
 
+/** An error of the library. Each error that a room reports, or that its promises reject with, is one of these. */
+export class GraceError extends Error {
+  name = "GraceError"
+}
+
 /**
  * The server or this library refused a change or a join, which then has no effect. `message` is a sentence for people.
  */
-export class Refused extends Error {
+export class Refused extends GraceError {
   /** @param {string} word the server's word, or the library's own: `closed`, `withdrawn`, `another-room`, `too-long`,
    *   `read-only` */
   constructor(word) {
@@ -69,7 +74,7 @@ export class Refused extends Error {
 }
 
 /** The reply to a join or a back of a room that goes on in another one. */
-export class RenewedAs extends Error {
+export class RenewedAs extends GraceError {
   name = "RenewedAs"
 
   /** @param {string} room the newest room of the drawing */
@@ -90,7 +95,7 @@ export const DENIED = Object.freeze({
  * The server, or a proxy in front of it, answered the handshake by 401, 403 or 404. Another attempt would get the same
  * answer. `message` is a sentence for people.
  */
-export class Denied extends Error {
+export class Denied extends GraceError {
   name = "Denied"
 
   /**
@@ -105,7 +110,7 @@ export class Denied extends Error {
 }
 
 /** The server sent something that the protocol does not allow. */
-export class ProtocolFault extends Error {
+export class ProtocolFault extends GraceError {
   name = "ProtocolFault"
 }
 
@@ -163,7 +168,7 @@ export function operationOf(entry) {
   }
   const [, , , object, version, ...rest] = entry
   if (word === "put" && rest.length === 1) return { word, name, seen, object, version, attributes: rest[0] }
-  if (word === "set" && rest.length === 2) return { word: "put", name, seen, object, version, attributes: [rest] }
+  if (word === "set" && rest.length === 2) return { word: "put", name, seen, object, version, attributes: [[rest[0], rest[1]]] }
   if (word === "drop" && entry.length === 5) return { word, name, seen, object, version }
   throw new ProtocolFault(`invalid entry: ${writeText(entry).slice(0, 200)}`)
 }

@@ -85,10 +85,15 @@ export type ServerWord =
 /** The library's own words for refusals. */
 export type OwnWord = "closed" | "withdrawn" | "another-room" | "too-long" | "read-only"
 
+/** An error of the library. Each error that a room reports, or that its promises reject with, is one of these. */
+export class GraceError extends Error {
+  readonly name: string
+}
+
 /**
  * The server or this library refused a change or a join, which then has no effect. `message` is a sentence for people.
  */
-export class Refused extends Error {
+export class Refused extends GraceError {
   constructor(word: ServerWord | OwnWord)
   readonly name: "Refused"
   readonly word: ServerWord | OwnWord
@@ -100,7 +105,7 @@ export class Refused extends Error {
  * The server, or a proxy in front of it, answered the handshake by 401, 403 or 404. Another attempt would get the same
  * answer. `message` is a sentence for people.
  */
-export class Denied extends Error {
+export class Denied extends GraceError {
   constructor(status: 401 | 403 | 404, reason: string)
   readonly name: "Denied"
   readonly status: 401 | 403 | 404
@@ -109,12 +114,12 @@ export class Denied extends Error {
 }
 
 /** The server sent something that the protocol does not allow. */
-export class ProtocolFault extends Error {
+export class ProtocolFault extends GraceError {
   readonly name: "ProtocolFault"
 }
 
 /** The connection failed: it could not be opened, it broke, or a reply took too long. */
-export class Lost extends Error {
+export class Lost extends GraceError {
   constructor(words: string, pauseMilliseconds?: number)
   readonly name: "Lost"
   /** How long the server asks the client to wait before the next attempt. */

@@ -23,12 +23,12 @@
 import { Lost } from "./connection.js"
 import { Change } from "./change.js"
 import { Drawing, Version } from "./drawing.js"
-import { Denied, LIMITS, ProtocolFault, Refused, entryOf, isSameId, operationOf } from "./forms.js"
+import { Denied, GraceError, LIMITS, ProtocolFault, Refused, entryOf, isSameId, operationOf } from "./forms.js"
 import { readText, writeText } from "./json_text.js"
 import { Room } from "./room.js"
 import { UndoManager } from "./undo.js"
 
 export {
-  Change, Denied, Drawing, LIMITS, Lost, ProtocolFault, Refused, Room, UndoManager, Version, entryOf, isSameId, operationOf,
-  readText, writeText,
+  Change, Denied, Drawing, GraceError, LIMITS, Lost, ProtocolFault, Refused, Room, UndoManager, Version, entryOf,
+  isSameId, operationOf, readText, writeText,
 }

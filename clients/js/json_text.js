@@ -39,7 +39,11 @@ class Reader {
     return found
   }
 
-  /** The value that starts with this token, inside `depth` lists. */
+  /**
+   * The value that starts with this token, inside `depth` lists.
+   * @param {RegExpExecArray} token @param {number} depth
+   * @returns {any}
+   */
   value([, mark, digits, quoted], depth) {
     if (digits !== undefined) return exact(digits)
     if (quoted !== undefined) return JSON.parse(quoted)

@@ -100,6 +100,7 @@ export class Room {
   // The running `transaction`: what marks its changes, and those that it has made. Or null.
   #transaction = null
   #connection = null
+  /** @type {(end?: any) => void} */
   #wake = () => {}
   #settled = []
 
@@ -392,7 +393,7 @@ export class Room {
    * @throws as `put`
    */
   set(object, version, key, value) {
-    return this.put(object, version, [[key, value]])
+    return this.put(object, version, new Map([[key, value]]))
   }
 
   /**

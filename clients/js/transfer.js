@@ -100,7 +100,7 @@ export class Transfer {
     this.#pending = new Set(pending.map(codeOf))
     const places = drawnObjects(next)
     const drawn = drawnObjects(old).map(({ name, versions }, place) => [codeOf(name), pairsOf(versions, places[place])])
-    const corresponding = new Map(drawn)
+    const corresponding = new Map(/** @type {[number, any][]} */ (drawn))
     for (const name of all.names()) this.#carryObject(name, corresponding.get(codeOf(name)))
   }
 
@@ -109,7 +109,7 @@ export class Transfer {
    * @returns {[old: Name, now: Name][]}
    */
   get renamed() {
-    const pairs = [...this.#objects].map(([code, now]) => [nameOf(code), now])
+    const pairs = [...this.#objects].map(([code, now]) => /** @type {[Name, Name]} */ ([nameOf(code), now]))
     return pairs.filter(([old, now]) => codeOf(old) !== codeOf(now))
   }
 

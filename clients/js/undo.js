@@ -65,7 +65,8 @@ export class UndoManager {
    *   the value that undoing a put gives to a key that had none before, as no operation removes a key: `""`. `mostSteps`
    *   is how many steps are kept: 200
    */
-  constructor(room, { valueOfAbsent = () => "", mostSteps = MOST_STEPS } = {}) {
+  constructor(room, options = {}) {
+    const { valueOfAbsent = () => "", mostSteps = MOST_STEPS } = options
     this.#room = room
     this.#valueOfAbsent = valueOfAbsent
     this.#mostSteps = mostSteps
@@ -191,8 +192,8 @@ export class UndoManager {
     const { object, version } = this.#latest(act)
     if (word === "new") return actOf(this.#make(() => this.#room.drop(object, version)))
     const valueOf = (key) => change.base.attributes.get(key) ?? this.#valueOfAbsent(change.kind, key)
-    const pairs = [...after.keys()].map((key) => [key, valueOf(key)])
-    return actOf(this.#make(() => this.#room.put(object, version, pairs)))
+    const values = new Map([...after.keys()].map((key) => [key, valueOf(key)]))
+    return actOf(this.#make(() => this.#room.put(object, version, values)))
   }
 
   /** A creation takes a limited number of attributes. Puts add the rest. */

@@ -13,6 +13,7 @@ import { TESTS as notes } from "./notes.js"
 import { TESTS as reconnecting } from "./reconnecting.js"
 import { TESTS as loading } from "./loading.js"
 import { TESTS as loadingAnew } from "./loading_anew.js"
+import { TESTS as packages } from "./packages.js"
 import { TESTS as person } from "./person.js"
 import { TESTS as renewals } from "./renewals.js"
 import { TESTS as renewedRooms } from "./renewed_rooms.js"
@@ -41,8 +42,8 @@ const words = process.argv.slice(2)
 let passed = 0
 let failed = 0
 const groups = [
-  rows, numbers, types, histories, transfers, rooms, standing, notes, reconnecting, loading, loadingAnew, person,
-  renewals, renewedRooms, manyStrokes, handshakes, undo,
+  packages, rows, numbers, types, histories, transfers, rooms, standing, notes, reconnecting, loading, loadingAnew,
+  person, renewals, renewedRooms, manyStrokes, handshakes, undo,
 ]
 for (const [name, test] of groups.flat()) {
   if (words.length > 0 && !words.some((word) => name.includes(word))) continue

@@ -1,4 +1,7 @@
-/** The types: tsc accepts a program by them, and they declare the whole interface of the library. */
+/**
+ * The types: tsc accepts a program by them, they declare the whole interface of the library, and its own code agrees with
+ * its comments.
+ */
 
 import { spawnSync } from "node:child_process"
 import { readFileSync } from "node:fs"
@@ -26,6 +29,12 @@ function byTsc() {
   check("--lib", "es2020,dom", fileOf("types.ts"), fileOf("types_browser.ts"))
 }
 
+/** The library's own code agrees with its comments. */
+function ownCode() {
+  check("--allowJs", "--checkJs", "--strict", "false", "--target", "es2022", "--lib", "es2022,dom",
+    fileOf("../grace.js"), fileOf("array_methods.d.ts"))
+}
+
 const blockOf = (text, head) => text.split(`export ${head} {\n`)[1].split("\n}")[0]
 const namesIn = (text, pattern) => [...text.matchAll(pattern)].map(([, name]) => name).sort()
 
@@ -48,4 +57,5 @@ function allNamed() {
 export const TESTS = [
   ["types by tsc", byTsc],
   ["types name all", allNamed],
+  ["types of the library's own code", ownCode],
 ]

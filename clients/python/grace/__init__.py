@@ -19,10 +19,10 @@ the client rejoins as the same site. `LIMITS` has all limits."""
 
 from .change import Change, Changed, Noted, Progress, Refusal, Renewed, Reset, State
 from .drawing import Drawing, Version
-from .forms import LIMITS, Denied, Lost, Operation, ProtocolFault, Refused, entry_of, operation_of
+from .forms import LIMITS, Denied, GraceError, Lost, Operation, ProtocolFault, Refused, entry_of, operation_of
 from .room import Hold, Room
 
 __all__ = [
-    "Change", "Changed", "Denied", "Drawing", "Hold", "LIMITS", "Lost", "Noted", "Operation", "Progress",
+    "Change", "Changed", "Denied", "Drawing", "GraceError", "Hold", "LIMITS", "Lost", "Noted", "Operation", "Progress",
     "ProtocolFault", "Refusal", "Refused", "Renewed", "Reset", "Room", "State", "Version", "entry_of", "operation_of",
 ]

@@ -50,7 +50,12 @@ DENIED = {
 }
 
 
-class Refused(Exception):
+class GraceError(Exception):
+    """An error of this package. Each error that a room reports, or that its changes end with, is one of these. Invalid
+    arguments raise `TypeError` or `ValueError` instead."""
+
+
+class Refused(GraceError):
     """The server or this module refused a change or a join, which then has no effect.
 
     `word` is the server's word, or `closed`, `withdrawn`, `another-room`, `too-long` or `read-only`. `code` is the
@@ -62,7 +67,7 @@ class Refused(Exception):
         self.code = CODES.get(word, 0)
 
 
-class RenewedAs(Exception):
+class RenewedAs(GraceError):
     """The reply to a join or a back of a room that goes on in another one. `room` is the newest room of the drawing."""
 
     def __init__(self, room):
@@ -70,11 +75,11 @@ class RenewedAs(Exception):
         self.room = room
 
 
-class ProtocolFault(Exception):
+class ProtocolFault(GraceError):
     """The server sent something that the protocol does not allow."""
 
 
-class Denied(Exception):
+class Denied(GraceError):
     """The server, or a proxy in front of it, answered the handshake by 401, 403 or 404. Another attempt would get the
     same answer.
 
@@ -86,7 +91,7 @@ class Denied(Exception):
         self.status, self.reason = status, reason
 
 
-class Lost(Exception):
+class Lost(GraceError):
     """The connection failed: it could not be opened, it broke, or a reply took too long. `pause_seconds` is how long
     the server asks the client to wait before the next attempt."""
 

@@ -9,6 +9,7 @@ import { TESTS as histories } from "./random_histories.js"
 import { TESTS as transfers } from "./transfers.js"
 import { TESTS as rooms } from "./rooms.js"
 import { TESTS as standing } from "./standing.js"
+import { TESTS as madeHistories } from "./made_histories.js"
 import { TESTS as notes } from "./notes.js"
 import { TESTS as reconnecting } from "./reconnecting.js"
 import { TESTS as loading } from "./loading.js"
@@ -42,8 +43,8 @@ const words = process.argv.slice(2)
 let passed = 0
 let failed = 0
 const groups = [
-  packages, rows, numbers, types, histories, transfers, rooms, standing, notes, reconnecting, loading, loadingAnew,
-  person, renewals, renewedRooms, manyStrokes, handshakes, undo,
+  packages, rows, numbers, types, madeHistories, histories, transfers, rooms, standing, notes, reconnecting, loading,
+  loadingAnew, person, renewals, renewedRooms, manyStrokes, handshakes, undo,
 ]
 for (const [name, test] of groups.flat()) {
   if (words.length > 0 && !words.some((word) => name.includes(word))) continue

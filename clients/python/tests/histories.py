@@ -27,8 +27,8 @@ def is_ready(drawing, operation):
 class History:
     """One room, with the knowledge of each of its sites."""
 
-    def __init__(self, room, source):
-        self.room, self.source = room, source
+    def __init__(self, room, source, values):
+        self.room, self.source, self.values = room, source, values
         self.whole = Drawing()
         self.operations = []
         # Each line, with its expected reply.
@@ -56,7 +56,7 @@ class History:
         front = (site, known.count(site) + 1), known.seen()
         objects = known.names()
         if not objects or len(objects) < 3 and self.source.random() < 0.08:
-            return operation_of(("new", *front, "rect", (("x", self.source.choice(VALUES)),)))
+            return operation_of(("new", *front, "rect", (("x", self.source.choice(self.values)),)))
         name = self.source.choice(objects)
         alive = [version for version in known.versions(name) if not version.is_gone]
         if not alive:
@@ -65,7 +65,7 @@ class History:
         if self.source.random() < 0.12:
             return operation_of(("drop", *front, name, version))
         keys = self.source.sample(self.keys, self.source.randrange(1, len(self.keys) + 1))
-        return operation_of(("put", *front, name, version, tuple((key, self.source.choice(VALUES)) for key in keys)))
+        return operation_of(("put", *front, name, version, tuple((key, self.source.choice(self.values)) for key in keys)))
 
     def step(self):
         """Adds one operation, and then reads of all objects."""
@@ -100,9 +100,9 @@ class History:
             expect_equal("the versions in another order", shown(other, name), shown(self.whole, name))
 
 
-def history_of(room, source):
+def history_of(room, source, values=VALUES):
     """Returns a history of some steps. It ends before the limit of versions, which a client cannot foresee."""
-    history = History(room, source)
+    history = History(room, source, values)
     for _ in range(source.randrange(4, 28)):
         if history.most_versions() <= LIMITS.versions // 2:
             history.step()

@@ -151,7 +151,7 @@ async function refusedHere(client) {
   expectError("a key twice", () => room.put(name, [], [["x", 1], ["x", 2]]), "TypeError")
   expectError("no kind", () => room.create("a b"), "TypeError")
   const { message } = expectError("no event", () => room.on("news", () => {}), "TypeError")
-  const events = "change, state, progress, refusal, reset, renewed, notes"
+  const events = "change, state, progress, refusal, reset, renewed, transaction, notes"
   expectEqual("its words", message, `there is no event news; the events are ${events}`)
   for (let key = 0; key < LIMITS.keys; key++) room.set(name, [], `k${key}`, key)
   const refusal = expectError("the 65th key", () => room.put(name, [], { k0: 1, k64: 1 }), "Refused", "too-many-keys")

@@ -1,8 +1,15 @@
 """Changes that this client made, and the news that a room passes to its listeners."""
 
 import time
+from collections.abc import Mapping, Sequence
 from concurrent.futures import Future
 from dataclasses import dataclass, replace
+from typing import TYPE_CHECKING
+
+from .forms import GraceError, Name, Operation
+
+if TYPE_CHECKING:
+    from .drawing import Version
 
 
 class Change:
@@ -22,34 +29,43 @@ class Change:
 
     A listener must not wait for `done`, because listeners run in the thread that receives the replies."""
 
-    def __init__(self, operation, kind, made=None):
+    def __init__(self, operation: Operation, kind: str, made: float | None = None) -> None:
         self.kind = kind
-        self.become(operation, None)
-        self.done = Future()
+        self.operation = operation
+        self.object = operation.object
+        self._version: Version | None = None
+        self.done: Future[None] = Future()
         # So that nobody can cancel it.
         self.done.set_running_or_notify_cancel()
         # When the change was made, in seconds of `time.monotonic()`.
         self.made = time.monotonic() if made is None else made
 
     @property
-    def name(self):
+    def name(self) -> Name:
         """The name of the operation. For a creation it is also the object's name."""
         return self.operation.name
 
-    def become(self, operation, version):
+    @property
+    def version(self) -> "Version":
+        """The version that contains this change. A change has one from the start."""
+        assert self._version is not None
+        return self._version
+
+    def become(self, operation: Operation, version: "Version") -> None:
         """For the module alone: gives the change another operation."""
         self.operation = operation
         self.move_to(operation.object, version)
 
-    def move_to(self, target, version):
+    def move_to(self, target: Name, version: "Version") -> None:
         """For the module alone: the change is now one of this object and version."""
-        self.object, self.version = target, version
+        self.object, self._version = target, version
 
-    def settle_with(self, others):
+    def settle_with(self, others: "Sequence[Change]") -> None:
         """For the module alone: the change settles when these have."""
 
-        def settle(_):
-            faults = [it.done.exception() for it in others if it.done.done() and it.done.exception()]
+        def settle(_: "Future[None]") -> None:
+            found = [it.done.exception() for it in others if it.done.done()]
+            faults = [fault for fault in found if fault is not None]
             if self.done.done():
                 return
             if faults:
@@ -63,12 +79,12 @@ class Change:
             self.done.set_result(None)
 
 
-def rename_operation(operation, names, site, taken):
+def rename_operation(operation: Operation, names: Mapping[Name, Name], site: int, taken: int) -> Operation:
     """Renames an operation that no other site has seen, because this client is now another site. `names` has the new
     names of this client's operations. The result's state vector counts the first `taken` operations of the old site,
     and all earlier operations of the new one."""
 
-    def new_name(name):
+    def new_name(name: Name) -> Name:
         return names.get(name, name)
 
     name = new_name(operation.name)
@@ -87,8 +103,8 @@ class Changed:
     operations of this client, that have a new name, each as a pair of old and new. An old name may be the new one of
     another object."""
 
-    objects: list
-    renamed: list
+    objects: list[Name]
+    renamed: list[tuple[Name, Name]]
 
 
 @dataclass(frozen=True)
@@ -115,7 +131,7 @@ class Progress:
 class Refusal:
     """News of the event `refusal`: a change failed, and its effect was removed."""
 
-    refusal: Exception
+    refusal: GraceError
     change: Change
 
 
@@ -132,7 +148,7 @@ class Reset:
 class Noted:
     """News of the event `notes`: some note of the room has changed. `notes` is what `Room.notes` is now."""
 
-    notes: dict
+    notes: dict[int, str]
 
 
 @dataclass(frozen=True)
@@ -145,5 +161,5 @@ class Renewed:
     old_room: str
     new_room: str
     words: str
-    copies: list
+    copies: list[tuple[Name, Name]]
     text: str | None

@@ -3,6 +3,7 @@ pending."""
 
 import math
 import time
+from collections.abc import Callable
 
 from .change import State
 
@@ -21,7 +22,10 @@ class ConnectionState:
     returns how long the server has owed a reply. Both are in seconds. Callers hold the room's lock, and call `wake` at
     the time `due`."""
 
-    def __init__(self, emit, pending_time, silent_time):
+    def __init__(
+        self, emit: Callable[[str, object], None], pending_time: Callable[[], float | None],
+        silent_time: Callable[[], float],
+    ) -> None:
         self.state, self.words = "connecting", CONNECTING
         self.due = math.inf
         self._emit = emit
@@ -30,16 +34,16 @@ class ConnectionState:
         self._open_words = ""
 
     @property
-    def is_in(self):
+    def is_in(self) -> bool:
         """Whether the client has joined the room."""
         return self.state in ("open", "saving")
 
-    def connect(self, words=CONNECTING):
+    def connect(self, words: str = CONNECTING) -> None:
         """An attempt to connect starts, or continues with another sentence."""
         self._wake_in(SILENT_SECONDS)
         self._set("connecting", words)
 
-    def enter(self, words):
+    def enter(self, words: str) -> None:
         """The client has joined the room."""
         self._open_words = words
         self.due = math.inf
@@ -50,12 +54,12 @@ class ConnectionState:
             self._set("open", words)
             self.update()
 
-    def leave(self, state, words):
+    def leave(self, state: str, words: str) -> None:
         """The connection was lost, or the room was closed."""
         self.due = math.inf
         self._set(state, words)
 
-    def update(self):
+    def update(self) -> None:
         """Updates the state after a change was made or answered."""
         if not self.is_in:
             return
@@ -67,7 +71,7 @@ class ConnectionState:
             self.due = math.inf
             self._set("open", self._open_words)
 
-    def wake(self):
+    def wake(self) -> None:
         """Reports the state again if that is due."""
         if time.monotonic() < self.due:
             return
@@ -82,7 +86,7 @@ class ConnectionState:
         else:
             self._wake_in(SAVING_SECONDS - waited)
 
-    def _update_silence(self):
+    def _update_silence(self) -> None:
         """While connecting, the sentence says whether the server is silent."""
         left = SILENT_SECONDS - self._silent_time()
         is_silent = left <= 0
@@ -90,15 +94,15 @@ class ConnectionState:
         if is_silent != (self.words == SILENT):
             self._set("connecting", SILENT if is_silent else CONNECTING)
 
-    def _report_saving(self, waited):
+    def _report_saving(self, waited: float) -> None:
         left = SILENT_SECONDS - self._silent_time()
         # Wake up when the silence becomes long enough for the other sentence.
         self._wake_in(min(left, REPEAT_SECONDS) if left > 0 else REPEAT_SECONDS)
         self._set("saving", SAVING if left > 0 else SILENT, waited)
 
-    def _wake_in(self, seconds):
+    def _wake_in(self, seconds: float) -> None:
         self.due = time.monotonic() + seconds
 
-    def _set(self, state, words, seconds=0):
+    def _set(self, state: str, words: str, seconds: float = 0) -> None:
         self.state, self.words = state, words
         self._emit("state", State(state, words, seconds))

@@ -3,13 +3,16 @@ its successor."""
 
 import math
 import time
-from collections.abc import Callable
+from collections.abc import Callable, Sequence
 from dataclasses import dataclass
+from typing import TypeVar
 
-from .forms import Lost, ProtocolFault, Refused, RenewedAs
+from .forms import Lost, Message, ProtocolFault, Refused, RenewedAs
 from .loading import load_all
 from .pause import Pause
 from .room_names import is_after, successor_of
+
+Result = TypeVar("Result")
 
 STILL_CONNECTED = "The server still has your previous connection. Trying again."
 NOT_SERVED = "The server cannot open this room now: it may have no place for one more. Trying again."
@@ -38,7 +41,7 @@ class Following:
 
     name: str
     site: int
-    record: list
+    record: list[Message]
     is_in: bool
 
 
@@ -48,26 +51,26 @@ class Session:
     entries from a place on, and `receive_page` returns those of the oldest pull. `wait` says why the client is not in
     the room yet, and waits."""
 
-    request: Callable
-    send_pull: Callable
-    receive_page: Callable
-    wait: Callable
+    request: Callable[[Sequence[object], str], Message]
+    send_pull: Callable[[int], None]
+    receive_page: Callable[[int], tuple[Message, ...]]
+    wait: Callable[[str, float], None]
 
 
-def nobody_in(record):
+def nobody_in(record: Sequence[Message]) -> int:
     """A site that nobody was in the room with this record."""
-    return sum(word == "join" for word, *_ in record) + 1
+    return len([entry for entry in record if entry[0] == "join"]) + 1
 
 
 class Entrance:
     """Asks again while the server has the client's old session, or cannot serve the room."""
 
-    def __init__(self, name, back_seconds, session):
+    def __init__(self, name: str, back_seconds: float, session: Session) -> None:
         self.name = name
         self._back_seconds = back_seconds
         self._session = session
 
-    def back(self, site):
+    def back(self, site: int) -> Message | None:
         """The reply to `back`, or None if the site is still in use when the time is over. While the server cannot serve
         the room, that time has not begun. Raises `Refused` or `RenewedAs`."""
         end = time.monotonic() + self._back_seconds
@@ -87,11 +90,11 @@ class Entrance:
                 self._session.wait(NOT_SERVED, NOT_SERVED_SECONDS)
                 end = time.monotonic() + self._back_seconds
 
-    def back_newest(self, site):
+    def back_newest(self, site: int) -> Message | None:
         """The reply to `back` as a site of the newest room, or None as for `back`. Raises `Refused`."""
         return self.follow(lambda: self._back_unless_ended(site))
 
-    def back_as_any(self, name):
+    def back_as_any(self, name: str) -> Message:
         """The reply to `back` as any site that is free, to read a room that has ended. Raises `RenewedAs`."""
         end = time.monotonic() + self._back_seconds
         pause = Pause(REJOIN_SECONDS, LONGEST_REJOIN_SECONDS)
@@ -102,16 +105,16 @@ class Entrance:
             self._session.wait(f"{IN_USE} Trying again.", pause.take())
         raise Lost(IN_USE)
 
-    def join(self, has_site):
+    def join(self, has_site: bool) -> Message:
         """The reply to `join`. In a full room a client that has a site keeps trying to rejoin. Raises `Refused` or
         `RenewedAs`."""
         return self._join(self.name, CANNOT_JOIN if has_site else None)
 
-    def join_newest(self, has_site):
+    def join_newest(self, has_site: bool) -> Message:
         """The reply to `join` of the newest room."""
         return self.follow(lambda: self.join(has_site))
 
-    def follow(self, ask):
+    def follow(self, ask: Callable[[], Result]) -> Result:
         """The result of a call, which is repeated with the name of a newer room while it raises `RenewedAs`."""
         for _ in range(MOST_STEPS):
             try:
@@ -120,7 +123,7 @@ class Entrance:
                 self.name = renewed.room
         raise ProtocolFault("The server names ever more rooms.")
 
-    def enter_successor(self):
+    def enter_successor(self) -> Following:
         """Joins the room's successor, and loads it. If that has ended too, reads it as a site that it never had. Raises
         `RenewedAs` if the successor can no longer be read, and `Refused` if the server does not open it."""
         name = successor_of(self.name)
@@ -135,7 +138,7 @@ class Entrance:
         self._session.request(["leave"], "left")
         return Following(name, nobody_in(record), record, False)
 
-    def _back_unless_ended(self, site):
+    def _back_unless_ended(self, site: int) -> Message | None:
         """The reply to `back`, or None as for `back`. Raises `RenewedAs` if the room has ended."""
         try:
             back = self.back(site)
@@ -147,7 +150,7 @@ class Entrance:
         self._follow_end(back)
         return back
 
-    def _follow_end(self, back):
+    def _follow_end(self, back: Message | None) -> None:
         """Raises `RenewedAs` if the room to which a client came back has ended. The server let it in to read that. Does
         nothing without a reply."""
         if back is None:
@@ -158,19 +161,19 @@ class Entrance:
             self.join(False)
             raise ProtocolFault("The server let a client join a room that has ended.")
 
-    def _load(self, length):
+    def _load(self, length: int) -> list[Message]:
         """Pulls this many entries of the room."""
-        record = []
+        record: list[Message] = []
         load_all(lambda: (len(record), length), self._session.send_pull, self._receive_page, record.extend)
         return record
 
-    def _receive_page(self, start):
+    def _receive_page(self, start: int) -> tuple[Message, ...]:
         entries = self._session.receive_page(start)
         if not entries:
             raise ProtocolFault("The server sent an empty page.")
         return entries
 
-    def _back_as_first_free(self, name):
+    def _back_as_first_free(self, name: str) -> Message | None:
         """The reply to the first `back` as a site that is not in use; None if all are."""
         site = 1
         while True:
@@ -183,7 +186,7 @@ class Entrance:
                     raise
             site += 1
 
-    def _join(self, name, full_words, opens_until=-math.inf):
+    def _join(self, name: str, full_words: str | None, opens_until: float = -math.inf) -> Message:
         """Asks to join. `full_words` says that the client tries again later where the room is full. Until `opens_until`
         a room that is not there may still be opened."""
         while True:
@@ -198,11 +201,11 @@ class Entrance:
                 words = ASKED_AGAIN.get(refusal.word, NOT_THERE_YET)
             self._session.wait(words, NOT_SERVED_SECONDS)
 
-    def _ask(self, request, kind):
+    def _ask(self, request: Sequence[object], kind: str) -> Message:
         try:
             return self._session.request(request, kind)
         except RenewedAs as renewed:
             _, name, *_ = request
-            if not is_after(renewed.room, name):
+            if not is_after(renewed.room, str(name)):
                 raise ProtocolFault(f"The server names {renewed.room} after {name}.") from None
             raise

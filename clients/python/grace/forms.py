@@ -3,6 +3,16 @@
 import json
 from dataclasses import dataclass
 from types import SimpleNamespace
+from typing import Any
+
+# A name of an operation or an object, an identifier of a version, a state vector, a value, and attributes.
+Name = tuple[int, int]
+VersionId = tuple[Name, ...]
+Seen = tuple[tuple[int, int], ...]
+Value = int | str
+Attributes = tuple[tuple[str, Value], ...]
+# A message, or an entry of a record: JSON with tuples for lists. What it holds depends on its first word.
+Message = tuple[Any, ...]
 
 # The largest number or size of each, as the server enforces it.
 LIMITS = SimpleNamespace(
@@ -61,7 +71,7 @@ class Refused(GraceError):
     `word` is the server's word, or `closed`, `withdrawn`, `another-room`, `too-long` or `read-only`. `code` is the
     server's code, from 1 to 22, or 0 for the module's own words. `str` gives a sentence for people."""
 
-    def __init__(self, word):
+    def __init__(self, word: str) -> None:
         super().__init__(WORDS.get(word, f"The server refused the request: {word}."))
         self.word = word
         self.code = CODES.get(word, 0)
@@ -70,7 +80,7 @@ class Refused(GraceError):
 class RenewedAs(GraceError):
     """The reply to a join or a back of a room that goes on in another one. `room` is the newest room of the drawing."""
 
-    def __init__(self, room):
+    def __init__(self, room: str) -> None:
         super().__init__(f"The drawing goes on in {room}.")
         self.room = room
 
@@ -86,7 +96,7 @@ class Denied(GraceError):
     `status` is the number and `reason` the text of the answer's first line, such as 401 and `Unauthorized`. `str` gives
     a sentence for people."""
 
-    def __init__(self, status, reason):
+    def __init__(self, status: int, reason: str) -> None:
         super().__init__(f"{DENIED[status]}: {status} {reason}".rstrip() + ".")
         self.status, self.reason = status, reason
 
@@ -95,7 +105,7 @@ class Lost(GraceError):
     """The connection failed: it could not be opened, it broke, or a reply took too long. `pause_seconds` is how long
     the server asks the client to wait before the next attempt."""
 
-    def __init__(self, words, pause_seconds=0):
+    def __init__(self, words: str, pause_seconds: float = 0) -> None:
         super().__init__(words)
         self.pause_seconds = pause_seconds
 
@@ -105,20 +115,20 @@ class Operation:
     """A creation (`word` is `new`) or a change (`put` or `drop`). All lists in it are tuples, and so are names."""
 
     word: str
-    name: tuple
-    seen: tuple
-    object: tuple
+    name: Name
+    seen: Seen
+    object: Name
     kind: str | None = None
-    version: tuple | None = None
-    attributes: tuple | None = None
+    version: VersionId | None = None
+    attributes: Attributes | None = None
 
 
-def frozen(value):
+def frozen(value: Any) -> Any:
     """A JSON value with tuples in place of lists."""
     return tuple(map(frozen, value)) if isinstance(value, list) else value
 
 
-def read_text(text):
+def read_text(text: str) -> Any:
     """Parses a message, with tuples for lists. Raises `ProtocolFault` if it is not JSON."""
     try:
         return frozen(json.loads(text))
@@ -126,12 +136,12 @@ def read_text(text):
         raise ProtocolFault(f"The server sent an invalid message: {fault}") from None
 
 
-def write_text(value):
+def write_text(value: object) -> str:
     """Writes a message as JSON without white space."""
     return json.dumps(value, separators=(",", ":"), ensure_ascii=False)
 
 
-def operation_of(entry):
+def operation_of(entry: Message) -> Operation | None:
     """Reads the operation from an entry of a record; None if the entry is a join or the end of the record. The old
     word `set`, for one attribute, gives a put. Raises `ProtocolFault` if the entry is malformed."""
     match entry:
@@ -148,16 +158,16 @@ def operation_of(entry):
     raise ProtocolFault(f"invalid entry: {write_text(entry):.200}")
 
 
-def entry_of(operation):
+def entry_of(operation: Operation) -> Message:
     """The entry that the server appends to the record for this operation."""
-    front = (operation.word, operation.name, operation.seen)
+    front: Message = (operation.word, operation.name, operation.seen)
     if operation.word == "new":
         return *front, operation.kind, operation.attributes
-    rest = (operation.attributes,) if operation.word == "put" else ()
+    rest: Message = (operation.attributes,) if operation.word == "put" else ()
     return *front, operation.object, operation.version, *rest
 
 
-def request_of(operation):
+def request_of(operation: Operation) -> str:
     """The request that asks the server for this operation. Raises `Refused` (`too-long`) if it is longer than a message
     may be."""
     word, (_, number), *rest = entry_of(operation)

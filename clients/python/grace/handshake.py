@@ -4,9 +4,9 @@ import base64
 import hashlib
 import re
 from dataclasses import dataclass, field
-from urllib.parse import unquote, urlsplit
+from urllib.parse import SplitResult, unquote, urlsplit
 
-from .arguments import as_headers
+from .arguments import GivenHeaders, as_headers
 from .forms import DENIED, Denied, Lost
 
 SUFFIX = b"258EAFA5-E914-47DA-95CA-C5AB0DC85B11"
@@ -36,11 +36,11 @@ class Address:
     authorization: str | None = field(default=None, repr=False)
 
     @classmethod
-    def read(cls, text, room=None):
+    def read(cls, text: str, room: str | None = None) -> "Address":
         """Parses an address. With the name of a room the path ends with that name. Raises `ValueError` if the address
         is invalid; the message does not have its user and password."""
         parts, port = parts_of(text)
-        if not parts or not parts.hostname:
+        if parts is None or port is None or not parts.hostname:
             raise ValueError(f"{without_user(text)} is not an address such as ws://127.0.0.1:7000/")
         path = parts.path or "/"
         if room is not None:
@@ -49,12 +49,12 @@ class Address:
         return cls(parts.scheme, parts.hostname, port, path, authorization_of(parts))
 
     @property
-    def host_and_port(self):
+    def host_and_port(self) -> str:
         """The value of the header field `Host`."""
         return f"[{self.host}]:{self.port}" if ":" in self.host else f"{self.host}:{self.port}"
 
 
-def parts_of(text):
+def parts_of(text: str) -> tuple[SplitResult, int] | tuple[None, None]:
     """The parts of an address, and its port. Both are None if it is invalid."""
     try:
         parts = urlsplit(text if "://" in text else f"ws://{text}")
@@ -63,14 +63,14 @@ def parts_of(text):
         return None, None
 
 
-def without_user(text):
+def without_user(text: str) -> str:
     """The address without its user and password, as messages may show it."""
     front, _, behind = text.rpartition("@")
     scheme, separator, _ = front.partition("://")
     return f"{scheme}{separator}{behind}" if separator else behind
 
 
-def authorization_of(parts):
+def authorization_of(parts: SplitResult) -> str | None:
     """The value of the field `Authorization` for the user and the password of an address, or None if it has no user."""
     if not parts.username and not parts.password:
         return None
@@ -80,7 +80,7 @@ def authorization_of(parts):
     return "Basic " + base64.b64encode(f"{user}:{password}".encode()).decode()
 
 
-def fields_of(address, headers):
+def fields_of(address: Address, headers: GivenHeaders) -> tuple[tuple[str, str], ...]:
     """The further fields of the handshake: those of `headers`, and `Authorization` if the address has a user. Raises
     `TypeError` or `ValueError` if a field is invalid, or both have `Authorization`. No message has a value."""
     fields = as_headers(headers)
@@ -91,7 +91,7 @@ def fields_of(address, headers):
     return *fields, ("Authorization", address.authorization)
 
 
-def request_head(address, key, headers):
+def request_head(address: Address, key: str, headers: GivenHeaders) -> bytes:
     """The head that asks for a WebSocket, with this key and these further fields."""
     fields = [
         ("Host", address.host_and_port), ("Upgrade", "websocket"), ("Connection", "Upgrade"),
@@ -107,10 +107,10 @@ class Answer:
 
     status: int
     reason: str
-    fields: dict
+    fields: dict[str, str]
 
     @classmethod
-    def read(cls, head):
+    def read(cls, head: bytes) -> "Answer":
         """Parses a head. Raises `Lost` if it is none of HTTP/1."""
         first, *lines = head.decode("latin-1").split("\r\n")
         found = FIRST_LINE.fullmatch(first)
@@ -120,7 +120,7 @@ class Answer:
         pairs = (line.partition(":") for line in lines if line)
         return cls(int(found[1]), reason, {name.strip().lower(): value.strip() for name, _, value in pairs})
 
-    def check(self, key):
+    def check(self, key: str) -> None:
         """Checks that the server accepted the handshake with this key. Raises `Denied` if it never will, otherwise
         `Lost`."""
         if self.status in DENIED:
@@ -133,7 +133,7 @@ class Answer:
             raise Lost(f"The server did not accept the WebSocket handshake: {words}.")
 
     @property
-    def pause_seconds(self):
+    def pause_seconds(self) -> int:
         """The seconds of the field `Retry-After`; 0 if there is none, or it has a date."""
         value = self.fields.get("retry-after", "")
         return int(value) if SECONDS.fullmatch(value) else 0

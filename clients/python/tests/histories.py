@@ -65,7 +65,8 @@ class History:
         if self.source.random() < 0.12:
             return operation_of(("drop", *front, name, version))
         keys = self.source.sample(self.keys, self.source.randrange(1, len(self.keys) + 1))
-        return operation_of(("put", *front, name, version, tuple((key, self.source.choice(self.values)) for key in keys)))
+        pairs = tuple((key, self.source.choice(self.values)) for key in keys)
+        return operation_of(("put", *front, name, version, pairs))
 
     def step(self):
         """Adds one operation, and then reads of all objects."""

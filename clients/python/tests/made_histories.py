@@ -1,5 +1,5 @@
-"""The histories of clients/histories, which the program has made: the package shows the same, and the program still makes
-the same file."""
+"""The histories of clients/histories, which the program has made: the package shows the same, and the program still
+makes the same file."""
 
 import json
 import pathlib

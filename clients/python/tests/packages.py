@@ -47,7 +47,8 @@ def installed():
             folder=folder / "source")
         (wheel,) = folder.glob("*.whl")
         target = folder / "installed"
-        run(python, "-m", "pip", "install", "--no-deps", "--no-index", "--target", str(target), str(wheel), folder=folder)
+        run(python, "-m", "pip", "install", "--no-deps", "--no-index", "--target", str(target), str(wheel),
+            folder=folder)
         expect_equal("the files of the package", sorted(path.name for path in (target / "grace").glob("*.*")),
                      sorted(path.name for path in (LIBRARY / "grace").glob("*.*")))
         text = (LIBRARY / "README.md").read_text()
@@ -69,7 +70,8 @@ def one_base():
         try:
             room.entered(PATIENCE)
         except grace.GraceError as fault:
-            expect_equal("the error", (fault.word, str(fault)), ("no-such-room", "The server has no room with this name."))
+            words = "The server has no room with this name."
+            expect_equal("the error", (fault.word, str(fault)), ("no-such-room", words))
             return
     raise CheckFailed("a room that the server does not have let a client in")
 
@@ -82,4 +84,4 @@ def types():
         run("mypy", "--strict", "--cache-dir", name, "grace", folder=LIBRARY)
 
 
-TESTS = [("a package that is installed", installed), ("one class of errors", one_base)]
+TESTS = [("a package that is installed", installed), ("one class of errors", one_base), ("types by mypy", types)]

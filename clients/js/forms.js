@@ -168,7 +168,10 @@ export function operationOf(entry) {
   }
   const [, , , object, version, ...rest] = entry
   if (word === "put" && rest.length === 1) return { word, name, seen, object, version, attributes: rest[0] }
-  if (word === "set" && rest.length === 2) return { word: "put", name, seen, object, version, attributes: [[rest[0], rest[1]]] }
+  if (word === "set" && rest.length === 2) {
+    const [key, value] = rest
+    return { word: "put", name, seen, object, version, attributes: [[key, value]] }
+  }
   if (word === "drop" && entry.length === 5) return { word, name, seen, object, version }
   throw new ProtocolFault(`invalid entry: ${writeText(entry).slice(0, 200)}`)
 }

@@ -374,8 +374,8 @@ export class Room {
    */
   drop(object: Name, version: VersionId | Version): Change
   /**
-   * Makes the changes of a call together: they are sent one behind the other, and are one step of an `UndoManager`. They
-   * are not atomic: others may see the first before the last, and the server may refuse one and take the others.
+   * Makes the changes of a call together: they are sent one behind the other, and are one step of an `UndoManager`.
+   * They are not atomic: others may see the first before the last, and the server may refuse one and take the others.
    */
   transaction<Result>(call: () => Result): Result
   /** Stops showing other people's changes until you call the function that it returns. */

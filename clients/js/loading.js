@@ -8,8 +8,8 @@ const PAGE_ENTRIES = 64
 const MOST_PULLS = 32
 
 /**
- * What is loaded. `progress` says how many entries the client has, and how many the server has at least. `pull` asks for
- * the entries from a place on. `take` gets the next ones.
+ * What is loaded. `progress` says how many entries the client has, and how many the server has at least. `pull` asks
+ * for the entries from a place on. `take` gets the next ones.
  * @typedef {{ progress(): { have: number, of: number }, pull(from: number): Promise<any[][]>,
  *   take(entries: any[][]): void }} Loaded
  */

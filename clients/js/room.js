@@ -358,7 +358,8 @@ export class Room {
    * @param {string} kind 1 to 32 characters of a-z, 0-9 and `-`
    * @param {Record<string, Value> | Iterable<[string, Value]>} [attributes] at most 16
    * @returns {Change}
-   * @throws {Refused} `not-joined`, `read-only`, `closed`, `record-full`, `too-many-objects`, `too-long`. Nothing has changed.
+   * @throws {Refused} `not-joined`, `read-only`, `closed`, `record-full`, `too-many-objects`, `too-long`. Nothing has
+   *   changed.
    * @throws {TypeError | RangeError} the kind or an attribute is invalid. Nothing has changed.
    */
   create(kind, attributes = {}) {
@@ -981,7 +982,8 @@ export class Room {
   #sendChanges() {
     const sent = []
     const [first] = this.#pending
-    const isNext = (change) => change === first || (first.transaction !== null && change.transaction === first.transaction)
+    const isTogether = (change) => first.transaction !== null && change.transaction === first.transaction
+    const isNext = (change) => change === first || isTogether(change)
     for (const change of this.#pending.slice(0, MOST_CHANGES)) {
       const text = isNext(change) ? this.#textOf(change, first) : null
       if (text === null) break

@@ -1,7 +1,7 @@
 /**
  * Undo and redo of what this client did in a room. A step has the changes of one transaction. Undoing a put sets the
- * values of before again. Undoing a creation drops the object. No operation continues a version that is gone, so undoing
- * a drop creates a new object. A change that others have built on stays.
+ * values of before again. Undoing a creation drops the object. No operation continues a version that is gone, so
+ * undoing a drop creates a new object. A change that others have built on stays.
  */
 
 import { LIMITS, Refused, codeOf } from "./forms.js"
@@ -62,8 +62,8 @@ export class UndoManager {
   /**
    * @param {Room} room
    * @param {{ valueOfAbsent?: (kind: string, key: string) => Value, mostSteps?: number }} [options] `valueOfAbsent` is
-   *   the value that undoing a put gives to a key that had none before, as no operation removes a key: `""`. `mostSteps`
-   *   is how many steps are kept: 200
+   *   the value that undoing a put gives to a key that had none before, as no operation removes a key: `""`.
+   *   `mostSteps` is how many steps are kept: 200
    */
   constructor(room, options = {}) {
     const { valueOfAbsent = () => "", mostSteps = MOST_STEPS } = options

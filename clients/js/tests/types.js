@@ -1,6 +1,6 @@
 /**
- * The types: tsc accepts a program by them, they declare the whole interface of the library, and its own code agrees with
- * its comments.
+ * The types: tsc accepts a program by them, they declare the whole interface of the library, and its own code agrees
+ * with its comments.
  */
 
 import { spawnSync } from "node:child_process"

@@ -75,7 +75,8 @@ async function oneRefused(client) {
   await agree(room, other)
   expectEqual("the refusals", room.refused, ["too-many-versions"])
   const own = operations(other).filter(([, [site]]) => site === room.site).slice(2)
-  expectEqual("what the record has", own.map(([word, [, number]]) => [word, number]), [["put", 3], ["put", 4], ["new", 5]])
+  const words = own.map(([word, [, number]]) => [word, number])
+  expectEqual("what the record has", words, [["put", 3], ["put", 4], ["new", 5]])
   expectEqual("what both show", shown(room), shown(other))
 }
 

@@ -491,7 +491,29 @@ async function undone(client, server) {
   await agree(server, room, other)
 }
 
+/** A full room is only looked at. When it is renewed, the client joins the next one, and can draw. */
+async function fullRoom(client, server) {
+  const other = await client()
+  const made = other.create("rect", { x: 0 })
+  await agree(server, other)
+  server.add(["join", 2])
+  server.isFull = true
+  const room = await client({ lookIfFull: true })
+  expectEqual("what it is", [room.isReadOnly, room.site, room.objects()], [true, null, [made.object]])
+  expectEqual("the sites in use between two looks", [...server.newest.sites], [1])
+  other.put(made.object, [], { x: 1 })
+  await agree(server, other)
+  server.isFull = false
+  server.renew()
+  await Promise.all([isIn(room, "r.2"), isIn(other, "r.2")])
+  expectEqual("what it is then", [room.isReadOnly, room.site !== null], [false, true])
+  room.create("line")
+  await agree(server, room, other)
+  expectEqual("what was refused", [room.refused, other.refused], [[], []])
+}
+
 export const TESTS = [
+  ["renewed, of a full room", withServer(fullRoom)],
   ["renewed, with steps to undo", withServer(undone)],
   ["names of renewed rooms", names],
   ["renewed while it looks", withServer(looking)],

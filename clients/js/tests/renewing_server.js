@@ -113,6 +113,7 @@ class Session {
     if (!isOpen) return ["renewed", 0, newest.name]
     const at = room.record.length
     if (word === "back") return this.#back(room, site, at)
+    if (this.server.isFull) return ["no", at, 5, "room-full"]
     this.site = room.record.filter(([one]) => one === "join").length + 1
     this.#sit(room)
     this.server.add(["join", this.site])
@@ -184,6 +185,8 @@ export class RenewingServer {
   isDown = false
   /** Whether it answers requests about notes. */
   knowsNotes = true
+  /** Whether the newest room lets nobody join. */
+  isFull = false
 
   /** @param {any[][]} [entries] of the first room */
   constructor(entries = []) {

@@ -461,7 +461,30 @@ def by_chance(are_read):
             expect_equal("the objects, and the refusals", (len(by_value), refused), (len(created) + copies, set()))
 
 
+def full_room():
+    """A full room is only looked at. When it is renewed, the client joins the next one, and can draw."""
+    with renewing(1) as (server, other):
+        made = other.create("rect", {"x": 0})
+        agree(server, other)
+        server.add(("join", 2))
+        server.is_full = True
+        with Client(server, look_if_full=True) as room:
+            expect_equal("what it is", (room.is_read_only, room.site, room.objects()), (True, None, [made.object]))
+            expect_equal("the sites in use between two looks", list(server.newest.sites), [1])
+            other.put(made.object, (), {"x": 1})
+            agree(server, other)
+            with server.lock:
+                server.is_full = False
+                server.renew()
+            is_in(room, "r.2")
+            expect_equal("what it is then", (room.is_read_only, room.site is not None), (False, True))
+            room.create("line")
+            agree(server, room, other)
+            expect_equal("what was refused", room.refused + other.refused, [])
+
+
 TESTS = [
+    ("renewed, of a full room", full_room),
     ("names of renewed rooms", names),
     ("renewed while it looks", looking),
     ("renewed with unsent work", unsent),

@@ -152,6 +152,8 @@ class Session:
             return ["no", at, 20, "site-in-use"]
         if word == "back" and site not in joins:
             return ["no", at, 19, "no-such-site"]
+        if word == "join" and self.server.is_full:
+            return ["no", at, 5, "room-full"]
         self.room, self.site = room, site or len(joins) + 1
         room.sites.add(self.site)
         self.heard_notes = None
@@ -208,6 +210,8 @@ class RenewingServer:
         self.requests = []
         self.before = lambda text: None
         self.knows_notes = True
+        # Whether the newest room lets nobody join.
+        self.is_full = False
 
     def __enter__(self):
         self.listener = socket.create_server(("127.0.0.1", 0))

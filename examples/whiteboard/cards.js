@@ -8,14 +8,14 @@ import { differingKeys, keysOf, letterOf, linesOf } from "./words.js"
 
 // More versions than these are shown as rows.
 const CARDS = 6
+const SEEN_FIRST = "Who made this version, and when this page first saw it"
 
 /**
- * @param {any[]} versions
- * @param {any[]} shapes of the versions
- * @param {any} picked the picked version, or null
- * @param {(version: any) => void} pick called when the user picks a version
+ * @param {{ versions: any[], shapes: any[], picked: any, makerOf: (version: any) => string,
+ *   pick: (version: any) => void }} choice the versions and their shapes, the picked version or null, the words that
+ *   say who made a version, and what is called when the user picks one
  */
-export function cardsOf(versions, shapes, picked, pick) {
+export function cardsOf({ versions, shapes, picked, makerOf, pick }) {
   const isMany = versions.length > CARDS
   const cardOf = isMany ? rowOf : wholeCardOf
   const cards = versions.map((version, place) => {
@@ -25,7 +25,8 @@ export function cardsOf(versions, shapes, picked, pick) {
     const choose = button(words, `pick-${letter}`, () => pick(version))
     choose.setAttribute("aria-pressed", isPicked)
     choose.setAttribute("aria-label", `Work on version ${letter}`)
-    const card = cardOf({ versions, shapes, place, letter, choose })
+    const maker = html("p", { className: "maker", title: SEEN_FIRST, textContent: makerOf(version) })
+    const card = cardOf({ versions, shapes, place, letter, maker, choose })
     if (isPicked) card.classList.add("picked")
     card.setAttribute("aria-label", `Version ${letter}`)
     return card
@@ -33,24 +34,25 @@ export function cardsOf(versions, shapes, picked, pick) {
   return html("div", { className: isMany ? "rows" : "cards" }, ...cards)
 }
 
-function wholeCardOf({ versions, shapes, place, letter, choose }) {
+function wholeCardOf({ versions, shapes, place, letter, maker, choose }) {
   const { attributes } = versions[place]
   const differing = differingKeys(versions)
   const lines = linesOf(attributes, keysOf(versions)).flatMap((line) =>
     [html("dt", { textContent: line.word }), html("dd", {}, valueOf(line, isDiffering(line, differing), attributes))])
   return html("section", { className: "card" },
-    html("strong", { textContent: `Version ${letter}` }), pictureOf(shapes, place), html("dl", {}, ...lines), choose)
+    html("strong", { textContent: `Version ${letter}` }), maker, pictureOf(shapes, place),
+    html("dl", {}, ...lines), choose)
 }
 
 /** A row shows only the attributes that differ between versions. */
-function rowOf({ versions, shapes, place, letter, choose }) {
+function rowOf({ versions, shapes, place, letter, maker, choose }) {
   const { attributes } = versions[place]
   const differing = differingKeys(versions)
   const lines = linesOf(attributes, keysOf(versions)).filter((line) => isDiffering(line, differing))
   const values = lines.map((line) => valueOf(line, true, attributes))
   return html("section", { className: "card row" },
     html("strong", { textContent: letter }), pictureOf([shapes[place]], 0),
-    html("div", { className: "values" }, ...values), choose)
+    html("div", { className: "values" }, ...values, maker), choose)
 }
 
 const isDiffering = ({ keys }, differing) => keys.some((key) => differing.has(key))

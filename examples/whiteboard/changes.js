@@ -8,6 +8,8 @@
 import { LIMITS, Refused } from "../../clients/js/grace.js"
 import { keyOf } from "./board.js"
 import { Entries } from "./entries.js"
+import { withoutMakers } from "./maker_keys.js"
+import { Makers } from "./makers.js"
 import { USUAL } from "./shapes.js"
 import { Space, entriesOfNew } from "./space.js"
 import { REFUSED, Undo } from "./undo.js"
@@ -39,6 +41,7 @@ export class Changes {
   constructor(page) {
     this.page = page
     this.entries = new Entries(page.room)
+    this.makers = new Makers(page, this.entries)
     this.space = new Space(page.board)
     page.room.on("reset", () => this.#undo.clear())
     page.room.on("renewed", () => this.#goOn())
@@ -230,22 +233,25 @@ export class Changes {
     this.page.view.change([])
   }
 
-  /** A creation takes a limited number of attributes. Puts add the rest. */
-  #create(kind, pairs) {
+  /** A creation takes a limited number of attributes, and puts add the rest. A copy has no names of earlier makers. */
+  #create(kind, attributes) {
     const { room } = this.page
-    if (this.space.entries < entriesOfNew(pairs.length)) throw new Refused("record-full")
+    const drawn = withoutMakers(attributes)
+    if (this.space.entries < entriesOfNew(drawn.length)) throw new Refused("record-full")
+    const pairs = [...drawn, ...this.makers.ofNew(drawn.length)]
     const change = this.#make(() => room.create(kind, pairs.slice(0, LIMITS.attributes)))
     let { version } = change
     for (let from = LIMITS.attributes; from < pairs.length; from += LIMITS.attributes) {
       const more = pairs.slice(from, from + LIMITS.attributes)
       version = this.#make(() => room.put(change.object, version, more)).version
     }
-    return { word: "create", change, after: new Map(pairs) }
+    return { word: "create", change, after: new Map(drawn) }
   }
 
   #put(name, version, attributes, seen) {
     const { board, room, view } = this.page
-    const change = this.#make(() => room.put(name, version, attributes, seen))
+    const all = { ...attributes, ...this.makers.ofPut(name, version, Object.keys(attributes)) }
+    const change = this.#make(() => room.put(name, version, all, seen))
     board.pick(name, change.version)
     view.change([name])
     const before = Object.keys(attributes).map((key) => [key, version.attributes.get(key) ?? USUAL[key] ?? ""])
@@ -335,8 +341,8 @@ export class Changes {
 
 /** Whether a version still has the values of an action. One that was created has no others. */
 function hasValuesOf({ attributes }, { word, after }) {
-  const keys = word === "create" ? attributes.keys() : after.keys()
-  return [...keys].every((key) => attributes.get(key) === (after.get(key) ?? USUAL[key] ?? ""))
+  const keys = word === "create" ? withoutMakers(attributes).map(([key]) => key) : [...after.keys()]
+  return keys.every((key) => attributes.get(key) === (after.get(key) ?? USUAL[key] ?? ""))
 }
 
 /** Whether the room, or its library, refused a change. */

@@ -1,5 +1,6 @@
 /** Deleted objects, and how the user brings one back: as a new object with the old attributes. */
 
+import { withoutMakers } from "./maker_keys.js"
 import { shapeOf } from "./shapes.js"
 
 export class DeletedObjects {
@@ -33,4 +34,4 @@ export class DeletedObjects {
 export const shapeOfForm = ({ kind, attributes }) => shapeOf(kind, attributes)
 
 const textOf = ({ attributes }) =>
-  [...attributes].map(([key, value]) => `${key} ${typeof value} ${value}`).sort().join("\n")
+  withoutMakers(attributes).map(([key, value]) => `${key} ${typeof value} ${value}`).sort().join("\n")

@@ -111,4 +111,4 @@ export class Keys {
 }
 
 /** Whether the key goes into a text field. */
-const isInTextField = (target) => target.matches?.("input:not([type=color]), textarea") ?? false
+const isInTextField = (target) => target.matches?.("input:not([type=color], [type=checkbox]), textarea") ?? false

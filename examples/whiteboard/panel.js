@@ -221,11 +221,12 @@ export class Panel {
     const words = letter === null
       ? "People changed this at the same time. Pick the one to work on. The others stay as they are."
       : `You are working on version ${letter}. The others stay as they are.`
+    const makerOf = (version) => this.page.changes.makers.wordsOf(version, versions)
     const pick = (version) => {
       this.page.select(name, version)
       this.page.view.reach(name, version)
     }
     return [html("h3", { textContent: `${versions.length} versions` }), html("p", { textContent: words }),
-      cardsOf(versions, this.board.shapes(name), picked, pick)]
+      cardsOf({ versions, shapes: this.board.shapes(name), picked, makerOf, pick })]
   }
 }

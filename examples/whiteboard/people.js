@@ -2,7 +2,7 @@
 
 import { OwnNote } from "./own_note.js"
 import { PALETTE, colourOf, fittingName, readNote } from "./notes.js"
-import { storeName, storedName } from "./own_name.js"
+import { allowName, isNameAllowed, storeName, storedName } from "./own_name.js"
 import { guestWords } from "./words.js"
 
 /**
@@ -15,6 +15,8 @@ export class People {
   others = []
   /** Whether the user was asked for a name. */
   isAsked
+  /** Whether the user's changes carry the user's name. */
+  isNameKept = isNameAllowed()
   #own
   #listeners = []
 
@@ -47,6 +49,17 @@ export class People {
   /** The name that the user has told, or an empty text. */
   get ownName() {
     return this.#own.name
+  }
+
+  /** The name that the user's changes carry, or an empty text. */
+  get keptName() {
+    return this.isNameKept ? this.ownName : ""
+  }
+
+  /** Takes whether the user's changes carry the user's name. */
+  keepName(isKept) {
+    this.isNameKept = isKept
+    allowName(isKept)
   }
 
   /** Takes the user's name, which may be empty. */

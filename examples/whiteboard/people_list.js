@@ -77,7 +77,16 @@ export class PeopleList {
       const isLeft = this.#isAsking && !part("people").contains(relatedTarget)
       if (isLeft && this.#field.value.trim() !== "") this.#end(this.#field.value)
     })
-    this.#field.addEventListener("keydown", ({ key }) => key === "Escape" && this.#close(this.people.ownName))
+    const keep = part("keep-name")
+    keep.checked = this.people.isNameKept
+    keep.addEventListener("change", () => this.people.keepName(keep.checked))
+    // A press on the words would take the focus from the field, and close the form before the click.
+    keep.parentNode.addEventListener("mousedown", (event) => event.target !== keep && event.preventDefault())
+    part("own-name").addEventListener("keydown", (event) => {
+      if (event.key !== "Escape") return
+      event.stopPropagation()
+      this.#close(this.people.ownName)
+    })
   }
 
   /** Opens the field for the name, or closes it. */

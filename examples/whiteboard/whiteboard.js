@@ -109,6 +109,7 @@ export class Page {
   #take(news) {
     const selected = this.board.selected
     const lost = this.board.update(news)
+    this.changes.entries.readNew()
     this.view.pending.look()
     this.view.change(news.objects)
     // The user's own deletion needs no message.

@@ -1,5 +1,6 @@
 /** Texts about objects and their versions. */
 
+import { withoutMakers } from "./maker_keys.js"
 import { COLOURS } from "./shapes.js"
 import { POINT_KEYS } from "./pen.js"
 
@@ -65,6 +66,19 @@ export function peopleWords(names) {
   return names.length < 2 ? names.join() : `${names.slice(0, -1).join(", ")} and ${names.at(-1)}`
 }
 
+const CLOCK_LETTERS = 5
+const DATE_LETTERS = 10
+
+/** The time at which something was seen: `10:32`, with a date if it is another day than today. */
+export function timeWords({ time, wasThere }) {
+  const date = new Date(time)
+  const clock = date.toTimeString().slice(0, CLOCK_LETTERS)
+  const day = date.toDateString()
+  const isToday = day === new Date().toDateString()
+  const words = isToday ? clock : `${day.slice(0, DATE_LETTERS)}, ${clock}`
+  return wasThere ? `before ${words}` : words
+}
+
 /** Who else moves an object, or otherwise who has selected it. */
 export function heldWords(moving, selecting) {
   const names = moving.length > 0 ? moving : selecting
@@ -109,10 +123,11 @@ function valueWords(key, value) {
 }
 
 /**
- * The keys that some version has.
+ * The keys that some version has. The names of those who made it are none of its attributes.
  * @param {{ attributes: Map<string, unknown> }[]} versions
  */
-export const keysOf = (versions) => new Set(versions.flatMap(({ attributes }) => [...attributes.keys()]))
+export const keysOf = (versions) =>
+  new Set(versions.flatMap(({ attributes }) => withoutMakers(attributes).map(([key]) => key)))
 
 /**
  * The keys whose values differ between versions.

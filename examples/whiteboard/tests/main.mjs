@@ -9,6 +9,7 @@ import * as deleting from "./deleting.mjs"
 import { full } from "./full.mjs"
 import { keepingWork } from "./keeping_work.mjs"
 import { looking } from "./looking.mjs"
+import { makers } from "./makers.mjs"
 import { opening } from "./opening.mjs"
 import { COUNT, PICTURES, counts, faults, isOpen, serve, step, watch } from "./people.mjs"
 import { plan } from "./plan.mjs"
@@ -88,6 +89,7 @@ async function all(browser) {
   await sketching(browser)
   await looking(browser)
   await presence(browser)
+  await makers(browser)
   await opening(browser)
   await full(browser)
   await keepingWork(browser)

@@ -1,10 +1,14 @@
 /** What this page shows of the room, and which versions the user has selected for editing. */
 
 import { isSameId } from "../../clients/js/grace.js"
-import { shapeOf } from "./shapes.js"
+import { Selection } from "./selection.js"
+import { shapeOf, withAttributes } from "./shapes.js"
 
 export const keyOf = (name) => name.join(",")
 export const nameOf = (key) => key.split(",").map(Number)
+
+/** What `previews` is while nothing is dragged. */
+export const NO_PREVIEWS = new Map()
 
 export class Board {
   #picks = new Map()
@@ -18,15 +22,28 @@ export class Board {
   // By the room's list of an object's versions, which stays the same until the object changes.
   #drawn = new WeakMap()
   // The last result of `drawn`, with the objects and the drag that it is of.
-  #list = { objects: null, preview: null, drawn: [] }
+  #list = { objects: null, previews: null, drawn: [] }
 
   /** @param {import("../../clients/js/grace.js").Room} room */
   constructor(room) {
     this.room = room
-    /** The name of the selected object, or null. */
-    this.selected = null
-    /** The version that is being dragged: its object, itself, and the attributes it would get. */
-    this.preview = null
+    this.selection = new Selection()
+    /**
+     * The versions that are being dragged, by object. Each step of a drag gives another map.
+     * @type {Map<string, { name: any, version: any, attributes: Record<string, any> }>}
+     */
+    this.previews = NO_PREVIEWS
+  }
+
+  /** The name of the selected object; null if there is none, or several. */
+  get selected() {
+    return this.selection.size === 1 ? this.selection.first : null
+  }
+
+  /** The picked versions of the selected objects. An object of which the user must pick one first is left out. */
+  get chosen() {
+    const items = this.selection.names.map((name) => ({ name, version: this.picked(name) }))
+    return items.filter(({ version }) => version !== null)
   }
 
   /** The versions of an object that are shown: those that are not gone. */
@@ -51,9 +68,9 @@ export class Board {
    * the next event or the next step of a drag.
    */
   drawn() {
-    const [objects, { preview }] = [this.objects(), this]
-    if (this.#list.objects !== objects || this.#list.preview !== preview) {
-      this.#list = { objects, preview, drawn: objects.map((name) => ({ name, shapes: this.shapes(name) })) }
+    const [objects, { previews }] = [this.objects(), this]
+    if (this.#list.objects !== objects || this.#list.previews !== previews) {
+      this.#list = { objects, previews, drawn: objects.map((name) => ({ name, shapes: this.shapes(name) })) }
     }
     return this.#list.drawn
   }
@@ -72,7 +89,7 @@ export class Board {
   }
 
   isSelected(name) {
-    return this.selected !== null && keyOf(this.selected) === keyOf(name)
+    return this.selection.has(name)
   }
 
   /**
@@ -82,8 +99,10 @@ export class Board {
   shapes(name) {
     if (!this.room.has(name)) return []
     const { versions, shapes } = this.#drawnOf(name)
-    if (this.preview === null || keyOf(this.preview.name) !== keyOf(name)) return shapes
-    return shapes.map((shape, place) => this.#previewOf(name, versions[place]) ?? shape)
+    const preview = this.previews.size === 0 ? undefined : this.previews.get(keyOf(name))
+    if (preview === undefined) return shapes
+    return shapes.map((shape, place) =>
+      (preview.version === versions[place] ? withAttributes(shape, preview.version, preview.attributes) : shape))
   }
 
   /** The versions that survived a deletion, except those that the user keeps. */
@@ -115,14 +134,8 @@ export class Board {
     if (renamed.length > 0) this.#rename(new Map(renamed.map(([old, name]) => [keyOf(old), name])))
     const lost = objects.map((name) => this.#lost(name)).filter((one) => one !== null)
     for (const name of objects) this.#follow(name)
-    if (this.selected !== null && this.shown(this.selected).length === 0) this.selected = null
+    for (const name of objects) if (this.shown(name).length === 0) this.selection.remove(name)
     return lost
-  }
-
-  #previewOf(name, version) {
-    const { preview } = this
-    if (preview.version !== version) return null
-    return shapeOf(this.room.kind(name), new Map([...version.attributes, ...Object.entries(preview.attributes)]))
   }
 
   /** The shown versions of an object, and their shapes. */
@@ -139,7 +152,7 @@ export class Board {
 
   /** Gives objects other names, all at once: the old name of one may be the new name of another. */
   #rename(names) {
-    if (this.selected !== null) this.selected = names.get(keyOf(this.selected)) ?? this.selected
+    this.selection.rename(names)
     for (const byKey of [this.#picks, this.#keptSurvivors, this.#shownBefore]) {
       const moved = [...byKey].filter(([key]) => names.has(key))
       for (const [key] of moved) byKey.delete(key)

@@ -32,5 +32,10 @@ export const meet = (one, other) =>
   one.x <= other.x + other.width && other.x <= one.x + one.width &&
   one.y <= other.y + other.height && other.y <= one.y + one.height
 
+/** Whether a box is inside another. */
+export const isInside = (one, other) =>
+  one.x >= other.x && one.x + one.width <= other.x + other.width &&
+  one.y >= other.y && one.y + one.height <= other.y + other.height
+
 /** Clamps a number. The lower bound wins if the bounds cross. */
 export const between = (least, value, most) => Math.max(least, Math.min(most, value))

@@ -13,7 +13,7 @@ import { Makers } from "./makers.js"
 import { USUAL } from "./shapes.js"
 import { Space, entriesOfNew } from "./space.js"
 import { REFUSED, Undo } from "./undo.js"
-import { FINAL_DELETION, separateWords } from "./words.js"
+import { FINAL_DELETION, NOT_ALL_FIT, separateWords } from "./words.js"
 
 const NOT_IN_THIS_ROOM = "the drawing went on in another room without it."
 
@@ -92,11 +92,22 @@ export class Changes {
 
   /** Creates an object and selects it. */
   draw(kind, attributes) {
-    const change = this.create(kind, attributes)
-    if (change === null) return
+    this.drawAll([{ kind, attributes }])
+  }
+
+  /** Creates objects in one step and selects them, or none if they do not all fit. */
+  drawAll(forms) {
+    if (forms.length > 1 && !this.space.takesAll(forms)) return this.page.say(NOT_ALL_FIT)
+    const made = this.step(() => forms.map(({ kind, attributes }) => this.create(kind, attributes)))
+    this.#show(made.filter((change) => change !== null).map(({ object }) => object))
+  }
+
+  /** Selects objects that were created or changed. */
+  #show(names) {
+    if (names.length === 0) return
     this.page.tools.use("select")
-    this.page.select(change.object)
-    this.page.view.reach(change.object)
+    this.page.selectAll(names)
+    this.page.view.reach(names[0])
   }
 
   /**
@@ -115,18 +126,27 @@ export class Changes {
    * undone, the page asks first.
    */
   drop(name, versions) {
-    const drop = (version) => this.#act(() => this.#drop(name, version), null) !== null
-    this.#deleting(versions, () => this.step(() => versions.every(drop)))
+    this.dropAll(versions.map((version) => ({ name, version })))
   }
 
-  /** Sets attributes of the picked version, if they differ from the present ones. */
+  /** Deletes versions of objects in the same way. */
+  dropAll(chosen) {
+    const drop = ({ name, version }) => this.#act(() => this.#drop(name, version), null) !== null
+    this.#deleting(chosen.map(({ version }) => version), () => this.step(() => chosen.every(drop)))
+  }
+
+  /** Sets attributes of the picked versions of what is selected, where they differ from the present ones. */
   change(attributes) {
     const { board, say } = this.page
-    if (board.selected === null) return
-    const picked = board.picked(board.selected)
-    if (picked === null) return say("Pick a version of this object first. Your change applies to that one.")
-    const isOther = ([key, value]) => picked.attributes.get(key) !== value
-    if (Object.entries(attributes).some(isOther)) this.put(board.selected, picked, attributes)
+    if (board.selection.size === 0) return
+    const { chosen } = board
+    if (chosen.length === 0) return say("Pick a version of this object first. Your change applies to that one.")
+    this.step(() => chosen.forEach(({ name, version }) => this.#changeOne(name, version, attributes)))
+  }
+
+  #changeOne(name, version, attributes) {
+    const isOther = ([key, value]) => version.attributes.get(key) !== value
+    if (Object.entries(attributes).some(isOther)) this.put(name, version, attributes)
   }
 
   undo() {
@@ -146,12 +166,14 @@ export class Changes {
     this.#deleting(created, () => {
       // The user may have done more before the answer.
       if (last() !== step) return
-      const restored = []
+      const [restored, shown] = [[], []]
       turn((act) => {
         const reverse = this.#reverse(act, step, word)
         if (act.word === "drop" && reverse?.word === "create") restored.push(act)
+        if (reverse?.word === "create" || reverse?.word === "put") shown.push(reverse.change.object)
         return reverse
       })
+      this.#show(shown)
       this.#tellOfSeparate(restored)
       this.page.view.change([])
     })
@@ -276,10 +298,6 @@ export class Changes {
       const reverse = act.word === "drop" ? this.#restore(act) : this.#reversePut(act)
       this.#reversals.set(reverse.change, word)
       this.page.refusedChanges.leave(reverse.change)
-      if (reverse.word !== "drop") {
-        this.page.select(reverse.change.object)
-        this.page.view.reach(reverse.change.object)
-      }
       return reverse
     } catch (fault) {
       const words = `This can't be ${word}: ${fault.message}`

@@ -1,8 +1,9 @@
 /** Copies of objects: kind and attributes. All windows of a browser on this whiteboard share one copy. */
 
 import { readText, writeText } from "../../clients/js/grace.js"
-import { boundsOf } from "./boxes.js"
-import { placeOf, shapeOf } from "./shapes.js"
+import { boundsOfAll, middleOf } from "./boxes.js"
+import { newGroup } from "./groups.js"
+import { moveAttributes, shapeOf } from "./shapes.js"
 
 const KEY = "whiteboard copy"
 const SHIFT = 20
@@ -22,45 +23,80 @@ export class Clipboard {
     return this.#read() !== null
   }
 
-  /** Copies the picked version of the selected object. Returns whether there is one. */
+  /** Copies the picked versions of the selected objects. Returns whether there are any. */
   copy() {
-    const { board, room } = this.page
-    const version = board.selected === null ? null : board.picked(board.selected)
-    if (version === null) return false
-    this.keep({ kind: room.kind(board.selected), attributes: version.attributes })
-    return true
+    const forms = this.#formsOf(this.page.board.chosen)
+    if (forms.length > 0) this.keep(forms)
+    return forms.length > 0
   }
 
-  /** Makes an object of this kind, with these attributes, the copy. */
-  keep({ kind, attributes }) {
-    this.#copy = { text: writeText([kind, [...attributes]]) }
+  /** Copies what is selected, and deletes it. */
+  cut() {
+    const { board, changes } = this.page
+    if (this.copy()) changes.dropAll(board.chosen)
+  }
+
+  /**
+   * Makes these objects the copy.
+   * @param {{ kind: string, attributes: Map<string, any> }[]} forms
+   */
+  keep(forms) {
+    this.#copy = { text: writeText(forms.map(({ kind, attributes }) => [kind, [...attributes]])) }
     this.#pastes = 0
     try {
       localStorage.setItem(KEY, this.#copy.text)
     } catch {
       // The browser stores nothing, so only this window has the copy.
+      this.#forget()
     }
     this.page.view.change([])
   }
 
-  /** Creates an object from the copy: next to the last one, or in the centre if that place is not visible. */
+  /** Creates objects from the copy: next to the last ones, or in the centre if that place is not visible. */
   paste() {
     const copy = this.#read()
     if (copy === null) return
-    const [kind, pairs] = copy
-    const attributes = new Map(pairs)
     this.#pastes += 1
-    for (const [key, value] of Object.entries(this.#place(kind, attributes))) attributes.set(key, value)
-    this.page.changes.draw(kind, attributes)
+    this.#create(copy.map(([kind, pairs]) => ({ kind, attributes: new Map(pairs) })), this.#pastes * SHIFT)
   }
 
-  #place(kind, attributes) {
+  /** Creates objects like those that are selected, next to them. */
+  duplicate() {
+    this.#create(this.#formsOf(this.page.board.chosen), SHIFT)
+  }
+
+  #formsOf(chosen) {
+    return chosen.map(({ name, version: { attributes } }) => ({ kind: this.page.room.kind(name), attributes }))
+  }
+
+  /** Creates objects at some distance from others. Their groups are new ones. */
+  #create(forms, shift) {
+    if (forms.length === 0) return
+    const shapes = forms.map(({ kind, attributes }) => shapeOf(kind, attributes))
+    const [x, y] = this.#stepOf(boundsOfAll(shapes), shift)
+    const groups = new Map(shapes.map(({ group }) => [group, group && newGroup()]))
+    this.page.changes.drawAll(forms.map(({ kind, attributes }, place) => {
+      const { group } = shapes[place]
+      const more = { ...moveAttributes(shapes[place], x, y), ...(group && { group: groups.get(group) }) }
+      return { kind, attributes: new Map([...attributes, ...Object.entries(more)]) }
+    }))
+  }
+
+  /** How far copies are from what is in this box. */
+  #stepOf(box, shift) {
     const { camera } = this.page
-    const shape = shapeOf(kind, attributes)
-    const beside = { ...shape, x: shape.x + this.#pastes * SHIFT, y: shape.y + this.#pastes * SHIFT }
-    if (camera.shows(boundsOf(beside))) return placeOf(beside)
-    const [x, y] = camera.middle
-    return placeOf({ x: x - shape.width / 2, y: y - shape.height / 2 })
+    if (camera.shows({ ...box, x: box.x + shift, y: box.y + shift })) return [shift, shift]
+    const [[x, y], [middleX, middleY]] = [camera.middle, middleOf(box)]
+    return [x - middleX, y - middleY]
+  }
+
+  /** Forgets the copy of another window, which would otherwise be pasted in place of this one. */
+  #forget() {
+    try {
+      localStorage.removeItem(KEY)
+    } catch {
+      // There is none.
+    }
   }
 
   /** The latest copy of any window. */
@@ -72,7 +108,9 @@ export class Clipboard {
       // Only this window's copy is available.
     }
     try {
-      return text && readText(text)
+      const copy = text && readText(text)
+      // An earlier page stored a single object.
+      return typeof copy?.[0] === "string" ? [copy] : copy
     } catch {
       return null
     }

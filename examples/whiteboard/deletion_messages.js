@@ -22,12 +22,12 @@ export class DeletionMessages {
    * Tells of an event that others caused.
    * @param {ReturnType<import("./board.js").Board["update"]>} lost
    * @param {any[]} changed the objects that have changed
-   * @param {any} selected the object that was selected before
+   * @param {Set<string>} selected the objects that were selected before
    */
   tell(lost, changed, selected) {
     for (const one of lost) {
       if (!one.isWhole) this.#tellOfVersions(one)
-      else if (String(one.name) === String(selected)) this.#tellOfObject(one)
+      else if (selected.has(String(one.name))) this.#tellOfObject(one)
     }
     for (const name of changed) this.#tellOfReturn(name)
   }

@@ -1,14 +1,17 @@
 /** What the pointer does between press and release. Each drag is one change, sent at its end. */
 
 import { bodyOf } from "./bodies.js"
-import { boundsOf } from "./boxes.js"
+import { boundsOf, isInside } from "./boxes.js"
+import { svg } from "./elements.js"
+import { withGroups } from "./groups.js"
+import { Hand } from "./hand.js"
 import { boxOf } from "./pen.js"
-import { LEAST, attributesOf, moveAttributes, shapeOf, resizeAttributes } from "./shapes.js"
+import { LEAST, attributesOf, moveAttributes, resizeAttributes } from "./shapes.js"
 
 // A movement of fewer pixels counts as a click.
 const CLICK_PIXELS = 2
 
-/** Moves the view. A click on empty paper clears the selection. */
+/** Moves the view. A click clears the selection. */
 export class Pan {
   #moved = 0
 
@@ -58,55 +61,78 @@ export class Pinch {
   }
 }
 
-/**
- * Moves or resizes a version. A hold keeps other people's changes back meanwhile. So the change says that its author
- * had not seen them, and they conflict.
- */
-class VersionDrag {
-  constructor(page, { name, version }, event) {
-    this.release = page.room.hold()
-    page.select(name, version)
-    page.view.now()
-    page.view.sheet.find(name, version)?.focus({ preventScroll: true })
-    Object.assign(this, { page, name, version, start: page.camera.placeOf(event), attributes: null })
-    this.shape = shapeOf(page.room.kind(name), version.attributes)
+/** Selects what a box encloses, with its groups. With Shift it adds to what is selected. A click selects nothing. */
+export class BoxSelection {
+  #box = null
+
+  constructor(page, event) {
+    Object.assign(this, { page, isMore: event.shiftKey, start: page.camera.placeOf(event) })
   }
 
   move(event) {
-    const { board, camera, view } = this.page
-    const [x, y] = camera.placeOf(event).map((place, side) => place - this.start[side])
-    const isMoved = this.attributes !== null || Math.hypot(x, y) * camera.scale >= CLICK_PIXELS
-    if (!isMoved) return
-    this.attributes = this.attributesAfter(x, y)
-    board.preview = { name: this.name, version: this.version, attributes: this.attributes }
-    view.redraw([this.name])
+    const { camera, view } = this.page
+    const [[x, y], [endX, endY]] = [this.start, camera.placeOf(event)]
+    const box = boundsOf({ x, y, width: endX - x, height: endY - y })
+    if (this.#box === null && Math.max(box.width, box.height) * camera.scale < CLICK_PIXELS) return
+    this.#box = box
+    view.sheet.sketch(svg("rect", { class: "sketch selecting", ...box }))
   }
 
-  /** The selection and the pick follow the version, even if its object was renamed meanwhile. */
   end(isWhole) {
-    const { board, changes, view } = this.page
-    board.preview = null
-    const version = board.selected === null ? null : board.picked(board.selected)
-    if (isWhole && this.#isOther() && version !== null) changes.put(board.selected, version, this.attributes)
-    this.release()
-    view.change([this.name])
+    const { board, view } = this.page
+    view.sheet.sketch(null)
+    if (!isWhole) return
+    const names = this.#box === null ? [] : withGroups(board, this.#enclosed())
+    this.page.selectAll(this.isMore ? [...board.selection.names, ...names] : names)
   }
 
-  /** Whether the drag changed anything. */
-  #isOther() {
-    return Object.entries(this.attributes ?? {}).some(([key, value]) => this.version.attributes.get(key) !== value)
+  /** The objects of which the picked version, or any if none is picked, is in the box. */
+  #enclosed() {
+    const { board } = this.page
+    const isEnclosed = ({ name, shapes }) => {
+      const picked = board.shown(name).indexOf(board.picked(name))
+      return (picked < 0 ? shapes : [shapes[picked]]).some((shape) => isInside(boundsOf(shape), this.#box))
+    }
+    return board.drawn().filter(isEnclosed).map(({ name }) => name)
+  }
+}
+
+/** Moves or resizes the picked versions of the selected objects. */
+class VersionDrag {
+  #isMoved = false
+
+  constructor(page, { name, version }, event) {
+    page.view.now()
+    page.view.sheet.find(name, version)?.focus({ preventScroll: true })
+    Object.assign(this, { page, name, isMore: event.shiftKey, start: page.camera.placeOf(event) })
+    this.hand = new Hand(page, page.board.chosen)
+  }
+
+  move(event) {
+    const { camera } = this.page
+    const [x, y] = camera.placeOf(event).map((place, side) => place - this.start[side])
+    this.#isMoved ||= Math.hypot(x, y) * camera.scale >= CLICK_PIXELS
+    if (this.#isMoved) this.hand.show((shape) => this.attributesAfter(shape, x, y))
+  }
+
+  /** A click on one of several selected objects selects that one alone, with its group. */
+  end(isWhole) {
+    const { board } = this.page
+    this.hand.end(isWhole && this.#isMoved)
+    const isClick = isWhole && !this.#isMoved && !this.isMore
+    if (isClick && board.selection.size > 1) this.page.selectAll(withGroups(board, [this.name]))
   }
 }
 
 export class Move extends VersionDrag {
-  attributesAfter(x, y) {
-    return moveAttributes(this.shape, x, y)
+  attributesAfter(shape, x, y) {
+    return moveAttributes(shape, x, y)
   }
 }
 
 export class Resize extends VersionDrag {
-  attributesAfter(x, y) {
-    return resizeAttributes(this.shape, x, y)
+  attributesAfter(shape, x, y) {
+    return resizeAttributes(shape, x, y)
   }
 }
 

@@ -1,6 +1,7 @@
 /** Pointer input on the drawing: mouse, pen or fingers. */
 
-import { Move, Pan, Pinch, Resize, Sketch, Stroke } from "./drags.js"
+import { BoxSelection, Move, Pan, Pinch, Resize, Sketch, Stroke } from "./drags.js"
+import { withGroups } from "./groups.js"
 
 const [LEFT, MIDDLE] = [0, 1]
 // One notch of a wheel is about 100 pixels, which zooms by about a fifth.
@@ -16,6 +17,8 @@ export class Gestures {
   #fingers = new Map()
   #pressed = { time: -Infinity, place: [0, 0] }
   #isDouble = false
+  // While the space bar is down, a drag moves the view.
+  #isSpaceDown = false
 
   /** @param {import("./whiteboard.js").Page} page */
   constructor(page) {
@@ -28,6 +31,9 @@ export class Gestures {
     for (const name of ["pointerup", "pointercancel"]) {
       element.addEventListener(name, (event) => this.#lift(event, name === "pointerup"))
     }
+    addEventListener("keydown", ({ key, target }) => key === " " && this.#space(!isInTextField(target)))
+    addEventListener("keyup", ({ key }) => key === " " && this.#space(false))
+    addEventListener("blur", () => this.#space(false))
     element.addEventListener("wheel", (event) => this.#wheel(event), { passive: false })
   }
 
@@ -63,16 +69,32 @@ export class Gestures {
   #dragOf(event) {
     const { page } = this
     const { tool } = page.tools
-    if (event.button === MIDDLE) return new Pan(page, event)
+    if (event.button === MIDDLE || this.#isSpaceDown) return new Pan(page, event)
     if (tool === "pen") return new Stroke(page, event)
     if (tool !== "select") return new Sketch(page, tool, event)
     const target = elementAt(event)
     const under = page.view.sheet.under(target)
     if (under === null) {
       page.view.sheet.element.focus({ preventScroll: true })
-      return new Pan(page, event)
+      return event.pointerType === "touch" ? new Pan(page, event) : new BoxSelection(page, event)
     }
-    return target.classList.contains("handle") ? new Resize(page, under, event) : new Move(page, under, event)
+    return target.classList.contains("handle") ? new Resize(page, under, event) : this.#moveOf(under, event)
+  }
+
+  /** Selects what is pressed, with its group, and moves it. With Shift it is added, or taken out. */
+  #moveOf(under, event) {
+    const { page } = this
+    const names = withGroups(page.board, [under.name])
+    if (event.shiftKey) page.toggle(names)
+    else if (!page.board.isSelected(under.name)) page.selectAll(names)
+    if (!page.board.isSelected(under.name)) return null
+    page.pick(under.name, under.version)
+    return new Move(page, under, event)
+  }
+
+  #space(isDown) {
+    this.#isSpaceDown = isDown
+    this.page.view.sheet.element.classList.toggle("panning", isDown)
   }
 
   #move(event) {
@@ -115,5 +137,9 @@ export class Gestures {
     if (under !== null && this.page.tools.tool === "select") this.page.textField.open(under.name, under.version)
   }
 }
+
+/** Whether a key goes into a text field. */
+export const isInTextField = (target) =>
+  target.matches?.("input:not([type=color], [type=checkbox]), textarea") ?? false
 
 const elementAt = ({ clientX, clientY }) => document.elementFromPoint(clientX, clientY)

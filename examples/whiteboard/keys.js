@@ -1,5 +1,6 @@
 /** Keyboard input. */
 
+import { isInTextField } from "./gestures.js"
 import { ARROWS } from "./nudges.js"
 
 const DELETING = ["Delete", "Backspace"]
@@ -20,15 +21,23 @@ export class Keys {
 
   /** Handles a key with Ctrl. Returns whether it is a command. */
   #command({ key, shiftKey }) {
-    const { changes, clipboard, gestures } = this.page
-    if (gestures.isBusy) return false
+    if (this.page.gestures.isBusy) return false
     const word = key.toLowerCase()
-    if (word === "z" && !shiftKey) changes.undo()
-    else if (word === "y" || word === "z") changes.redo()
-    else if (word === "c") return !getSelection().toString() && clipboard.copy()
-    else if (word === "v") clipboard.paste()
-    else return false
-    return true
+    // A text of the page that is marked is copied as text.
+    if ("cx".includes(word) && getSelection().toString() !== "") return false
+    const act = this.#commandOf(word, shiftKey)
+    act?.()
+    return act !== undefined
+  }
+
+  #commandOf(word, isShift) {
+    const { board, changes, clipboard, grouping } = this.page
+    const commands = {
+      z: () => (isShift ? changes.redo() : changes.undo()), y: () => changes.redo(),
+      c: () => clipboard.copy(), x: () => clipboard.cut(), v: () => clipboard.paste(), d: () => clipboard.duplicate(),
+      a: () => this.page.selectAll(board.objects()), g: () => (isShift ? grouping.ungroup() : grouping.group()),
+    }
+    return Object.hasOwn(commands, word) ? commands[word] : undefined
   }
 
   #key(event) {
@@ -38,7 +47,7 @@ export class Keys {
     if (page.gestures.isBusy) return false
     if (this.#zoom(event)) return true
     const isOnDrawing = event.target === document.body || element.contains(event.target)
-    return isOnDrawing && (this.#change(event) || this.#pan(event))
+    return this.#change(event) || (isOnDrawing && (this.#open(event) || this.#pan(event)))
   }
 
   /** Handles the keys that zoom. */
@@ -60,33 +69,43 @@ export class Keys {
   }
 
   /** Handles the keys that change or create an object. */
-  #change({ key, target, shiftKey }) {
-    const { page } = this
+  /** Handles the keys that change what is selected, wherever the focus is. */
+  #change({ key, target, shiftKey, repeat }) {
+    if (!DELETING.includes(key) && !(key in ARROWS)) return false
     const chosen = this.#chosen(target)
-    if (key === "Enter" && target === page.view.sheet.element) return this.#create(page.tools.tool)
-    if (chosen === null) return false
-    if (key === "Enter" || key === " ") page.select(chosen.name, chosen.version)
-    else if (key === "F2") page.textField.open(chosen.name, chosen.version)
-    else if (DELETING.includes(key)) this.#delete(chosen)
-    else if (key in ARROWS) page.nudges.push(chosen, ARROWS[key], shiftKey)
-    else return false
+    if (chosen.length === 0) return false
+    if (key in ARROWS) this.page.nudges.push(chosen, ARROWS[key], shiftKey)
+    else if (!repeat) this.#delete(chosen)
     return true
   }
 
-  /** The version with the focus, otherwise the picked version of the selected object, otherwise null. */
+  /** Handles the keys that select or write on a version, or create a shape. */
+  #open({ key, target }) {
+    const { page } = this
+    if (key === "Enter" && target === page.view.sheet.element) return this.#create(page.tools.tool)
+    if (!["Enter", " ", "F2"].includes(key)) return false
+    const [chosen, ...others] = this.#chosen(target)
+    if (chosen === undefined) return false
+    if (key === "F2") page.textField.open(chosen.name, chosen.version)
+    else if (others.length === 0) page.select(chosen.name, chosen.version)
+    return true
+  }
+
+  /** The version with the focus, if its object is not selected, otherwise those that are. */
   #chosen(target) {
     const { board, view } = this.page
     const under = view.sheet.under(target)
-    if (under !== null || board.selected === null) return under
-    const version = board.picked(board.selected)
-    return version === null ? null : { name: board.selected, version }
+    const isOther = under !== null && (!board.isSelected(under.name) || board.picked(under.name) !== under.version)
+    if (!isOther) return board.chosen
+    this.page.select(under.name, under.version)
+    return [under]
   }
 
-  /** Deletes a version and discards an unfinished move by keys. The focus moves to no other version. */
-  #delete({ name, version }) {
+  /** Deletes versions and discards an unfinished move by keys. The focus moves to no other version. */
+  #delete(chosen) {
     const { changes, nudges } = this.page
     nudges.end(false)
-    changes.drop(name, [version])
+    changes.dropAll(chosen)
   }
 
   /** Creates a shape in the centre of the window, shifted so that new shapes do not cover each other. */
@@ -105,10 +124,7 @@ export class Keys {
     nudges.end(false)
     if (gestures.end(false)) return true
     if (tools.tool !== "select") tools.use("select")
-    else this.page.select(null)
+    else this.page.selectAll([])
     return true
   }
 }
-
-/** Whether the key goes into a text field. */
-const isInTextField = (target) => target.matches?.("input:not([type=color], [type=checkbox]), textarea") ?? false

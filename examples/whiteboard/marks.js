@@ -18,6 +18,8 @@ const MANY_TAGS = 80
 // An object with more versions than these has its tags in rows above it. Only the picked version and the one under the
 // pointer have a ring.
 const FEW = 6
+// More selected objects than these have one ring around all.
+const MANY_SELECTED = 100
 
 export class Marks {
   /**
@@ -59,9 +61,9 @@ export class Marks {
     const rings = objects.flatMap((object) => this.#ringsOf(object))
     const selected = objects.filter(({ isSelected, picked }) => isSelected && picked >= 0)
     const pendingMarks = objects.filter(({ name }) => pending.has(keyOf(name))).map(pendingMarkOf)
-    const handles = selected.map((object) => this.#handle(object))
+    const handles = selected.length === 1 ? [this.#handle(selected[0])] : []
     this.links.replaceChildren(...several.flatMap(linksOf))
-    this.layer.replaceChildren(...rings, ...pendingMarks, ...this.#tags(several), ...handles)
+    this.layer.replaceChildren(...rings, ...this.#ringOfMany(), ...pendingMarks, ...this.#tags(several), ...handles)
     this.layer.parentNode.style.setProperty("--scale", camera.scale)
   }
 
@@ -69,9 +71,21 @@ export class Marks {
   #marked(pending) {
     const { board, sheet } = this
     const several = board.drawn().filter(({ shapes }) => shapes.length > 1).map(({ name }) => name)
-    const named = [board.selected, sheet.focused?.name ?? null].filter((name) => name !== null).map(keyOf)
+    const focused = sheet.focused === null ? [] : [sheet.focused.name]
+    const named = [...(this.#isManySelected ? [] : board.selection.names), ...focused].map(keyOf)
     const others = [...new Set([...named, ...pending])].map(nameOf)
     return [...several, ...others.filter((name) => board.shown(name).length === 1)]
+  }
+
+  get #isManySelected() {
+    return this.board.selection.size > MANY_SELECTED
+  }
+
+  /** The ring around all selected objects, if they are many. */
+  #ringOfMany() {
+    if (!this.#isManySelected) return []
+    const shapes = this.board.selection.names.flatMap((name) => this.board.shapes(name))
+    return [ringOf(this.camera.boxOf(boundsOfAll(shapes)), true, GAP)]
   }
 
   /** Collects what the marks need of an object: its shapes, their boxes in the window, and the picked version. */

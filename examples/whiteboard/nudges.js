@@ -1,7 +1,7 @@
-/** Moves by the arrow keys. Several key presses in a row are one change, sent after the last one. */
+/** Moves by the arrow keys. Several key presses in a row are one step, sent after the last one. */
 
-import { keyOf } from "./board.js"
-import { moveAttributes, shapeOf, resizeAttributes } from "./shapes.js"
+import { Hand } from "./hand.js"
+import { moveAttributes, resizeAttributes } from "./shapes.js"
 
 const STEP = 10
 // A move by keys is complete after this time without another key.
@@ -19,43 +19,23 @@ export class Nudges {
     sheet.element.addEventListener("focusout", () => sheet.isDrawing || this.end())
   }
 
-  /** Moves a version by one step, or resizes it. A hold keeps other people's changes back meanwhile. */
-  push({ name, version }, [x, y], isResize) {
-    const { board, room, view } = this.page
-    if (this.#nudge !== null && (this.#nudge.version !== version || this.#nudge.isResize !== isResize)) this.end()
-    this.#nudge ??= this.#begin(name, version, isResize, room)
+  /** Moves versions by one step, or resizes them. */
+  push(chosen, [x, y], isResize) {
+    if (this.#nudge !== null && (!this.#nudge.hand.holds(chosen) || this.#nudge.isResize !== isResize)) this.end()
+    this.#nudge ??= { hand: new Hand(this.page, chosen), isResize, sum: [0, 0], timer: null }
     const nudge = this.#nudge
     nudge.sum = [nudge.sum[0] + x * STEP, nudge.sum[1] + y * STEP]
-    board.preview = { name, version, attributes: attributesOf(nudge) }
-    view.redraw([name])
+    nudge.hand.show((shape) => (isResize ? resizeAttributes : moveAttributes)(shape, ...nudge.sum))
     clearTimeout(nudge.timer)
     nudge.timer = setTimeout(() => this.end(), REST_MILLISECONDS)
   }
 
-  /** Sends the move as one change, unless it was cancelled. */
+  /** Puts the move in one step, unless it was cancelled. */
   end(isWhole = true) {
     if (this.#nudge === null) return
-    const nudge = this.#nudge
-    const { board, changes, view } = this.page
+    const { hand, timer } = this.#nudge
     this.#nudge = null
-    clearTimeout(nudge.timer)
-    board.preview = null
-    const version = board.selected === null ? null : board.picked(board.selected)
-    if (isWhole && nudge.sum.some((part) => part !== 0) && version !== null) {
-      changes.put(board.selected, version, attributesOf(nudge))
-    }
-    nudge.release()
-    view.change([nudge.name])
-  }
-
-  #begin(name, version, isResize, room) {
-    const shape = shapeOf(room.kind(name), version.attributes)
-    const release = room.hold()
-    this.page.others.holds.tell(name)
-    if (this.page.board.selected === null || keyOf(this.page.board.selected) !== keyOf(name) ||
-      this.page.board.picked(name) !== version) this.page.select(name, version)
-    return { name, version, shape, isResize, sum: [0, 0], release, timer: null }
+    clearTimeout(timer)
+    hand.end(isWhole)
   }
 }
-
-const attributesOf = ({ shape, isResize, sum }) => (isResize ? resizeAttributes : moveAttributes)(shape, ...sum)

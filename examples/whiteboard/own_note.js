@@ -49,14 +49,15 @@ export class OwnNote {
 
   #selected() {
     const { board } = this
-    if (board.selected === null) return null
-    const place = board.shown(board.selected).indexOf(board.picked(board.selected))
-    return { object: board.selected, place: Math.max(0, place) }
+    const { first } = board.selection
+    if (first === null) return null
+    const place = board.shown(first).indexOf(board.picked(first))
+    return { object: first, place: Math.max(0, place) }
   }
 
   #dragNow() {
-    const { preview } = this.board
-    if (preview !== null) this.#drag = this.#dragOf(preview)
+    const preview = this.board.previews.values().next().value
+    if (preview !== undefined) this.#drag = this.#dragOf(preview)
     else if (this.#drag !== null && !this.#awaits(this.#drag)) this.#drag = null
     return this.#drag
   }

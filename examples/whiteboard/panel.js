@@ -6,11 +6,15 @@ import { button, html } from "./elements.js"
 import { shapeOfForm } from "./deleted_objects.js"
 import { truncate } from "./shapes.js"
 import { TextEdit } from "./text_edit.js"
-import { letterOf, numberOf, versionWords, wordsOf } from "./words.js"
+import { countOf, letterOf, numberOf, versionWords, wordsOf } from "./words.js"
 
 const HELP =
   "Drag it to move it. Drag its corner to resize it. Double-click it to write on it. " +
   "The arrow keys move it, or resize it with Shift. The Delete key deletes it."
+
+const HELP_SEVERAL =
+  "Drag one to move all. A colour, the arrow keys and the Delete key apply to all. Shift and a click adds an object, " +
+  "or takes it out."
 
 // The list has at most this many objects, the newest.
 const LISTED = 300
@@ -55,9 +59,10 @@ export class Panel {
   draw() {
     if (this.#edit !== null || this.#pressed !== null) return
     const focused = document.activeElement?.dataset?.focus
-    const { selected } = this.board
-    const shown = String(selected)
-    this.element.replaceChildren(...(selected === null ? this.#objects() : this.#object(selected)))
+    const { selected, selection } = this.board
+    const shown = String(selection.names)
+    this.element.replaceChildren(...(selected !== null ? this.#object(selected)
+      : selection.size > 0 ? this.#several(selection) : this.#objects()))
     if (this.#top !== 0) this.element.scrollTop = this.#top = this.#shown === shown ? this.#top : 0
     this.#shown = shown
     if (focused !== undefined && document.activeElement === document.body) this.#focus(focused)
@@ -126,13 +131,30 @@ export class Panel {
     return html("ul", {}, ...items)
   }
 
+  // ---- several objects
+
+  #several({ size }) {
+    const { board, changes, clipboard, grouping } = this.page
+    const unpicked = size - board.chosen.length
+    const note = unpicked === 0 ? "" : ` ${countOf(unpicked, "object")} with several versions will stay as ` +
+      `${unpicked > 1 ? "they are" : "it is"}: pick a version first.`
+    const group = grouping.isOneGroup
+      ? button("Ungroup", "ungroup", () => grouping.ungroup()) : button("Group", "group", () => grouping.group())
+    group.title = grouping.isOneGroup ? "Take the group apart (Ctrl+Shift+G)" : "One click then selects all (Ctrl+G)"
+    const drop = button("Delete", "delete", () => changes.dropAll(board.chosen))
+    drop.className = "delete"
+    return [this.#heading(countOf(size, "object")), html("p", { textContent: HELP_SEVERAL + note }),
+      html("div", { className: "actions" }, button("Copy", "copy", () => clipboard.copy()),
+        button("Duplicate", "duplicate", () => clipboard.duplicate()), group, drop)]
+  }
+
   // ---- one object
 
   #object(name) {
     const versions = this.board.shown(name)
     const picked = this.board.picked(name)
     const shape = this.board.shapes(name)[Math.max(0, versions.indexOf(picked))]
-    const parts = [this.#heading(shape), ...this.#notice(name, versions), this.#textField(name, picked)]
+    const parts = [this.#heading(wordsOf(shape)), ...this.#notice(name, versions), this.#textField(name, picked)]
     if (picked !== null) parts.push(this.#order(name, picked))
     if (versions.length > 1) parts.push(...this.#versions(name, versions, picked))
     else parts.push(html("p", { textContent: HELP }))
@@ -140,9 +162,9 @@ export class Panel {
     return [...parts, html("div", { className: "actions" }, ...ends)]
   }
 
-  #heading(shape) {
-    const all = button("All objects", "all", () => this.page.select(null))
-    return html("header", {}, html("h2", { textContent: wordsOf(shape) }), all)
+  #heading(words) {
+    const all = button("All objects", "all", () => this.page.selectAll([]))
+    return html("header", {}, html("h2", { textContent: words }), all)
   }
 
   /** The notice about a concurrent deletion, with a button for each decision. */
@@ -171,7 +193,8 @@ export class Panel {
     return html("div", { className: "actions" },
       button("To front", "front", () => changes.change({ z: own > most ? own : most + 1 })),
       button("To back", "back", () => changes.change({ z: own < least ? own : least - 1 })),
-      button("Copy", "copy", () => clipboard.copy()))
+      button("Copy", "copy", () => clipboard.copy()),
+      button("Duplicate", "duplicate", () => clipboard.duplicate()))
   }
 
   /**

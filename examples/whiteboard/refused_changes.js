@@ -79,7 +79,7 @@ export class RefusedChanges {
     const { changes, clipboard } = this.page
     const notice = html("section", { className: "notice" })
     const copy = button("Copy it", "copy-kept", () => {
-      clipboard.keep(form)
+      clipboard.keep([form])
       copy.textContent = "Copied"
     })
     const make = button("Make it a new object", "make-kept", () => {

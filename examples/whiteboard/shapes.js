@@ -1,7 +1,8 @@
 /**
  * The meaning of attributes on the whiteboard. The server does not know it; all pages agree on it. `x` and `y` are the
  * position, `width` and `height` the size, all integers. `fill` is the colour and `name` the text on the shape. `z`, an
- * integer, is the order from back to front. For `points-0` and the like, see pen.js.
+ * integer, is the order from back to front. groups.js has the meaning of `group`, and pen.js that of `points-0` and the
+ * like.
  */
 
 import { boundsOf } from "./boxes.js"
@@ -61,8 +62,16 @@ export function shapeOf(kind, attributes) {
     kind, x: whole("x"), y: whole("y"), width: whole("width"), height: whole("height"), z: whole("z"),
     fill: isColour(fill) ? fill : PLAIN,
     text: String(attributes.get("name") ?? ""),
+    group: String(attributes.get("group") ?? ""),
     strokes: kind === "pen" ? strokesIn(attributes) : [],
   }
+}
+
+/** The shape of a version with other attributes. */
+export function withAttributes(shape, version, attributes) {
+  // Reading the strokes of a pen again would take long.
+  if (Object.keys(attributes).every((key) => key === "x" || key === "y")) return { ...shape, ...attributes }
+  return shapeOf(shape.kind, new Map([...version.attributes, ...Object.entries(attributes)]))
 }
 
 /** The attributes that a move sets: always both x and y. So no version can combine x of one move with y of another. */

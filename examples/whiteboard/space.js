@@ -27,6 +27,12 @@ export class Space {
     return deletions <= entries && (deletions > objects || deletions + again > entries)
   }
 
+  /** Whether it takes all of these new objects. */
+  takesAll(forms) {
+    const entries = forms.reduce((sum, { attributes }) => sum + entriesOfNew(attributes.size), 0)
+    return this.objects >= forms.length && this.entries >= entries
+  }
+
   /** Whether it takes a new object with this many attributes. */
   takes(attributes) {
     return this.objects > 0 && this.entries >= entriesOfNew(attributes)

@@ -5,7 +5,7 @@ import { COLOURS, isColour } from "./shapes.js"
 
 const ZOOM = 1.25
 const HINTS = {
-  select: "Drag an object to move it. Drag the paper to move the view.",
+  select: "Drag an object, or a box around several. Space and a drag moves the view.",
   rect: "Drag on the paper to draw a rectangle, or press Enter on it.",
   ellipse: "Drag on the paper to draw an ellipse, or press Enter on it.",
   line: "Drag on the paper to draw a line, or press Enter on it.",
@@ -40,7 +40,7 @@ export class Toolbar {
 
   /** Switches to another tool. A drawing tool clears the selection. */
   use(tool) {
-    if (tool !== "select" && this.page.board.selected !== null) this.page.select(null)
+    if (tool !== "select" && this.page.board.selection.size > 0) this.page.selectAll([])
     this.tool = tool
     part("board").dataset.tool = tool
     part("hint").textContent = HINTS[tool]
@@ -54,7 +54,7 @@ export class Toolbar {
     const { board, changes, clipboard } = this.page
     part("undo").disabled = !changes.canUndo
     part("redo").disabled = !changes.canRedo
-    part("copy").disabled = board.selected === null || board.picked(board.selected) === null
+    part("copy").disabled = board.chosen.length === 0
     part("paste").disabled = !clipboard.isFull
   }
 

@@ -15,6 +15,7 @@ import { DeletionMessages } from "./deletion_messages.js"
 import { part } from "./elements.js"
 import { Frames } from "./frames.js"
 import { Gestures } from "./gestures.js"
+import { Grouping } from "./groups.js"
 import { Handwriting } from "./handwriting.js"
 import { Keys } from "./keys.js"
 import { placeOfPage } from "./links.js"
@@ -49,6 +50,7 @@ export class Page {
     this.deletedObjects = new DeletedObjects(this)
     this.deletionMessages = new DeletionMessages(this)
     this.clipboard = new Clipboard(this)
+    this.grouping = new Grouping(this)
     this.handwriting = new Handwriting(this)
     this.tools = new Toolbar(this)
     this.nudges = new Nudges(this)
@@ -74,11 +76,32 @@ export class Page {
 
   /** Selects an object or none, and picks a version if one is given. */
   select(name, version) {
-    const before = this.board.selected
-    this.others.holds.tell(name)
-    this.board.selected = name
-    if (version !== undefined && this.board.shown(name).length > 1) this.board.pick(name, version)
-    this.view.change([before, name].filter((one) => one !== null && this.room.has(one)))
+    if (version !== undefined) this.pick(name, version)
+    this.selectAll(name === null ? [] : [name])
+  }
+
+  /** Picks a version of an object. */
+  pick(name, version) {
+    if (this.board.shown(name).length > 1) this.board.pick(name, version)
+    this.view.change([name])
+  }
+
+  /** Selects these objects alone. */
+  selectAll(names) {
+    this.#reselect(() => this.board.selection.set(names))
+  }
+
+  /** Adds objects to the selection, or takes them out if all of them are selected. */
+  toggle(names) {
+    this.#reselect(() => this.board.selection.toggle(names))
+  }
+
+  #reselect(act) {
+    const { selection } = this.board
+    const before = selection.names
+    act()
+    this.others.holds.tell(selection.first)
+    this.view.change([...before, ...selection.names].filter((one) => this.room.has(one)))
   }
 
   /** Keeps versions that survived a deletion. */
@@ -107,7 +130,7 @@ export class Page {
   }
 
   #take(news) {
-    const selected = this.board.selected
+    const selected = new Set(this.board.selection.names.map(String))
     const lost = this.board.update(news)
     this.changes.entries.readNew()
     this.view.pending.look()

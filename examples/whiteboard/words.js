@@ -42,6 +42,9 @@ export const refusedWords = (shape, reason, isNew = false) =>
 /** What the page says before it deletes what could not be brought back. */
 export const FINAL_DELETION = "Nothing new fits into this drawing, so this deletion can't be undone. "
 
+/** That nothing was pasted. */
+export const NOT_ALL_FIT = "Not all of this fits into the drawing, so none of it was pasted."
+
 /** That deleted versions of a shape came back, but not as its versions. */
 export const separateWords = (count, shape) =>
   `${countOf(count, "version")} of ${wordsOf(shape)} came back as ${count > 1 ? "new objects" : "a new object"}. ` +
@@ -119,6 +122,7 @@ export function linesOf(attributes, keys) {
 
 function valueWords(key, value) {
   if (value === undefined || value === "") return "none"
+  if (key === "group") return "in a group"
   return (key === "fill" && COLOURS.get(value)) || String(value)
 }
 

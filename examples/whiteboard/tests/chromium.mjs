@@ -151,7 +151,23 @@ class Page {
     const isUp = type === "mouseMoved" && !this.isDown
     const button = isUp ? "none" : "left"
     const buttons = isUp || type === "mouseReleased" ? 0 : 1
-    await this.ask("Input.dispatchMouseEvent", { type, x, y, button, buttons, clickCount })
+    const modifiers = this.modifiers ?? 0
+    await this.ask("Input.dispatchMouseEvent", { type, x, y, button, buttons, clickCount, modifiers })
+  }
+
+  /** Does something with the mouse while these modifier keys are down. */
+  async withKeys(modifiers, act) {
+    this.modifiers = modifiers
+    await act()
+    this.modifiers = 0
+  }
+
+  /** Does something while the space bar is down. */
+  async withSpace(act) {
+    const space = { key: " ", code: "Space", windowsVirtualKeyCode: 32 }
+    await this.ask("Input.dispatchKeyEvent", { type: "rawKeyDown", ...space })
+    await act()
+    await this.ask("Input.dispatchKeyEvent", { type: "keyUp", ...space })
   }
 
   async press(place) {

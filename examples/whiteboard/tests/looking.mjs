@@ -34,8 +34,8 @@ async function moveAndZoom(first, second) {
   const paper = [x + 300, y + 250]
   await first.wheel(paper, 30, 50)
   near("the wheel", await first.look(BOX), [x - 30, y - 50, width, height])
-  await first.drag(paper, [paper[0] + 30, paper[1] + 50])
-  near("a drag of the paper", await first.look(BOX), [x, y, width, height])
+  await first.withSpace(() => first.drag(paper, [paper[0] + 30, paper[1] + 50]))
+  near("a drag with the space bar", await first.look(BOX), [x, y, width, height])
   await first.wheel([x, y], 0, -Math.log(2) / 0.002, CONTROL)
   near("Ctrl and the wheel", await first.look(BOX), [x, y, 2 * width, 2 * height])
   await first.click("#zoom-out")

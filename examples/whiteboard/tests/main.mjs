@@ -17,6 +17,7 @@ import { presence } from "./presence.mjs"
 import { renewedInUse } from "./renewed_in_use.mjs"
 import { renewing } from "./renewing.mjs"
 import { saving } from "./saving.mjs"
+import { several } from "./several.mjs"
 import { sharing } from "./sharing.mjs"
 import { sketching } from "./sketching.mjs"
 import * as together from "./together.mjs"
@@ -86,6 +87,7 @@ async function all(browser) {
   }
   await plan(browser)
   await undoing(browser)
+  await several(browser)
   await sketching(browser)
   await looking(browser)
   await presence(browser)

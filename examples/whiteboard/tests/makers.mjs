@@ -55,7 +55,8 @@ const clock = () => new Date().toTimeString().slice(0, 5)
 async function versionsHaveMakers(first, second, room) {
   await tellName(first, "Anna", true)
   await first.picture(join(PICTURES, "makers-asked.png"))
-  expect("it is kept in the browser", await first.look(`localStorage.getItem("whiteboard-name-with-changes") === "yes"`))
+  const stored = await first.look(`localStorage.getItem("whiteboard-name-with-changes")`)
+  expectEqual("what the browser keeps", stored, "yes")
   const start = room.record.length
   const times = [clock()]
   await allDrag([first, second], ".version", [[40, -60], [90, 60]])
@@ -90,7 +91,8 @@ async function compatible(first, second, room, server) {
   const changes = await added(room, 2, () => signalRoom(server, "SIGCONT"))
   expectEqual("the names", changes.flatMap(namesOf), [[SECOND, "Ben"]])
   for (const page of [first, second]) {
-    await page.waitUntil("both changes", `document.querySelector('${ellipse} .body').getAttribute("fill") === "#e4572e"`)
+    const fill = `document.querySelector('${ellipse} .body').getAttribute("fill")`
+    await page.waitUntil("both changes", `${fill} === "#e4572e"`)
     expectEqual("the versions", await page.look(`document.querySelectorAll('${ellipse}').length`), 1)
   }
   const [name] = room.objects().filter((one) => room.kind(one) === "ellipse")

@@ -6,7 +6,7 @@ import { svg } from "./elements.js"
 import { withGroups } from "./groups.js"
 import { Hand } from "./hand.js"
 import { boxOf } from "./pen.js"
-import { LEAST, attributesOf, moveAttributes, resizeAttributes } from "./shapes.js"
+import { LEAST, NEW_SIZES, attributesOf, moveAttributes, regularSize, resizeAttributes } from "./shapes.js"
 
 // A movement of fewer pixels counts as a click.
 const CLICK_PIXELS = 2
@@ -112,7 +112,7 @@ class VersionDrag {
     const { camera } = this.page
     const [x, y] = camera.placeOf(event).map((place, side) => place - this.start[side])
     this.#isMoved ||= Math.hypot(x, y) * camera.scale >= CLICK_PIXELS
-    if (this.#isMoved) this.hand.show((shape) => this.attributesAfter(shape, x, y))
+    if (this.#isMoved) this.hand.show((shape) => this.attributesAfter(shape, x, y, event.shiftKey))
   }
 
   /** A click on one of several selected objects selects that one alone, with its group. */
@@ -130,36 +130,49 @@ export class Move extends VersionDrag {
   }
 }
 
+/** With Shift the size is regular. */
 export class Resize extends VersionDrag {
-  attributesAfter(shape, x, y) {
-    return resizeAttributes(shape, x, y)
+  attributesAfter(shape, x, y, isRegular) {
+    return resizeAttributes(shape, x, y, isRegular)
   }
 }
 
-/** Draws a new shape from one corner to the opposite one. */
+/**
+ * Draws a new shape from one corner to the opposite one. With Shift it is regular. A click draws one of a usual size,
+ * around the pointer.
+ */
 export class Sketch {
+  #size = [0, 0]
+
   constructor(page, kind, event) {
     Object.assign(this, { page, kind, start: page.camera.placeOf(event) })
-    this.corner = this.start
   }
 
   move(event) {
-    this.corner = this.page.camera.placeOf(event)
-    this.page.view.sheet.sketch(bodyOf(this.#shape(), "body sketch"))
+    const size = this.page.camera.placeOf(event).map((place, side) => place - this.start[side])
+    this.#size = event.shiftKey ? regularSize(this.kind, size) : size
+    this.page.view.sheet.sketch(bodyOf(this.#shape(this.start, this.#size), "body sketch"))
   }
 
   end(isWhole) {
     const { changes, view } = this.page
     view.sheet.sketch(null)
-    const shape = this.#shape()
-    if (isWhole && Math.max(Math.abs(shape.width), Math.abs(shape.height)) >= LEAST) {
-      changes.draw(this.kind, attributesOf(shape))
-    }
+    const shape = this.#isClick ? this.#usual() : this.#shape(this.start, this.#size)
+    if (isWhole) changes.draw(this.kind, attributesOf(shape))
   }
 
-  #shape() {
-    const [[x, y], [endX, endY]] = [this.start, this.corner]
-    const shape = { kind: this.kind, x, y, width: endX - x, height: endY - y, fill: this.page.tools.colour, text: "" }
+  get #isClick() {
+    const length = Math.max(...this.#size.map(Math.abs))
+    return length < LEAST || length * this.page.camera.scale < CLICK_PIXELS
+  }
+
+  #usual() {
+    const size = NEW_SIZES[this.kind]
+    return this.#shape(this.start.map((place, side) => place - size[side] / 2), size)
+  }
+
+  #shape([x, y], [width, height]) {
+    const shape = { kind: this.kind, x, y, width, height, fill: this.page.tools.colour, text: "" }
     return this.kind === "line" ? shape : { ...shape, ...boundsOf(shape) }
   }
 }

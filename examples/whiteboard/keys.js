@@ -2,11 +2,11 @@
 
 import { isInTextField } from "./gestures.js"
 import { ARROWS } from "./nudges.js"
+import { NEW_SIZES } from "./shapes.js"
 
 const DELETING = ["Delete", "Backspace"]
 const PAN = 60
 const ZOOM = 1.25
-const USUAL = { rect: [180, 120], ellipse: [160, 120], line: [180, 90] }
 
 export class Keys {
   /** @param {import("./whiteboard.js").Page} page */
@@ -45,7 +45,7 @@ export class Keys {
     if (event.key === "Escape") return this.#escape()
     const { element } = page.view.sheet
     if (page.gestures.isBusy) return false
-    if (this.#zoom(event)) return true
+    if (this.#zoom(event) || (!event.altKey && page.tools.useKey(event.key))) return true
     const isOnDrawing = event.target === document.body || element.contains(event.target)
     return this.#change(event) || (isOnDrawing && (this.#open(event) || this.#pan(event)))
   }
@@ -110,9 +110,9 @@ export class Keys {
 
   /** Creates a shape in the centre of the window, shifted so that new shapes do not cover each other. */
   #create(kind) {
-    if (!(kind in USUAL)) return false
+    if (!Object.hasOwn(NEW_SIZES, kind)) return false
     const { board, camera, changes, tools } = this.page
-    const [width, height] = USUAL[kind]
+    const [width, height] = NEW_SIZES[kind]
     const shift = (board.objects().length % 10) * 24
     const [x, y] = camera.middle.map((place) => Math.round(place) + shift - 120)
     changes.draw(kind, { x, y, width, height, fill: tools.colour, name: "" })

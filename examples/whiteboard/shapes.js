@@ -16,6 +16,11 @@ const ENCODER = new TextEncoder()
 /** The least width or height of a new or resized shape. */
 export const LEAST = 6
 
+/** The width and height of a shape that is drawn by a click, or by a key. */
+export const NEW_SIZES = { rect: [180, 120], ellipse: [160, 120], line: [180, 90] }
+
+const EIGHTH = Math.PI / 4
+
 /** The colours of the palette, with their names. */
 export const COLOURS = new Map([
   ["#e4572e", "red"], ["#f2b134", "yellow"], ["#4c9f70", "green"], ["#3a86c8", "blue"], ["#8d6cab", "violet"],
@@ -24,6 +29,20 @@ export const COLOURS = new Map([
 
 /** The defaults for missing attributes. */
 export const USUAL = { x: 0, y: 0, width: 120, height: 80, fill: PLAIN, name: "", z: 0 }
+
+/**
+ * Width and height as Shift makes them: equal, or of a line in a multiple of 45 degrees.
+ * @returns {[number, number]}
+ */
+export function regularSize(kind, [width, height]) {
+  if (kind !== "line") {
+    const side = Math.max(Math.abs(width), Math.abs(height))
+    return [Math.sign(width) * side || side, Math.sign(height) * side || side]
+  }
+  const angle = Math.round(Math.atan2(height, width) / EIGHTH) * EIGHTH
+  const length = Math.cos(angle) * width + Math.sin(angle) * height
+  return [length * Math.cos(angle), length * Math.sin(angle)]
+}
 
 /** The position of a shape as attributes. */
 export const placeOf = ({ x, y }) => ({ x: Math.round(x), y: Math.round(y) })
@@ -77,16 +96,21 @@ export function withAttributes(shape, version, attributes) {
 /** The attributes that a move sets: always both x and y. So no version can combine x of one move with y of another. */
 export const moveAttributes = (shape, x, y) => placeOf({ x: shape.x + x, y: shape.y + y })
 
-/** The attributes that a resize sets: always both width and height, and the position if it changes. */
-export function resizeAttributes(shape, x, y) {
-  const newShape = resized(shape, x, y)
+/**
+ * The attributes that a resize sets: always both width and height, and the position if it changes. It can be regular,
+ * as with Shift.
+ */
+export function resizeAttributes(shape, x, y, isRegular = false) {
+  const newShape = resized(shape, x, y, isRegular)
   const isMoved = newShape.x !== shape.x || newShape.y !== shape.y
   return { ...(isMoved ? placeOf(newShape) : {}), ...sizeOf(newShape) }
 }
 
 /** The resized shape. Only a line may have a negative width or height. */
-function resized(shape, x, y) {
-  if (shape.kind === "line") return { ...shape, width: shape.width + x, height: shape.height + y }
-  const box = boundsOf(shape)
-  return { ...shape, ...box, width: Math.max(LEAST, box.width + x), height: Math.max(LEAST, box.height + y) }
+function resized(shape, x, y, isRegular) {
+  const box = shape.kind === "line" ? shape : boundsOf(shape)
+  const size = [box.width + x, box.height + y]
+  const [width, height] = isRegular ? regularSize(shape.kind, size) : size
+  if (shape.kind === "line") return { ...shape, width, height }
+  return { ...shape, ...box, width: Math.max(LEAST, width), height: Math.max(LEAST, height) }
 }

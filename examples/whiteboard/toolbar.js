@@ -6,11 +6,13 @@ import { COLOURS, isColour } from "./shapes.js"
 const ZOOM = 1.25
 const HINTS = {
   select: "Drag an object, or a box around several. Space and a drag moves the view.",
-  rect: "Drag on the paper to draw a rectangle, or press Enter on it.",
-  ellipse: "Drag on the paper to draw an ellipse, or press Enter on it.",
-  line: "Drag on the paper to draw a line, or press Enter on it.",
+  rect: "Drag on the paper, or click, to draw a rectangle. Shift makes it a square.",
+  ellipse: "Drag on the paper, or click, to draw an ellipse. Shift makes it a circle.",
+  line: "Drag on the paper, or click, to draw a line. Shift keeps to multiples of 45°.",
   pen: "Drag on the paper to draw by hand. Press Escape to stop.",
 }
+// By key: the tool that it takes.
+const TOOL_KEYS = { v: "select", r: "rect", o: "ellipse", l: "line", p: "pen" }
 
 export class Toolbar {
   /** The current tool. */
@@ -22,6 +24,7 @@ export class Toolbar {
   constructor(page) {
     this.page = page
     this.#makeColours()
+    this.#tellKeys()
     part("tools").addEventListener("click", ({ target }) => {
       const { tool } = target.closest("button")?.dataset ?? {}
       if (tool !== undefined) this.use(tool)
@@ -46,6 +49,22 @@ export class Toolbar {
     part("hint").textContent = HINTS[tool]
     for (const one of document.querySelectorAll("button[data-tool]")) {
       one.setAttribute("aria-pressed", one.dataset.tool === tool)
+    }
+  }
+
+  /** Switches to the tool of a key. Returns whether there is one. */
+  useKey(key) {
+    const letter = key.toLowerCase()
+    if (!Object.hasOwn(TOOL_KEYS, letter)) return false
+    this.use(TOOL_KEYS[letter])
+    return true
+  }
+
+  #tellKeys() {
+    for (const [key, tool] of Object.entries(TOOL_KEYS)) {
+      const button = document.querySelector(`button[data-tool="${tool}"]`)
+      button.title = `${button.textContent} (${key.toUpperCase()})`
+      button.setAttribute("aria-keyshortcuts", key.toUpperCase())
     }
   }
 

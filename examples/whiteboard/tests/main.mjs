@@ -21,6 +21,7 @@ import { several } from "./several.mjs"
 import { sharing } from "./sharing.mjs"
 import { sketching } from "./sketching.mjs"
 import * as together from "./together.mjs"
+import { tools } from "./tools.mjs"
 import { undoing } from "./undoing.mjs"
 
 const keep = (page, word) => page.picture(join(PICTURES, `${word}.png`))
@@ -87,6 +88,7 @@ async function all(browser) {
   }
   await plan(browser)
   await undoing(browser)
+  await tools(browser)
   await several(browser)
   await sketching(browser)
   await looking(browser)

@@ -2,17 +2,14 @@
 
 import { boundsOf, middleOf } from "./boxes.js"
 import { svg } from "./elements.js"
+import { LINE, TEXT_SIZES, lettering, linesOf } from "./lettering.js"
 import { pathOf } from "./pen.js"
 
-const FONT = "system-ui, 'DejaVu Sans', sans-serif"
-const SIZES = [20, 17, 14, 12, 10]
-const LINE = 1.25
 const LEAST_WIDTH = 90
 const INK = "#1d2733"
 const PAPER_COLOUR = "#ffffff"
 // On a colour darker than this (0 to 255) the text is light.
 const DARK = 140
-const SCRATCH = document.createElement("canvas").getContext("2d")
 
 /** The element of a shape. */
 export function bodyOf(shape, name = "body") {
@@ -25,6 +22,7 @@ export function bodyOf(shape, name = "body") {
   if (kind === "pen") {
     return svg("path", { class: `${name} stroke`, d: pathOf(strokesIn(shape, box)), style: `stroke: ${fill}` })
   }
+  if (kind === "text") return svg("rect", { class: `${name} unseen-body`, ...box, fill: "none" })
   if (kind === "ellipse") {
     const [rx, ry] = [box.width / 2, box.height / 2]
     return svg("ellipse", { class: name, cx: box.x + rx, cy: box.y + ry, rx, ry, fill })
@@ -50,45 +48,34 @@ function strokesIn({ strokes }, { x, y, width, height }) {
   return strokes.map((stroke) => stroke.map((point) => [x + point[0] * wide, y + point[1] * high]))
 }
 
-/** The text on a shape: broken to its width, in the largest size that fits its height. */
+/** The text of a shape. One that stands for itself begins at its corner; on others it is made to fit. */
 export function textOf(shape) {
   const box = boundsOf(shape)
+  const isAlone = shape.kind === "text"
   const [middle, centre] = middleOf(box)
-  const width = Math.max(LEAST_WIDTH, box.width - 14)
-  const { size, lines } = lettering(shape.text, width, box.height)
-  const top = centre - ((lines.length - 1) * size * LINE) / 2
+  const { size, lines } = isAlone ? letteringAlone(shape)
+    : lettering(shape.text, Math.max(LEAST_WIDTH, box.width - 14), box.height, shape.size)
+  const x = isAlone ? box.x : middle
+  const top = isAlone ? box.y + (size * LINE) / 2 : centre - ((lines.length - 1) * size * LINE) / 2
   const spans = lines.map((line, place) => {
-    const span = svg("tspan", { x: middle, y: top + place * size * LINE })
+    const span = svg("tspan", { x, y: top + place * size * LINE })
     span.textContent = line
     return span
   })
   const [ink, ground] = inksOf(shape)
-  return svg("text", { class: "name", "font-size": size, style: `fill: ${ink}; stroke: ${ground}` }, ...spans)
+  const anchor = isAlone ? "start" : "middle"
+  const style = `fill: ${ink}; stroke: ${ground}; text-anchor: ${anchor}`
+  return svg("text", { class: "name", "font-size": size, style }, ...spans)
 }
 
-/** The colours of the text and its outline. A thin shape uses the paper's colour. */
+function letteringAlone({ text, width, size }) {
+  return { size: TEXT_SIZES[size], lines: linesOf(text, width, TEXT_SIZES[size]) }
+}
+
+/** The colours of the text and its outline. A thin shape, and a text alone, have the paper's colour behind letters. */
 function inksOf(shape) {
+  if (shape.kind === "text") return [shape.fill, PAPER_COLOUR]
   if (isThin(shape)) return [INK, PAPER_COLOUR]
   const [red, green, blue] = [1, 3, 5].map((place) => parseInt(shape.fill.slice(place, place + 2), 16))
   return [0.3 * red + 0.59 * green + 0.11 * blue < DARK ? PAPER_COLOUR : INK, shape.fill]
-}
-
-/** The largest size of which all lines fit the height, or the smallest size. */
-function lettering(text, width, height) {
-  const tries = SIZES.map((size) => ({ size, lines: linesOf(text, width, size) }))
-  return tries.find(({ size, lines }) => lines.length * size * LINE <= height) ?? tries.at(-1)
-}
-
-/** Breaks the text into lines of this width: between words, or inside words that are too long. */
-function linesOf(text, width, size) {
-  SCRATCH.font = `${size}px ${FONT}`
-  const isTooLong = (words) => SCRATCH.measureText(words.trimEnd()).width > width
-  const pieces = text.split(/(?<=\s)/).flatMap((word) => (isTooLong(word) ? [...word] : [word]))
-  const lines = [""]
-  for (const piece of pieces) {
-    const longer = lines.at(-1) + piece
-    if (lines.at(-1) !== "" && isTooLong(longer)) lines.push(piece)
-    else lines[lines.length - 1] = longer
-  }
-  return lines.map((line) => line.trim())
 }

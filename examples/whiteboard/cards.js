@@ -1,6 +1,6 @@
 /** The versions of an object side by side: as cards, or as rows if there are many. */
 
-import { bodyOf, outlineOf } from "./bodies.js"
+import { bodyOf, outlineOf, textOf } from "./bodies.js"
 import { boundsOfAll } from "./boxes.js"
 import { button, html, svg } from "./elements.js"
 import { isColour } from "./shapes.js"
@@ -83,6 +83,6 @@ export function pictureOf(shapes, place) {
   shapes.forEach((shape, other) => {
     if (other !== place) picture.append(outlineOf(shape, "other"))
   })
-  picture.append(bodyOf(shapes[place]))
+  picture.append(bodyOf(shapes[place]), ...(shapes[place].kind === "text" ? [textOf(shapes[place])] : []))
   return picture
 }

@@ -177,6 +177,23 @@ export class Sketch {
   }
 }
 
+/** Begins a text on empty paper, or opens that of a shape. */
+export class TextPress {
+  constructor(page, under, event) {
+    Object.assign(this, { page, under, place: page.camera.placeOf(event) })
+  }
+
+  move() {}
+
+  end(isWhole) {
+    const { textField, tools } = this.page
+    if (!isWhole) return
+    if (this.under === null) return textField.openNew(this.place)
+    tools.use("select")
+    textField.open(this.under.name, this.under.version)
+  }
+}
+
 /** Draws a stroke of the pen. */
 export class Stroke {
   constructor(page, event) {

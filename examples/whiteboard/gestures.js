@@ -1,6 +1,6 @@
 /** Pointer input on the drawing: mouse, pen or fingers. */
 
-import { BoxSelection, Move, Pan, Pinch, Resize, Sketch, Stroke } from "./drags.js"
+import { BoxSelection, Move, Pan, Pinch, Resize, Sketch, Stroke, TextPress } from "./drags.js"
 import { withGroups } from "./groups.js"
 
 const [LEFT, MIDDLE] = [0, 1]
@@ -71,9 +71,10 @@ export class Gestures {
     const { tool } = page.tools
     if (event.button === MIDDLE || this.#isSpaceDown) return new Pan(page, event)
     if (tool === "pen") return new Stroke(page, event)
-    if (tool !== "select") return new Sketch(page, tool, event)
     const target = elementAt(event)
     const under = page.view.sheet.under(target)
+    if (tool === "text") return new TextPress(page, under, event)
+    if (tool !== "select") return new Sketch(page, tool, event)
     if (under === null) {
       page.view.sheet.element.focus({ preventScroll: true })
       return event.pointerType === "touch" ? new Pan(page, event) : new BoxSelection(page, event)
@@ -128,13 +129,16 @@ export class Gestures {
     else camera.pan(-x, -y)
   }
 
-  /** A double click on a shape opens its text field. */
+  /** A double click on a shape opens its text field, and on empty paper that of a new text. */
   #write(event) {
     const [x, y] = this.#pressed.place
     if (Math.hypot(event.clientX - x, event.clientY - y) >= DOUBLE_PIXELS) return
-    this.page.view.now()
-    const under = this.page.view.sheet.under(elementAt(event))
-    if (under !== null && this.page.tools.tool === "select") this.page.textField.open(under.name, under.version)
+    const { camera, textField, tools, view } = this.page
+    view.now()
+    const under = view.sheet.under(elementAt(event))
+    if (tools.tool !== "select") return
+    if (under === null) textField.openNew(camera.placeOf(event))
+    else textField.open(under.name, under.version)
   }
 }
 

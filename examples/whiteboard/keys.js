@@ -110,8 +110,9 @@ export class Keys {
 
   /** Creates a shape in the centre of the window, shifted so that new shapes do not cover each other. */
   #create(kind) {
-    if (!Object.hasOwn(NEW_SIZES, kind)) return false
-    const { board, camera, changes, tools } = this.page
+    const { board, camera, changes, textField, tools } = this.page
+    if (kind === "text") textField.openNew(camera.middle)
+    if (!Object.hasOwn(NEW_SIZES, kind)) return kind === "text"
     const [width, height] = NEW_SIZES[kind]
     const shift = (board.objects().length % 10) * 24
     const [x, y] = camera.middle.map((place) => Math.round(place) + shift - 120)

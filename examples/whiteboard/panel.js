@@ -4,8 +4,10 @@ import { keyOf } from "./board.js"
 import { cardsOf, pictureOf } from "./cards.js"
 import { button, html } from "./elements.js"
 import { shapeOfForm } from "./deleted_objects.js"
-import { truncate } from "./shapes.js"
+import { TEXT_SIZES, USUAL_SIZE } from "./lettering.js"
+import { textArea } from "./text_area.js"
 import { TextEdit } from "./text_edit.js"
+import { textIn, truncate } from "./texts.js"
 import { countOf, letterOf, numberOf, versionWords, wordsOf } from "./words.js"
 
 const HELP =
@@ -154,7 +156,8 @@ export class Panel {
     const versions = this.board.shown(name)
     const picked = this.board.picked(name)
     const shape = this.board.shapes(name)[Math.max(0, versions.indexOf(picked))]
-    const parts = [this.#heading(wordsOf(shape)), ...this.#notice(name, versions), this.#textField(name, picked)]
+    const parts = [this.#heading(wordsOf(shape)), ...this.#notice(name, versions), this.#textField(name, picked),
+      ...this.#textSizes(picked)]
     if (picked !== null) parts.push(this.#order(name, picked))
     if (versions.length > 1) parts.push(...this.#versions(name, versions, picked))
     else parts.push(html("p", { textContent: HELP }))
@@ -215,19 +218,29 @@ export class Panel {
 
   /** The text field. Leaving it commits the text. The panel stays as it is meanwhile. */
   #textField(name, picked) {
-    const before = String(picked?.attributes.get("name") ?? "")
-    const input = html("input", { type: "text", value: before, disabled: picked === null, dataset: { focus: "text" } })
     const { seen } = this.page.room
-    input.addEventListener("input", () => {
-      input.value = truncate(input.value)
-      this.#edit ??= new TextEdit(this.page, name, picked, seen)
+    const { field, left } = textArea({
+      text: picked === null ? "" : textIn(picked.attributes), label: "Text",
+      end: (isWhole) => this.#endEdit(isWhole ? truncate(field.value) : undefined),
+      write: () => (this.#edit ??= new TextEdit(this.page, name, picked, seen)),
     })
-    input.addEventListener("blur", () => this.#endEdit(input.value))
-    input.addEventListener("keydown", ({ key }) => {
-      if (key === "Enter") this.#endEdit(input.value)
-      else if (key === "Escape") this.#endEdit()
+    Object.assign(field, { disabled: picked === null })
+    field.dataset.focus = "text"
+    return html("label", {}, html("span", { textContent: "Text" }), field, left)
+  }
+
+  /** The buttons for the size of a text, once there is one. */
+  #textSizes(picked) {
+    if (picked === null || textIn(picked.attributes) === "") return []
+    const chosen = picked.attributes.get("size") ?? USUAL_SIZE
+    const buttons = Object.keys(TEXT_SIZES).map((size) => {
+      const choice = button(`${size[0].toUpperCase()}${size.slice(1)}`, size, () => this.page.changes.change({ size }))
+      choice.setAttribute("aria-pressed", size === chosen)
+      return choice
     })
-    return html("label", {}, html("span", { textContent: "Text" }), input)
+    const group = html("div", { className: "actions", role: "group" }, ...buttons)
+    group.setAttribute("aria-label", "Size of the text")
+    return [group]
   }
 
   /** Ends the writing with this text, or without one. */

@@ -1,17 +1,18 @@
 /**
  * The meaning of attributes on the whiteboard. The server does not know it; all pages agree on it. `x` and `y` are the
- * position, `width` and `height` the size, all integers. `fill` is the colour and `name` the text on the shape. `z`, an
- * integer, is the order from back to front. groups.js has the meaning of `group`, and pen.js that of `points-0` and the
- * like.
+ * position, `width` and `height` the size, all integers. `fill` is the colour, `name` the text on the shape, and `size`
+ * the size of its letters. `z`, an integer, is the order from back to front. groups.js has the meaning of `group`,
+ * texts.js that of `name-2` and the like, and pen.js that of `points-0` and the like. A shape of the kind `text` is as
+ * large as its text. Its `width` is where lines are broken, if the user has chosen that.
  */
 
 import { boundsOf } from "./boxes.js"
+import { TEXT_SIZES, USUAL_SIZE, sizeOfText } from "./lettering.js"
 import { strokesIn } from "./pen.js"
+import { textIn } from "./texts.js"
 
 const FAR = 100000
 const PLAIN = "#c9d1d9"
-const TEXT_BYTES = 256
-const ENCODER = new TextEncoder()
 
 /** The least width or height of a new or resized shape. */
 export const LEAST = 6
@@ -56,14 +57,6 @@ export const attributesOf = (shape) => ({ ...placeOf(shape), ...sizeOf(shape), f
 /** Whether a value is a colour that the page can draw. */
 export const isColour = (value) => /^#[0-9a-f]{6}$/.test(value)
 
-/** Cuts a text so that it fits a value. */
-export function truncate(text) {
-  // Each character takes at least one byte.
-  let fit = text.slice(0, TEXT_BYTES).toWellFormed()
-  while (ENCODER.encode(fit).length > TEXT_BYTES) fit = [...fit].slice(0, -1).join("")
-  return fit
-}
-
 /** Clamps a number to the drawable range. Anything else gives the default. */
 function wholeOf(value, usual) {
   if (typeof value !== "number" && typeof value !== "bigint") return usual
@@ -77,13 +70,17 @@ function wholeOf(value, usual) {
 export function shapeOf(kind, attributes) {
   const whole = (key) => wholeOf(attributes.get(key), USUAL[key])
   const fill = attributes.get("fill")
-  return {
+  const shape = {
     kind, x: whole("x"), y: whole("y"), width: whole("width"), height: whole("height"), z: whole("z"),
     fill: isColour(fill) ? fill : PLAIN,
-    text: String(attributes.get("name") ?? ""),
+    text: textIn(attributes),
+    size: Object.hasOwn(TEXT_SIZES, attributes.get("size")) ? attributes.get("size") : USUAL_SIZE,
     group: String(attributes.get("group") ?? ""),
     strokes: kind === "pen" ? strokesIn(attributes) : [],
   }
+  if (kind !== "text") return shape
+  const width = attributes.has("width") ? Math.max(LEAST, shape.width) : null
+  return { ...shape, ...sizeOfText(shape.text, shape.size, width) }
 }
 
 /** The shape of a version with other attributes. */
@@ -101,6 +98,7 @@ export const moveAttributes = (shape, x, y) => placeOf({ x: shape.x + x, y: shap
  * as with Shift.
  */
 export function resizeAttributes(shape, x, y, isRegular = false) {
+  if (shape.kind === "text") return { width: Math.max(LEAST, Math.round(shape.width + x)) }
   const newShape = resized(shape, x, y, isRegular)
   const isMoved = newShape.x !== shape.x || newShape.y !== shape.y
   return { ...(isMoved ? placeOf(newShape) : {}), ...sizeOf(newShape) }

@@ -5,6 +5,9 @@
 
 import { Refused } from "../../clients/js/grace.js"
 import { keyOf } from "./board.js"
+import { TEXT_SIZES, USUAL_SIZE } from "./lettering.js"
+import { placeOf } from "./shapes.js"
+import { textAttributes, textIn } from "./texts.js"
 
 export class TextEdit {
   #page
@@ -26,7 +29,7 @@ export class TextEdit {
     /** The object. It may get another name. */
     this.name = name
     /** The text at the beginning. */
-    this.before = String(version.attributes.get("name") ?? "")
+    this.before = textIn(version.attributes)
     this.#unlisten = page.room.on("change", ({ renamed }) => this.#follow(renamed))
   }
 
@@ -35,21 +38,51 @@ export class TextEdit {
     return this.#page.board.successors(this.name, this.#version)[0] ?? null
   }
 
-  /** Ends the writing with this text, or without one. Also what was deleted meanwhile gets the text. */
+  /**
+   * Ends the writing with this text, or without one. Also what was deleted meanwhile gets the text. A text alone that
+   * is empty is deleted.
+   */
   end(text = this.before) {
     this.#unlisten()
     if (text === this.before) return
     const { changes, refusedChanges, room } = this.#page
+    if (this.#isEmpty(text)) return changes.drop(this.name, [this.version])
+    const written = textAttributes(text, this.#version.attributes)
     if (!room.has(this.name)) {
-      const attributes = new Map([...this.#version.attributes, ["name", text]])
+      const attributes = new Map([...this.#version.attributes, ...Object.entries(written)])
       return refusedChanges.refuse(new Refused("no-such-object"), { kind: this.#kind, attributes })
     }
-    const change = changes.put(this.name, this.#version, { name: text }, { seen: this.#seen })
+    const change = changes.put(this.name, this.#version, written, { seen: this.#seen })
     if (change !== null) this.#page.select(change.object)
+  }
+
+  /** Whether nothing would be left to see. */
+  #isEmpty(text) {
+    return this.#kind === "text" && text.trim() === "" && this.#page.room.has(this.name) && this.version !== null
   }
 
   #follow(renamed) {
     const found = renamed.find(([old]) => keyOf(old) === keyOf(this.name))
     if (found !== undefined) this.name = found[1]
+  }
+}
+
+/** A text that the user writes on empty paper. It becomes an object at its end, unless it is empty. */
+export class NewText {
+  #page
+  name = null
+  version = null
+  before = ""
+
+  /** @param {import("./whiteboard.js").Page} page @param {[number, number]} place of the middle of its first line */
+  constructor(page, [x, y]) {
+    this.#page = page
+    this.place = { x, y: y - TEXT_SIZES[USUAL_SIZE] / 2 }
+  }
+
+  end(text) {
+    const { changes, tools } = this.#page
+    if (text.trim() === "") return tools.use("select")
+    changes.draw("text", { ...placeOf(this.place), fill: tools.colour, ...textAttributes(text) })
   }
 }

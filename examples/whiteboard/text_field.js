@@ -1,14 +1,18 @@
-/** The text field on a shape. It follows the shape, which others may move while it is open. */
+/** The text field on a shape, or on empty paper. It follows the shape, which others may move while it is open. */
 
 import { boundsOf, middleOf } from "./boxes.js"
 import { html, part } from "./elements.js"
-import { truncate, shapeOf } from "./shapes.js"
-import { TextEdit } from "./text_edit.js"
+import { TEXT_SIZES, USUAL_SIZE } from "./lettering.js"
+import { shapeOf } from "./shapes.js"
+import { textArea } from "./text_area.js"
+import { NewText, TextEdit } from "./text_edit.js"
+import { truncate } from "./texts.js"
 
 const LEAST_WIDTH = 180
+const NEW_SIZE = { width: 300, height: TEXT_SIZES[USUAL_SIZE] }
 
 export class TextField {
-  // The open field and what it edits, or null.
+  // The open field, the element that has it, and what it edits; or null.
   #open = null
 
   /** @param {import("./whiteboard.js").Page} page */
@@ -21,55 +25,65 @@ export class TextField {
     this.#close(true)
   }
 
-  /** Opens the field on a version. Enter or a press elsewhere commits the text, Escape cancels. */
+  /** Opens the field on a version. Ctrl+Enter or a press elsewhere commits the text, Escape cancels. */
   open(name, version) {
     this.end()
     this.page.select(name, version)
-    const edit = new TextEdit(this.page, name, version)
-    const field = html("input", { type: "text", id: "writing", value: edit.before, autocomplete: "off" })
-    field.setAttribute("aria-label", "Text on the shape")
-    this.#open = { field, edit }
-    this.draw()
-    this.#listen(field)
-    part("window").append(field)
-    field.focus()
-    field.select()
+    this.#show(new TextEdit(this.page, name, version), "Text on the shape")
+  }
+
+  /** Opens the field on empty paper, around a place of the drawing. */
+  openNew(place) {
+    this.end()
+    this.page.selectAll([])
+    this.#show(new NewText(this.page, place), "New text")
   }
 
   /** Draws the open field at its shape, or where it was if the shape is deleted. */
   draw() {
     if (this.#open === null) return
-    const { field, edit } = this.#open
+    const { edit } = this.#open
     const { version } = edit
-    if (version !== null) this.#place(field, shapeOf(this.page.room.kind(edit.name), version.attributes))
+    if (edit.name === null) this.#place({ kind: "text", ...edit.place, ...NEW_SIZE, size: USUAL_SIZE })
+    else if (version !== null) this.#place(shapeOf(this.page.room.kind(edit.name), version.attributes))
   }
 
-  #listen(field) {
-    field.addEventListener("input", () => (field.value = truncate(field.value)))
-    field.addEventListener("blur", () => this.end())
-    field.addEventListener("keydown", ({ key }) => {
-      if (key === "Enter" || key === "Escape") this.#close(key === "Enter")
+  #show(edit, label) {
+    const { field, left } = textArea({
+      text: edit.before, label, end: (isWhole) => this.#close(isWhole), write: () => this.draw(),
     })
+    const element = html("div", { id: "writing" }, field, left)
+    this.#open = { field, element, edit }
+    part("window").append(element)
+    this.draw()
+    field.focus()
+    field.select()
   }
 
   #close(isWhole) {
     if (this.#open === null) return
     const { board, view } = this.page
-    const { field, edit } = this.#open
+    const { field, element, edit } = this.#open
     this.#open = null
     const text = truncate(field.value)
-    field.remove()
+    element.remove()
     edit.end(isWhole ? text : edit.before)
-    view.change([edit.name])
+    const name = edit.name ?? board.selected
+    view.change(name === null ? [] : [name])
     view.now()
-    view.sheet.find(edit.name, board.picked(edit.name))?.focus({ preventScroll: true })
+    if (name !== null) view.sheet.find(name, board.picked(name))?.focus({ preventScroll: true })
   }
 
-  #place(field, shape) {
+  /** A text alone is written where it stands, in its size. On other shapes the field is in the middle. */
+  #place(shape) {
     const { camera } = this.page
+    const { element, field } = this.#open
     const box = camera.boxOf(boundsOf(shape))
-    const [x, y] = middleOf(box)
+    const isAlone = shape.kind === "text"
     const width = Math.max(LEAST_WIDTH, Math.min(box.width, camera.width))
-    Object.assign(field.style, { left: `${x - width / 2}px`, top: `${y}px`, width: `${width}px` })
+    const [x, y] = isAlone ? [box.x, box.y] : middleOf(box)
+    element.classList.toggle("alone", isAlone)
+    Object.assign(element.style, { left: `${isAlone ? x : x - width / 2}px`, top: `${y}px`, width: `${width}px` })
+    field.style.fontSize = isAlone ? `${TEXT_SIZES[shape.size] * camera.scale}px` : ""
   }
 }

@@ -3,16 +3,18 @@
 import { withoutMakers } from "./maker_keys.js"
 import { COLOURS } from "./shapes.js"
 import { POINT_KEYS } from "./pen.js"
+import { TEXT_BYTES, TEXT_KEYS, textIn } from "./texts.js"
 
-const KINDS = { rect: "Rectangle", ellipse: "Ellipse", line: "Line", pen: "Stroke" }
+const KINDS = { rect: "Rectangle", ellipse: "Ellipse", line: "Line", pen: "Stroke", text: "Text" }
 const SEVERAL_STROKES = "Strokes"
 const LONGEST = 40
+const LONGEST_OF_VERSION = 200
 
 // The lines that describe a version: label, keys, and the separator of their values.
 const LINES = [
-  ["position", ["x", "y"], ", "], ["size", ["width", "height"], " × "], ["colour", ["fill"], ""], ["text", ["name"], ""],
+  ["position", ["x", "y"], ", "], ["size", ["width", "height"], " × "], ["colour", ["fill"], ""],
 ]
-const TOLD = [...LINES.flatMap(([, keys]) => keys), ...POINT_KEYS]
+const TOLD = [...LINES.flatMap(([, keys]) => keys), ...TEXT_KEYS, ...POINT_KEYS]
 
 /**
  * The letter of a version: A to Z, then AA, AB and so on.
@@ -30,10 +32,20 @@ export const countOf = (count, one, several = `${one}s`) => `${numberOf(count)} 
 /** A short description of a shape. */
 export function wordsOf({ kind, text, strokes }) {
   const word = strokes.length > 1 ? SEVERAL_STROKES : KINDS[kind] ?? kind
-  if (text === "") return word
-  const letters = [...text]
-  return `${word} “${letters.length > LONGEST ? `${letters.slice(0, LONGEST).join("")}…` : text}”`
+  return text === "" ? word : `${word} “${shortened(text, LONGEST)}”`
 }
+
+/** A text in one line, of at most so many letters. */
+function shortened(text, most) {
+  const letters = [...text.replace(/\s+/g, " ")]
+  return letters.length > most ? `${letters.slice(0, most).join("")}…` : letters.join("")
+}
+
+/** What is left of a text's bytes. */
+export const leftWords = (bytes) => `${numberOf(bytes)} of ${numberOf(TEXT_BYTES)} bytes left`
+
+/** That a text was cut. */
+export const CUT_TEXT = `The text is too long, and was cut after ${numberOf(TEXT_BYTES)} bytes.`
 
 /** That the room refused a new object, or a change of one. */
 export const refusedWords = (shape, reason, isNew = false) =>
@@ -115,9 +127,13 @@ export function versionWords(places) {
  * @returns {{ word: string, words: string, keys: string[] }[]}
  */
 export function linesOf(attributes, keys) {
-  const others = [...keys].filter((key) => !TOLD.includes(key)).map((key) => [key, [key], ""])
-  return [...LINES, ...others].map(([word, own, between]) =>
-    ({ word, keys: own, words: own.map((key) => valueWords(key, attributes.get(key))).join(between) }))
+  const all = new Set(keys)
+  const lineOf = ([word, own, between]) =>
+    ({ word, keys: own, words: own.map((key) => valueWords(key, attributes.get(key))).join(between) })
+  const told = LINES.filter(([, own]) => own.some((key) => all.has(key)))
+  const text = { word: "text", keys: TEXT_KEYS, words: shortened(textIn(attributes), LONGEST_OF_VERSION) || "none" }
+  const others = [...all].filter((key) => !TOLD.includes(key)).map((key) => [key, [key], ""])
+  return [...told.map(lineOf), text, ...others.map(lineOf)]
 }
 
 function valueWords(key, value) {

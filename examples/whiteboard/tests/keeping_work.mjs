@@ -181,7 +181,7 @@ const tooManyVersions = (browser) => withManyVersions(browser, async (parts) => 
   const write = async () => {
     await page.key("F2")
     await page.write("Harbour")
-    await page.key("Enter")
+    await page.key("Enter", CONTROL)
     await page.click('[data-colour="#e4572e"]')
   }
   await whileCutOff(parts, write, () => changeVersion(room, "C"))
@@ -226,7 +226,7 @@ const textOnRefused = (browser) => behindProxy(browser, recordOf(OBJECTS - 1, OB
   const refused = "Rectangle could not be added. The room has reached its limit of objects."
   await page.waitUntil("the refusal", `${KEPT}.includes(${JSON.stringify(refused)})`)
   expectEqual("what is written", await page.look(`${FIELD}.value`), "Pier")
-  await page.key("Enter")
+  await page.key("Enter", CONTROL)
   expectEqual("what is kept", await page.look(KEPT),
     [refused, "Your change of Rectangle “Pier” could not be added. This object does not exist."])
 })
@@ -315,7 +315,7 @@ async function broughtBack(first, second, room) {
   }
 }
 
-const FIELD = `document.getElementById("writing")`
+const FIELD = `document.querySelector("#writing textarea")`
 const named = (words) => `.version[aria-label="Rectangle “${words}”"]`
 const isThere = (selector) => `document.querySelector('${selector}') !== null`
 
@@ -334,7 +334,7 @@ async function drawnMeanwhile(first, second, room) {
   expect("the field went along", await first.look(`${FIELD}.getBoundingClientRect().y`) > top)
   await first.picture(join(PICTURES, "drawn-while-writing.png"))
   await first.write("bour")
-  const enter = () => first.key("Enter")
+  const enter = () => first.key("Enter", CONTROL)
   expectEqual("the text", await added(room, 1, enter), [["put", [["name", "Harbour"]]]])
   for (const page of [first, second]) {
     await page.waitUntil("the text", isThere(named("Harbour")))
@@ -350,10 +350,10 @@ async function textsAtOnce(first, second, room) {
     await page.key("F2")
   }
   await second.write("Pier")
-  await second.key("Enter")
+  await second.key("Enter", CONTROL)
   await first.waitUntil("the other's text", isThere(named("Pier")))
   await first.write("Quay")
-  expectEqual("the text", await added(room, 1, () => first.key("Enter")), [["put", [["name", "Quay"]]]])
+  expectEqual("the text", await added(room, 1, () => first.key("Enter", CONTROL)), [["put", [["name", "Quay"]]]])
   for (const page of [first, second]) {
     for (const [text, letter] of [["Quay", "A"], ["Pier", "B"]]) {
       await page.waitUntil("both texts", isThere(`.version[aria-label="Rectangle “${text}”, version ${letter} of 2"]`))
@@ -375,7 +375,7 @@ async function deletedMeanwhile(first, second, room) {
   expectEqual("the deletion", await added(room, 1, () => second.key("Delete")), [["drop"]])
   await first.waitUntil("it is gone", `document.querySelector('${RECTANGLE}') === null`)
   expectEqual("what is written", await first.look(`${FIELD}.value`), "Mole")
-  expectEqual("the text", await added(room, 1, () => first.key("Enter")), [["put", [["name", "Mole"]]]])
+  expectEqual("the text", await added(room, 1, () => first.key("Enter", CONTROL)), [["put", [["name", "Mole"]]]])
   for (const page of [first, second]) await page.waitUntil("it is back", isThere(named("Mole")))
   await second.waitUntil("the message",
     says("Rectangle “Mole”, which you deleted, is back: somebody changed it meanwhile. Delete it too"))
@@ -384,11 +384,11 @@ async function deletedMeanwhile(first, second, room) {
 
 /** The panel's field holds nothing back either. */
 async function textInPanel(first, second, room) {
-  await first.click("#panel input")
+  await first.click("#panel textarea")
   await first.write("s")
   await second.drag(await onScreen(second, [150, 330]), await onScreen(second, [150, 230]))
   await first.waitUntil("the move", `document.querySelector('${RECTANGLE} .body').getBBox().y === 200`)
-  expectEqual("the text", await added(room, 1, () => first.key("Enter")), [["put", [["name", "Moles"]]]])
+  expectEqual("the text", await added(room, 1, () => first.key("Enter", CONTROL)), [["put", [["name", "Moles"]]]])
   for (const page of [first, second]) await page.waitUntil("the text", isThere(named("Moles")))
   expectEqual("the versions", await first.look(COUNT), 2)
 }

@@ -20,6 +20,7 @@ import { saving } from "./saving.mjs"
 import { several } from "./several.mjs"
 import { sharing } from "./sharing.mjs"
 import { sketching } from "./sketching.mjs"
+import { texts } from "./texts.mjs"
 import * as together from "./together.mjs"
 import { tools } from "./tools.mjs"
 import { undoing } from "./undoing.mjs"
@@ -89,6 +90,7 @@ async function all(browser) {
   await plan(browser)
   await undoing(browser)
   await tools(browser)
+  await texts(browser)
   await several(browser)
   await sketching(browser)
   await looking(browser)

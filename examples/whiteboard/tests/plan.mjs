@@ -2,6 +2,7 @@
 
 import { join } from "node:path"
 import { expectEqual } from "../../../clients/js/tests/checks.js"
+import { CONTROL } from "./chromium.mjs"
 import { BODIES, COUNT, LIST, PICTURES, draw, onScreen, step, twoPeople } from "./people.mjs"
 
 export const plan = (browser) => twoPeople(browser, async ({ first, second }) => {
@@ -16,7 +17,7 @@ async function place(page, tool, colour, [x, y], [right, bottom], words) {
   if (words === undefined) return
   await page.doubleClick(await onScreen(page, [(x + right) / 2, (y + bottom) / 2]))
   await page.write(words)
-  await page.key("Enter")
+  await page.key("Enter", CONTROL)
 }
 
 /** Draws a stroke of the pen through these places. */

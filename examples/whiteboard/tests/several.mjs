@@ -192,7 +192,7 @@ async function atOnce(first, second, room, server) {
 async function textField(first, room) {
   await first.key("Escape")
   await clickAt(first, [150, 330])
-  await first.click("#panel label input")
+  await first.click("#panel label textarea")
   await first.write("ab")
   expectEqual("Backspace, arrows and Ctrl+A in the field", await added(room, 0, async () => {
     for (const key of ["Backspace", "ArrowLeft", "Delete"]) await first.key(key)

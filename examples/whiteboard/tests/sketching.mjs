@@ -256,7 +256,7 @@ async function textOnShape(first, second, room) {
   await second.waitUntil("the rectangle", `document.querySelector('[aria-label="Rectangle"]') !== null`)
   const write = (words) => async () => {
     await first.write(words)
-    await first.key("Enter")
+    await first.key("Enter", CONTROL)
   }
   await first.doubleClick(await onScreen(first, [600, 150]))
   expectEqual("a text", await added(room, 1, write("Harbour master")), [["put", [["name", "Harbour master"]]]])
@@ -270,10 +270,12 @@ async function textOnShape(first, second, room) {
   await first.key("F2")
   const long = "Ä".repeat(300)
   // A value has 256 bytes, and this letter takes two.
-  expectEqual("a long text", await added(room, 1, write(long)), [["put", [["name", "Ä".repeat(128)]]]])
+  expectEqual("a long text", await added(room, 1, write(long)),
+    [["put", [["name", "Ä".repeat(128)], ["name-2", "Ä".repeat(128)], ["name-3", "Ä".repeat(44)]]]])
   await first.key("F2")
   const words = "The harbour master's house, where the boats of the whole bay are counted each evening"
-  await added(room, 1, write(words))
+  expectEqual("a shorter one", await added(room, 1, write(words)),
+    [["put", [["name", words], ["name-2", ""], ["name-3", ""]]]])
   expectEqual("what is shown in lines", (await first.look(shown.replace("Harbour", "harbour"))).join(" "), words)
   const fits = `(() => {
     const shape = document.querySelector('.version[aria-label*="harbour"]')

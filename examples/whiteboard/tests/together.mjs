@@ -1,6 +1,7 @@
 /** Concurrent changes of the same objects, and what each person sees of them. */
 
 import { expect, expectEqual } from "../../../clients/js/tests/checks.js"
+import { CONTROL } from "./chromium.mjs"
 import {
   BODIES, CARDS, COUNT, HEADING, STATE, VERSIONS, added, waitForNews, draw, isOpen, onScreen, tabTo,
 } from "./people.mjs"
@@ -19,9 +20,9 @@ export async function twoDraw(first, second) {
 
 export async function name(first, second) {
   await first.click('.version[aria-label="Rectangle"]')
-  await first.click('#panel input')
+  await first.click('#panel textarea')
   await first.write("Lake")
-  await first.key("Enter")
+  await first.key("Enter", CONTROL)
   await second.waitUntil("the name", `document.querySelector('.version[aria-label="Rectangle “Lake”"]') !== null`)
 }
 
@@ -74,12 +75,12 @@ async function paint(first, second, letter, colour) {
 export async function nameAtOnce(first, second) {
   for (const page of [first, second]) await page.click('.version[aria-label="Ellipse"] .body')
   for (const [page, word] of [[first, "Moon"], [second, "Sun"]]) {
-    await page.click("#panel input")
+    await page.click("#panel textarea")
     await page.write(word)
   }
-  await first.key("Enter")
+  await first.key("Enter", CONTROL)
   await waitForNews()
-  await second.key("Enter")
+  await second.key("Enter", CONTROL)
   const count = `document.querySelectorAll('.version[aria-label*="version"]').length`
   for (const page of [first, second]) await page.waitUntil("two versions", `${count} === 4`)
   const words = (await first.look(VERSIONS)).map(([, , , one]) => one.split(",")[0]).sort()

@@ -22,7 +22,7 @@ async function keys(first, room) {
   await first.key("R")
   const drag = async () => first.drag(await onScreen(first, [100, 100]), await onScreen(first, [200, 160]))
   expectEqual("what is drawn", (await added(room, 1, drag)).map(([word]) => word), ["new"])
-  await first.click("#panel label input")
+  await first.click("#panel label textarea")
   await first.key("o")
   expectEqual("a letter in a text field", await first.look(TOOL), "select")
   await first.key("Escape")

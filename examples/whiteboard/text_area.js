@@ -1,0 +1,49 @@
+/** A field for a text of several lines. Enter makes a line; Ctrl+Enter ends the text, as leaving the field does. */
+
+import { html } from "./elements.js"
+import { say } from "./status.js"
+import { TEXT_BYTES, bytesOf, truncate } from "./texts.js"
+import { CUT_TEXT, leftWords } from "./words.js"
+
+// From this share of the most on, the field says how much is left.
+const TOLD_SHARE = 0.8
+const MOST_ROWS = 8
+
+/**
+ * @param {{ text: string, label: string, end: (isWhole: boolean) => void, write?: () => void }} use the text at the
+ *   beginning, what a screen reader says, what is called at the end, by Escape with false, and at each change
+ * @returns {{ field: HTMLTextAreaElement, left: HTMLElement }} the field, and the words about what is left
+ */
+export function textArea({ text, label, end, write = () => {} }) {
+  const field = html("textarea", { value: text, autocomplete: "off" })
+  const left = html("small", { className: "left" })
+  field.setAttribute("aria-label", label)
+  const tell = () => {
+    const bytes = bytesOf(field.value)
+    left.textContent = bytes >= TOLD_SHARE * TEXT_BYTES ? leftWords(TEXT_BYTES - bytes) : ""
+    field.rows = Math.min(MOST_ROWS, field.value.split("\n").length)
+  }
+  field.addEventListener("input", () => {
+    cut(field)
+    tell()
+    write()
+  })
+  field.addEventListener("blur", () => end(true))
+  field.addEventListener("keydown", (event) => {
+    const isEnd = event.key === "Enter" && (event.ctrlKey || event.metaKey)
+    if (isEnd) event.preventDefault()
+    if (isEnd || event.key === "Escape") end(isEnd)
+  })
+  tell()
+  return { field, left }
+}
+
+/** Cuts what is too long, and says so. The cursor stays, unless it was in what is cut. */
+function cut(field) {
+  const fit = truncate(field.value)
+  if (fit === field.value) return
+  const { selectionEnd } = field
+  field.value = fit
+  field.setSelectionRange(selectionEnd, selectionEnd)
+  say(CUT_TEXT)
+}

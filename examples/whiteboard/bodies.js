@@ -6,6 +6,9 @@ import { LINE, TEXT_SIZES, lettering, linesOf } from "./lettering.js"
 import { pathOf } from "./pen.js"
 
 const LEAST_WIDTH = 90
+// An arrow's lines, in units of the drawing, and their angle to the line, in radians.
+const HEAD_LENGTH = 18
+const HEAD_ANGLE = 0.45
 const INK = "#1d2733"
 const PAPER_COLOUR = "#ffffff"
 // On a colour darker than this (0 to 255) the text is light.
@@ -16,7 +19,9 @@ export function bodyOf(shape, name = "body") {
   const { kind, x, y, width, height, fill } = shape
   if (kind === "line") {
     const ends = { x1: x, y1: y, x2: x + width, y2: y + height }
-    return svg("line", { class: `${name} stroke`, ...ends, style: `stroke: ${fill}` })
+    const style = `stroke: ${fill}`
+    if (!shape.arrow) return svg("line", { class: `${name} stroke`, ...ends, style })
+    return svg("path", { class: `${name} stroke`, d: pathOfArrow(shape), style })
   }
   const box = boundsOf(shape)
   if (kind === "pen") {
@@ -39,6 +44,22 @@ export function outlineOf(shape, name) {
 
 /** Whether a shape is only a line, which is hard to hit with the pointer. */
 export const isThin = ({ kind }) => kind === "line" || kind === "pen"
+
+/** The path of a line with its arrows. */
+function pathOfArrow({ x, y, width, height, arrow }) {
+  const [start, end] = [[x, y], [x + width, y + height]]
+  const heads = arrow === "both" ? [headOf(start, end), headOf(end, start)] : [headOf(end, start)]
+  return [`M ${start} L ${end}`, ...heads].join(" ")
+}
+
+/** The two lines of an arrow at a point, on the way from another one. */
+function headOf([x, y], [fromX, fromY]) {
+  const length = Math.min(HEAD_LENGTH, Math.hypot(x - fromX, y - fromY) / 2)
+  const angle = Math.atan2(fromY - y, fromX - x)
+  const [left, right] = [angle - HEAD_ANGLE, angle + HEAD_ANGLE]
+    .map((one) => [x + length * Math.cos(one), y + length * Math.sin(one)])
+  return `M ${left} L ${[x, y]} L ${right}`
+}
 
 /** The strokes of the pen on the drawing, scaled to fill their box. */
 function strokesIn({ strokes }, { x, y, width, height }) {

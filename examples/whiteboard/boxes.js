@@ -15,10 +15,11 @@ export function boundsOfAll(shapes) {
   return { x, y, width: right - x, height: bottom - y }
 }
 
-/** The point that resizes a shape: the end of a line, or the lower right corner. */
-export function cornerOf(shape) {
+/** The points that resize a shape, by name: the ends of a line, or the lower right corner. */
+export function handlesOf(shape) {
   const { x, y, width, height } = shape.kind === "line" ? shape : boundsOf(shape)
-  return [x + width, y + height]
+  const end = { end: [x + width, y + height] }
+  return shape.kind === "line" ? { start: [x, y], ...end } : end
 }
 
 export const middleOf = ({ x, y, width, height }) => [x + width / 2, y + height / 2]

@@ -1,15 +1,13 @@
-/** What the pointer does between press and release. Each drag is one change, sent at its end. */
+/** What the pointer does to the view and to objects, between press and release. Each drag is one step, at its end. */
 
-import { bodyOf } from "./bodies.js"
 import { boundsOf, isInside } from "./boxes.js"
 import { svg } from "./elements.js"
 import { withGroups } from "./groups.js"
 import { Hand } from "./hand.js"
-import { boxOf } from "./pen.js"
-import { LEAST, NEW_SIZES, attributesOf, moveAttributes, regularSize, resizeAttributes } from "./shapes.js"
+import { lineEndAttributes, moveAttributes, resizeAttributes } from "./shapes.js"
 
-// A movement of fewer pixels counts as a click.
-const CLICK_PIXELS = 2
+/** A movement of fewer pixels counts as a click. */
+export const CLICK_PIXELS = 2
 
 /** Moves the view. A click clears the selection. */
 export class Pan {
@@ -130,94 +128,15 @@ export class Move extends VersionDrag {
   }
 }
 
-/** With Shift the size is regular. */
+/** Drags a handle: the corner of a shape, or an end of a line. With Shift the size is regular. */
 export class Resize extends VersionDrag {
+  constructor(page, under, event, end) {
+    super(page, under, event)
+    this.side = end
+  }
+
   attributesAfter(shape, x, y, isRegular) {
+    if (shape.kind === "line") return lineEndAttributes(shape, this.side, [x, y], isRegular)
     return resizeAttributes(shape, x, y, isRegular)
   }
-}
-
-/**
- * Draws a new shape from one corner to the opposite one. With Shift it is regular. A click draws one of a usual size,
- * around the pointer.
- */
-export class Sketch {
-  #size = [0, 0]
-
-  constructor(page, kind, event) {
-    Object.assign(this, { page, kind, start: page.camera.placeOf(event) })
-  }
-
-  move(event) {
-    const size = this.page.camera.placeOf(event).map((place, side) => place - this.start[side])
-    this.#size = event.shiftKey ? regularSize(this.kind, size) : size
-    this.page.view.sheet.sketch(bodyOf(this.#shape(this.start, this.#size), "body sketch"))
-  }
-
-  end(isWhole) {
-    const { changes, view } = this.page
-    view.sheet.sketch(null)
-    const shape = this.#isClick ? this.#usual() : this.#shape(this.start, this.#size)
-    if (isWhole) changes.draw(this.kind, attributesOf(shape))
-  }
-
-  get #isClick() {
-    const length = Math.max(...this.#size.map(Math.abs))
-    return length < LEAST || length * this.page.camera.scale < CLICK_PIXELS
-  }
-
-  #usual() {
-    const size = NEW_SIZES[this.kind]
-    return this.#shape(this.start.map((place, side) => place - size[side] / 2), size)
-  }
-
-  #shape([x, y], [width, height]) {
-    const shape = { kind: this.kind, x, y, width, height, fill: this.page.tools.colour, text: "" }
-    return this.kind === "line" ? shape : { ...shape, ...boundsOf(shape) }
-  }
-}
-
-/** Begins a text on empty paper, or opens that of a shape. */
-export class TextPress {
-  constructor(page, under, event) {
-    Object.assign(this, { page, under, place: page.camera.placeOf(event) })
-  }
-
-  move() {}
-
-  end(isWhole) {
-    const { textField, tools } = this.page
-    if (!isWhole) return
-    if (this.under === null) return textField.openNew(this.place)
-    tools.use("select")
-    textField.open(this.under.name, this.under.version)
-  }
-}
-
-/** Draws a stroke of the pen. */
-export class Stroke {
-  constructor(page, event) {
-    this.page = page
-    this.began = performance.now()
-    this.points = [page.camera.placeOf(event)]
-  }
-
-  move(event) {
-    const { camera, view, tools } = this.page
-    const events = event.getCoalescedEvents?.() ?? []
-    this.points.push(...(events.length > 0 ? events : [event]).map((one) => camera.placeOf(one)))
-    view.sheet.sketch(bodyOf(unfinishedStroke(this.points, tools.colour), "body sketch"))
-  }
-
-  end(isWhole) {
-    const { handwriting, view } = this.page
-    view.sheet.sketch(null)
-    if (isWhole) handwriting.draw(this.points, this.began)
-  }
-}
-
-/** The shape of an unfinished stroke. */
-function unfinishedStroke(points, fill) {
-  const box = boxOf(points)
-  return { kind: "pen", ...box, fill, strokes: [points.map(([x, y]) => [x - box.x, y - box.y])] }
 }

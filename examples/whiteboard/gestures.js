@@ -1,7 +1,8 @@
 /** Pointer input on the drawing: mouse, pen or fingers. */
 
-import { BoxSelection, Move, Pan, Pinch, Resize, Sketch, Stroke, TextPress } from "./drags.js"
+import { BoxSelection, Move, Pan, Pinch, Resize } from "./drags.js"
 import { withGroups } from "./groups.js"
+import { Sketch, Stroke, TextPress } from "./sketches.js"
 
 const [LEFT, MIDDLE] = [0, 1]
 // One notch of a wheel is about 100 pixels, which zooms by about a fifth.
@@ -79,7 +80,8 @@ export class Gestures {
       page.view.sheet.element.focus({ preventScroll: true })
       return event.pointerType === "touch" ? new Pan(page, event) : new BoxSelection(page, event)
     }
-    return target.classList.contains("handle") ? new Resize(page, under, event) : this.#moveOf(under, event)
+    const isHandle = target.classList.contains("handle")
+    return isHandle ? new Resize(page, under, event, target.dataset.end) : this.#moveOf(under, event)
   }
 
   /** Selects what is pressed, with its group, and moves it. With Shift it is added, or taken out. */

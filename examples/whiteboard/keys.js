@@ -2,7 +2,7 @@
 
 import { isInTextField } from "./gestures.js"
 import { ARROWS } from "./nudges.js"
-import { NEW_SIZES } from "./shapes.js"
+import { NEW_SHAPES, attributesOf } from "./shapes.js"
 
 const DELETING = ["Delete", "Backspace"]
 const PAN = 60
@@ -109,14 +109,14 @@ export class Keys {
   }
 
   /** Creates a shape in the centre of the window, shifted so that new shapes do not cover each other. */
-  #create(kind) {
+  #create(tool) {
     const { board, camera, changes, textField, tools } = this.page
-    if (kind === "text") textField.openNew(camera.middle)
-    if (!Object.hasOwn(NEW_SIZES, kind)) return kind === "text"
-    const [width, height] = NEW_SIZES[kind]
+    if (tool === "text") textField.openNew(camera.middle)
+    if (!Object.hasOwn(NEW_SHAPES, tool)) return tool === "text"
+    const { kind, arrow, usualSize: [width, height] } = NEW_SHAPES[tool]
     const shift = (board.objects().length % 10) * 24
     const [x, y] = camera.middle.map((place) => Math.round(place) + shift - 120)
-    changes.draw(kind, { x, y, width, height, fill: tools.colour, name: "" })
+    changes.draw(kind, attributesOf({ x, y, width, height, fill: tools.colour, text: "", arrow }))
     return true
   }
 

@@ -4,7 +4,7 @@
 
 import { isSameId } from "../../clients/js/grace.js"
 import { keyOf, nameOf } from "./board.js"
-import { boundsOf, boundsOfAll, cornerOf, grown, meet, middleOf } from "./boxes.js"
+import { boundsOf, boundsOfAll, grown, handlesOf, meet, middleOf } from "./boxes.js"
 import { svg } from "./elements.js"
 import { atOnePlace, stripeOf } from "./sheet.js"
 import { SIDE, freePlaces, rowsAbove } from "./tags.js"
@@ -61,7 +61,7 @@ export class Marks {
     const rings = objects.flatMap((object) => this.#ringsOf(object))
     const selected = objects.filter(({ isSelected, picked }) => isSelected && picked >= 0)
     const pendingMarks = objects.filter(({ name }) => pending.has(keyOf(name))).map(pendingMarkOf)
-    const handles = selected.length === 1 ? [this.#handle(selected[0])] : []
+    const handles = selected.length === 1 ? this.#handles(selected[0]) : []
     this.links.replaceChildren(...several.flatMap(linksOf))
     this.layer.replaceChildren(...rings, ...this.#ringOfMany(), ...pendingMarks, ...this.#tags(several), ...handles)
     this.layer.parentNode.style.setProperty("--scale", camera.scale)
@@ -119,13 +119,14 @@ export class Marks {
     return document.activeElement.matches(":focus-visible") ? this.board.shown(name).indexOf(focused.version) : -1
   }
 
-  /** The handle that resizes the picked version. */
-  #handle({ name, shapes, picked }) {
-    const [x, y] = cornerOf(shapes[picked])
-    const corner = this.camera.boxOf({ x, y, width: 0, height: 0 })
-    return svg("rect", {
-      class: "handle", x: corner.x - HANDLE / 2, y: corner.y - HANDLE / 2, width: HANDLE, height: HANDLE, rx: 4,
-      "data-object": keyOf(name), "data-letter": letterOf(picked),
+  /** The handles that resize the picked version. */
+  #handles({ name, shapes, picked }) {
+    return Object.entries(handlesOf(shapes[picked])).map(([end, [x, y]]) => {
+      const corner = this.camera.boxOf({ x, y, width: 0, height: 0 })
+      return svg("rect", {
+        class: "handle", x: corner.x - HANDLE / 2, y: corner.y - HANDLE / 2, width: HANDLE, height: HANDLE, rx: 4,
+        "data-object": keyOf(name), "data-letter": letterOf(picked), "data-end": end,
+      })
     })
   }
 

@@ -5,13 +5,14 @@ import { cardsOf, pictureOf } from "./cards.js"
 import { button, html } from "./elements.js"
 import { shapeOfForm } from "./deleted_objects.js"
 import { TEXT_SIZES, USUAL_SIZE } from "./lettering.js"
+import { ARROW_WORDS } from "./shapes.js"
 import { textArea } from "./text_area.js"
 import { TextEdit } from "./text_edit.js"
 import { textIn, truncate } from "./texts.js"
 import { countOf, letterOf, numberOf, versionWords, wordsOf } from "./words.js"
 
 const HELP =
-  "Drag it to move it. Drag its corner to resize it. Double-click it to write on it. " +
+  "Drag it to move it. Drag a handle to resize it. Double-click it to write on it. " +
   "The arrow keys move it, or resize it with Shift. The Delete key deletes it."
 
 const HELP_SEVERAL =
@@ -157,7 +158,7 @@ export class Panel {
     const picked = this.board.picked(name)
     const shape = this.board.shapes(name)[Math.max(0, versions.indexOf(picked))]
     const parts = [this.#heading(wordsOf(shape)), ...this.#notice(name, versions), this.#textField(name, picked),
-      ...this.#textSizes(picked)]
+      ...this.#textSizes(picked), ...(picked === null ? [] : this.#arrows(shape))]
     if (picked !== null) parts.push(this.#order(name, picked))
     if (versions.length > 1) parts.push(...this.#versions(name, versions, picked))
     else parts.push(html("p", { textContent: HELP }))
@@ -232,15 +233,25 @@ export class Panel {
   /** The buttons for the size of a text, once there is one. */
   #textSizes(picked) {
     if (picked === null || textIn(picked.attributes) === "") return []
-    const chosen = picked.attributes.get("size") ?? USUAL_SIZE
-    const buttons = Object.keys(TEXT_SIZES).map((size) => {
-      const choice = button(`${size[0].toUpperCase()}${size.slice(1)}`, size, () => this.page.changes.change({ size }))
-      choice.setAttribute("aria-pressed", size === chosen)
-      return choice
+    const words = new Map(Object.keys(TEXT_SIZES).map((size) => [size, `${size[0].toUpperCase()}${size.slice(1)}`]))
+    return [this.#choice("Size of the text", "size", words, picked.attributes.get("size") || USUAL_SIZE)]
+  }
+
+  /** The buttons for the arrows of a line. */
+  #arrows({ kind, arrow }) {
+    return kind === "line" ? [this.#choice("Arrows", "arrow", ARROW_WORDS, arrow)] : []
+  }
+
+  /** A button for each value of an attribute. */
+  #choice(label, key, words, chosen) {
+    const buttons = [...words].map(([value, word]) => {
+      const one = button(word, `${key}-${value}`, () => this.page.changes.change({ [key]: value }))
+      one.setAttribute("aria-pressed", value === chosen)
+      return one
     })
     const group = html("div", { className: "actions", role: "group" }, ...buttons)
-    group.setAttribute("aria-label", "Size of the text")
-    return [group]
+    group.setAttribute("aria-label", label)
+    return group
   }
 
   /** Ends the writing with this text, or without one. */

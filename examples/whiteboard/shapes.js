@@ -1,9 +1,10 @@
 /**
  * The meaning of attributes on the whiteboard. The server does not know it; all pages agree on it. `x` and `y` are the
  * position, `width` and `height` the size, all integers. `fill` is the colour, `name` the text on the shape, and `size`
- * the size of its letters. `z`, an integer, is the order from back to front. groups.js has the meaning of `group`,
- * texts.js that of `name-2` and the like, and pen.js that of `points-0` and the like. A shape of the kind `text` is as
- * large as its text. Its `width` is where lines are broken, if the user has chosen that.
+ * the size of its letters. `arrow` says which ends of a line have arrows. `z`, an integer, is the order from back to
+ * front. groups.js has the meaning of `group`, texts.js that of `name-2` and the like, and pen.js that of `points-0`
+ * and the like. A shape of the kind `text` is as large as its text. Its `width` is where lines are broken, if the user
+ * has chosen that.
  */
 
 import { boundsOf } from "./boxes.js"
@@ -17,8 +18,16 @@ const PLAIN = "#c9d1d9"
 /** The least width or height of a new or resized shape. */
 export const LEAST = 6
 
-/** The width and height of a shape that is drawn by a click, or by a key. */
-export const NEW_SIZES = { rect: [180, 120], ellipse: [160, 120], line: [180, 90] }
+/** By tool: the kind of what it draws, its arrows, and its width and height if it is drawn by a click or by a key. */
+export const NEW_SHAPES = {
+  rect: { kind: "rect", arrow: "", usualSize: [180, 120] },
+  ellipse: { kind: "ellipse", arrow: "", usualSize: [160, 120] },
+  line: { kind: "line", arrow: "", usualSize: [180, 90] },
+  arrow: { kind: "line", arrow: "end", usualSize: [180, 90] },
+}
+
+/** The values of `arrow`, with their names. */
+export const ARROW_WORDS = new Map([["", "Line"], ["end", "Arrow"], ["both", "Double arrow"]])
 
 const EIGHTH = Math.PI / 4
 
@@ -52,7 +61,9 @@ export const placeOf = ({ x, y }) => ({ x: Math.round(x), y: Math.round(y) })
 const sizeOf = ({ width, height }) => ({ width: Math.round(width), height: Math.round(height) })
 
 /** All attributes of a new shape. */
-export const attributesOf = (shape) => ({ ...placeOf(shape), ...sizeOf(shape), fill: shape.fill, name: shape.text })
+export const attributesOf = (shape) => ({
+  ...placeOf(shape), ...sizeOf(shape), fill: shape.fill, name: shape.text, ...(shape.arrow && { arrow: shape.arrow }),
+})
 
 /** Whether a value is a colour that the page can draw. */
 export const isColour = (value) => /^#[0-9a-f]{6}$/.test(value)
@@ -76,6 +87,7 @@ export function shapeOf(kind, attributes) {
     text: textIn(attributes),
     size: Object.hasOwn(TEXT_SIZES, attributes.get("size")) ? attributes.get("size") : USUAL_SIZE,
     group: String(attributes.get("group") ?? ""),
+    arrow: kind === "line" && ARROW_WORDS.has(attributes.get("arrow")) ? attributes.get("arrow") : "",
     strokes: kind === "pen" ? strokesIn(attributes) : [],
   }
   if (kind !== "text") return shape
@@ -102,6 +114,15 @@ export function resizeAttributes(shape, x, y, isRegular = false) {
   const newShape = resized(shape, x, y, isRegular)
   const isMoved = newShape.x !== shape.x || newShape.y !== shape.y
   return { ...(isMoved ? placeOf(newShape) : {}), ...sizeOf(newShape) }
+}
+
+/** The attributes that a drag of an end of a line sets. The other end stays. */
+export function lineEndAttributes(line, end, [x, y], isRegular = false) {
+  if (end !== "start") return resizeAttributes(line, x, y, isRegular)
+  const size = [line.width - x, line.height - y]
+  const [width, height] = isRegular ? regularSize("line", size) : size
+  const moved = { x: line.x + line.width - width, y: line.y + line.height - height, width, height }
+  return { ...placeOf(moved), ...sizeOf(moved) }
 }
 
 /** The resized shape. Only a line may have a negative width or height. */

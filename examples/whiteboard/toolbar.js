@@ -9,11 +9,12 @@ const HINTS = {
   rect: "Drag on the paper, or click, to draw a rectangle. Shift makes it a square.",
   ellipse: "Drag on the paper, or click, to draw an ellipse. Shift makes it a circle.",
   line: "Drag on the paper, or click, to draw a line. Shift keeps to multiples of 45°.",
+  arrow: "Drag on the paper, or click, to draw an arrow. Shift keeps to multiples of 45°.",
   pen: "Drag on the paper to draw by hand. Press Escape to stop.",
   text: "Click where the text is to begin. Ctrl+Enter, or a click elsewhere, ends it.",
 }
 // By key: the tool that it takes.
-const TOOL_KEYS = { v: "select", r: "rect", o: "ellipse", l: "line", p: "pen", t: "text" }
+const TOOL_KEYS = { v: "select", r: "rect", o: "ellipse", l: "line", a: "arrow", p: "pen", t: "text" }
 
 export class Toolbar {
   /** The current tool. */

@@ -1,7 +1,7 @@
 /** Texts about objects and their versions. */
 
 import { withoutMakers } from "./maker_keys.js"
-import { COLOURS } from "./shapes.js"
+import { ARROW_WORDS, COLOURS } from "./shapes.js"
 import { POINT_KEYS } from "./pen.js"
 import { TEXT_BYTES, TEXT_KEYS, textIn } from "./texts.js"
 
@@ -30,8 +30,8 @@ export const numberOf = (count) => String(count).replace(/\B(?=(\d{3})+$)/g, ","
 export const countOf = (count, one, several = `${one}s`) => `${numberOf(count)} ${count === 1 ? one : several}`
 
 /** A short description of a shape. */
-export function wordsOf({ kind, text, strokes }) {
-  const word = strokes.length > 1 ? SEVERAL_STROKES : KINDS[kind] ?? kind
+export function wordsOf({ kind, text, strokes, arrow }) {
+  const word = strokes.length > 1 ? SEVERAL_STROKES : arrow ? ARROW_WORDS.get(arrow) : KINDS[kind] ?? kind
   return text === "" ? word : `${word} “${shortened(text, LONGEST)}”`
 }
 
@@ -139,6 +139,7 @@ export function linesOf(attributes, keys) {
 function valueWords(key, value) {
   if (value === undefined || value === "") return "none"
   if (key === "group") return "in a group"
+  if (key === "arrow") return ARROW_WORDS.get(value) ?? String(value)
   return (key === "fill" && COLOURS.get(value)) || String(value)
 }
 

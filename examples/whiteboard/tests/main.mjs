@@ -8,6 +8,7 @@ import * as connections from "./connections.mjs"
 import * as deleting from "./deleting.mjs"
 import { full } from "./full.mjs"
 import { keepingWork } from "./keeping_work.mjs"
+import { lines } from "./lines.mjs"
 import { looking } from "./looking.mjs"
 import { makers } from "./makers.mjs"
 import { opening } from "./opening.mjs"
@@ -90,6 +91,7 @@ async function all(browser) {
   await plan(browser)
   await undoing(browser)
   await tools(browser)
+  await lines(browser)
   await texts(browser)
   await several(browser)
   await sketching(browser)

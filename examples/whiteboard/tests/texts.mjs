@@ -88,11 +88,13 @@ async function sizes(first, second, room) {
   const size = `document.querySelectorAll(".version text")[1].getAttribute("font-size")`
   expectEqual("at first", await second.look(size), "20")
   const wide = await first.look(`document.querySelectorAll(".version .body")[1].getBBox().width`)
-  expectEqual("large", await added(room, 1, () => first.click('[data-focus="large"]')), [["put", [["size", "large"]]]])
+  const choose = (word) => added(room, 1, () => first.click(`[data-focus="size-${word}"]`))
+  expectEqual("large", await choose("large"), [["put", [["size", "large"]]]])
   await second.waitUntil("larger letters", `${size} === "32"`)
-  expect("a larger box", await second.look(`document.querySelectorAll(".version .body")[1].getBBox().width`) > 1.4 * wide)
+  const wider = await second.look(`document.querySelectorAll(".version .body")[1].getBBox().width`)
+  expect("a larger box", wider > 1.4 * wide)
   await first.picture(join(PICTURES, "text-sizes.png"))
-  expectEqual("small", await added(room, 1, () => first.click('[data-focus="small"]')), [["put", [["size", "small"]]]])
+  expectEqual("small", await choose("small"), [["put", [["size", "small"]]]])
   expectEqual("undone", await added(room, 1, () => first.key("z", CONTROL)), [["put", [["size", "large"]]]])
 }
 

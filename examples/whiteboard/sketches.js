@@ -1,0 +1,92 @@
+/** What the pointer draws between press and release. Each object is made at the end. */
+
+import { bodyOf } from "./bodies.js"
+import { boundsOf } from "./boxes.js"
+import { CLICK_PIXELS } from "./drags.js"
+import { boxOf } from "./pen.js"
+import { LEAST, NEW_SHAPES, attributesOf, regularSize } from "./shapes.js"
+
+/**
+ * Draws a new shape from one corner to the opposite one. With Shift it is regular. A click draws one of a usual size,
+ * around the pointer.
+ */
+export class Sketch {
+  #size = [0, 0]
+
+  constructor(page, tool, event) {
+    Object.assign(this, { page, ...NEW_SHAPES[tool], start: page.camera.placeOf(event) })
+  }
+
+  move(event) {
+    const size = this.page.camera.placeOf(event).map((place, side) => place - this.start[side])
+    this.#size = event.shiftKey ? regularSize(this.kind, size) : size
+    this.page.view.sheet.sketch(bodyOf(this.#shape(this.start, this.#size), "body sketch"))
+  }
+
+  end(isWhole) {
+    const { changes, view } = this.page
+    view.sheet.sketch(null)
+    const shape = this.#isClick ? this.#usual() : this.#shape(this.start, this.#size)
+    if (isWhole) changes.draw(this.kind, attributesOf(shape))
+  }
+
+  get #isClick() {
+    const length = Math.max(...this.#size.map(Math.abs))
+    return length < LEAST || length * this.page.camera.scale < CLICK_PIXELS
+  }
+
+  #usual() {
+    return this.#shape(this.start.map((place, side) => place - this.usualSize[side] / 2), this.usualSize)
+  }
+
+  #shape([x, y], [width, height]) {
+    const { arrow, kind, page } = this
+    const shape = { kind, x, y, width, height, fill: page.tools.colour, text: "", arrow }
+    return kind === "line" ? shape : { ...shape, ...boundsOf(shape) }
+  }
+}
+
+/** Begins a text on empty paper, or opens that of a shape. */
+export class TextPress {
+  constructor(page, under, event) {
+    Object.assign(this, { page, under, place: page.camera.placeOf(event) })
+  }
+
+  move() {}
+
+  end(isWhole) {
+    const { textField, tools } = this.page
+    if (!isWhole) return
+    if (this.under === null) return textField.openNew(this.place)
+    tools.use("select")
+    textField.open(this.under.name, this.under.version)
+  }
+}
+
+/** Draws a stroke of the pen. */
+export class Stroke {
+  constructor(page, event) {
+    this.page = page
+    this.began = performance.now()
+    this.points = [page.camera.placeOf(event)]
+  }
+
+  move(event) {
+    const { camera, view, tools } = this.page
+    const events = event.getCoalescedEvents?.() ?? []
+    this.points.push(...(events.length > 0 ? events : [event]).map((one) => camera.placeOf(one)))
+    view.sheet.sketch(bodyOf(unfinishedStroke(this.points, tools.colour), "body sketch"))
+  }
+
+  end(isWhole) {
+    const { handwriting, view } = this.page
+    view.sheet.sketch(null)
+    if (isWhole) handwriting.draw(this.points, this.began)
+  }
+}
+
+/** The shape of an unfinished stroke. */
+function unfinishedStroke(points, fill) {
+  const box = boxOf(points)
+  return { kind: "pen", ...box, fill, strokes: [points.map(([x, y]) => [x - box.x, y - box.y])] }
+}

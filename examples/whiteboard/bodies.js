@@ -4,8 +4,12 @@ import { boundsOf, middleOf } from "./boxes.js"
 import { svg } from "./elements.js"
 import { LINE, TEXT_SIZES, lettering, linesOf } from "./lettering.js"
 import { pathOf } from "./pen.js"
+import { NO_FILL, THICKNESSES } from "./shapes.js"
 
 const LEAST_WIDTH = 90
+// As in the style sheet.
+const LINE_WIDTH = 4
+const EDGE_WIDTH = 2
 // An arrow's lines, in units of the drawing, and their angle to the line, in radians.
 const HEAD_LENGTH = 18
 const HEAD_ANGLE = 0.45
@@ -17,22 +21,30 @@ const DARK = 140
 /** The element of a shape. */
 export function bodyOf(shape, name = "body") {
   const { kind, x, y, width, height, fill } = shape
+  const style = styleOf(shape)
   if (kind === "line") {
     const ends = { x1: x, y1: y, x2: x + width, y2: y + height }
-    const style = `stroke: ${fill}`
     if (!shape.arrow) return svg("line", { class: `${name} stroke`, ...ends, style })
     return svg("path", { class: `${name} stroke`, d: pathOfArrow(shape), style })
   }
   const box = boundsOf(shape)
   if (kind === "pen") {
-    return svg("path", { class: `${name} stroke`, d: pathOf(strokesIn(shape, box)), style: `stroke: ${fill}` })
+    return svg("path", { class: `${name} stroke`, d: pathOf(strokesIn(shape, box)), style })
   }
   if (kind === "text") return svg("rect", { class: `${name} unseen-body`, ...box, fill: "none" })
   if (kind === "ellipse") {
     const [rx, ry] = [box.width / 2, box.height / 2]
-    return svg("ellipse", { class: name, cx: box.x + rx, cy: box.y + ry, rx, ry, fill })
+    return svg("ellipse", { class: name, cx: box.x + rx, cy: box.y + ry, rx, ry, fill, style })
   }
-  return svg("rect", { class: name, ...box, rx: 6, fill })
+  return svg("rect", { class: name, ...box, rx: 6, fill, style })
+}
+
+/** The colour and the width of a line, or of a shape's edge, where they are not those of the style sheet. */
+function styleOf({ kind, fill, outline = "", thickness = "medium" }) {
+  const isLine = kind === "line" || kind === "pen"
+  const colour = isLine ? fill : outline
+  const width = (isLine ? LINE_WIDTH : EDGE_WIDTH) * THICKNESSES[thickness]
+  return `${colour && `stroke: ${colour};`} ${thickness === "medium" ? "" : `stroke-width: ${width}`}`.trim()
 }
 
 /** The element of a shape without its colour. */
@@ -42,8 +54,8 @@ export function outlineOf(shape, name) {
   return outline
 }
 
-/** Whether a shape is only a line, which is hard to hit with the pointer. */
-export const isThin = ({ kind }) => kind === "line" || kind === "pen"
+/** Whether a shape is only a line or an edge, which is hard to hit with the pointer. */
+export const isThin = ({ kind, fill }) => kind === "line" || kind === "pen" || fill === NO_FILL
 
 /** The path of a line with its arrows. */
 function pathOfArrow({ x, y, width, height, arrow }) {

@@ -2,10 +2,9 @@
 
 import { keyOf } from "./board.js"
 import { cardsOf, pictureOf } from "./cards.js"
+import { choicesOf } from "./choices.js"
 import { button, html } from "./elements.js"
 import { shapeOfForm } from "./deleted_objects.js"
-import { TEXT_SIZES, USUAL_SIZE } from "./lettering.js"
-import { ARROW_WORDS } from "./shapes.js"
 import { textArea } from "./text_area.js"
 import { TextEdit } from "./text_edit.js"
 import { textIn, truncate } from "./texts.js"
@@ -148,7 +147,17 @@ export class Panel {
     drop.className = "delete"
     return [this.#heading(countOf(size, "object")), html("p", { textContent: HELP_SEVERAL + note }),
       html("div", { className: "actions" }, button("Copy", "copy", () => clipboard.copy()),
-        button("Duplicate", "duplicate", () => clipboard.duplicate()), group, drop)]
+        button("Duplicate", "duplicate", () => clipboard.duplicate()), group, drop), ...this.#choicesOfSeveral()]
+  }
+
+  #choicesOfSeveral() {
+    const shapes = this.board.chosen.map(({ name, version }) =>
+      this.board.shapes(name)[this.board.shown(name).indexOf(version)])
+    return shapes.length === 0 ? [] : this.#choices(shapes)
+  }
+
+  #choices(shapes) {
+    return choicesOf(shapes, (attributes) => this.page.changes.change(attributes))
   }
 
   // ---- one object
@@ -158,7 +167,7 @@ export class Panel {
     const picked = this.board.picked(name)
     const shape = this.board.shapes(name)[Math.max(0, versions.indexOf(picked))]
     const parts = [this.#heading(wordsOf(shape)), ...this.#notice(name, versions), this.#textField(name, picked),
-      ...this.#textSizes(picked), ...(picked === null ? [] : this.#arrows(shape))]
+      ...(picked === null ? [] : this.#choices([shape]))]
     if (picked !== null) parts.push(this.#order(name, picked))
     if (versions.length > 1) parts.push(...this.#versions(name, versions, picked))
     else parts.push(html("p", { textContent: HELP }))
@@ -228,30 +237,6 @@ export class Panel {
     Object.assign(field, { disabled: picked === null })
     field.dataset.focus = "text"
     return html("label", {}, html("span", { textContent: "Text" }), field, left)
-  }
-
-  /** The buttons for the size of a text, once there is one. */
-  #textSizes(picked) {
-    if (picked === null || textIn(picked.attributes) === "") return []
-    const words = new Map(Object.keys(TEXT_SIZES).map((size) => [size, `${size[0].toUpperCase()}${size.slice(1)}`]))
-    return [this.#choice("Size of the text", "size", words, picked.attributes.get("size") || USUAL_SIZE)]
-  }
-
-  /** The buttons for the arrows of a line. */
-  #arrows({ kind, arrow }) {
-    return kind === "line" ? [this.#choice("Arrows", "arrow", ARROW_WORDS, arrow)] : []
-  }
-
-  /** A button for each value of an attribute. */
-  #choice(label, key, words, chosen) {
-    const buttons = [...words].map(([value, word]) => {
-      const one = button(word, `${key}-${value}`, () => this.page.changes.change({ [key]: value }))
-      one.setAttribute("aria-pressed", value === chosen)
-      return one
-    })
-    const group = html("div", { className: "actions", role: "group" }, ...buttons)
-    group.setAttribute("aria-label", label)
-    return group
   }
 
   /** Ends the writing with this text, or without one. */

@@ -1,10 +1,10 @@
 /**
  * The meaning of attributes on the whiteboard. The server does not know it; all pages agree on it. `x` and `y` are the
- * position, `width` and `height` the size, all integers. `fill` is the colour, `name` the text on the shape, and `size`
- * the size of its letters. `arrow` says which ends of a line have arrows. `z`, an integer, is the order from back to
- * front. groups.js has the meaning of `group`, texts.js that of `name-2` and the like, and pen.js that of `points-0`
- * and the like. A shape of the kind `text` is as large as its text. Its `width` is where lines are broken, if the user
- * has chosen that.
+ * position, `width` and `height` the size, all integers. `fill` is the colour, `outline` that of a shape's edge, and
+ * `thickness` the width of lines and edges. `name` is the text on the shape, and `size` the size of its letters.
+ * `arrow` says which ends of a line have arrows. `z`, an integer, is the order from back to front. groups.js has the
+ * meaning of `group`, texts.js that of `name-2` and the like, and pen.js that of `points-0` and the like. A shape of
+ * the kind `text` is as large as its text. Its `width` is where lines are broken, if the user has chosen that.
  */
 
 import { boundsOf } from "./boxes.js"
@@ -25,6 +25,14 @@ export const NEW_SHAPES = {
   line: { kind: "line", arrow: "", usualSize: [180, 90] },
   arrow: { kind: "line", arrow: "end", usualSize: [180, 90] },
 }
+
+/** The values of `thickness`, and how many times the usual width of a line each is. */
+export const THICKNESSES = { thin: 0.5, medium: 1, thick: 2 }
+const USUAL_THICKNESS = "medium"
+
+/** The value of `fill` of a shape of which only the outline is drawn. */
+export const NO_FILL = "none"
+const FILLED = ["rect", "ellipse"]
 
 /** The values of `arrow`, with their names. */
 export const ARROW_WORDS = new Map([["", "Line"], ["end", "Arrow"], ["both", "Double arrow"]])
@@ -83,7 +91,9 @@ export function shapeOf(kind, attributes) {
   const fill = attributes.get("fill")
   const shape = {
     kind, x: whole("x"), y: whole("y"), width: whole("width"), height: whole("height"), z: whole("z"),
-    fill: isColour(fill) ? fill : PLAIN,
+    fill: isColour(fill) || (fill === NO_FILL && FILLED.includes(kind)) ? fill : PLAIN,
+    outline: isColour(attributes.get("outline")) ? attributes.get("outline") : "",
+    thickness: Object.hasOwn(THICKNESSES, attributes.get("thickness")) ? attributes.get("thickness") : USUAL_THICKNESS,
     text: textIn(attributes),
     size: Object.hasOwn(TEXT_SIZES, attributes.get("size")) ? attributes.get("size") : USUAL_SIZE,
     group: String(attributes.get("group") ?? ""),

@@ -140,7 +140,7 @@ function valueWords(key, value) {
   if (value === undefined || value === "") return "none"
   if (key === "group") return "in a group"
   if (key === "arrow") return ARROW_WORDS.get(value) ?? String(value)
-  return (key === "fill" && COLOURS.get(value)) || String(value)
+  return ((key === "fill" || key === "outline") && COLOURS.get(value)) || String(value)
 }
 
 /**

@@ -21,6 +21,7 @@ import { saving } from "./saving.mjs"
 import { several } from "./several.mjs"
 import { sharing } from "./sharing.mjs"
 import { sketching } from "./sketching.mjs"
+import { styles } from "./styles.mjs"
 import { texts } from "./texts.mjs"
 import * as together from "./together.mjs"
 import { tools } from "./tools.mjs"
@@ -92,6 +93,7 @@ async function all(browser) {
   await undoing(browser)
   await tools(browser)
   await lines(browser)
+  await styles(browser)
   await texts(browser)
   await several(browser)
   await sketching(browser)

@@ -11,48 +11,65 @@ const CARDS = 6
 const SEEN_FIRST = "Who made this version, and when this page first saw it"
 
 /**
- * @param {{ versions: any[], shapes: any[], picked: any, makerOf: (version: any) => string,
- *   pick: (version: any) => void }} choice the versions and their shapes, the picked version or null, the words that
- *   say who made a version, and what is called when the user picks one
+ * What one can do with versions.
+ * @typedef {{ versions: any[], shapes: any[], picked: any, makerOf: (version: any) => string,
+ *   pick: (version: any) => void, keep: (version: any) => void, point: (version: any) => void }} Choice the versions
+ *   and their shapes, the picked one or null, the words that say who made one, and what is called when the user picks
+ *   one, keeps one alone, or points at one, or at none
  */
-export function cardsOf({ versions, shapes, picked, makerOf, pick }) {
+
+/** @param {Choice} choice */
+export function cardsOf(choice) {
+  const { versions, picked, point } = choice
   const isMany = versions.length > CARDS
-  const cardOf = isMany ? rowOf : wholeCardOf
   const cards = versions.map((version, place) => {
-    const letter = letterOf(place)
-    const isPicked = version === picked
-    const words = isMany ? (isPicked ? "Picked" : "Pick") : `${isPicked ? "Working" : "Work"} on ${letter}`
-    const choose = button(words, `pick-${letter}`, () => pick(version))
-    choose.setAttribute("aria-pressed", isPicked)
-    choose.setAttribute("aria-label", `Work on version ${letter}`)
-    const maker = html("p", { className: "maker", title: SEEN_FIRST, textContent: makerOf(version) })
-    const card = cardOf({ versions, shapes, place, letter, maker, choose })
-    if (isPicked) card.classList.add("picked")
-    card.setAttribute("aria-label", `Version ${letter}`)
+    const card = (isMany ? rowOf : wholeCardOf)(choice, place, buttonsOf(choice, version, isMany))
+    if (version === picked) card.classList.add("picked")
+    card.setAttribute("aria-label", `Version ${letterOf(place)}`)
+    card.addEventListener("pointerenter", () => point(version))
+    card.addEventListener("pointerleave", () => point(null))
     return card
   })
   return html("div", { className: isMany ? "rows" : "cards" }, ...cards)
 }
 
-function wholeCardOf({ versions, shapes, place, letter, maker, choose }) {
+/** The buttons that pick a version, or keep it alone. A key that is held down presses none of another version. */
+function buttonsOf({ versions, picked, pick, keep }, version, isMany) {
+  const letter = letterOf(versions.indexOf(version))
+  const isPicked = version === picked
+  const words = isMany ? (isPicked ? "Picked" : "Pick") : `${isPicked ? "Working" : "Work"} on ${letter}`
+  const choose = button(words, `pick-${letter}`, () => pick(version))
+  choose.setAttribute("aria-pressed", isPicked)
+  choose.setAttribute("aria-label", `Work on version ${letter}`)
+  const only = button("Keep only this", `keep-${letter}`, () => keep(version))
+  Object.assign(only, { className: "keep-only", title: `Keep version ${letter} and delete the others` })
+  return html("div", { className: "actions" }, choose, only)
+}
+
+const makerLine = ({ makerOf, versions }, place) =>
+  html("p", { className: "maker", title: SEEN_FIRST, textContent: makerOf(versions[place]) })
+
+function wholeCardOf(choice, place, buttons) {
+  const { versions, shapes } = choice
   const { attributes } = versions[place]
   const differing = differingKeys(versions)
   const lines = linesOf(attributes, keysOf(versions)).flatMap((line) =>
     [html("dt", { textContent: line.word }), html("dd", {}, valueOf(line, isDiffering(line, differing), attributes))])
   return html("section", { className: "card" },
-    html("strong", { textContent: `Version ${letter}` }), maker, pictureOf(shapes, place),
-    html("dl", {}, ...lines), choose)
+    html("strong", { textContent: `Version ${letterOf(place)}` }), makerLine(choice, place), pictureOf(shapes, place),
+    html("dl", {}, ...lines), buttons)
 }
 
 /** A row shows only the attributes that differ between versions. */
-function rowOf({ versions, shapes, place, letter, maker, choose }) {
+function rowOf(choice, place, buttons) {
+  const { versions, shapes } = choice
   const { attributes } = versions[place]
   const differing = differingKeys(versions)
   const lines = linesOf(attributes, keysOf(versions)).filter((line) => isDiffering(line, differing))
   const values = lines.map((line) => valueOf(line, true, attributes))
   return html("section", { className: "card row" },
-    html("strong", { textContent: letter }), pictureOf([shapes[place]], 0),
-    html("div", { className: "values" }, ...values, maker), choose)
+    html("strong", { textContent: letterOf(place) }), pictureOf([shapes[place]], 0),
+    html("div", { className: "values" }, ...values, makerLine(choice, place)), buttons)
 }
 
 const isDiffering = ({ keys }, differing) => keys.some((key) => differing.has(key))

@@ -3,6 +3,7 @@
 import { keyOf } from "./board.js"
 import { cardsOf, pictureOf } from "./cards.js"
 import { choicesOf } from "./choices.js"
+import { combinationsOf } from "./combinations.js"
 import { button, html } from "./elements.js"
 import { shapeOfForm } from "./deleted_objects.js"
 import { textArea } from "./text_area.js"
@@ -63,6 +64,8 @@ export class Panel {
     const focused = document.activeElement?.dataset?.focus
     const { selected, selection } = this.board
     const shown = String(selection.names)
+    // What the pointer is on is replaced, and then tells again.
+    this.page.view.sheet.showAlone(null, null)
     this.element.replaceChildren(...(selected !== null ? this.#object(selected)
       : selection.size > 0 ? this.#several(selection) : this.#objects()))
     if (this.#top !== 0) this.element.scrollTop = this.#top = this.#shown === shown ? this.#top : 0
@@ -171,7 +174,7 @@ export class Panel {
     if (picked !== null) parts.push(this.#order(name, picked))
     if (versions.length > 1) parts.push(...this.#versions(name, versions, picked))
     else parts.push(html("p", { textContent: HELP }))
-    const ends = picked === null ? [] : this.#ends(name, versions, picked)
+    const ends = picked === null ? [] : [this.#end(name, versions, picked)]
     return [...parts, html("div", { className: "actions" }, ...ends)]
   }
 
@@ -210,20 +213,13 @@ export class Panel {
       button("Duplicate", "duplicate", () => clipboard.duplicate()))
   }
 
-  /**
-   * The buttons that delete the picked version or all others. Their focus words contain the letter, so a key that is
-   * held down cannot press the button of the next version.
-   */
-  #ends(name, versions, picked) {
+  /** The button that deletes the picked version. A key that is held down does not press that of the next version. */
+  #end(name, versions, picked) {
     const letter = letterOf(versions.indexOf(picked))
-    const isOneOfSeveral = versions.length > 1
-    const [words, focus] = isOneOfSeveral ? [`Delete version ${letter}`, `delete-${letter}`] : ["Delete", "delete"]
+    const [words, focus] = versions.length > 1 ? [`Delete version ${letter}`, `delete-${letter}`] : ["Delete", "delete"]
     const drop = button(words, focus, () => this.page.changes.drop(name, [picked]))
     drop.className = "delete"
-    const others = versions.filter((version) => version !== picked)
-    const keep = button("Keep only this", "keep-only", () => this.page.changes.drop(name, others))
-    keep.title = `Keep version ${letter} and delete the others`
-    return isOneOfSeveral ? [keep, drop] : [drop]
+    return drop
   }
 
   /** The text field. Leaving it commits the text. The panel stays as it is meanwhile. */
@@ -258,7 +254,10 @@ export class Panel {
       this.page.select(name, version)
       this.page.view.reach(name, version)
     }
+    const keep = (version) => this.page.changes.drop(name, versions.filter((other) => other !== version))
+    const point = (version) => this.page.view.sheet.showAlone(name, version)
     return [html("h3", { textContent: `${versions.length} versions` }), html("p", { textContent: words }),
-      cardsOf({ versions, shapes: this.board.shapes(name), picked, makerOf, pick })]
+      ...combinationsOf({ versions, picked, pick, point }),
+      cardsOf({ versions, shapes: this.board.shapes(name), picked, makerOf, pick, keep, point })]
   }
 }

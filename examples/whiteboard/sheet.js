@@ -16,6 +16,9 @@ export class Sheet {
   #entries = new Map()
   // By element: the object and the version that it draws.
   #drawn = new WeakMap()
+  // The version at which the user points in the panel, and the others of its object.
+  #alone = null
+  #aside = []
 
   /**
    * @param {import("./board.js").Board} board
@@ -55,6 +58,18 @@ export class Sheet {
   sketch(body) {
     this.layer.querySelector(".sketch")?.remove()
     if (body !== null) this.layer.append(body)
+  }
+
+  /** Shows a version without the others of its object; null shows all again. */
+  showAlone(name, version) {
+    for (const element of this.#aside) element.classList.remove("aside")
+    this.#alone?.classList.remove("alone")
+    this.#alone = version === null ? null : this.find(name, version)
+    this.#alone?.classList.add("alone")
+    const all = this.#alone === null ? [] : this.#entries.get(keyOf(name)).map(({ element }) => element)
+    this.#aside = all.filter((element) => element !== this.#alone)
+    for (const element of this.#aside) element.classList.add("aside")
+    this.element.classList.toggle("showing-one", this.#aside.length > 0)
   }
 
   /** The element of a version, or null. */

@@ -82,7 +82,7 @@ export async function keepOnly(pages, room) {
   expectEqual("the buttons", await second.look(`[...document.querySelectorAll(".cards + .actions button")].map((one) =>
     one.textContent)`), ["Keep only this", "Delete version B"])
   await second.picture(join(PICTURES, "three-versions.png"))
-  const keep = () => second.click('[data-focus="keep-only"]')
+  const keep = () => second.click('.card.picked .keep-only')
   expectEqual("what it does", await added(room, 2, keep), [["drop"], ["drop"]])
   for (const page of pages) {
     await page.waitUntil("one version", `document.querySelectorAll('.version[data-object="${object}"]').length === 1`)
@@ -98,7 +98,7 @@ export async function keepOnly(pages, room) {
   const { [`${object}C`]: _, ...others } = bodies
   expectEqual("the others", await third.look(BODIES), others)
   expectEqual("what is picked", (await third.look(CARDS)).map(([, , isPicked]) => isPicked), [false, false])
-  expectEqual("the buttons", await third.look(`document.querySelector('[data-focus="keep-only"], .delete')`), null)
+  expectEqual("the buttons", await third.look(`document.querySelector('.delete')`), null)
   await third.picture(join(PICTURES, "pick-again.png"))
   await first.click(tag(object, "A"))
   expectEqual("what a key does", await added(room, 1, () => moveAndDelete(first, "Delete")), [["drop"]])

@@ -265,7 +265,7 @@ async function versionDeleted(first, second, room) {
   await draw(first, "rect", [100, 100], [200, 180])
   await second.waitUntil("the rectangle", `${COUNT} === 1`)
   const object = await allDrag([first, second], RECTANGLE, [[80, 40], [40, 120]])
-  const keep = () => second.click('[data-focus="keep-only"]')
+  const keep = () => second.click('.card.picked .keep-only')
   expectEqual("what the second does", await added(room, 1, keep), [["drop"]])
   const words = "Somebody deleted your version of Rectangle. Bring it back as a new objectClose"
   await first.waitUntil("the message", says(words))
@@ -361,7 +361,7 @@ async function textsAtOnce(first, second, room) {
   }
   expectEqual("what the first works on", await first.look(`document.querySelector(".card.picked strong").textContent`),
     "Version A")
-  await added(room, 1, () => first.click('[data-focus="keep-only"]'))
+  await added(room, 1, () => first.click('.card.picked .keep-only'))
 }
 
 /** The second person deletes the object on which the first one writes. It is back, with the text. */

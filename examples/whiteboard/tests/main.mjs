@@ -4,6 +4,7 @@ import { mkdir } from "node:fs/promises"
 import { join } from "node:path"
 import { expect, expectEqual } from "../../../clients/js/tests/checks.js"
 import { Chromium } from "./chromium.mjs"
+import { choosing } from "./choosing.mjs"
 import * as connections from "./connections.mjs"
 import * as deleting from "./deleting.mjs"
 import { full } from "./full.mjs"
@@ -91,6 +92,7 @@ async function all(browser) {
   }
   await plan(browser)
   await undoing(browser)
+  await choosing(browser)
   await tools(browser)
   await lines(browser)
   await styles(browser)

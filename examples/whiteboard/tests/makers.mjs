@@ -45,7 +45,7 @@ async function notAllowed(first, second, room) {
   const words = await first.look(MAKERS)
   expectEqual("who made them", words.map((one) => one.split(", ")[0]).sort(), ["someone", "you"])
   await first.click('[data-focus="pick-A"]')
-  await first.click('[data-focus="keep-only"]')
+  await first.click('.card.picked .keep-only')
   await second.waitUntil("one version", `${COUNT} === 1`)
 }
 
@@ -74,7 +74,7 @@ async function versionsHaveMakers(first, second, room) {
   expect(`no name among the attributes: ${marks}`, !/by-|Anna/.test(marks))
   await second.picture(join(PICTURES, "makers.png"))
   await second.click('[data-focus="pick-A"]')
-  await second.click('[data-focus="keep-only"]')
+  await second.click('.card.picked .keep-only')
   await first.waitUntil("one version", `${COUNT} === 1`)
 }
 

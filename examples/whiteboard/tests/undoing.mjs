@@ -86,8 +86,8 @@ async function bothKeepOnly(first, second, room, server) {
   await first.click('[data-focus="pick-A"]')
   await second.click('[data-focus="pick-B"]')
   await signalRoom(server, "SIGSTOP")
-  await first.click('[data-focus="keep-only"]')
-  await second.click('[data-focus="keep-only"]')
+  await first.click('.card.picked .keep-only')
+  await second.click('.card.picked .keep-only')
   for (const page of [first, second]) expectEqual("what each has kept", await page.look(all), 1)
   const kept = `(() => {
     const box = document.querySelector('.version[data-object="${object}"] .body').getBBox()

@@ -169,13 +169,12 @@ export class Panel {
     const versions = this.board.shown(name)
     const picked = this.board.picked(name)
     const shape = this.board.shapes(name)[Math.max(0, versions.indexOf(picked))]
-    const parts = [this.#heading(wordsOf(shape)), ...this.#notice(name, versions), this.#textField(name, picked),
-      ...(picked === null ? [] : this.#choices([shape]))]
-    if (picked !== null) parts.push(this.#order(name, picked))
-    if (versions.length > 1) parts.push(...this.#versions(name, versions, picked))
-    else parts.push(html("p", { textContent: HELP }))
-    const ends = picked === null ? [] : [this.#end(name, versions, picked)]
-    return [...parts, html("div", { className: "actions" }, ...ends)]
+    const parts = [this.#heading(wordsOf(shape)), ...this.#notice(name, versions), this.#textField(name, picked)]
+    const several = versions.length > 1 ? this.#versions(name, versions, picked) : []
+    if (picked === null) return [...parts, ...several]
+    const help = versions.length > 1 ? [] : [html("p", { textContent: HELP })]
+    return [...parts, this.#order(name, picked), ...several, ...this.#choices([shape]), ...help,
+      html("div", { className: "actions" }, this.#end(name, versions, picked))]
   }
 
   #heading(words) {

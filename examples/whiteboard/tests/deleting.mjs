@@ -79,8 +79,8 @@ export async function keepOnly(pages, room) {
   const version = (letter) => `.version[data-object="${object}"][data-letter="${letter}"]`
   const old = await second.look(BODIES)
   await second.click('[data-focus="pick-B"]')
-  expectEqual("the buttons", await second.look(`[...document.querySelectorAll(".cards + .actions button")].map((one) =>
-    one.textContent)`), ["Keep only this", "Delete version B"])
+  expectEqual("the buttons", await second.look(`[...document.querySelectorAll(".card.picked button, .delete")]
+    .map((one) => one.textContent)`), ["Working on B", "Keep only this", "Delete version B"])
   await second.picture(join(PICTURES, "three-versions.png"))
   const keep = () => second.click('.card.picked .keep-only')
   expectEqual("what it does", await added(room, 2, keep), [["drop"], ["drop"]])

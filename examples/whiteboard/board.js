@@ -1,6 +1,7 @@
 /** What this page shows of the room, and which versions the user has selected for editing. */
 
 import { isSameId } from "../../clients/js/grace.js"
+import { Connections } from "./connections.js"
 import { Selection } from "./selection.js"
 import { shapeOf, withAttributes } from "./shapes.js"
 
@@ -28,6 +29,7 @@ export class Board {
   constructor(room) {
     this.room = room
     this.selection = new Selection()
+    this.connections = new Connections(this)
     /**
      * The versions that are being dragged, by object. Each step of a drag gives another map.
      * @type {Map<string, { name: any, version: any, attributes: Record<string, any> }>}
@@ -97,6 +99,12 @@ export class Board {
    * the object changes.
    */
   shapes(name) {
+    const shapes = this.ownShapes(name)
+    return shapes[0]?.kind === "line" ? this.connections.drawn(shapes) : shapes
+  }
+
+  /** The same, but the ends of lines are where their attributes say, also if they stick to shapes. */
+  ownShapes(name) {
     if (!this.room.has(name)) return []
     const { versions, shapes } = this.#drawnOf(name)
     const preview = this.previews.size === 0 ? undefined : this.previews.get(keyOf(name))
@@ -135,6 +143,7 @@ export class Board {
     const lost = objects.map((name) => this.#lost(name)).filter((one) => one !== null)
     for (const name of objects) this.#follow(name)
     for (const name of objects) if (this.shown(name).length === 0) this.selection.remove(name)
+    this.connections.update(objects, renamed.length > 0)
     return lost
   }
 

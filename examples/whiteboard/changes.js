@@ -149,6 +149,20 @@ export class Changes {
     if (Object.entries(attributes).some(isOther)) this.put(name, version, attributes)
   }
 
+  /** Gives a shape, once, the text by which lines that stick to it name it. That is no step of its own. */
+  mark(name) {
+    const { board, refusedChanges, room } = this.page
+    const version = board.picked(name)
+    const id = board.connections.textOf(name)
+    if (version === null || version.attributes.get("id") === id) return
+    try {
+      refusedChanges.leave(this.#make(() => room.put(name, version, { id })))
+    } catch (fault) {
+      // The line sticks to the shape as long as this room lasts.
+      if (!isRefusal(fault)) throw fault
+    }
+  }
+
   undo() {
     this.page.nudges.end()
     this.#turn("undone", () => this.#undo.lastDone, (reverse) => this.#undo.undo(reverse))

@@ -3,7 +3,7 @@
 import { readText, writeText } from "../../clients/js/grace.js"
 import { boundsOfAll, middleOf } from "./boxes.js"
 import { newGroup } from "./groups.js"
-import { moveAttributes, shapeOf } from "./shapes.js"
+import { moveAttributes, placeOf, shapeOf, sizeOf } from "./shapes.js"
 
 const KEY = "whiteboard copy"
 const SHIFT = 20
@@ -66,19 +66,28 @@ export class Clipboard {
   }
 
   #formsOf(chosen) {
-    return chosen.map(({ name, version: { attributes } }) => ({ kind: this.page.room.kind(name), attributes }))
+    const { board, room } = this.page
+    return chosen.map(({ name, version }) => {
+      const shape = board.shapes(name)[board.shown(name).indexOf(version)]
+      // A line that sticks to shapes is copied as it is drawn.
+      const more = shape.from + shape.to === "" ? {} : { ...placeOf(shape), ...sizeOf(shape) }
+      return { kind: room.kind(name), attributes: new Map([...version.attributes, ...Object.entries(more)]) }
+    })
   }
 
-  /** Creates objects at some distance from others. Their groups are new ones. */
+  /** Creates objects at some distance from others. Their groups are new ones, and lines stick to copies alone. */
   #create(forms, shift) {
     if (forms.length === 0) return
     const shapes = forms.map(({ kind, attributes }) => shapeOf(kind, attributes))
     const [x, y] = this.#stepOf(boundsOfAll(shapes), shift)
-    const groups = new Map(shapes.map(({ group }) => [group, group && newGroup()]))
+    const ids = newTexts(shapes, "id")
+    const maps = { group: newTexts(shapes, "group"), id: ids, from: ids, to: ids }
     this.page.changes.drawAll(forms.map(({ kind, attributes }, place) => {
-      const { group } = shapes[place]
-      const more = { ...moveAttributes(shapes[place], x, y), ...(group && { group: groups.get(group) }) }
-      return { kind, attributes: new Map([...attributes, ...Object.entries(more)]) }
+      const shape = shapes[place]
+      const keys = Object.keys(maps).filter((key) => shape[key] !== "")
+      const texts = keys.map((key) => [key, maps[key].get(shape[key]) ?? ""])
+      const moved = Object.entries(moveAttributes(shape, x, y))
+      return { kind, attributes: new Map([...attributes, ...moved, ...texts]) }
     }))
   }
 
@@ -116,3 +125,7 @@ export class Clipboard {
     }
   }
 }
+
+/** By text that shapes have under a key: a new one for their copies. */
+const newTexts = (shapes, key) =>
+  new Map(shapes.map((shape) => shape[key]).filter((text) => text !== "").map((text) => [text, newGroup()]))

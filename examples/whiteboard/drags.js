@@ -1,10 +1,11 @@
 /** What the pointer does to the view and to objects, between press and release. Each drag is one step, at its end. */
 
 import { boundsOf, isInside } from "./boxes.js"
+import { canHold } from "./connections.js"
 import { svg } from "./elements.js"
 import { withGroups } from "./groups.js"
 import { Hand } from "./hand.js"
-import { lineEndAttributes, moveAttributes, resizeAttributes } from "./shapes.js"
+import { lineEndAttributes, resizeAttributes } from "./shapes.js"
 
 /** A movement of fewer pixels counts as a click. */
 export const CLICK_PIXELS = 2
@@ -110,7 +111,7 @@ class VersionDrag {
     const { camera } = this.page
     const [x, y] = camera.placeOf(event).map((place, side) => place - this.start[side])
     this.#isMoved ||= Math.hypot(x, y) * camera.scale >= CLICK_PIXELS
-    if (this.#isMoved) this.hand.show((shape) => this.attributesAfter(shape, x, y, event.shiftKey))
+    if (this.#isMoved) this.show(x, y, event)
   }
 
   /** A click on one of several selected objects selects that one alone, with its group. */
@@ -123,20 +124,50 @@ class VersionDrag {
 }
 
 export class Move extends VersionDrag {
-  attributesAfter(shape, x, y) {
-    return moveAttributes(shape, x, y)
+  show(x, y) {
+    this.hand.move(x, y)
   }
 }
 
-/** Drags a handle: the corner of a shape, or an end of a line. With Shift the size is regular. */
+/** Drags the corner of a shape. With Shift the size is regular. */
 export class Resize extends VersionDrag {
+  show(x, y, { shiftKey }) {
+    this.hand.show((shape) => resizeAttributes(shape, x, y, shiftKey))
+  }
+}
+
+/** Drags an end of a line, which sticks to a shape that it is on. With Alt it does not. */
+export class LineEndDrag extends VersionDrag {
+  #shape = null
+
   constructor(page, under, event, end) {
     super(page, under, event)
     this.side = end
+    this.key = end === "start" ? "from" : "to"
   }
 
-  attributesAfter(shape, x, y, isRegular) {
-    if (shape.kind === "line") return lineEndAttributes(shape, this.side, [x, y], isRegular)
-    return resizeAttributes(shape, x, y, isRegular)
+  show(x, y, event) {
+    const { board } = this.page
+    this.#shape = shapeUnder(this.page, event)
+    const text = this.#shape === null ? "" : board.connections.textOf(this.#shape)
+    this.hand.show((line) => {
+      const attributes = lineEndAttributes(line, this.side, [x, y], event.shiftKey)
+      return text === line[this.key] ? attributes : { ...attributes, [this.key]: text }
+    })
   }
+
+  end(isWhole) {
+    this.page.changes.step(() => {
+      super.end(isWhole)
+      if (isWhole && this.#shape !== null) this.page.changes.mark(this.#shape)
+    })
+  }
+}
+
+/** The object at the pointer to which a line can stick, or null. */
+export function shapeUnder({ board, room, view }, { clientX, clientY, altKey }) {
+  if (altKey) return null
+  const found = document.elementsFromPoint(clientX, clientY).map((element) => view.sheet.under(element))
+  const isShape = (under) => under !== null && canHold(room.kind(under.name)) && board.picked(under.name) !== null
+  return found.find(isShape)?.name ?? null
 }

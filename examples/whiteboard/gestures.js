@@ -1,6 +1,6 @@
 /** Pointer input on the drawing: mouse, pen or fingers. */
 
-import { BoxSelection, Move, Pan, Pinch, Resize } from "./drags.js"
+import { BoxSelection, LineEndDrag, Move, Pan, Pinch, Resize } from "./drags.js"
 import { withGroups } from "./groups.js"
 import { Sketch, Stroke, TextPress } from "./sketches.js"
 
@@ -80,8 +80,9 @@ export class Gestures {
       page.view.sheet.element.focus({ preventScroll: true })
       return event.pointerType === "touch" ? new Pan(page, event) : new BoxSelection(page, event)
     }
-    const isHandle = target.classList.contains("handle")
-    return isHandle ? new Resize(page, under, event, target.dataset.end) : this.#moveOf(under, event)
+    if (!target.classList.contains("handle")) return this.#moveOf(under, event)
+    const isLine = page.room.kind(under.name) === "line"
+    return isLine ? new LineEndDrag(page, under, event, target.dataset.end) : new Resize(page, under, event)
   }
 
   /** Selects what is pressed, with its group, and moves it. With Shift it is added, or taken out. */

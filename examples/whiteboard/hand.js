@@ -5,7 +5,7 @@
  */
 
 import { NO_PREVIEWS, keyOf } from "./board.js"
-import { shapeOf } from "./shapes.js"
+import { moveAttributes, moveLineAttributes } from "./shapes.js"
 
 export class Hand {
   #release
@@ -16,10 +16,10 @@ export class Hand {
    * @param {{ name: any, version: any }[]} chosen
    */
   constructor(page, chosen) {
-    const { room } = page
+    const { board, room } = page
     this.page = page
     this.items = chosen.map(({ name, version }) =>
-      ({ name, version, shape: shapeOf(room.kind(name), version.attributes), attributes: {} }))
+      ({ name, version, shape: board.shapes(name)[board.shown(name).indexOf(version)], attributes: {} }))
     this.#release = room.hold()
     this.#unlisten = room.on("change", ({ renamed }) => this.#follow(renamed))
   }
@@ -39,6 +39,13 @@ export class Hand {
     for (const item of this.items) item.attributes = attributesOf(item.shape)
     board.previews = new Map(this.items.map((item) => [keyOf(item.name), item]))
     view.redraw(this.items.map(({ name }) => name))
+  }
+
+  /** Shows the versions elsewhere. */
+  move(x, y) {
+    const moved = new Set(this.items.map(({ shape }) => shape.id))
+    this.show((shape) => (shape.kind === "line" && (shape.from !== "" || shape.to !== "")
+      ? moveLineAttributes(shape, x, y, moved) : moveAttributes(shape, x, y)))
   }
 
   /** Puts what is shown, unless the user has cancelled it. */

@@ -1,7 +1,7 @@
 /** Moves by the arrow keys. Several key presses in a row are one step, sent after the last one. */
 
 import { Hand } from "./hand.js"
-import { moveAttributes, resizeAttributes } from "./shapes.js"
+import { resizeAttributes } from "./shapes.js"
 
 const STEP = 10
 // A move by keys is complete after this time without another key.
@@ -25,7 +25,8 @@ export class Nudges {
     this.#nudge ??= { hand: new Hand(this.page, chosen), isResize, sum: [0, 0], timer: null }
     const nudge = this.#nudge
     nudge.sum = [nudge.sum[0] + x * STEP, nudge.sum[1] + y * STEP]
-    nudge.hand.show((shape) => (isResize ? resizeAttributes : moveAttributes)(shape, ...nudge.sum))
+    if (isResize) nudge.hand.show((shape) => resizeAttributes(shape, ...nudge.sum))
+    else nudge.hand.move(...nudge.sum)
     clearTimeout(nudge.timer)
     nudge.timer = setTimeout(() => this.end(), REST_MILLISECONDS)
   }

@@ -3,8 +3,9 @@
  * position, `width` and `height` the size, all integers. `fill` is the colour, `outline` that of a shape's edge, and
  * `thickness` the width of lines and edges. `name` is the text on the shape, and `size` the size of its letters.
  * `arrow` says which ends of a line have arrows. `z`, an integer, is the order from back to front. groups.js has the
- * meaning of `group`, texts.js that of `name-2` and the like, and pen.js that of `points-0` and the like. A shape of
- * the kind `text` is as large as its text. Its `width` is where lines are broken, if the user has chosen that.
+ * meaning of `group`, connections.js that of `id`, `from` and `to`, texts.js that of `name-2` and the like, and pen.js
+ * that of `points-0` and the like. A shape of the kind `text` is as large as its text. Its `width` is where lines are
+ * broken, if the user has chosen that.
  */
 
 import { boundsOf } from "./boxes.js"
@@ -66,11 +67,12 @@ export function regularSize(kind, [width, height]) {
 export const placeOf = ({ x, y }) => ({ x: Math.round(x), y: Math.round(y) })
 
 /** The size of a shape as attributes. */
-const sizeOf = ({ width, height }) => ({ width: Math.round(width), height: Math.round(height) })
+export const sizeOf = ({ width, height }) => ({ width: Math.round(width), height: Math.round(height) })
 
 /** All attributes of a new shape. */
 export const attributesOf = (shape) => ({
   ...placeOf(shape), ...sizeOf(shape), fill: shape.fill, name: shape.text, ...(shape.arrow && { arrow: shape.arrow }),
+  ...(shape.from && { from: shape.from }), ...(shape.to && { to: shape.to }),
 })
 
 /** Whether a value is a colour that the page can draw. */
@@ -88,6 +90,7 @@ function wholeOf(value, usual) {
  */
 export function shapeOf(kind, attributes) {
   const whole = (key) => wholeOf(attributes.get(key), USUAL[key])
+  const textAt = (key) => String(attributes.get(key) ?? "")
   const fill = attributes.get("fill")
   const shape = {
     kind, x: whole("x"), y: whole("y"), width: whole("width"), height: whole("height"), z: whole("z"),
@@ -96,7 +99,7 @@ export function shapeOf(kind, attributes) {
     thickness: Object.hasOwn(THICKNESSES, attributes.get("thickness")) ? attributes.get("thickness") : USUAL_THICKNESS,
     text: textIn(attributes),
     size: Object.hasOwn(TEXT_SIZES, attributes.get("size")) ? attributes.get("size") : USUAL_SIZE,
-    group: String(attributes.get("group") ?? ""),
+    group: textAt("group"), id: textAt("id"), from: textAt("from"), to: textAt("to"),
     arrow: kind === "line" && ARROW_WORDS.has(attributes.get("arrow")) ? attributes.get("arrow") : "",
     strokes: kind === "pen" ? strokesIn(attributes) : [],
   }
@@ -116,13 +119,26 @@ export function withAttributes(shape, version, attributes) {
 export const moveAttributes = (shape, x, y) => placeOf({ x: shape.x + x, y: shape.y + y })
 
 /**
+ * The attributes that a move of a line sets which sticks to shapes. An end stays at a shape that is moved too, and is
+ * released from others.
+ * @param {Set<string>} moved the texts of the shapes that are moved
+ */
+export function moveLineAttributes(line, x, y, moved) {
+  const stays = (text) => text !== "" && moved.has(text)
+  if (stays(line.from) && stays(line.to)) return {}
+  const released = ["from", "to"].filter((key) => line[key] !== "" && !stays(line[key])).map((key) => [key, ""])
+  return { ...moveAttributes(line, x, y), ...sizeOf(line), ...Object.fromEntries(released) }
+}
+
+/**
  * The attributes that a resize sets: always both width and height, and the position if it changes. It can be regular,
  * as with Shift.
  */
 export function resizeAttributes(shape, x, y, isRegular = false) {
   if (shape.kind === "text") return { width: Math.max(LEAST, Math.round(shape.width + x)) }
   const newShape = resized(shape, x, y, isRegular)
-  const isMoved = newShape.x !== shape.x || newShape.y !== shape.y
+  // A line that sticks to a shape is elsewhere than its attributes say.
+  const isMoved = newShape.x !== shape.x || newShape.y !== shape.y || Boolean(shape.from || shape.to)
   return { ...(isMoved ? placeOf(newShape) : {}), ...sizeOf(newShape) }
 }
 

@@ -2,7 +2,7 @@
 
 import { bodyOf } from "./bodies.js"
 import { boundsOf } from "./boxes.js"
-import { CLICK_PIXELS } from "./drags.js"
+import { CLICK_PIXELS, shapeUnder } from "./drags.js"
 import { boxOf } from "./pen.js"
 import { LEAST, NEW_SHAPES, attributesOf, regularSize } from "./shapes.js"
 
@@ -12,22 +12,43 @@ import { LEAST, NEW_SHAPES, attributesOf, regularSize } from "./shapes.js"
  */
 export class Sketch {
   #size = [0, 0]
+  // The objects to which the ends of a line stick, or null.
+  #from = null
+  #to = null
 
   constructor(page, tool, event) {
     Object.assign(this, { page, ...NEW_SHAPES[tool], start: page.camera.placeOf(event) })
+    if (this.kind === "line") this.#from = shapeUnder(page, event)
   }
 
   move(event) {
     const size = this.page.camera.placeOf(event).map((place, side) => place - this.start[side])
     this.#size = event.shiftKey ? regularSize(this.kind, size) : size
-    this.page.view.sheet.sketch(bodyOf(this.#shape(this.start, this.#size), "body sketch"))
+    if (this.kind === "line") this.#to = shapeUnder(this.page, event)
+    this.page.view.sheet.sketch(bodyOf(this.#sketched(), "body sketch"))
   }
 
   end(isWhole) {
     const { changes, view } = this.page
     view.sheet.sketch(null)
-    const shape = this.#isClick ? this.#usual() : this.#shape(this.start, this.#size)
-    if (isWhole) changes.draw(this.kind, attributesOf(shape))
+    if (!isWhole) return
+    if (this.#isClick) return changes.draw(this.kind, attributesOf(this.#usual()))
+    changes.step(() => {
+      changes.draw(this.kind, attributesOf(this.#sketched()))
+      for (const name of this.#ends) if (name !== null) changes.mark(name)
+    })
+  }
+
+  /** The objects to which the ends stick. Both ends stick to no single one. */
+  get #ends() {
+    return String(this.#from) === String(this.#to) ? [null, null] : [this.#from, this.#to]
+  }
+
+  /** What is drawn now. */
+  #sketched() {
+    const { connections } = this.page.board
+    const [from, to] = this.#ends.map((name) => (name === null ? "" : connections.textOf(name)))
+    return connections.ended({ ...this.#shape(this.start, this.#size), from, to })
   }
 
   get #isClick() {

@@ -64,7 +64,8 @@ export class View {
    * @param {any[]} names
    */
   redraw(names) {
-    for (const name of names) this.#changed.set(keyOf(name), name)
+    const { connections } = this.board
+    for (const name of names) for (const one of [name, ...connections.linesAt(name)]) this.#changed.set(keyOf(one), one)
     this.#frames.ask()
   }
 

@@ -14,7 +14,7 @@ const LONGEST_OF_VERSION = 200
 const LINES = [
   ["position", ["x", "y"], ", "], ["size", ["width", "height"], " × "], ["colour", ["fill"], ""],
 ]
-const TOLD = [...LINES.flatMap(([, keys]) => keys), ...TEXT_KEYS, ...POINT_KEYS]
+const TOLD = [...LINES.flatMap(([, keys]) => keys), ...TEXT_KEYS, ...POINT_KEYS, "id", "from", "to"]
 
 /**
  * The letter of a version: A to Z, then AA, AB and so on.

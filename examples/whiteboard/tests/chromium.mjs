@@ -19,6 +19,7 @@ const KEYS = {
   F2: 113,
 }
 /** The modifiers of a key press. */
+export const ALT = 1
 export const CONTROL = 2
 export const SHIFT = 8
 

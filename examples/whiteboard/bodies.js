@@ -4,7 +4,7 @@ import { boundsOf, middleOf } from "./boxes.js"
 import { svg } from "./elements.js"
 import { LINE, TEXT_SIZES, lettering, linesOf } from "./lettering.js"
 import { pathOf } from "./pen.js"
-import { NO_FILL, THICKNESSES } from "./shapes.js"
+import { NO_FILL, THICKNESSES, USUAL_THICKNESS } from "./shapes.js"
 
 const LEAST_WIDTH = 90
 // As in the style sheet.
@@ -40,11 +40,11 @@ export function bodyOf(shape, name = "body") {
 }
 
 /** The colour and the width of a line, or of a shape's edge, where they are not those of the style sheet. */
-function styleOf({ kind, fill, outline = "", thickness = "medium" }) {
+function styleOf({ kind, fill, outline = "", thickness = USUAL_THICKNESS }) {
   const isLine = kind === "line" || kind === "pen"
   const colour = isLine ? fill : outline
   const width = (isLine ? LINE_WIDTH : EDGE_WIDTH) * THICKNESSES[thickness]
-  return `${colour && `stroke: ${colour};`} ${thickness === "medium" ? "" : `stroke-width: ${width}`}`.trim()
+  return `${colour && `stroke: ${colour};`} ${thickness === USUAL_THICKNESS ? "" : `stroke-width: ${width}`}`.trim()
 }
 
 /** The element of a shape without its colour. */

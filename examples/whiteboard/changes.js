@@ -98,14 +98,15 @@ export class Changes {
   /** Creates objects in one step and selects them, or none if they do not all fit. */
   drawAll(forms) {
     if (forms.length > 1 && !this.space.takesAll(forms)) return this.page.say(NOT_ALL_FIT)
-    const made = this.step(() => forms.map(({ kind, attributes }) => this.create(kind, attributes)))
-    this.#show(made.filter((change) => change !== null).map(({ object }) => object))
+    const all = this.step(() => forms.map(({ kind, attributes }) => this.create(kind, attributes)))
+    const made = all.filter((change) => change !== null).map(({ object }) => object)
+    if (made.length > 0) this.page.tools.use("select")
+    this.#show(made)
   }
 
   /** Selects objects that were created or changed. */
   #show(names) {
     if (names.length === 0) return
-    this.page.tools.use("select")
     this.page.selectAll(names)
     this.page.view.reach(names[0])
   }

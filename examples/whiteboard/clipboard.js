@@ -2,7 +2,7 @@
 
 import { readText, writeText } from "../../clients/js/grace.js"
 import { boundsOfAll, middleOf } from "./boxes.js"
-import { newGroup } from "./groups.js"
+import { uniqueText } from "./links.js"
 import { moveAttributes, placeOf, shapeOf, sizeOf } from "./shapes.js"
 
 const KEY = "whiteboard copy"
@@ -128,4 +128,4 @@ export class Clipboard {
 
 /** By text that shapes have under a key: a new one for their copies. */
 const newTexts = (shapes, key) =>
-  new Map(shapes.map((shape) => shape[key]).filter((text) => text !== "").map((text) => [text, newGroup()]))
+  new Map(shapes.map((shape) => shape[key]).filter((text) => text !== "").map((text) => [text, uniqueText()]))

@@ -1,6 +1,6 @@
 /** Groups of objects. Those of a group have the same text, which is not empty, under the key `group`. */
 
-import { newRoomName } from "./links.js"
+import { uniqueText } from "./links.js"
 
 /** The group of an object: that of its picked version, or of its first one. Empty if it is in none. */
 export function groupOf(board, name) {
@@ -16,9 +16,6 @@ export function withGroups(board, names) {
   const chosen = new Set(names.map(String))
   return board.objects().filter((name) => chosen.has(String(name)) || groups.has(groupOf(board, name)))
 }
-
-/** A new group, which nobody else has. */
-export const newGroup = newRoomName
 
 /** What the user does to groups: each is one step. */
 export class Grouping {
@@ -37,7 +34,7 @@ export class Grouping {
   /** Makes one group of several selected objects. */
   group() {
     const { board, changes } = this.page
-    if (board.selection.size > 1 && !this.isOneGroup) changes.change({ group: newGroup() })
+    if (board.selection.size > 1 && !this.isOneGroup) changes.change({ group: uniqueText() })
   }
 
   /** Takes the selected objects out of their groups. */

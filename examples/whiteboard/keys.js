@@ -68,7 +68,6 @@ export class Keys {
     return true
   }
 
-  /** Handles the keys that change or create an object. */
   /** Handles the keys that change what is selected, wherever the focus is. */
   #change({ key, target, shiftKey, repeat }) {
     if (!DELETING.includes(key) && !(key in ARROWS)) return false

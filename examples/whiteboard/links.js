@@ -30,6 +30,6 @@ function withoutRoom(server, roomName) {
   return url.href
 }
 
-/** A name for a new room that nobody can guess: 128 random bits, in hexadecimal. */
-export const newRoomName = () =>
+/** A text that nobody can guess and nobody else has: 128 random bits, in hexadecimal. It can name a new room. */
+export const uniqueText = () =>
   [...crypto.getRandomValues(new Uint8Array(16))].map((byte) => byte.toString(16).padStart(2, "0")).join("")

@@ -29,7 +29,7 @@ export const NEW_SHAPES = {
 
 /** The values of `thickness`, and how many times the usual width of a line each is. */
 export const THICKNESSES = { thin: 0.5, medium: 1, thick: 2 }
-const USUAL_THICKNESS = "medium"
+export const USUAL_THICKNESS = "medium"
 
 /** The value of `fill` of a shape of which only the outline is drawn. */
 export const NO_FILL = "none"

@@ -1,7 +1,7 @@
 /** The buttons that begin a new drawing and share the link to this one. */
 
 import { button, html, part } from "./elements.js"
-import { linkTo, newRoomName } from "./links.js"
+import { linkTo, uniqueText } from "./links.js"
 
 const SHARE = "Share"
 const COPIED = "Link copied"
@@ -15,7 +15,7 @@ export class Sharing {
   /** @param {string} roomName */
   constructor(roomName) {
     this.#roomName = roomName
-    part("new").addEventListener("click", () => location.assign(linkTo(newRoomName())))
+    part("new").addEventListener("click", () => location.assign(linkTo(uniqueText())))
     part("share").addEventListener("click", () => this.#share())
   }
 

@@ -2,7 +2,7 @@
 
 import { html } from "./elements.js"
 import { say } from "./status.js"
-import { TEXT_BYTES, bytesOf, truncate } from "./texts.js"
+import { TEXT_BYTES, bytesOf, plain, truncate } from "./texts.js"
 import { CUT_TEXT, leftWords } from "./words.js"
 
 // From this share of the most on, the field says how much is left.
@@ -40,10 +40,10 @@ export function textArea({ text, label, end, write = () => {} }) {
 
 /** Cuts what is too long, and says so. The cursor stays, unless it was in what is cut. */
 function cut(field) {
-  const fit = truncate(field.value)
-  if (fit === field.value) return
-  const { selectionEnd } = field
+  const { selectionEnd, value } = field
+  const fit = truncate(value)
+  if (fit === value) return
   field.value = fit
   field.setSelectionRange(selectionEnd, selectionEnd)
-  say(CUT_TEXT)
+  if (fit !== plain(value)) say(CUT_TEXT)
 }

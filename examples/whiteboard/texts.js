@@ -33,8 +33,11 @@ export function textAttributes(text, before = new Map()) {
   return Object.fromEntries(TEXT_KEYS.filter(isSet).map((key, place) => [key, pieces[place] ?? ""]))
 }
 
+/** A text without control characters, which would be long in a message, but with its lines and tabs. */
+export const plain = (text) => text.toWellFormed().replace(/[^\P{Cc}\n\t]/gu, "")
+
 /** Cuts a text so that it has at most `TEXT_BYTES`. */
-export const truncate = (text) => piecesOf(text.toWellFormed(), TEXT_BYTES)[0]
+export const truncate = (text) => piecesOf(plain(text), TEXT_BYTES)[0]
 
 /** Cuts a text between letters into pieces of so many bytes at most. An empty one has one piece. */
 function piecesOf(text, most) {

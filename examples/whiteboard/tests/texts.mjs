@@ -36,6 +36,7 @@ function pieces() {
   const before = new Map(Object.entries(textAttributes("x".repeat(600))))
   expectEqual("a shorter text", textAttributes("", before), { name: "", "name-2": "", "name-3": "" })
   expectEqual("half a letter", truncate("a\ud800"), "a\ufffd")
+  expectEqual("what is not seen", truncate("a\u0000\u0007\u001b\n\tb"), "a\n\tb")
 }
 
 async function clickAt(page, place) {

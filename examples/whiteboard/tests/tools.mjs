@@ -1,8 +1,8 @@
 /** The tools: keys that take them, shapes by a click, and regular shapes. */
 
 import { expectEqual } from "../../../clients/js/tests/checks.js"
-import { SHIFT } from "./chromium.mjs"
-import { added, draw, onScreen, step, twoPeople } from "./people.mjs"
+import { CONTROL, SHIFT } from "./chromium.mjs"
+import { added, draw, onScreen, step, stroke, twoPeople } from "./people.mjs"
 
 const TOOL = `document.querySelector('[data-tool][aria-pressed="true"]').dataset.tool`
 
@@ -10,6 +10,7 @@ export const tools = (browser) => twoPeople(browser, async ({ first, room }) => 
   await step("keys take tools", () => keys(first, room))
   await step("a click draws a shape", () => clicks(first, room))
   await step("regular shapes", () => regular(first, room))
+  await step("undo leaves the tool", () => undone(first, room))
 })
 
 async function keys(first, room) {
@@ -60,4 +61,14 @@ async function regular(first, room) {
   const corner = [await onScreen(first, [860, 540]), await onScreen(first, [900, 545])]
   expectEqual("another size", await added(room, 1, () => first.withKeys(SHIFT, () => first.drag(...corner))),
     [["put", [["width", 100], ["height", 100]]]])
+}
+
+/** Who takes a stroke back goes on with the pen. */
+async function undone(first, room) {
+  await added(room, 2, async () => {
+    await stroke(first, [[900, 100], [930, 130]])
+    await stroke(first, [[900, 130], [930, 100]])
+  })
+  expectEqual("one stroke back", (await added(room, 1, () => first.key("z", CONTROL))).map(([word]) => word), ["put"])
+  expectEqual("the tool", await first.look(TOOL), "pen")
 }

@@ -105,8 +105,8 @@ async function reach(first, second) {
   }))
 }
 
-/** One person's hour. */
-async function live(person, others, end) {
+/** One person's hour. People reach for shapes of the one before them alone, so no two wait for each other. */
+async function live(person, others, next, end) {
   for (let turn = 1; Date.now() < end; turn++) {
     await person.next(() => person.point())
     for (const other of others) {
@@ -114,7 +114,7 @@ async function live(person, others, end) {
       await other.page.waitUntil(`${person.name}'s pointer`, isPointing)
     }
     if (person.shapes.length < CELLS) await person.next(() => person.create())
-    else if (turn % ACTIONS_BETWEEN_MEETINGS === 0) await person.next(() => reach(person, others[0]))
+    else if (next && turn % ACTIONS_BETWEEN_MEETINGS === 0) await person.next(() => reach(person, next))
     else await person.next(() => dragSeen(person, others))
   }
 }
@@ -153,7 +153,7 @@ async function hour(browsers, address, file) {
   const room = await watch(address)
   const end = Date.now() + MINUTES * 60_000
   await step(`three people draw for ${MINUTES} minutes and see each other`, () =>
-    Promise.all(people.map((one) => live(one, people.filter((other) => other !== one), end))))
+    Promise.all(people.map((one, place) => live(one, people.filter((other) => other !== one), people[place + 1], end))))
   await step("the record has what they drew, and nothing else", () => onlyDrawn(room, people, file))
   await step("no page had a fault", () => faults(...people.map((one) => one.page)))
   console.log(`${people.map((one) => one.made + one.moved).join(", ")} changes, ${room.record.length} entries`)

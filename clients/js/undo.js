@@ -233,8 +233,9 @@ export class UndoManager {
   /** Whether somebody else has seen a change and then changed the same version. */
   #isBuiltOn(version, { object, name: [site, number] }) {
     const code = codeOf(object)
+    const isOwn = (author) => this.#sites.has(author) || author === this.#room.site
     const isLater = ([word, name, seen, target]) =>
-      CHANGES.includes(word) && codeOf(target) === code && !this.#sites.has(name[0]) && version.has(name) &&
+      CHANGES.includes(word) && codeOf(target) === code && !isOwn(name[0]) && version.has(name) &&
       seen.some(([other, count]) => other === site && count >= number)
     return this.#room.record.some(isLater)
   }

@@ -3,9 +3,10 @@
 import { readFileSync } from "node:fs"
 import { UndoManager } from "../grace.js"
 import { expectEqual, waitUntil } from "./checks.js"
-import { AT_ONCE, CUT_AFTER, PASS, Proxy } from "./proxy.js"
-import { operations } from "./reconnecting.js"
+import { AT_ONCE, CUT_AFTER, CUT_BEFORE, PASS, Proxy } from "./proxy.js"
+import { operations, withProxy } from "./reconnecting.js"
 import { agree, enter, versionsOf, withServer } from "./rooms.js"
+import { Storage } from "./storage.js"
 
 /** Returns what is shown: of each object its kind and its versions that are not gone. */
 const shown = (room) => room.objects()
@@ -195,6 +196,33 @@ async function refusedUndo(client) {
   expectEqual("what both show", shown(room), shown(other))
 }
 
+/** A client comes back as a new site, with a transaction that was not sent. It can still be undone as one step. */
+async function asNewSite(proxy, room, other, server) {
+  const storage = new Storage()
+  const first = await enter(proxy.address, { storage })
+  const undo = new UndoManager(first)
+  const made = first.create("rect", { x: 0 })
+  await agree(first, other)
+  proxy.whatToDo = () => CUT_BEFORE
+  proxy.cut()
+  await waitUntil("the connection is lost", () => first.state !== "open")
+  const stranger = await enter(server.address, { storage: storage.copyFor(server.address) })
+  await stranger.create("line").done
+  stranger.close()
+  first.transaction(() => {
+    const put = first.put(made.object, [], { x: 1 })
+    first.put(made.object, put.version, { x: 2 })
+  })
+  const old = first.site
+  proxy.whatToDo = () => PASS
+  await agree(first, other)
+  expectEqual("whether it has another site", first.site !== old, true)
+  expectEqual("the failures", undo.undo().failures, [])
+  await agree(first, other)
+  expectEqual("the values", versionsOf(other, made.object), [[[], [["x", 0]]]])
+  first.close()
+}
+
 /** An object of more attributes than a creation takes comes back whole. Only so many steps are kept. */
 async function large(client) {
   const room = await client()
@@ -238,5 +266,6 @@ export const TESTS = [
   ["undo of a transaction", withServer(oneStep)],
   ["undo of what others built on", withServer(builtOn)],
   ["undo that the server refuses", withServer(refusedUndo)],
+  ["undo as a new site", withProxy(asNewSite)],
   ["undo of a large object", withServer(large)],
 ]

@@ -10,8 +10,6 @@ from lib.serving import ROOT, CheckFailed, Skipped
 NOT_FOR_US = "SC2046,SC1087"
 # Folders without sources of ours.
 LEFT_OUT = {".git", "out", "node_modules", "__pycache__", "rooms"}
-# A test there has a variable that nothing reads.
-NOT_CLEAN = {"clients/python/tests/rooms.py"}
 
 
 def files(folder=ROOT):
@@ -38,8 +36,7 @@ def shell_scripts():
 
 def python_files():
     """Returns the paths of the files of Python, with and without an ending."""
-    found = [path for path in files() if path.suffix == ".py" or "python3" in first_line_of(path)]
-    return [path for path in found if path.relative_to(ROOT).as_posix() not in NOT_CLEAN]
+    return [path for path in files() if path.suffix == ".py" or "python3" in first_line_of(path)]
 
 
 def installed(*names):

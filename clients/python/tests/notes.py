@@ -104,7 +104,9 @@ def often():
             return PASS
 
         relay.what_to_do = hear
-        for count in range(200):
+        room.note = "n0"
+        wait_until("the first one", lambda: sent)
+        for count in range(1, 200):
             room.note = f"n{count}"
             time.sleep(0.005)
         see_notes(other, {1: "n199"})

@@ -311,7 +311,7 @@ def not_served():
 def nobody_listens():
     """If nothing listens the client retries, and a close ends that at once."""
     events = EventLog("state")
-    with Room("{}:{}".format(*free_address()), "r", retry_seconds=(0.01, 30), listeners=events.listeners) as room:
+    with Room("{}:{}".format(*free_address()), "r", retry_seconds=(0.01, 30), listeners=events.listeners):
         wait_until("two attempts", lambda: [it.state for it in events.of("state")].count("waiting") == 2)
         start = time.monotonic()
     # The next attempt would come after 30 seconds, and the close must not wait for it. The bound allows for a busy

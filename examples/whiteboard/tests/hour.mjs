@@ -20,7 +20,7 @@ const POINTS_BETWEEN_ACTIONS = [15, 30]
 const POINT_MILLISECONDS = 150
 const ACTIONS_BETWEEN_MEETINGS = 9
 
-const GHOSTS = `document.querySelectorAll("#ghosts .ghost").length`
+const GHOSTS = `[...document.querySelectorAll("#ghosts .ghost .body")].map((body) => body.getBBox())`
 const HELD = `document.getElementById("held").textContent`
 const POINTERS = `[...document.querySelectorAll(".pointer")].map((one) => one.textContent).sort()`
 // What a rectangle has; `name` is the text on it.
@@ -67,7 +67,7 @@ class Person {
     }
   }
 
-  /** Drags one of these shapes within its cell. `meanwhile` runs before the mouse is released. */
+  /** Drags a shape within its cell. `meanwhile` gets the place where it is then, before the mouse is released. */
   async drag(shape, meanwhile) {
     const to = { x: shape.left + between(0, CELL.reach), y: shape.top + between(0, CELL.reach) }
     if (to.x === shape.x && to.y === shape.y) to.x += 1
@@ -76,7 +76,7 @@ class Person {
     await this.page.press(start)
     await this.page.moveTo([(start[0] + end[0]) / 2, (start[1] + end[1]) / 2])
     await this.page.moveTo(end)
-    await meanwhile(await middle(to))
+    await meanwhile(to)
     await this.page.release(end)
     await this.page.key("Escape")
     Object.assign(shape, to)
@@ -84,24 +84,27 @@ class Person {
   }
 }
 
+/** Waits until a page shows the drag of a shape at this place. */
+const seeDrag = (page, { x, y }) => page.waitUntil("the drag", `${GHOSTS}.some((ghost) =>
+  Math.abs(ghost.x - ${x}) < 2 && Math.abs(ghost.y - ${y}) < 2)`)
+
 /** A person drags an own shape, and the others see it while it goes on. */
 async function dragSeen(person, others) {
-  await person.drag(person.shapes[between(0, person.shapes.length - 1)], async () => {
-    for (const other of others) await other.page.waitUntil(`${person.name}'s drag`, `${GHOSTS} > 0`)
+  await person.drag(person.shapes[between(0, person.shapes.length - 1)], async (to) => {
+    for (const other of others) await seeDrag(other.page, to)
   })
 }
 
 /** Two people reach for one shape: who comes second is told before, and takes it no further. */
 async function reach(first, second) {
   const shape = first.shapes[0]
-  await second.next(() => first.drag(shape, async () => {
+  await second.next(() => first.drag(shape, async (to) => {
+    await seeDrag(second.page, to)
     const place = await onScreen(second.page, [shape.x + CELL.size / 2, shape.y + CELL.size / 2])
-    await second.page.waitUntil("the drag", `${GHOSTS} > 0`)
     await second.page.press(place)
-    const told = await second.page.look(HELD)
+    expectEqual(`what ${second.name} is told`, await second.page.look(HELD), `${first.name} is moving this`)
     await second.page.release(place)
     await second.page.key("Escape")
-    expectEqual(`what ${second.name} is told`, told, `${first.name} is moving this`)
   }))
 }
 

@@ -3,14 +3,16 @@
 import { createServer } from "node:net"
 import { join } from "node:path"
 import { expect, expectEqual } from "../../../clients/js/tests/checks.js"
-import { PASS, Proxy } from "../../../clients/js/tests/proxy.js"
-import { COUNT, HEADING, PICTURES, STATE, isOpen, pageOf, serve, signalRoom, step, watch } from "./people.mjs"
+import { Proxy } from "../../../clients/js/tests/proxy.js"
+import { COUNT, HEADING, PICTURES, STATE, isOpen, pageOf, serve, step, watch } from "./people.mjs"
 
 const OBJECTS = 200
 // A person perceives a delay of up to about one and a half seconds as immediate. Other programs on the machine may use
 // its processors for a while, so the shortest of three attempts counts.
 const BOUND_MILLISECONDS = 1500
 const TRIES = 3
+// Long enough to see what the page shows between two answers.
+const ROUND_TRIP_MILLISECONDS = 700
 
 export async function opening(browser) {
   const { server, address } = await serve("--in-memory", "--sessions", "50")
@@ -18,7 +20,7 @@ export async function opening(browser) {
     await step("an empty room says so once that is known", () => emptyRoom(browser, address))
     await step("a server that does not answer", () => silentServer(browser, address))
     await step(`a room of ${OBJECTS} objects opens in time`, () => fullRoom(browser, address))
-    await step("a bar tells how far a room is loaded", () => loadingBar(browser, address, server))
+    await step("a bar tells how far a room is loaded", () => loadingBar(browser, address))
   } finally {
     server.kill()
   }
@@ -97,20 +99,12 @@ async function timeToOpen(browser, address, isFirst) {
   return time
 }
 
-/** The server pauses after the first entries. The page shows how many it has. */
-async function loadingBar(browser, address, server) {
+/** Over a slow line the first page of entries comes before the others. The page shows how many it has. */
+async function loadingBar(browser, address) {
   const place = await pageOf(address)
   const proxy = await Proxy.start(new URL(place.searchParams.get("server")).port)
   place.searchParams.set("server", `ws://${proxy.address}/`)
-  const rest = async () => {
-    await signalRoom(server, "SIGSTOP")
-    setTimeout(() => signalRoom(server, "SIGCONT"), 700)
-  }
-  let pulls = 0
-  proxy.whatToDo = (text) => {
-    if (text.startsWith('["pull"') && ++pulls === 2) rest()
-    return PASS
-  }
+  proxy.roundTripMilliseconds = ROUND_TRIP_MILLISECONDS
   const { page } = await openNoting(browser, place.href)
   await page.waitUntil("a part", "told.progress.some((value) => value > 0 && value < 1)")
   const words = await page.look(`document.getElementById("loading").textContent`)

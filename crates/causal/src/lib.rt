@@ -2,11 +2,12 @@
 #![tactic(auto)]
 
 ghost use Rattle.std.specs.Prelude.{◌≡◌, ◌-◌, ◌<◌, ◌≤◌, ◌++◌, ◌∷◌, ◌||◌, [], ℕ, true, false, length, map, position, None, Some, IfSome, IfOk, IfErr, OnOk, OnErr, IsOk, Contains, slice_index};
-ghost use Rattle.std.specs.Option.{option_copied};
+ghost use Rattle.std.specs.Option.{option_copied, option_map_or};
 ghost use Rattle.base_types.specs.Names.{is_site, same_name};
+ghost use Rattle.base_types.specs.Vectors.{count_of, counts};
 ghost use Rattle.rules.specs.Operations.{IsHistory, operation};
 ghost use Rattle.rules.specs.Admission.{count_at_site, is_ahead, is_not_closed, causal_refusal};
-ghost use Rattle.causal.specs.steps.Index.{at_number, places_of, has_fewer, lacks, knows, lacks_beyond};
+ghost use Rattle.causal.specs.steps.Index.{at_number, places_of, has_fewer, lacks, lacks_beyond};
 
 use base_types::{MAX_SITE, NoMemory, OpName, StateVector};
 use rules::{Op, Refusal, SharedOp};
@@ -93,6 +94,28 @@ fn places_of(lists: &[Vec<usize>], site: u32) -> &[usize]
     }
 }
 
+/// The count of a site in a vector. Where the vector has all sites up to this one, its pair stands at
+/// the site's number. Else a binary search.
+fn count_in(seen: &StateVector, site: u32) -> u32
+    ensures { result ≡ count_of seen.now site }
+{
+    match at_number(seen.pairs(), site) {
+        Some(pair) if pair.0 == site => pair.1,
+        _ => seen.count(site),
+    }
+}
+
+/// Does an operation, if there is one, count that of this pair?
+fn knows(op: Option<&Op>, pair: (u32, u32)) -> bool
+    ensures { result
+        ≡ option_map_or (λ op. counts op.seen pair) (option_copied op.entry) false }
+{
+    match op {
+        Some(op) => pair.1 <= count_in(&op.seen, pair.0),
+        None => false,
+    }
+}
+
 impl Past {
     ghost use Rattle.causal.specs.steps.NotAdmitted.{refusal_of};
 
@@ -158,16 +181,6 @@ impl Past {
         }
     }
 
-    /// Does the operation of the one pair count that of the other? Two binary searches at most.
-    fn knows(&self, pair: (u32, u32), other: (u32, u32)) -> bool
-        ensures { result ≡ knows self.now.history pair other }
-    {
-        match self.operation(pair.0, pair.1) {
-            Some(op) => other.1 <= op.seen.count(other.0),
-            None => false,
-        }
-    }
-
     /// Of these pairs the one whose operation was added last. Looks up each of them.
     fn latest(&self, pairs: &[(u32, u32)]) -> Option<(u32, u32)>
         ensures { IfSome result (Contains pairs.now) }
@@ -180,7 +193,7 @@ impl Past {
 
     /// Does the vector lack something that the operation of one of these pairs counts, of those
     /// that the operations of two pairs don't count? Goes along two vectors for each of those, and
-    /// takes two binary searches for each of the others.
+    /// looks each of the others up in two vectors.
     fn lacks_beyond(
         &self,
         seen: &StateVector,
@@ -190,9 +203,11 @@ impl Past {
     ) -> bool
         ensures { result ≡ lacks_beyond self.now.history seen.now own latest pairs.now }
     {
-        pairs.iter().any(|pair| {
-            !self.knows(own, *pair) && !self.knows(latest, *pair) && self.lacks_one(seen, *pair)
-        })
+        let own = self.operation(own.0, own.1);
+        let latest = self.operation(latest.0, latest.1);
+        pairs.iter().any(|pair| !knows(own, *pair)
+            && !knows(latest, *pair)
+            && self.lacks_one(seen, *pair))
     }
 
     /// Does the vector lack something that the operation of one of these pairs counts, where it is

@@ -87,14 +87,14 @@ impl<S, D: Drop> Line<S, D> {
         load
     }
 
-    /// How many bytes it holds.
+    /// How many bytes it holds, with those of its output that were sent.
     fn weight(&self) -> usize {
         let before_output = match &self.stage {
             Stage::Opening(opening) => opening.head.len(),
             Stage::Open(served) => served.connection.load(),
             Stage::Leaving { .. } => 0,
         };
-        before_output.saturating_add(self.output.len())
+        before_output.saturating_add(self.output.memory())
     }
 
     /// What the line does next.
@@ -226,8 +226,9 @@ impl<S, D: Drop> Line<S, D> {
         ))
     }
 
-    /// A turn: sends what waits, and reads once or serves more of what was read. Returns false if the
-    /// stream has failed, or has ended and nothing is left to do.
+    /// A turn: sends what waits, and reads once or serves more of what was read. The burden counts what
+    /// it holds then, before the next line has its turn. Returns false if the stream has failed, or has
+    /// ended and nothing is left to do.
     pub(crate) fn turn<R: Wait, V: Service<Session = S, Told = D>>(
         &mut self,
         shared: &Shared<'_, R, V>,
@@ -237,9 +238,22 @@ impl<S, D: Drop> Line<S, D> {
     where
         V::Scratch: Drop,
     {
-        if !self.send(now) {
-            return false;
-        }
+        let goes_on = self.send(now) && self.go_on(shared, bench, now);
+        self.weigh(shared);
+        goes_on
+    }
+
+    /// Reads once, or serves more of what was read. Returns false if the stream has failed, or has
+    /// ended and nothing is left to do.
+    fn go_on<R: Wait, V: Service<Session = S, Told = D>>(
+        &mut self,
+        shared: &Shared<'_, R, V>,
+        bench: &mut Bench<V::Scratch>,
+        now: u64,
+    ) -> bool
+    where
+        V::Scratch: Drop,
+    {
         match self.next_step(shared) {
             Step::Read => self.read(shared, bench, now),
             Step::GoOn => {

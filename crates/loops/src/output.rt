@@ -1,6 +1,6 @@
 //! What waits to be sent on a line.
 
-ghost use Rattle.std.specs.Prelude.{◌≡◌, ◌≢◌, [], ◌++◌, Ok, OnErr, OnOk, length, true};
+ghost use Rattle.std.specs.Prelude.{◌≡◌, ◌≢◌, ◌≤◌, [], ◌++◌, Ok, OnErr, OnOk, length, true};
 ghost use Rattle.connection.specs.Releasing.{Released};
 
 use connection::{Connection, End, Talk};
@@ -47,6 +47,13 @@ impl Output {
         ensures { result ≡ length self.now }
     {
         self.bytes.len() - self.sent
+    }
+
+    /// How many bytes of memory it takes: also for those that were sent, until all are.
+    pub(crate) fn memory(&self) -> usize
+        ensures { length self.now ≤ result }
+    {
+        self.bytes.capacity()
     }
 
     /// Puts these bytes behind those that wait.

@@ -2,5 +2,7 @@ pub mod Maps
 pub mod Pages
 pub mod Shallow
 pub mod Plain
-pub mod Sent
+pub mod Quoting
+pub mod Again
 pub mod Written
+pub mod OwnTexts

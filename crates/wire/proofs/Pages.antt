@@ -1,16 +1,13 @@
--- The text of a page.
+-- The texts of lists: their items with commas between them, in brackets.
 use Rattle.std.proofs.Common.{◌≡◌, ℕ, zero, suc, ◌+◌, ◌<◌, List, [], ◌∷◌, ◌++◌, length, get_or, map, take, false, true, refl, ap, sym, ◌∙◌, append_assoc, arith}
 use Rattle.std.proofs.lemmas.Grind.{flat_map-append}
 use Rattle.std.proofs.lemmas.List.{append-nil, take_more}
 use Rattle.std.specs.List.{flat_map, join_by}
-use Rattle.std.specs.Prelude.{codes, decimal}
-use Rattle.json.specs.Print.{escape_byte}
+use Rattle.serde_json.specs.Data.{Data}
 use Rattle.serde_json.specs.View.{items_of}
 use Rattle.serde_json.specs.Written.{compact_text, items_text}
 use Rattle.rules.specs.declared.history.Entry.{Entry}
-use Rattle.wire.specs.declared.reply.Reply.TheVariants.{Entries}
-use Rattle.wire.specs.Form.{entry_form, reply_form}
-use Rattle.wire.specs.Texts.{entry_text}
+use Rattle.wire.specs.Form.{list_form, entry_form}
 use Rattle.wire.specs.steps.Pages.{entries_text}
 
 -- ---- texts with commas between them
@@ -49,27 +46,46 @@ of_texts text (x ∷ xs) = ap (λ s. text x ++ s) (after_first text xs)
 pub same_texts : {X Y : Type 0} (text : X → List ℕ) (other : Y → List ℕ) (xs : List X) (ys : List Y) → map text xs ≡ map other ys → join_by text (44 ∷ []) xs ≡ join_by other (44 ∷ []) ys
 same_texts text other xs ys e = of_texts text xs ∙ ap (join_by (λ s. s) (44 ∷ [])) e ∙ sym (of_texts other ys)
 
--- ---- a page
+-- ---- lists of forms
 
 -- the items after others
-later : (es : List Entry) → items_text true (items_of (map entry_form es)) ≡ flat_map (λ e. 44 ∷ entry_text e) es ++ 93 ∷ []
-later [] = refl
-later (e ∷ es) =
-    ap (λ s. 44 ∷ (entry_text e ++ s)) (later es)
-    ∙ ap (λ s. 44 ∷ s) (sym (append_assoc (entry_text e) (flat_map (λ e. 44 ∷ entry_text e) es) (93 ∷ [])))
+later_items : {X : Type 0} (form : X → Data) (xs : List X) → items_text true (items_of (map form xs)) ≡ flat_map (λ x. 44 ∷ compact_text (form x)) xs ++ 93 ∷ []
+later_items form [] = refl
+later_items form (x ∷ xs) =
+    ap (λ s. 44 ∷ (compact_text (form x) ++ s)) (later_items form xs)
+    ∙ ap (λ s. 44 ∷ s) (sym (append_assoc (compact_text (form x)) (flat_map (λ x. 44 ∷ compact_text (form x)) xs) (93 ∷ [])))
 
-items_are : (es : List Entry) → items_text false (items_of (map entry_form es)) ≡ entries_text es ++ 93 ∷ []
-items_are [] = refl
-items_are (e ∷ es) =
-    ap (λ s. entry_text e ++ s) (later es)
-    ∙ sym (append_assoc (entry_text e) (flat_map (λ e. 44 ∷ entry_text e) es) (93 ∷ []))
+-- the items of a list are their texts with commas between them, and its end
+pub items_joined : {X : Type 0} (form : X → Data) (xs : List X) → items_text false (items_of (map form xs)) ≡ join_by (λ x. compact_text (form x)) (44 ∷ []) xs ++ 93 ∷ []
+items_joined form [] = refl
+items_joined form (x ∷ xs) =
+    ap (λ s. compact_text (form x) ++ s) (later_items form xs)
+    ∙ sym (append_assoc (compact_text (form x)) (flat_map (λ x. 44 ∷ compact_text (form x)) xs) (93 ∷ []))
 
--- the reply that gives the page
-abbrev pub reply_around : ℕ → ℕ → List ℕ → List ℕ
-reply_around at from text = codes "[\"entries\"," ++ (decimal at ++ 44 ∷ (decimal from ++ 44 ∷ 91 ∷ text))
+-- one item more of a list that is begun
+pub next_item : {X : Type 0} (form : X → Data) (xs : List X) (front : List ℕ) (at : ℕ) (x : X) → at < length xs → x ≡ get_or xs at x → 0 < at
+    → ((front ++ 91 ∷ join_by (λ x. compact_text (form x)) (44 ∷ []) (take at xs)) ++ 44 ∷ []) ++ compact_text (form x) ≡ front ++ 91 ∷ join_by (λ x. compact_text (form x)) (44 ∷ []) (take (at + 1) xs)
+next_item {X} form xs front at x l e z =
+    let text : X → List ℕ = λ x. compact_text (form x) in
+    let joined = join_by text (44 ∷ []) (take at xs) in
+    append_assoc (front ++ 91 ∷ joined) (44 ∷ []) (text x) ∙ append_assoc front (91 ∷ joined) (44 ∷ text x) ∙ ap (λ s. front ++ 91 ∷ s) (sym (next_text text xs at x l e z))
 
-pub page_in_reply : (at from : ℕ) (page : List Entry) → compact_text (reply_form (Entries at from page)) ≡ reply_around at from (entries_text page ++ 93 ∷ 93 ∷ [])
-unfolding escape_byte
-page_in_reply at from page =
-    ap (λ items. reply_around at from (items ++ 93 ∷ [])) (items_are page)
-    ∙ ap (reply_around at from) (append_assoc (entries_text page) (93 ∷ []) (93 ∷ []))
+-- its first item
+pub first_item : {X : Type 0} (form : X → Data) (xs : List X) (front : List ℕ) (at : ℕ) (x : X) → at < length xs → x ≡ get_or xs at x → at ≡ 0
+    → (front ++ 91 ∷ join_by (λ x. compact_text (form x)) (44 ∷ []) (take at xs)) ++ compact_text (form x) ≡ front ++ 91 ∷ join_by (λ x. compact_text (form x)) (44 ∷ []) (take (at + 1) xs)
+first_item {X} form xs front at x l e z =
+    let text : X → List ℕ = λ x. compact_text (form x) in
+    let joined = join_by text (44 ∷ []) (take at xs) in
+    append_assoc front (91 ∷ joined) (text x) ∙ ap (λ s. front ++ 91 ∷ s) (sym (first_text text xs at x l e z))
+
+-- the list with its end
+pub ended_list : {X : Type 0} (form : X → Data) (xs : List X) (front : List ℕ) → (front ++ 91 ∷ join_by (λ x. compact_text (form x)) (44 ∷ []) xs) ++ 93 ∷ [] ≡ front ++ compact_text (list_form (map form xs))
+ended_list {X} form xs front =
+    let joined = join_by (λ x. compact_text (form x)) (44 ∷ []) xs in
+    append_assoc front (91 ∷ joined) (93 ∷ []) ∙ ap (λ s. front ++ 91 ∷ s) (sym (items_joined form xs))
+
+-- ---- a page
+
+-- a page in its brackets
+pub page_in_brackets : (page : List Entry) (front : List ℕ) → ((front ++ 91 ∷ []) ++ entries_text page) ++ 93 ∷ [] ≡ front ++ compact_text (list_form (map entry_form page))
+page_in_brackets page front = ap (λ s. s ++ 93 ∷ []) (append_assoc front (91 ∷ []) (entries_text page)) ∙ ended_list entry_form page front

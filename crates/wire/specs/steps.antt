@@ -1,4 +1,4 @@
 pub mod Equality
-pub mod Sending
 pub mod Pages
 pub mod OneLine
+pub mod Quoting

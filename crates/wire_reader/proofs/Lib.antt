@@ -21,3 +21,4 @@ pub mod NoteSteps
 pub mod Pairs
 pub mod Shown
 pub mod Exchanges
+pub mod Scanned

@@ -8,3 +8,4 @@ pub mod Faults
 pub mod Reads
 pub mod Streams
 pub mod Exchanges
+pub mod Compact

@@ -3,6 +3,7 @@
 #![tactic(auto)]
 
 mod body;
+mod compact;
 mod entry;
 mod exchange;
 mod fault;

@@ -136,7 +136,7 @@ pub(crate) trait Part: Sized + Drop {
 }
 
 /// The bytes as a text. `Bad` if they are not UTF-8.
-fn utf8_of(bytes: &[u8]) -> Result<&str, ReadFault>
+pub(crate) fn utf8_of(bytes: &[u8]) -> Result<&str, ReadFault>
     ensures { MatchResult result (λ text. (text.now ≡ bytes.now) × (is_utf8 bytes.now ≡ true))
         (λ e. Fails e (json_of bytes.now)) }
 {

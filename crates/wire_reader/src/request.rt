@@ -1,7 +1,8 @@
 //! Requests from JSON.
 
-ghost use Rattle.std.specs.Prelude.{◌≡◌, ◌≤◌, ℕ, IfOk, IsErrOf, Some, None};
+ghost use Rattle.std.specs.Prelude.{◌≡◌, ◌≤◌, ℕ, length, IfOk, IsErrOf, Some, None};
 ghost use Rattle.wire.specs.declared.request.Request.{Request as AnyRequest};
+ghost use Rattle.wire.specs.declared.request.TheConstants.{MAX_REQUEST_LEN};
 ghost use Rattle.wire.specs.Form.{IsRequestText};
 ghost use Rattle.wire_reader.specs.steps.Reading.{Gives};
 ghost use Rattle.wire_reader.specs.steps.Requests.{join_at, back_at, change_at, show_at, list_at, pull_at, leave_at, request_of};
@@ -9,8 +10,9 @@ ghost use Rattle.wire_reader.specs.steps.Reads.{request_read};
 ghost use Rattle.wire_reader.specs.steps.Streams.{rest_in, Takes};
 
 use crate::body::operation_of;
+use crate::compact::read_change;
 use crate::fault::ReadFault;
-use crate::part::{Part, name_of, read_text, room_of};
+use crate::part::{Part, name_of, read_text, room_of, utf8_of};
 use crate::token::{Seq, close_list, whole_of, word_of};
 use base_types::MAX_SITE;
 use json::{Reader, Scratch};
@@ -103,6 +105,17 @@ impl Part for Request {
     }
 }
 
+/// Reads a change in compact text.
+fn change_in_bytes(alloc: Global, bytes: &[u8]) -> Result<Request, ReadFault>
+    requires { length bytes.now ≤ MAX_REQUEST_LEN }
+    ensures { IfOk result (λ change. request_read bytes.now ≡ Some change) }
+{
+    let text = utf8_of(bytes)?;
+    let change = read_change(alloc, text)?;
+    Ok(change)
+}
+
+/// Reads a request. Most are changes in compact text, which need no JSON reader.
 #[tactic(auto, unfolding(crate::specs::steps::Reads::request_read))]
 fn request_in_bytes(
     alloc: Global,
@@ -114,7 +127,11 @@ fn request_in_bytes(
     if bytes.len() > MAX_REQUEST_LEN {
         return Err(ReadFault::Bad);
     }
-    read_text(alloc, scratch, bytes)
+    match change_in_bytes(alloc, bytes) {
+        Ok(change) => Ok(change),
+        Err(ReadFault::Bad) => read_text(alloc, scratch, bytes),
+        Err(ReadFault::NoMemory) => Err(ReadFault::NoMemory),
+    }
 }
 
 /// Reads a request from bytes: at most 16,384 bytes of UTF-8 that are one JSON value, a form of the

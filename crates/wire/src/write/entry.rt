@@ -5,22 +5,21 @@ ghost use Rattle.std.specs.Arc.{arc_value};
 ghost use Rattle.wire.specs.Form.{entry_form, IsEntry, IsEntryText};
 ghost use Rattle.wire.specs.Texts.{entry_text};
 
-use super::operation::send_operation;
+use super::operation::write_operation;
 use super::part::{Written, compact};
 use base_types::NoMemory;
-use json::Writer;
 use rules::Entry;
-use std::alloc::{AllocError, Global};
+use std::alloc::Global;
 use std::sync::Arc;
 
 impl Written for Entry {
     ghost form = { entry_form };
 
-    fn send(&self, out: &mut Writer) -> Result<(), AllocError> {
+    fn write(&self, alloc: Global, text: &mut String) -> Result<(), NoMemory> {
         match self {
-            Entry::Join(site) => ("join", *site).send(out),
-            Entry::Operation(op) => send_operation(&op.name, &op.seen, &op.body, out),
-            Entry::Next(count) => ("next", *count).send(out),
+            Entry::Join(site) => ("join", *site).write(alloc, text),
+            Entry::Operation(op) => write_operation(&op.name, &op.seen, &op.body, alloc, text),
+            Entry::Next(count) => ("next", *count).write(alloc, text),
         }
     }
 }
@@ -28,9 +27,9 @@ impl Written for Entry {
 impl Written for Arc<Entry> {
     ghost form = { λ entry. entry_form (arc_value entry) };
 
-    fn send(&self, out: &mut Writer) -> Result<(), AllocError> {
+    fn write(&self, alloc: Global, text: &mut String) -> Result<(), NoMemory> {
         let entry: &Entry = self;
-        entry.send(out)
+        entry.write(alloc, text)
     }
 }
 

@@ -1,35 +1,36 @@
 //! Operations as text.
 
-ghost use Rattle.std.specs.Prelude.{OnOk};
+ghost use Rattle.std.specs.Prelude.{◌≡◌, ◌++◌, OnOk, string_bytes};
+ghost use Rattle.serde_json.specs.Written.{compact_text};
 ghost use Rattle.wire.specs.Form.{body_form, operation_form};
-ghost use Rattle.wire.specs.steps.Sending.{Sends};
 
 use super::part::Written;
-use base_types::StateVector;
-use json::Writer;
+use base_types::{NoMemory, StateVector};
 use rules::Body;
-use std::alloc::AllocError;
+use std::alloc::Global;
 
-/// Sends an operation: its name or its number, what its author had seen, and what it does.
-pub(super) fn send_operation<H: Written>(
+/// Puts an operation behind a text: its name or its number, what its author had seen, and what it
+/// does.
+pub(super) fn write_operation<H: Written>(
     head: &H,
     seen: &StateVector,
     body: &Body,
-    out: &mut Writer,
-) -> Result<(), AllocError>
-    ensures { OnOk result (Sends (operation_form (H.form head.now) seen.now (body_form body.now))
-        out.old out.new) }
+    alloc: Global,
+    text: &mut String,
+) -> Result<(), NoMemory>
+    ensures { let form = operation_form (H.form head.now) seen.now (body_form body.now) in OnOk
+        result (string_bytes text.new ≡ string_bytes text.old ++ compact_text form) }
 {
     let seen = seen.pairs();
     match body {
-        Body::New { kind, attrs } => ("new", head, seen, kind, attrs.pairs()).send(out),
+        Body::New { kind, attrs } => ("new", head, seen, kind, attrs.pairs()).write(alloc, text),
         Body::Put {
             object,
             version,
             pairs,
-        } => ("put", head, seen, *object, version, pairs.pairs()).send(out),
+        } => ("put", head, seen, *object, version, pairs.pairs()).write(alloc, text),
         Body::DropVersion { object, version } => {
-            ("drop", head, seen, *object, version).send(out)
+            ("drop", head, seen, *object, version).write(alloc, text)
         }
     }
 }

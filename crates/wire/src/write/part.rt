@@ -1,36 +1,96 @@
-//! Values that have a JSON form, and their texts.
+//! Values that have a JSON form, and their texts. Numbers, brackets and commas are put behind a text
+//! at once: a writer of tokens takes twice the time, and an answer with many identifiers is little
+//! else.
 
-ghost use Rattle.std.specs.Prelude.{◌≡◌, ◌≤◌, ◌∷◌, [], map, Some, IfOk, OnOk, string_bytes};
-ghost use Rattle.serde_json.specs.Data.{Data, string, depth};
-ghost use Rattle.serde_json.specs.Read.{read, max_depth};
+ghost use Rattle.std.specs.Prelude.{◌≡◌, ◌+◌, ◌<◌, ◌∷◌, [], ◌++◌, map, pos, IfOk, OnOk, string_bytes};
+ghost use Rattle.std.specs.Fmt.{decimal};
+ghost use Rattle.std.specs.List.{list_all};
+ghost use Rattle.json.specs.Print.{quoted};
+ghost use Rattle.serde_json.specs.Data.{Data, string};
 ghost use Rattle.serde_json.specs.Written.{compact_text};
-ghost use Rattle.wire.specs.Form.{list_form, whole_form, name_form, value_form, names_form};
+ghost use Rattle.base_types.specs.declared.value.Value.TheVariants.{Number};
+ghost use Rattle.wire.specs.Form.{list_form, whole_form, name_form, names_form, value_form};
 ghost use Rattle.wire.specs.Form.{shown_form, version_form};
-ghost use Rattle.wire.specs.steps.Sending.{Sends};
+ghost use Rattle.wire.specs.steps.Quoting.{is_plain_byte};
 
 use base_types::{Key, Kind, NoMemory, OpName, ValueText, VersionId};
+use itoa::Buffer;
 use json::Writer;
 use rules::{Shown, Version};
-use std::alloc::{AllocError, Global};
+use std::alloc::Global;
+
+/// How many bytes are reserved for a text at first.
+const FIRST_ROOM: usize = 128;
 
 /// A value with a JSON form. This is not serde's `Serialize`, which can't state the form of a tuple
 /// or of another crate's type.
 pub(crate) trait Written {
     ghost form: { Self → Data };
 
-    /// Writes the tokens of the form.
-    fn send(&self, out: &mut Writer) -> Result<(), AllocError>
-        ensures { OnOk result (Sends (form self.now) out.old out.new) };
+    /// Puts the compact text of the form behind a text: the form without white space.
+    fn write(&self, alloc: Global, text: &mut String) -> Result<(), NoMemory>
+        ensures { OnOk result (string_bytes text.new
+            ≡ string_bytes text.old ++ compact_text (form self.now)) };
 }
 
 /// The compact text of a part: its form without white space.
 pub(crate) fn compact<W: Written>(alloc: Global, part: &W) -> Result<String, NoMemory>
-    ensures text { IfOk result (λ text. string_bytes text ≡ compact_text (W.form part.now)) }
-    ensures reads_back { IfOk result (λ text. depth (W.form part.now) ≤ max_depth
-        → read (string_bytes text) ≡ Some (W.form part.now)) }
+    ensures { IfOk result (λ text. string_bytes text ≡ compact_text (W.form part.now)) }
 {
-    let mut out = Writer::new(Vec::with_capacity(alloc, 128)?);
-    part.send(&mut out)?;
+    let mut text = String::with_capacity(alloc, FIRST_ROOM)?;
+    part.write(alloc, &mut text)?;
+    Ok(text)
+}
+
+/// Puts a digit behind a text.
+fn push_digit(text: &mut String, digit: u32) -> Result<(), NoMemory>
+    requires { digit < 10 }
+    ensures { OnOk result (string_bytes text.new ≡ string_bytes text.old ++ (48 + digit) ∷ []) }
+{
+    text.push(char::from(b'0' + digit as u8))?;
+    Ok(())
+}
+
+/// Puts a number behind a text.
+#[tactic(auto, using(std::proofs::lemmas::Fmt::decimal_digit))]
+fn push_number(text: &mut String, number: u32) -> Result<(), NoMemory>
+    ensures { OnOk result (string_bytes text.new ≡ string_bytes text.old ++ decimal number) }
+{
+    if number < 10 {
+        return push_digit(text, number);
+    }
+    push_number(text, number / 10)?;
+    push_digit(text, number % 10)?;
+    Ok(())
+}
+
+/// Puts a whole number behind a text.
+fn push_integer(text: &mut String, number: i64) -> Result<(), NoMemory>
+    ensures { OnOk result (string_bytes text.new
+        ≡ string_bytes text.old ++ compact_text (value_form (Number number))) }
+{
+    if 0 <= number && number <= i64::from(u32::MAX) {
+        return push_number(text, number as u32);
+    }
+    let mut digits = Buffer::new();
+    text.push_str(digits.format(number))?;
+    Ok(())
+}
+
+/// Returns whether no byte of a text has to be escaped in JSON.
+fn is_plain(text: &[u8]) -> bool
+    ensures { result ≡ list_all is_plain_byte text.now }
+{
+    text.iter()
+        .all(|byte| 0x20 <= *byte && *byte != b'"' && *byte != b'\\')
+}
+
+/// A text in quotes, with escapes.
+fn quoted(alloc: Global, content: &str) -> Result<String, NoMemory>
+    ensures { IfOk result (λ text. string_bytes text ≡ quoted content.now) }
+{
+    let mut out = Writer::new(Vec::new(alloc));
+    out.string(content)?;
     // SAFETY: a writer's bytes are UTF-8. The prover refuses this call without a proof of that.
     Ok(unsafe { String::from_utf8_unchecked(out.into_inner()) })
 }
@@ -38,82 +98,106 @@ pub(crate) fn compact<W: Written>(alloc: Global, part: &W) -> Result<String, NoM
 impl Written for &str {
     ghost form = { λ text. string text.now };
 
-    fn send(&self, out: &mut Writer) -> Result<(), AllocError> {
-        out.string(self)
+    fn write(&self, alloc: Global, text: &mut String) -> Result<(), NoMemory> {
+        if is_plain(self.as_bytes()) {
+            text.push('"')?;
+            text.push_str(self)?;
+            text.push('"')?;
+            return Ok(());
+        }
+        text.push_str(&quoted(alloc, self)?)?;
+        Ok(())
     }
 }
 
 impl Written for u32 {
     ghost form = { whole_form };
 
-    fn send(&self, out: &mut Writer) -> Result<(), AllocError> {
-        out.u64(u64::from(*self))
+    fn write(&self, _alloc: Global, text: &mut String) -> Result<(), NoMemory> {
+        push_number(text, *self)
     }
 }
 
 impl<W: Written> Written for &W {
     ghost form = { λ part. W.form part.now };
 
-    fn send(&self, out: &mut Writer) -> Result<(), AllocError> {
-        (**self).send(out)
+    fn write(&self, alloc: Global, text: &mut String) -> Result<(), NoMemory> {
+        (**self).write(alloc, text)
     }
 }
 
 impl<W: Written> Written for &[W] {
     ghost form = { λ parts. list_form (map W.form parts.now) };
 
-    fn send(&self, out: &mut Writer) -> Result<(), AllocError> {
-        out.begin_array()?;
-        for part in self.iter() {
-            part.send(out)?;
+    fn write(&self, alloc: Global, text: &mut String) -> Result<(), NoMemory> {
+        text.push('[')?;
+        for at in 0..self.len() {
+            if at > 0 {
+                text.push(',')?;
+            }
+            self[at].write(alloc, text)?;
         }
-        out.end_array()
+        text.push(']')?;
+        Ok(())
     }
+}
+
+/// Puts a comma and the text of a part behind a text.
+fn write_next<W: Written>(part: &W, alloc: Global, text: &mut String) -> Result<(), NoMemory>
+    ensures { OnOk result (string_bytes text.new
+        ≡ string_bytes text.old ++ 44 ∷ compact_text (W.form part.now)) }
+{
+    text.push(',')?;
+    part.write(alloc, text)
 }
 
 impl<A: Written> Written for (A,) {
     ghost form = { λ p. list_form (A.form p.0 ∷ []) };
 
-    fn send(&self, out: &mut Writer) -> Result<(), AllocError> {
-        out.begin_array()?;
-        self.0.send(out)?;
-        out.end_array()
+    fn write(&self, alloc: Global, text: &mut String) -> Result<(), NoMemory> {
+        text.push('[')?;
+        self.0.write(alloc, text)?;
+        text.push(']')?;
+        Ok(())
     }
 }
 
 impl<A: Written, B: Written> Written for (A, B) {
     ghost form = { λ p. list_form (A.form p.0 ∷ B.form p.1 ∷ []) };
 
-    fn send(&self, out: &mut Writer) -> Result<(), AllocError> {
-        out.begin_array()?;
-        self.0.send(out)?;
-        self.1.send(out)?;
-        out.end_array()
+    fn write(&self, alloc: Global, text: &mut String) -> Result<(), NoMemory> {
+        text.push('[')?;
+        self.0.write(alloc, text)?;
+        write_next(&self.1, alloc, text)?;
+        text.push(']')?;
+        Ok(())
     }
 }
 
 impl<A: Written, B: Written, C: Written> Written for (A, B, C) {
     ghost form = { λ p. list_form (A.form p.0 ∷ B.form p.1 ∷ C.form p.2 ∷ []) };
 
-    fn send(&self, out: &mut Writer) -> Result<(), AllocError> {
-        out.begin_array()?;
-        self.0.send(out)?;
-        self.1.send(out)?;
-        self.2.send(out)?;
-        out.end_array()
+    fn write(&self, alloc: Global, text: &mut String) -> Result<(), NoMemory> {
+        text.push('[')?;
+        self.0.write(alloc, text)?;
+        write_next(&self.1, alloc, text)?;
+        write_next(&self.2, alloc, text)?;
+        text.push(']')?;
+        Ok(())
     }
 }
 
 impl<A: Written, B: Written, C: Written, D: Written> Written for (A, B, C, D) {
     ghost form = { λ p. list_form (A.form p.0 ∷ B.form p.1 ∷ C.form p.2 ∷ D.form p.3 ∷ []) };
 
-    fn send(&self, out: &mut Writer) -> Result<(), AllocError> {
-        out.begin_array()?;
-        self.0.send(out)?;
-        self.1.send(out)?;
-        self.2.send(out)?;
-        self.3.send(out)?;
-        out.end_array()
+    fn write(&self, alloc: Global, text: &mut String) -> Result<(), NoMemory> {
+        text.push('[')?;
+        self.0.write(alloc, text)?;
+        write_next(&self.1, alloc, text)?;
+        write_next(&self.2, alloc, text)?;
+        write_next(&self.3, alloc, text)?;
+        text.push(']')?;
+        Ok(())
     }
 }
 
@@ -121,14 +205,15 @@ impl<A: Written, B: Written, C: Written, D: Written, E: Written> Written for (A,
     ghost form = { λ p. list_form
         (A.form p.0 ∷ B.form p.1 ∷ C.form p.2 ∷ D.form p.3 ∷ E.form p.4 ∷ []) };
 
-    fn send(&self, out: &mut Writer) -> Result<(), AllocError> {
-        out.begin_array()?;
-        self.0.send(out)?;
-        self.1.send(out)?;
-        self.2.send(out)?;
-        self.3.send(out)?;
-        self.4.send(out)?;
-        out.end_array()
+    fn write(&self, alloc: Global, text: &mut String) -> Result<(), NoMemory> {
+        text.push('[')?;
+        self.0.write(alloc, text)?;
+        write_next(&self.1, alloc, text)?;
+        write_next(&self.2, alloc, text)?;
+        write_next(&self.3, alloc, text)?;
+        write_next(&self.4, alloc, text)?;
+        text.push(']')?;
+        Ok(())
     }
 }
 
@@ -137,66 +222,66 @@ impl<A: Written, B: Written, C: Written, D: Written, E: Written, F: Written> Wri
     ghost form = { λ p. list_form
         (A.form p.0 ∷ B.form p.1 ∷ C.form p.2 ∷ D.form p.3 ∷ E.form p.4 ∷ F.form p.5 ∷ []) };
 
-    fn send(&self, out: &mut Writer) -> Result<(), AllocError> {
-        out.begin_array()?;
-        self.0.send(out)?;
-        self.1.send(out)?;
-        self.2.send(out)?;
-        self.3.send(out)?;
-        self.4.send(out)?;
-        self.5.send(out)?;
-        out.end_array()
+    fn write(&self, alloc: Global, text: &mut String) -> Result<(), NoMemory> {
+        text.push('[')?;
+        self.0.write(alloc, text)?;
+        write_next(&self.1, alloc, text)?;
+        write_next(&self.2, alloc, text)?;
+        write_next(&self.3, alloc, text)?;
+        write_next(&self.4, alloc, text)?;
+        write_next(&self.5, alloc, text)?;
+        text.push(']')?;
+        Ok(())
     }
 }
 
 impl Written for OpName {
     ghost form = { name_form };
 
-    fn send(&self, out: &mut Writer) -> Result<(), AllocError> {
-        (self.site(), self.seq()).send(out)
+    fn write(&self, alloc: Global, text: &mut String) -> Result<(), NoMemory> {
+        (self.site(), self.seq()).write(alloc, text)
     }
 }
 
 impl Written for VersionId {
     ghost form = { names_form };
 
-    fn send(&self, out: &mut Writer) -> Result<(), AllocError> {
-        self.names().send(out)
+    fn write(&self, alloc: Global, text: &mut String) -> Result<(), NoMemory> {
+        self.names().write(alloc, text)
     }
 }
 
 impl Written for Key {
     ghost form = { string };
 
-    fn send(&self, out: &mut Writer) -> Result<(), AllocError> {
-        self.text().send(out)
+    fn write(&self, alloc: Global, text: &mut String) -> Result<(), NoMemory> {
+        self.text().write(alloc, text)
     }
 }
 
 impl Written for Kind {
     ghost form = { string };
 
-    fn send(&self, out: &mut Writer) -> Result<(), AllocError> {
-        self.text().send(out)
+    fn write(&self, alloc: Global, text: &mut String) -> Result<(), NoMemory> {
+        self.text().write(alloc, text)
     }
 }
 
 impl Written for ValueText {
     ghost form = { string };
 
-    fn send(&self, out: &mut Writer) -> Result<(), AllocError> {
-        self.text().send(out)
+    fn write(&self, alloc: Global, text: &mut String) -> Result<(), NoMemory> {
+        self.text().write(alloc, text)
     }
 }
 
 impl Written for base_types::Value {
     ghost form = { value_form };
 
-    #[tactic(auto, using(crate::proofs::Sent::held_integer))]
-    fn send(&self, out: &mut Writer) -> Result<(), AllocError> {
+    fn write(&self, alloc: Global, text: &mut String) -> Result<(), NoMemory> {
         match self {
-            base_types::Value::Number(number) => out.i64(*number),
-            base_types::Value::Text(text) => text.text().send(out),
+            base_types::Value::Number(number) => push_integer(text, *number),
+            base_types::Value::Text(content) => content.text().write(alloc, text),
         }
     }
 }
@@ -204,10 +289,10 @@ impl Written for base_types::Value {
 impl Written for Shown {
     ghost form = { shown_form };
 
-    fn send(&self, out: &mut Writer) -> Result<(), AllocError> {
+    fn write(&self, alloc: Global, text: &mut String) -> Result<(), NoMemory> {
         match self {
-            Shown::Attrs(attrs) => attrs.as_slice().send(out),
-            Shown::Gone => "gone".send(out),
+            Shown::Attrs(attrs) => attrs.as_slice().write(alloc, text),
+            Shown::Gone => "gone".write(alloc, text),
         }
     }
 }
@@ -215,7 +300,7 @@ impl Written for Shown {
 impl Written for Version {
     ghost form = { version_form };
 
-    fn send(&self, out: &mut Writer) -> Result<(), AllocError> {
-        (&self.id, &self.shown).send(out)
+    fn write(&self, alloc: Global, text: &mut String) -> Result<(), NoMemory> {
+        (&self.id, &self.shown).write(alloc, text)
     }
 }

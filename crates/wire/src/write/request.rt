@@ -5,26 +5,25 @@ ghost use Rattle.serde_json.specs.Written.{compact_text};
 ghost use Rattle.wire.specs.declared.request.TheConstants.{MAX_REQUEST_LEN};
 ghost use Rattle.wire.specs.Form.{request_form, IsRequest, IsRequestText};
 
-use super::operation::send_operation;
+use super::operation::write_operation;
 use super::part::{Written, compact};
 use crate::request::Request;
 use base_types::NoMemory;
-use json::Writer;
-use std::alloc::{AllocError, Global};
+use std::alloc::Global;
 
 impl Written for Request {
     ghost form = { request_form };
 
-    fn send(&self, out: &mut Writer) -> Result<(), AllocError> {
+    fn write(&self, alloc: Global, text: &mut String) -> Result<(), NoMemory> {
         match self {
-            Request::Join { room } => ("join", room.text()).send(out),
-            Request::Back { room, site } => ("back", room.text(), *site).send(out),
-            Request::Change { seq, seen, body } => send_operation(seq, seen, body, out),
-            Request::Show { object } => ("show", *object).send(out),
-            Request::List { from } => ("list", *from).send(out),
-            Request::Pull { from, waits: false } => ("pull", *from).send(out),
-            Request::Pull { from, waits: true } => ("wait", *from).send(out),
-            Request::Leave => ("leave",).send(out),
+            Request::Join { room } => ("join", room.text()).write(alloc, text),
+            Request::Back { room, site } => ("back", room.text(), *site).write(alloc, text),
+            Request::Change { seq, seen, body } => write_operation(seq, seen, body, alloc, text),
+            Request::Show { object } => ("show", *object).write(alloc, text),
+            Request::List { from } => ("list", *from).write(alloc, text),
+            Request::Pull { from, waits: false } => ("pull", *from).write(alloc, text),
+            Request::Pull { from, waits: true } => ("wait", *from).write(alloc, text),
+            Request::Leave => ("leave",).write(alloc, text),
         }
     }
 }

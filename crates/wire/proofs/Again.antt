@@ -1,24 +1,26 @@
--- What is written of a value that is sent is its compact text, and that is read as the value.
-use Rattle.std.proofs.Common.{◌≡◌, ℕ, suc, ◌+◌, ◌<◌, ◌≤◌, ℤ, pos, negsuc, List, [], ◌∷◌, ◌++◌, map, drop, get_or, length, Some, option_map, option_and_then, refl, sym, ap, ◌∙◌, subst, arith, append_assoc, append-nil}
-use Rattle.std.proofs.lemmas.List.{drop_more}
+-- What is written of a value with whole numbers, texts and lists alone is read as the value.
+use Rattle.std.proofs.Common.{◌≡◌, suc, [], ◌^◌, ◌<◌, ◌≤◌, ℤ, pos, negsuc, Some, option_map, option_and_then, refl, sym, ap, ◌∙◌, arith, append-nil}
 use Rattle.std.specs.Prelude.{FitsSigned}
 use Rattle.std.specs.Int.{w64}
 use Rattle.json.specs.Json.{value, if_last}
-use Rattle.json.specs.Print.{print, IsNumber}
-use Rattle.json.specs.Token.{Token, begin_array}
+use Rattle.json.specs.Print.{IsNumber}
 use Rattle.json.specs.Tree as tree
-use Rattle.json.specs.Written.{Written}
 use Rattle.json.proofs.Printed.Decimals.{IsNumber-decimal, IsNumber-signed_decimal}
 use Rattle.json.proofs.Printed.Tokens.{tokens-print}
 use Rattle.json.proofs.Printed.Trees.{value-json_tokens, ArePrintable-json_tokens}
 use Rattle.serde_json.specs.Data.{Num, unsigned, negative, float, Data, null, boolean, number, string, array, object, Items, no_items, item, depth, items_depth}
 use Rattle.serde_json.specs.Find.{of_integer}
 use Rattle.serde_json.specs.Read.{number_of, of_json, of_items, read, max_depth}
-use Rattle.serde_json.specs.View.{items_of}
 use Rattle.serde_json.specs.Written.{number_text, outline, items_outline, compact_text}
 use Rattle.serde_json.proofs.Numbers.{number_of-decimal, number_of-negative}
 use Rattle.serde_json.proofs.Texts.{print-outline}
-use Rattle.wire.specs.steps.Sending.{IsHeldNumber, Sends, SendsItems}
+
+-- a whole number of 64 bits
+abbrev pub IsHeldNumber : Num → Type 0
+IsHeldNumber (unsigned n) = n < 2 ^ 64
+IsHeldNumber (negative (pos n)) = ⊥
+IsHeldNumber (negative (negsuc n)) = n < 2 ^ 63
+IsHeldNumber (float x) = ⊥
 
 -- all numbers of the value are whole and fit, and there is no other value in it than numbers, texts
 -- and lists
@@ -38,51 +40,6 @@ abbrev mutual
 pub held_integer : (z : ℤ) → FitsSigned w64 z → IsHeldNumber (of_integer z)
 held_integer (pos n) h = omega arith
 held_integer (negsuc n) h = omega arith
-
--- ---- a list, part by part
-
--- a part that is sent, and then the rest
-pub part_and_rest : {X : Type 0} (form : X → Data) (xs : List X) (i : ℕ) (x : X) (old mid end : Written) → i < length xs → x ≡ get_or xs i x → Sends (form x) old mid
-    → SendsItems (items_of (map form (drop (i + 1) xs))) mid end → SendsItems (items_of (map form (drop i xs))) old end
-part_and_rest form xs i x old mid end lt is part rest =
-    subst (λ ys. SendsItems (items_of (map form ys)) old end) (sym (drop_more xs i x lt ∙ ap (λ y. y ∷ drop (i + 1) xs) (sym is))) (mid, part, rest)
-
--- ---- the tokens
-
--- the tokens follow the old ones
-abbrev Follow : List Token → Written → Written → Type 0
-Follow ts old new = (new.tokens ≡ old.tokens ++ ts) × (new.before ≡ old.before)
-
-and_then : (ts us : List Token) (old mid new : Written) → Follow ts old mid → Follow us mid new → Follow (ts ++ us) old new
-and_then ts us old mid new first rest = (rest.0 ∙ ap (λ s. s ++ us) first.0 ∙ append_assoc old.tokens ts us, rest.1 ∙ first.1)
-
-mutual
-  sent_tokens : (d : Data) (old new : Written) → Sends d old new → Follow (tree.json_tokens (outline d)) old new
-  sent_tokens null old new h = absurd h
-  sent_tokens (boolean b) old new h = absurd h
-  sent_tokens (number n) old new h = h.0
-  sent_tokens (string s) old new h = h
-  sent_tokens (array ds) old new h = and_then (begin_array ∷ []) _ old h.0 new h.1 (sent_items ds h.0 new h.2)
-  sent_tokens (object ms) old new h = absurd h
-
-  sent_items : (ds : Items) (old new : Written) → SendsItems ds old new → Follow (tree.items_tokens (items_outline ds)) old new
-  sent_items no_items old new h = h
-  sent_items (item d ds) old new h = and_then (tree.json_tokens (outline d)) _ old h.0 new (sent_tokens d old h.0 h.1) (sent_items ds h.0 new h.2)
-
--- ---- what is held
-
-mutual
-  pub sent_is_plain : (d : Data) (old new : Written) → Sends d old new → IsPlain d
-  sent_is_plain null old new h = h
-  sent_is_plain (boolean b) old new h = h
-  sent_is_plain (number n) old new h = h.1
-  sent_is_plain (string s) old new h = tt
-  sent_is_plain (array ds) old new h = sent_are_plain ds h.0 new h.2
-  sent_is_plain (object ms) old new h = h
-
-  sent_are_plain : (ds : Items) (old new : Written) → SendsItems ds old new → ArePlain ds
-  sent_are_plain no_items old new h = tt
-  sent_are_plain (item d ds) old new h = (sent_is_plain d old h.0 h.1, sent_are_plain ds h.0 new h.2)
 
 is_number : (n : Num) → IsHeldNumber n → IsNumber (number_text n)
 is_number (unsigned n) h = IsNumber-decimal n h
@@ -124,13 +81,6 @@ mutual
       record { numbers = (first.numbers, rest.numbers); nests = rw (first.nests, rest.nests) refl; again = rw (first.again, rest.again) refl }
 
 -- ---- the text
-
--- nothing stood before
-pub print_alone : (d : Data) (old new : Written) (bytes : List ℕ) → old.before ≡ [] → Sends d old new → bytes ≡ new.before ++ print new.tokens → bytes ≡ print new.tokens
-print_alone d old new bytes empty sent all = all ∙ ap (λ s. s ++ print new.tokens) ((sent_tokens d old new sent).1 ∙ empty)
-
-pub text_of_sent : (d : Data) (old new : Written) → old.tokens ≡ [] → Sends d old new → print new.tokens ≡ compact_text d
-text_of_sent d old new none sent = ap print ((sent_tokens d old new sent).0 ∙ ap (λ ts. ts ++ tree.json_tokens (outline d)) none) ∙ print-outline d
 
 pub compact_again : (d : Data) → IsPlain d → depth d ≤ max_depth → read (compact_text d) ≡ Some d
 compact_again d plain shallow =

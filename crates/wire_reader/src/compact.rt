@@ -1,0 +1,436 @@
+//! Changes from compact text, the form in which clients mostly send them. Reading it takes a third of
+//! the time of a JSON reader. Each part says that what it takes is the compact text of what it gives. Any
+//! other text is left to the JSON reader: with white space, escapes, or a number of more than nine digits.
+
+ghost use Rattle.std.specs.Prelude.{◌≡◌, ◌+◌, ◌<◌, ◌≤◌, ◌∷◌, [], ◌++◌, codes, true, false, length, map, take, IfOk, IsTrue, MatchOption, OnOk};
+ghost use Rattle.std.specs.Fmt.{decimal};
+ghost use Rattle.std.specs.List.{list_all, AllByRecursion};
+ghost use Rattle.json.specs.Print.{quoted};
+ghost use Rattle.serde_json.specs.Data.{Data};
+ghost use Rattle.serde_json.specs.Written.{compact_text};
+ghost use Rattle.base_types.specs.Names.{is_op_name, is_seq};
+ghost use Rattle.base_types.specs.Vectors.{is_vector};
+ghost use Rattle.wire.specs.Form.{attr_form, attrs_form, body_form, list_form, name_form, names_form, request_form, value_form, ArePairs, IsAttr, IsBody, IsId, IsRequest, IsValue};
+ghost use Rattle.wire_reader.specs.steps.Compact.{fields_text};
+ghost use Rattle.wire.specs.steps.Quoting.{is_plain_byte};
+
+use crate::fault::ReadFault;
+use base_types::{Key, Kind, MAX_SEQ, NoMemory, OpName, SitePairs, StateVector, Value, VersionId};
+use rules::{Attrs, Body, Pairs};
+use std::alloc::Global;
+use std::marker::Model;
+use wire::Request;
+
+/// A number with more digits is left to the JSON reader.
+const MAX_SHORTER: u32 = 99_999_999;
+
+/// The bytes of a message that are not read yet.
+#[derive(Drop)]
+struct Cursor<'a> {
+    rest: &'a [u8],
+}
+
+impl<'a> Model for Cursor<'a> {
+    ghost use Rattle.std.specs.Prelude.{ℕ, List};
+
+    ghost Value = { List ℕ };
+
+    ghost view = { λ cursor. cursor.rest.now };
+}
+
+impl<'a> Cursor<'a> {
+    /// Takes the next byte if it is this one. Returns whether it is.
+    fn take(&mut self, byte: u8) -> bool
+        ensures taken { IsTrue result → self.old ≡ byte ∷ self.new }
+        ensures stays { result ≡ false → self.new ≡ self.old }
+    {
+        match self.rest.split_first() {
+            Some((first, rest)) if *first == byte => {
+                self.rest = rest;
+                true
+            }
+            _ => false,
+        }
+    }
+
+    /// Takes this byte.
+    fn expect(&mut self, byte: u8) -> Result<(), ReadFault>
+        ensures { OnOk result (self.old ≡ byte ∷ self.new) }
+    {
+        if self.take(byte) {
+            Ok(())
+        } else {
+            Err(ReadFault::Bad)
+        }
+    }
+
+    /// Takes the next byte if it is a digit.
+    fn digit(&mut self) -> Option<u32>
+        ensures { MatchOption result (self.new ≡ self.old)
+            (λ digit. (digit < 10) × (self.old ≡ (48 + digit) ∷ self.new)) }
+    {
+        match self.rest.split_first() {
+            Some((first, rest)) if first.is_ascii_digit() => {
+                self.rest = rest;
+                Some(u32::from(*first - b'0'))
+            }
+            _ => None,
+        }
+    }
+
+    /// Takes a number of at most nine digits.
+    fn number(&mut self) -> Result<u32, ReadFault>
+        ensures { IfOk result (λ number. self.old ≡ decimal number ++ self.new) }
+    {
+        let Some(mut number) = self.digit() else {
+            return Err(ReadFault::Bad);
+        };
+        while 0 < number && number <= MAX_SHORTER {
+            let Some(digit) = self.digit() else {
+                return Ok(number);
+            };
+            number = number * 10 + digit;
+        }
+        Ok(number)
+    }
+
+    /// Takes a list of two numbers.
+    fn pair(&mut self) -> Result<(u32, u32), ReadFault>
+        ensures { IfOk result (λ pair. self.old ≡ compact_text (name_form pair) ++ self.new) }
+    {
+        self.expect(b'[')?;
+        let first = self.number()?;
+        self.expect(b',')?;
+        let second = self.number()?;
+        self.expect(b']')?;
+        Ok((first, second))
+    }
+
+    /// Takes a text in quotes, without escapes.
+    fn quoted(&mut self) -> Result<&'a [u8], ReadFault>
+        ensures { IfOk result (λ text. self.old ≡ quoted text.now ++ self.new) }
+    {
+        self.expect(b'"')?;
+        let (text, rest) = split_plain(self.rest);
+        self.rest = rest;
+        self.expect(b'"')?;
+        Ok(text)
+    }
+}
+
+/// Returns whether a byte stands for itself between quotes.
+fn is_plain_byte(byte: u8) -> bool
+    ensures { result ≡ is_plain_byte byte }
+{
+    0x20 <= byte && byte != b'"' && byte != b'\\'
+}
+
+/// How many bytes at the front stand for themselves between quotes.
+fn plain_len(bytes: &[u8]) -> usize
+    ensures plain { list_all is_plain_byte (take result bytes.now) ≡ true }
+    ensures within { result ≤ length bytes.now }
+{
+    for (place, byte) in bytes.iter().enumerate() {
+        if !is_plain_byte(*byte) {
+            return place;
+        }
+    }
+    bytes.len()
+}
+
+/// The bytes at the front that stand for themselves between quotes, and those after them.
+fn split_plain(bytes: &[u8]) -> (&[u8], &[u8])
+    ensures parts { bytes.now ≡ result.0.now ++ result.1.now }
+    ensures plain { list_all is_plain_byte result.0.now ≡ true }
+{
+    let len = plain_len(bytes);
+    (&bytes[..len], &bytes[len..])
+}
+
+/// What is taken of compact text.
+trait Scanned: Sized + Drop {
+    ghost form: { Self → Data };
+
+    ghost IsInRange: { Self → Type 0 };
+
+    /// Takes a part.
+    fn scan(alloc: Global, cursor: &mut Cursor<'_>) -> Result<Self, ReadFault>
+        ensures text { IfOk result (λ part. cursor.old ≡ compact_text (form part) ++ cursor.new) }
+        ensures range { IfOk result IsInRange };
+}
+
+/// Takes the parts of a list after this first one, to its end.
+fn rest_of<T: Scanned>(
+    alloc: Global,
+    cursor: &mut Cursor<'_>,
+    first: T,
+) -> Result<Vec<T>, ReadFault>
+    requires { T.IsInRange first }
+    ensures text { IfOk result (λ parts. 91 ∷ (compact_text (T.form first) ++ cursor.old)
+        ≡ compact_text (list_form (map T.form parts.items)) ++ cursor.new) }
+    ensures range { IfOk result (λ parts. AllByRecursion T.IsInRange parts.items) }
+{
+    let mut parts = Vec::new(alloc);
+    parts.push(first)?;
+    // Each turn takes a byte.
+    'parts: for _ in 0..cursor.rest.len() {
+        if cursor.take(b']') {
+            return Ok(parts);
+        }
+        cursor.expect(b',')?;
+        parts.push(T::scan(alloc, cursor)?)?;
+    }
+    Err(ReadFault::Bad)
+}
+
+/// Takes a list.
+fn list_of<T: Scanned>(alloc: Global, cursor: &mut Cursor<'_>) -> Result<Vec<T>, ReadFault>
+    ensures text { IfOk result (λ parts.
+        cursor.old ≡ compact_text (list_form (map T.form parts.items)) ++ cursor.new) }
+    ensures range { IfOk result (λ parts. AllByRecursion T.IsInRange parts.items) }
+{
+    cursor.expect(b'[')?;
+    if cursor.take(b']') {
+        return Ok(Vec::new(alloc));
+    }
+    let first = T::scan(alloc, cursor)?;
+    rest_of(alloc, cursor, first)
+}
+
+impl Scanned for OpName {
+    ghost form = { name_form };
+
+    ghost IsInRange = { λ name. is_op_name name ≡ true };
+
+    fn scan(_alloc: Global, cursor: &mut Cursor<'_>) -> Result<OpName, ReadFault> {
+        let (site, seq) = cursor.pair()?;
+        OpName::new(site, seq).ok_or(ReadFault::Bad)
+    }
+}
+
+/// Takes a text that is a value.
+fn value_text_of(alloc: Global, cursor: &mut Cursor<'_>) -> Result<Value, ReadFault>
+    ensures text { IfOk result (λ value.
+        cursor.old ≡ compact_text (value_form value) ++ cursor.new) }
+    ensures range { IfOk result IsValue }
+{
+    let bytes = cursor.quoted()?;
+    let Ok(text) = std::str::from_utf8(bytes) else {
+        return Err(ReadFault::Bad);
+    };
+    Ok(Value::text(alloc, text)?)
+}
+
+/// Takes a whole number that is a value. One below 0 has a minus, and `-0` is none.
+fn integer_of(cursor: &mut Cursor<'_>) -> Result<Value, ReadFault>
+    ensures text { IfOk result (λ value.
+        cursor.old ≡ compact_text (value_form value) ++ cursor.new) }
+    ensures range { IfOk result IsValue }
+{
+    if !cursor.take(b'-') {
+        return Ok(Value::Number(i64::from(cursor.number()?)));
+    }
+    let number = cursor.number()?;
+    if number == 0 {
+        return Err(ReadFault::Bad);
+    }
+    Ok(Value::Number(-i64::from(number)))
+}
+
+/// Takes a value.
+fn value_of(alloc: Global, cursor: &mut Cursor<'_>) -> Result<Value, ReadFault>
+    ensures text { IfOk result (λ value.
+        cursor.old ≡ compact_text (value_form value) ++ cursor.new) }
+    ensures range { IfOk result IsValue }
+{
+    match cursor.rest.first() {
+        Some(b'"') => value_text_of(alloc, cursor),
+        _ => integer_of(cursor),
+    }
+}
+
+impl Scanned for (Key, Value) {
+    ghost form = { attr_form };
+
+    ghost IsInRange = { IsAttr };
+
+    fn scan(alloc: Global, cursor: &mut Cursor<'_>) -> Result<(Key, Value), ReadFault> {
+        cursor.expect(b'[')?;
+        let key = Key::parse(alloc, cursor.quoted()?)?;
+        cursor.expect(b',')?;
+        let value = value_of(alloc, cursor)?;
+        cursor.expect(b']')?;
+        Ok((key, value))
+    }
+}
+
+/// Takes the pairs of a vector after this first one, to the end of the list.
+fn site_pairs_of(
+    alloc: Global,
+    cursor: &mut Cursor<'_>,
+    first: (u32, u32),
+) -> Result<SitePairs, ReadFault>
+    ensures { IfOk result (λ pairs. 91 ∷ (compact_text (name_form first) ++ cursor.old)
+        ≡ compact_text (names_form pairs.items) ++ cursor.new) }
+{
+    let mut pairs = SitePairs::new(alloc);
+    pairs.push(first)?;
+    // Each turn takes a byte.
+    'pairs: for _ in 0..cursor.rest.len() {
+        if cursor.take(b']') {
+            return Ok(pairs);
+        }
+        cursor.expect(b',')?;
+        pairs.push(cursor.pair()?)?;
+    }
+    Err(ReadFault::Bad)
+}
+
+/// Takes a state vector.
+fn seen_of(alloc: Global, cursor: &mut Cursor<'_>) -> Result<StateVector, ReadFault>
+    ensures text { IfOk result (λ seen.
+        cursor.old ≡ compact_text (names_form seen) ++ cursor.new) }
+    ensures range { IfOk result (λ seen. is_vector seen ≡ true) }
+{
+    cursor.expect(b'[')?;
+    if cursor.take(b']') {
+        return Ok(StateVector::empty(alloc));
+    }
+    let first = cursor.pair()?;
+    let pairs = site_pairs_of(alloc, cursor, first)?;
+    Ok(StateVector::from_site_pairs(pairs)?)
+}
+
+/// Takes the identifier of a version.
+fn id_of(alloc: Global, cursor: &mut Cursor<'_>) -> Result<VersionId, ReadFault>
+    ensures text { IfOk result (λ id. cursor.old ≡ compact_text (names_form id) ++ cursor.new) }
+    ensures range { IfOk result IsId }
+{
+    let names = list_of(alloc, cursor)?;
+    Ok(VersionId::from_vec(names)?)
+}
+
+/// Takes the attributes of a put. One pair alone takes no memory.
+fn pairs_of(alloc: Global, cursor: &mut Cursor<'_>) -> Result<Pairs, ReadFault>
+    ensures text { IfOk result (λ pairs.
+        cursor.old ≡ compact_text (attrs_form pairs) ++ cursor.new) }
+    ensures range { IfOk result ArePairs }
+{
+    cursor.expect(b'[')?;
+    let (key, value) = Scanned::scan(alloc, cursor)?;
+    if cursor.take(b']') {
+        return Ok(Pairs::one(key, value));
+    }
+    let pairs = rest_of(alloc, cursor, (key, value))?;
+    Pairs::from_pairs(pairs).map_err(|_| ReadFault::Bad)
+}
+
+/// Takes what a creation does, to the end of the list. A comma was taken before.
+fn new_of(alloc: Global, cursor: &mut Cursor<'_>) -> Result<Body, ReadFault>
+    ensures text { IfOk result (λ body. 44 ∷ cursor.old ≡ fields_text body ++ cursor.new) }
+    ensures word { IfOk result (λ body. (body_form body).0 ≡ codes "new") }
+    ensures range { IfOk result IsBody }
+{
+    let kind = Kind::parse(alloc, cursor.quoted()?)?;
+    cursor.expect(b',')?;
+    let attrs = Attrs::from_pairs(list_of(alloc, cursor)?).map_err(|_| ReadFault::Bad)?;
+    cursor.expect(b']')?;
+    Ok(Body::New { kind, attrs })
+}
+
+/// Takes what a put does, to the end of the list. A comma was taken before.
+fn put_of(alloc: Global, cursor: &mut Cursor<'_>) -> Result<Body, ReadFault>
+    ensures text { IfOk result (λ body. 44 ∷ cursor.old ≡ fields_text body ++ cursor.new) }
+    ensures word { IfOk result (λ body. (body_form body).0 ≡ codes "put") }
+    ensures range { IfOk result IsBody }
+{
+    let object = OpName::scan(alloc, cursor)?;
+    cursor.expect(b',')?;
+    let version = id_of(alloc, cursor)?;
+    cursor.expect(b',')?;
+    let pairs = pairs_of(alloc, cursor)?;
+    cursor.expect(b']')?;
+    Ok(Body::Put {
+        object,
+        version,
+        pairs,
+    })
+}
+
+/// Takes what a drop does, to the end of the list. A comma was taken before.
+fn drop_of(alloc: Global, cursor: &mut Cursor<'_>) -> Result<Body, ReadFault>
+    ensures text { IfOk result (λ body. 44 ∷ cursor.old ≡ fields_text body ++ cursor.new) }
+    ensures word { IfOk result (λ body. (body_form body).0 ≡ codes "drop") }
+    ensures range { IfOk result IsBody }
+{
+    let object = OpName::scan(alloc, cursor)?;
+    cursor.expect(b',')?;
+    let version = id_of(alloc, cursor)?;
+    cursor.expect(b']')?;
+    Ok(Body::DropVersion { object, version })
+}
+
+/// Takes what the operation of a word does, to the end of the list. A comma was taken before.
+fn body_of(alloc: Global, word: &[u8], cursor: &mut Cursor<'_>) -> Result<Body, ReadFault>
+    ensures text { IfOk result (λ body. 44 ∷ cursor.old ≡ fields_text body ++ cursor.new) }
+    ensures word { IfOk result (λ body. (body_form body).0 ≡ word.now) }
+    ensures range { IfOk result IsBody }
+{
+    match word {
+        b"put" => put_of(alloc, cursor),
+        b"new" => new_of(alloc, cursor),
+        b"drop" => drop_of(alloc, cursor),
+        _ => Err(ReadFault::Bad),
+    }
+}
+
+/// Takes the number of an operation.
+fn seq_of(cursor: &mut Cursor<'_>) -> Result<u32, ReadFault>
+    ensures text { IfOk result (λ seq. cursor.old ≡ decimal seq ++ cursor.new) }
+    ensures range { IfOk result (λ seq. is_seq seq ≡ true) }
+{
+    let seq = cursor.number()?;
+    if 1 <= seq && seq <= MAX_SEQ {
+        Ok(seq)
+    } else {
+        Err(ReadFault::Bad)
+    }
+}
+
+/// Takes a change.
+fn change_of(alloc: Global, cursor: &mut Cursor<'_>) -> Result<Request, ReadFault>
+    ensures text { IfOk result (λ change.
+        cursor.old ≡ compact_text (request_form change) ++ cursor.new) }
+    ensures range { IfOk result IsRequest }
+{
+    cursor.expect(b'[')?;
+    let word = cursor.quoted()?;
+    cursor.expect(b',')?;
+    let seq = seq_of(cursor)?;
+    cursor.expect(b',')?;
+    let seen = seen_of(alloc, cursor)?;
+    cursor.expect(b',')?;
+    let body = body_of(alloc, word, cursor)?;
+    Ok(Request::Change { seq, seen, body })
+}
+
+/// The change that a text is the compact text of. Linear in the text.
+///
+/// # Errors
+///
+/// - `Bad` if the text is another one: perhaps of another request, or of a change in another form.
+/// - `NoMemory` if an allocation failed.
+pub(crate) fn read_change(alloc: Global, text: &str) -> Result<Request, ReadFault>
+    ensures text { IfOk result (λ change. text.now ≡ compact_text (request_form change)) }
+    ensures range { IfOk result IsRequest }
+{
+    let mut cursor = Cursor {
+        rest: text.as_bytes(),
+    };
+    let change = change_of(alloc, &mut cursor)?;
+    if cursor.rest.is_empty() {
+        Ok(change)
+    } else {
+        Err(ReadFault::Bad)
+    }
+}

@@ -414,19 +414,17 @@ fn change_of(alloc: Global, cursor: &mut Cursor<'_>) -> Result<Request, ReadFaul
     Ok(Request::Change { seq, seen, body })
 }
 
-/// The change that a text is the compact text of. Linear in the text.
+/// The change that a message is the compact text of. Linear in the message, as far as it is that.
 ///
 /// # Errors
 ///
-/// - `Bad` if the text is another one: perhaps of another request, or of a change in another form.
+/// - `Bad` if it is another one: perhaps of another request, or of a change in another form.
 /// - `NoMemory` if an allocation failed.
-pub(crate) fn read_change(alloc: Global, text: &str) -> Result<Request, ReadFault>
-    ensures text { IfOk result (λ change. text.now ≡ compact_text (request_form change)) }
+pub(crate) fn read_change(alloc: Global, message: &[u8]) -> Result<Request, ReadFault>
+    ensures text { IfOk result (λ change. message.now ≡ compact_text (request_form change)) }
     ensures range { IfOk result IsRequest }
 {
-    let mut cursor = Cursor {
-        rest: text.as_bytes(),
-    };
+    let mut cursor = Cursor { rest: message };
     let change = change_of(alloc, &mut cursor)?;
     if cursor.rest.is_empty() {
         Ok(change)

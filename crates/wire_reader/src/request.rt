@@ -110,8 +110,8 @@ fn change_in_bytes(alloc: Global, bytes: &[u8]) -> Result<Request, ReadFault>
     requires { length bytes.now ≤ MAX_REQUEST_LEN }
     ensures { IfOk result (λ change. request_read bytes.now ≡ Some change) }
 {
-    let text = utf8_of(bytes)?;
-    let change = read_change(alloc, text)?;
+    let change = read_change(alloc, bytes)?;
+    let _text = utf8_of(bytes)?;
     Ok(change)
 }
 

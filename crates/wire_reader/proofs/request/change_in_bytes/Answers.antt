@@ -1,4 +1,3 @@
-use Rattle.std.proofs.Common.{sym, ◌∙◌}
 use Rattle.std.proofs.lemmas.Str.{IsUtf8-from_is_utf8}
 use Rattle.wire.proofs.OwnTexts.{is_request_text}
 use Rattle.wire_reader.proofs.RequestTexts.{request_text_again}
@@ -9,5 +8,5 @@ pub returns : goal.returns
 returns c =
     let bytes = c.args.bytes.now in
     let change = c.in_ok-change.change in
-    let utf8 = IsUtf8-from_is_utf8 bytes c.in_ok-text.ensures.1 in
-    request_text_again bytes change (is_request_text change bytes utf8 (sym c.in_ok-text.ensures.0 ∙ c.in_ok-change.ensures.text) c.in_ok-change.ensures.range c.requires)
+    let utf8 = IsUtf8-from_is_utf8 bytes c.in_ok-_text.ensures.1 in
+    request_text_again bytes change (is_request_text change bytes utf8 c.in_ok-change.ensures.text c.in_ok-change.ensures.range c.requires)

@@ -7,10 +7,11 @@ import pathlib
 import tempfile
 import time
 
+from lib.checks import check
 from lib.drawing import come_back
 from lib.keeping import path_of, whole_lines
 from lib.records import transcript_lines
-from lib.serving import CheckFailed, expect_equal, run, verdict
+from lib.serving import run, verdict
 
 # The seconds in which all clients of a room have to show the same, and in which a reply has to come. They allow for a
 # machine that has no time for the clients or the server.
@@ -56,7 +57,7 @@ def await_agreement(clients):
             if len({client.name for client in clients}) == 1 and not any(it.has_ended for it in clients):
                 return
         if time.monotonic() > bound:
-            raise CheckFailed(f"clients do not agree: {[(it.name, len(it.record), it.words) for it in clients]}")
+            raise AssertionError(f"clients do not agree: {[(it.name, len(it.record), it.words) for it in clients]}")
 
 
 def check_pages(server, clients_of):
@@ -75,7 +76,7 @@ def check_pages(server, clients_of):
         shown = page_of_session(session)
         session.close()
         for number, page in enumerate(pages, 1):
-            expect_equal(f"what client {number} of {len(pages)} in {name} shows", page, shown)
+            check.assertEqual(page, shown, f"what client {number} of {len(pages)} in {name} shows")
         objects += len(shown)
         versions += sum(len(of_object) for *_, of_object in shown)
     print(f"{sum(map(len, clients_of.values()))} clients show what `show` says: {objects} objects, {versions} versions")
@@ -91,7 +92,7 @@ def check_records(server, rooms, values, failed):
     lines_of = {room: whole_lines(server.keep, room) for room in itertools.chain(*chains.values())}
     transcripts = server.transcripts()
     for room, lines in lines_of.items():
-        expect_equal(f"the verdict of {room}", verdict(lines, transcript_lines(room, transcripts)), (0, "holds\n"))
+        check.assertEqual(verdict(lines, transcript_lines(room, transcripts)), (0, "holds\n"), f"the verdict of {room}")
     print(f"{len(lines_of)} records with {sum(map(len, lines_of.values()))} entries hold")
     pairs = [pair for chain in chains.values() for pair in itertools.pairwise(chain)]
     for old, new in pairs:
@@ -110,12 +111,12 @@ def check_records(server, rooms, values, failed):
 def check_renewal(old, old_lines, new, new_lines):
     """Checks that a record ends with how many entries of the next one draw the same, and that these do."""
     word, count = json.loads(old_lines[-1])
-    expect_equal(f"the end of {old}", (word, count <= len(new_lines)), ("next", True))
+    check.assertEqual((word, count <= len(new_lines)), ("next", True), f"the end of {old}")
     with tempfile.TemporaryDirectory() as folder:
         files = [pathlib.Path(folder) / name for name in (old, new)]
         for file, lines in zip(files, (old_lines, new_lines[:count])):
             file.write_text("".join(f"{line}\n" for line in lines))
-        expect_equal(f"whether {new} goes on as {old}", run("renewed", *files), (0, "holds\n", ""))
+        check.assertEqual(run("renewed", *files), (0, "holds\n", ""), f"whether {new} goes on as {old}")
 
 
 def check_values(room, records, taken, refused):
@@ -129,7 +130,9 @@ def check_values(room, records, taken, refused):
         created.update(value for word, *_, pairs in added if word == "new" for _, value in pairs)
         start = record[-1][-1]
     there = created.union(puts)
-    expect_equal(f"the values of {room} that are lost", [value for value in taken if value not in there], [])
+    check.assertEqual([value for value in taken if value not in there], [], f"the values of {room} that are lost")
     twice = [value for value, count in puts.items() if count > 1]
-    expect_equal(f"the values of {room} that are in two records", twice, [])
-    expect_equal(f"the refused values of {room} that are there", [value for value in refused if value in there], [])
+    check.assertEqual(twice, [], f"the values of {room} that are in two records")
+    check.assertEqual(
+        [value for value in refused if value in there], [], f"the refused values of {room} that are there",
+    )

@@ -2,19 +2,18 @@
 may: above 256 MiB lines that stall end after a second, and above 512 MiB nothing more is read."""
 
 import contextlib
+import os
 import socket
 import time
+import unittest
 
 from lib.crowd import Shares
-from lib.keeping import KeepingServer, needs_root, room_folder
+from lib.keeping import KeepingServer, room_folder
 from lib.limit_records import longest_answer
 from lib.observing import samples
 from lib.own_network import enter_own_network
 from lib.records import compact
-from lib.serving import CheckFailed, Skipped, expect_equal
 
-# The time limit of a test, in seconds.
-BOUND = 600
 # What all lines may hold before those that stall end, and before nothing more is read, in KiB.
 CROWDED, FULL = 262_144, 524_288
 # The clients. Their answers would take 860 million bytes. A room has at most 256 sites, of which 32 made the object.
@@ -22,8 +21,8 @@ CLIENTS = 220
 # So many ask at a time. The server counts what its lines hold after each round of a loop, so what many ask for in one
 # round comes on top of the limits.
 AT_ONCE = 4
-# A client reads this many bytes each time that so many seconds are over: before the 30 seconds after which any line that
-# stalls ends, and after the second of a crowded server.
+# A client reads this many bytes each time that so many seconds are over: before the 30 seconds after which any line
+# that stalls ends, and after the second of a crowded server.
 SIP, PAUSE, STALLED = 65_536, 5, 30
 # What the system takes of an answer from the server. The lines hold the rest.
 SEND_BUFFER = 65_536
@@ -31,8 +30,8 @@ SEND_BUFFER = 65_536
 # sent of an answer, which they keep until all of it is sent.
 THREADS = 4
 MOST = FULL + FULL // 4
-# The seconds in which the server has to be crowded, and then to have ended lines. A loaded machine needs most of them to
-# make the answers.
+# The seconds in which the server has to be crowded, and then to have ended lines. A loaded machine needs most of them
+# to make the answers.
 PATIENCE = 240
 ENDED = 'grace_sessions_ended_total{cause="stream fault"}'
 
@@ -77,7 +76,7 @@ def wait_until_ended(server, clients):
     bound = time.monotonic() + PATIENCE
     while not ended_of(server):
         if time.monotonic() > bound:
-            raise CheckFailed("no line has ended")
+            raise AssertionError("no line has ended")
         time.sleep(PAUSE)
         sip(clients, socket.MSG_DONTWAIT)
     return ended_of(server)
@@ -95,16 +94,18 @@ def run_crowd(record):
         return *ask_in_turn(server, clients, honest), wait_until_ended(server, clients)
 
 
-def test_crowded():
-    """Lines that stall end, an honest client is served, and the memory stays below the second limit."""
-    needs_root()
-    record = "".join(f"{compact(entry)}\n" for entry in longest_answer().entries).encode()
-    with Shares([record]) as shares:
-        shares.begin(run_crowd)
-        ((most, was_crowded, ended_after, ended),) = shares.results(BOUND)
-    print(f"{ended} of {CLIENTS} lines ended; at most {most:,} KiB", flush=True)
-    if not was_crowded and ended_after and ended_after > STALLED:
-        raise Skipped("the machine is too slow: lines that stalled for 30 seconds ended before the server was crowded")
-    expect_equal("whether it was crowded", was_crowded, True)
-    if most > MOST:
-        raise CheckFailed(f"the server had {most:,} KiB")
+class TestBurden(unittest.TestCase):
+    time_limit = 600
+
+    @unittest.skipIf(os.geteuid(), "only root can run this test")
+    def test_crowded(self):
+        """Lines that stall end, an honest client is served, and the memory stays below the second limit."""
+        record = "".join(f"{compact(entry)}\n" for entry in longest_answer().entries).encode()
+        with Shares([record]) as shares:
+            shares.begin(run_crowd)
+            ((most, was_crowded, ended_after, ended),) = shares.results(self.time_limit)
+        print(f"{ended} of {CLIENTS} lines ended; at most {most:,} KiB", flush=True)
+        if not was_crowded and ended_after and ended_after > STALLED:
+            self.skipTest("the machine is slow: lines that stalled for 30 seconds ended before the server was crowded")
+        self.assertTrue(was_crowded, "whether it was crowded")
+        self.assertLessEqual(most, MOST, "the memory of the server in KiB")

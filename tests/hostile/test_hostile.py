@@ -7,8 +7,10 @@ import json
 import random
 import threading
 import time
+import unittest
 
 from lib.answers import BAD_MESSAGE, check_reply
+from lib.checks import check
 from lib.crowd import Crowd
 from lib.drawing import Drawer
 from lib.frame_reader import LONGEST_MESSAGE
@@ -16,7 +18,7 @@ from lib.hostile_kinds import KINDS
 from lib.hostile_session import STREAM_FAULT, WAIT, HostileSession
 from lib.records import compact, compare_record, entry_of, split_rooms, transcript_lines
 from lib.running import OPTIONS
-from lib.serving import CheckFailed, Server, expect_equal, verdict
+from lib.serving import Server, verdict
 
 # The numbers of each: the threads of the server, the longest messages at once, clients after all others, honest clients
 # and hostile ones. `--crowd` has as many times the last two.
@@ -67,7 +69,7 @@ class Progress:
         """Samples the memory in KiB until the end. Keeps the peak of each quarter."""
         while not self.is_over.wait(SAMPLE):
             if server.process.poll() is not None:
-                raise CheckFailed(f"the server exited early, with status {server.process.returncode}")
+                raise AssertionError(f"the server exited early, with status {server.process.returncode}")
             quarter = min(3, 4 * self.done // self.total)
             self.peaks[quarter] = max(self.peaks[quarter], server.memory()[0])
 
@@ -110,7 +112,7 @@ class HonestClient:
             self.client.send_request(["pull", 0])
             self.client.hang_up()
         self.connect()
-        expect_equal("the operations", self.drawer.come_back(room, self.drawer.site), len(self.own) - 1)
+        check.assertEqual(self.drawer.come_back(room, self.drawer.site), len(self.own) - 1, "the operations")
 
     def ask(self, request):
         """Sends a request. Returns the text of the reply, after checking its form and its order."""
@@ -125,12 +127,12 @@ class HonestClient:
         place."""
         least = self.at + 1 if self.at in self.own else self.at
         if reply[1] < least:
-            raise CheckFailed(f"{compact(request):.200}: reply {compact(reply):.200} after one at {self.at}")
+            raise AssertionError(f"{compact(request):.200}: reply {compact(reply):.200} after one at {self.at}")
         self.at = reply[1]
         if reply[0] in ("joined", "made", "taken"):
             self.own[self.at] = entry_of(self.client.transcript.site, request)
         if reply[0] == "no" and reply[2] not in self.refusals(request):
-            raise CheckFailed(f"{compact(request):.200}: refused by {compact(reply)}")
+            raise AssertionError(f"{compact(request):.200}: refused by {compact(reply)}")
         if reply[0] == "entries":
             self.check_page(request[1], reply)
 
@@ -144,11 +146,11 @@ class HonestClient:
     def check_page(self, start, reply):
         """Checks that the page begins at the requested place, and that its entries of the own site are exactly the own
         changes."""
-        expect_equal("the start of the page", reply[2], start)
+        check.assertEqual(reply[2], start, "the start of the page")
         for place, entry in enumerate(reply[3], start):
             site = entry[1] if entry[0] == "join" else entry[1][0]
             if place in self.own or site == self.client.transcript.site:
-                expect_equal(f"the entry at {place}", entry, self.own.get(place))
+                check.assertEqual(entry, self.own.get(place), f"the entry at {place}")
 
     def draw(self, progress, changes):
         """Makes this many changes during the hostile connections, with other requests in between. Expects that the room
@@ -165,7 +167,7 @@ class HonestClient:
         self.ask(["leave"])
         self.client.close()
         if 2 * accepted < changes:
-            raise CheckFailed(f"the room accepted {accepted} of {changes} changes")
+            raise AssertionError(f"the room accepted {accepted} of {changes} changes")
 
     def watch(self, condition, is_over):
         """Pulls and sends other requests after each pause, while the condition holds and the test runs."""
@@ -174,10 +176,12 @@ class HonestClient:
             self.drawer.ask_other()
 
 
-class TestHostile:
+class TestHostile(unittest.TestCase):
     """One server, the hostile connections of a seed, and the checks afterwards, in order."""
 
-    def __init__(self):
+    time_limit = BOUND
+
+    def setUp(self):
         self.seed, self.connections = OPTIONS.seed, OPTIONS.connections
         print(f"{self.connections} connections by seed {self.seed}", flush=True)
         rooms = [*APART, *sum(ROOMS, []), LAST]
@@ -191,18 +195,27 @@ class TestHostile:
         self.replies = collections.Counter()
         self.faults = []
         self.lines = None
-
-    def __enter__(self):
         self.server.__enter__()
-        return self
+        self.addCleanup(self.server.__exit__)
+        self.addCleanup(self.progress.is_over.set)
 
-    def __exit__(self, *_):
-        self.progress.is_over.set()
-        self.server.__exit__()
+    def test_hostile(self):
+        """Each step is a subtest, which goes on where the one before ended or failed."""
+        for name, step in [
+            ("longest messages at once", self.send_longest_messages),
+            ("hostile connections while others draw", self.connect_all_while_others_draw),
+            ("clients at once after them", self.have_clients_at_once),
+            ("end of the server", self.expect_end_of_the_server),
+            ("records and transcripts", self.compare_records_and_transcripts),
+            ("warnings", self.expect_warnings),
+            ("memory is flat", self.expect_flat_memory),
+        ]:
+            with self.subTest(name):
+                step()
 
     # ---- before the hostile connections
 
-    def test_longest_messages_at_once(self):
+    def send_longest_messages(self):
         """Many clients send a longest message, all at once. The server gives that memory back, and needs it again for
         the hostile connections."""
         clients = [self.server.client() for _ in range(LONGEST_AT_ONCE)]
@@ -210,7 +223,7 @@ class TestHostile:
             client.socket.settimeout(WAIT)
             client.send_request(b" " * LONGEST_MESSAGE)
         for client in clients:
-            expect_equal("the reply to a longest message", client.read_reply(), BAD_MESSAGE)
+            self.assertEqual(client.read_reply(), BAD_MESSAGE, "the reply to a longest message")
             client.close()
         self.progress.peaks[0] = self.server.memory()[1]
 
@@ -223,7 +236,7 @@ class TestHostile:
         client.is_over = True
         return client
 
-    def test_hostile_connections_while_others_draw(self):
+    def connect_all_while_others_draw(self):
         """All hostile connections end as they must, and the server answers the honest clients all the while."""
         crowd = Crowd()
         for number in range(OPTIONS.crowd * DRAWERS):
@@ -239,8 +252,7 @@ class TestHostile:
         finally:
             self.progress.is_over.set()
         crowd.end(3 * WAIT)
-        if self.faults:
-            raise CheckFailed(f"{len(self.faults)} faults; {'; '.join(self.faults)}")
+        self.assertEqual(self.faults, [])
         self.report_replies()
 
     def report_replies(self):
@@ -248,9 +260,8 @@ class TestHostile:
         ends = collections.Counter(" or ".join(sorted(causes)) or "closed" for causes in self.causes.values())
         for name, counter in (("ended", ends), ("answered", self.replies)):
             print(f"hostile sessions {name}: {', '.join(f'{word} {count}' for word, count in sorted(counter.items()))}")
-        missing = EXPECTED_REPLIES - set(self.replies)
-        if missing and self.connections >= MANY:
-            raise CheckFailed(f"no hostile session got the replies {sorted(missing)}")
+        if self.connections >= MANY:
+            self.assertLessEqual(EXPECTED_REPLIES, set(self.replies), "the replies to hostile sessions")
 
     def attacker(self, crowd):
         """Runs one hostile connection after another."""
@@ -286,10 +297,10 @@ class TestHostile:
 
     # ---- after the hostile connections
 
-    def test_clients_at_once_after_them(self):
+    def have_clients_at_once(self):
         """A client for each worker. All send a request before any reads its reply."""
         before = LONGEST_AT_ONCE + self.honest + self.connections
-        expect_equal("the connections before", len(self.server.clients), before)
+        self.assertEqual(len(self.server.clients), before, "the connections before")
         try:
             self.ask_at_once()
         finally:
@@ -300,12 +311,14 @@ class TestHostile:
         """Each client joins, creates an object and reads it, all in parallel."""
         clients = [self.server.client() for _ in range(AT_THE_END)]
         self.expect_words(clients, lambda client: ["join", LAST], "joined")
-        expect_equal("the sites", sorted(client.transcript.site for client in clients), list(range(1, AT_THE_END + 1)))
+        self.assertEqual(
+            sorted(client.transcript.site for client in clients), list(range(1, AT_THE_END + 1)), "the sites",
+        )
         self.expect_words(clients, lambda client: ["new", 1, [], "rect", [["x", client.transcript.site]]], "made")
         self.expect_words(clients, lambda client: ["show", [client.transcript.site, 1]], "versions")
         for client in clients:
             _, line, _ = client.transcript.lines[-1]
-            expect_equal("the versions", json.loads(line)[2][4], [[[], [["x", client.transcript.site]]]])
+            self.assertEqual(json.loads(line)[2][4], [[[], [["x", client.transcript.site]]]], "the versions")
             client.close()
 
     def expect_words(self, clients, request, word):
@@ -315,42 +328,39 @@ class TestHostile:
             client.send_request(request(client))
         for client in clients:
             text = client.read_reply()
-            if not text.startswith(f'["{word}",'):
-                raise CheckFailed(f"unexpected reply {text:.200}")
+            self.assertTrue(text.startswith(f'["{word}",'), f"unexpected reply {text:.200}")
 
-    def test_end_of_the_server(self):
+    def expect_end_of_the_server(self):
         """The server exits with status 0."""
-        expect_equal("the connections in all", len(self.server.clients), self.server.sessions)
+        self.assertEqual(len(self.server.clients), self.server.sessions, "the connections in all")
         self.lines = self.server.output()
-        expect_equal("the status", self.server.process.returncode, 0)
+        self.assertEqual(self.server.process.returncode, 0, "the status")
 
-    def test_records_and_transcripts(self):
+    def compare_records_and_transcripts(self):
         """Each room's record is legal and matches the transcripts, also those of hostile sessions. An entry without a
         reply must be an unanswered request of a hostile session."""
-        if self.lines is None:
-            raise CheckFailed("the server did not exit")
+        self.assertIsNotNone(self.lines, "the server did not exit")
         transcripts = [client.transcript for client in self.server.clients]
         for room, record in split_rooms(self.lines, self.server.rooms).items():
             compare_record(room, record, transcripts)
             transcript = transcript_lines(room, transcripts)
-            expect_equal(f"the verdict of room {room}", verdict(record, transcript, PATIENCE), (0, "holds\n"))
+            self.assertEqual(verdict(record, transcript, PATIENCE), (0, "holds\n"), f"the verdict of room {room}")
 
-    def test_warnings(self):
+    def expect_warnings(self):
         """The server warns exactly once about each session that ended without a close, with its cause, and about no
         other."""
         warnings = self.server.warnings()
         for session in range(1, len(self.server.clients) + 1):
             causes = self.causes.get(session, set())
-            if warnings.get(session) not in (causes or {None}):
-                raise CheckFailed(f"session {session}: warning {warnings.get(session)}, expected one of {causes}")
+            self.assertIn(warnings.get(session), causes or {None}, f"the warning about session {session}")
         known = range(1, len(self.server.clients) + 1)
-        expect_equal("warnings about unknown sessions", sorted(set(warnings) - set(known)), [])
+        self.assertEqual(sorted(set(warnings) - set(known)), [], "warnings about unknown sessions")
 
-    def test_memory_is_flat(self):
+    def expect_flat_memory(self):
         """The peak of memory in the last quarter of the connections is little more than in the first and what the
         records take."""
         first, last = self.progress.peaks[0], self.progress.peaks[3]
         entries = sum(map(len, split_rooms(self.lines, self.server.rooms).values()))
         print(f"peaks of memory over each quarter: {self.progress.peaks} KiB, entries: {entries}", flush=True)
-        if not 0 < last <= GROWTH * first + KIB_AN_ENTRY * entries:
-            raise CheckFailed(f"the peak grew from {first} KiB to {last} KiB over {entries} entries")
+        self.assertGreater(last, 0)
+        self.assertLessEqual(last, GROWTH * first + KIB_AN_ENTRY * entries, f"the last peak in KiB, after {first}")

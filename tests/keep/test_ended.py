@@ -1,11 +1,9 @@
 """Kept rooms whose record has ended."""
 
-from lib.keeping import KeepingServer, bytes_of, room_folder
-from lib.serving import expect_equal
-from lib.worked import RECORD
+import unittest
 
-# The time limit of a test, in seconds.
-BOUND = 60
+from lib.keeping import KeepingServer, bytes_of, room_folder
+from lib.worked import RECORD
 ENDED = "".join(f"{line}\n" for line in [*RECORD, '["next",2]']).encode()
 NEXT = "".join(f"{line}\n" for line in RECORD[:2]).encode()
 VERSIONS = '["versions",6,[1,1],"rect",[[[[1,2]],[["x",5]]],[[[2,1]],[["x",9]]]]]'
@@ -24,16 +22,19 @@ EXCHANGES = [
 ]
 
 
-def test_room_that_has_ended():
-    """A room that has ended is read as before. Nothing is added to it, and its file and that of the next room stay as they
-    are."""
-    with room_folder({"r": ENDED, "r.2": NEXT}) as folder:
-        with KeepingServer(folder, sessions=1) as server:
-            client = server.client()
-            for request, reply in EXCHANGES:
-                client.expect_reply(request, reply)
-            client.close()
-            lines = server.output()
-            expect_equal("the status", server.process.returncode, 0)
-        expect_equal("the output", lines, ["room r.2 2", *RECORD[:2], "room r 6", *ENDED.decode().splitlines()])
-        expect_equal("the files", (bytes_of(folder, "r"), bytes_of(folder, "r.2")), (ENDED, NEXT))
+class TestEnded(unittest.TestCase):
+    time_limit = 60
+
+    def test_room_that_has_ended(self):
+        """A room that has ended is read as before. Nothing is added to it, and its file and that of the next room stay
+        as they are."""
+        with room_folder({"r": ENDED, "r.2": NEXT}) as folder:
+            with KeepingServer(folder, sessions=1) as server:
+                client = server.client()
+                for request, reply in EXCHANGES:
+                    client.expect_reply(request, reply)
+                client.close()
+                lines = server.output()
+                self.assertEqual(server.process.returncode, 0, "the status")
+            self.assertEqual(lines, ["room r.2 2", *RECORD[:2], "room r 6", *ENDED.decode().splitlines()], "the output")
+            self.assertEqual((bytes_of(folder, "r"), bytes_of(folder, "r.2")), (ENDED, NEXT), "the files")

@@ -6,6 +6,7 @@ import os
 import random
 import signal
 import time
+import unittest
 from functools import partial
 
 from lib.answers import BY_SESSION
@@ -13,12 +14,9 @@ from lib.drawing import Drawer, come_back
 from lib.keeping import KeepingServer, bytes_of, room_folder, expect_kept, whole_lines
 from lib.records import compare_record
 from lib.crowd import Crowd, Shares
-from lib.running import OPTIONS, cases
-from lib.serving import CheckFailed, Client, expect_equal
+from lib.running import OPTIONS
+from lib.serving import Client
 from lib.websocket_client import SECONDS, Ended
-
-# The time limit of a test, in seconds.
-BOUND = 600
 ROOMS = ["a", "b", "c", "d"]
 CLIENTS = 32
 WORKERS = 4
@@ -47,7 +45,7 @@ class Person:
         if reply[0] == "no" and reply[3] in BY_SESSION:
             return text
         if reply[1] < self.least:
-            raise CheckFailed(f"after {self.least} entries in room {self.room} came {text:.200}")
+            raise AssertionError(f"after {self.least} entries in room {self.room} came {text:.200}")
         self.least = reply[1] + (reply[0] in ("joined", "made", "taken"))
         self.made += reply[0] in ("made", "taken")
         return text
@@ -61,7 +59,7 @@ class Person:
             return
         made = come_back(self.drawer.reply_to, self.room, self.drawer.site, 3 * SECONDS)
         if made not in (self.made, self.made + 1):
-            raise CheckFailed(f"site {self.drawer.site} made {self.made} operations, but comes back with {made}")
+            raise AssertionError(f"site {self.drawer.site} made {self.made} operations, but comes back with {made}")
         self.made = made
 
     def connect(self, address):
@@ -137,53 +135,55 @@ def end_under_load(shares, count, folder, transcripts, by):
     return transcripts
 
 
-def finish_all(shares, count, folder, transcripts):
-    """Runs a server to its end, while all come back and leave. The files equal its output and match the
-    transcripts."""
-    with KeepingServer(folder, ROOMS, count, WORKERS, before=transcripts, patience=PATIENCE) as server:
-        shares.begin(Share.together, Person.finish, server.address)
-        transcripts = take_results(shares, server)
-        records = server.finish()
-    expect_kept(folder, ROOMS, transcripts)
-    for room in ROOMS:
-        expect_equal("the file", bytes_of(folder, room).decode(), "".join(f"{line}\n" for line in records[room]))
+class TestKills(unittest.TestCase):
+    time_limit = 600
 
+    def finish_all(self, shares, count, folder, transcripts):
+        """Runs a server to its end, while all come back and leave. The files equal its output and match the
+        transcripts."""
+        with KeepingServer(folder, ROOMS, count, WORKERS, before=transcripts, patience=PATIENCE) as server:
+            shares.begin(Share.together, Person.finish, server.address)
+            transcripts = take_results(shares, server)
+            records = server.finish()
+        expect_kept(folder, ROOMS, transcripts)
+        for room in ROOMS:
+            self.assertEqual(
+                bytes_of(folder, room).decode(), "".join(f"{line}\n" for line in records[room]), "the file",
+            )
 
-def end_repeatedly(times, by):
-    """32 clients, or `--crowd` times as many in as many processes, draw in four rooms. The server is ended this many
-    times and started again. No confirmed entry is lost, and at the end the files equal the server's output."""
-    count, transcripts = OPTIONS.crowd * CLIENTS, []
-    people = [Person(number, ROOMS[number % len(ROOMS)]) for number in range(count)]
-    shares = Shares([Share(people[at : at + CLIENTS]) for at in range(0, count, CLIENTS)])
-    with room_folder() as folder, shares:
-        for _ in range(times):
-            transcripts = end_under_load(shares, count, folder, transcripts, by)
-        finish_all(shares, count, folder, transcripts)
+    def end_repeatedly(self, times, by):
+        """32 clients, or `--crowd` times as many in as many processes, draw in four rooms. The server is ended this
+        many times and started again. No confirmed entry is lost, and at the end the files equal the server's output."""
+        count, transcripts = OPTIONS.crowd * CLIENTS, []
+        people = [Person(number, ROOMS[number % len(ROOMS)]) for number in range(count)]
+        shares = Shares([Share(people[at : at + CLIENTS]) for at in range(0, count, CLIENTS)])
+        with room_folder() as folder, shares:
+            for _ in range(times):
+                transcripts = end_under_load(shares, count, folder, transcripts, by)
+            self.finish_all(shares, count, folder, transcripts)
 
+    def test_killed(self):
+        """SIGKILL ends the server, as often as `--times` says."""
+        self.end_repeatedly(OPTIONS.times, signal.SIGKILL)
 
-def test_killed():
-    """SIGKILL ends the server, as often as `--times` says."""
-    end_repeatedly(OPTIONS.times, signal.SIGKILL)
+    def test_ended_by(self):
+        """A signal that requests termination ends the server."""
+        for name, signal_ in [("SIGTERM", signal.SIGTERM), ("SIGINT", signal.SIGINT)]:
+            with self.subTest(name):
+                self.end_repeatedly(1, signal_)
 
-
-@cases([("SIGTERM", signal.SIGTERM), ("SIGINT", signal.SIGINT)])
-def test_ended_by(signal_):
-    """A signal that requests termination ends the server."""
-    end_repeatedly(1, signal_)
-
-
-def test_at_the_same_address():
-    """A server that was killed with connected clients restarts at once at its address."""
-    with room_folder() as folder:
-        port, transcripts = 0, []
-        for entries in range(1, 6):
-            server = KeepingServer(folder, before=transcripts)
-            server.port = port
-            with server:
-                port = server.address[1]
-                back = ('["back","r",1]', f'["back",{entries},1,0]')
-                server.client().expect_reply(*(back if entries > 1 else ('["join","r"]', '["joined",0,1]')))
-                server.client().expect_reply('["join","r"]', f'["joined",{entries},{entries + 1}]')
-                server.kill()
-                transcripts = server.transcripts()
-        expect_kept(folder, ["r"], transcripts)
+    def test_at_the_same_address(self):
+        """A server that was killed with connected clients restarts at once at its address."""
+        with room_folder() as folder:
+            port, transcripts = 0, []
+            for entries in range(1, 6):
+                server = KeepingServer(folder, before=transcripts)
+                server.port = port
+                with server:
+                    port = server.address[1]
+                    back = ('["back","r",1]', f'["back",{entries},1,0]')
+                    server.client().expect_reply(*(back if entries > 1 else ('["join","r"]', '["joined",0,1]')))
+                    server.client().expect_reply('["join","r"]', f'["joined",{entries},{entries + 1}]')
+                    server.kill()
+                    transcripts = server.transcripts()
+            expect_kept(folder, ["r"], transcripts)

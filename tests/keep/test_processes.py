@@ -4,27 +4,27 @@ import itertools
 import random
 import signal
 import time
+import unittest
 import zlib
 from functools import partial
 
+from lib.checks import check
 from lib.crowd import FORK, Crowd, Shares
 from lib.keeping import KeepingServer, expect_kept, room_folder
 from lib.on_demand import NOT_SERVED
 from lib.running import OPTIONS
-from lib.serving import CheckFailed, Client, expect_equal
+from lib.serving import Client
 from lib.websocket_client import SECONDS, Ended, Fault
 
 from keep.test_kills import Person
-
-# The time limit of a test, in seconds.
-BOUND = 900
 PROCESSES, PEOPLE, ROOMS, MOST = 3, 100, 20, 200
 # The time between two kills, the pause of a person after an operation and between attempts to connect, in seconds.
 BETWEEN, PAUSE, AGAIN = 1.5, 0.2, 0.05
 
 
 def patience():
-    """Returns the seconds in which a guest has to get in and out. It allows for a machine that is busy with all of them."""
+    """Returns the seconds in which a guest has to get in and out. It allows for a machine that is busy with all of
+    them."""
     return OPTIONS.crowd * 3 * SECONDS
 
 
@@ -38,7 +38,7 @@ class Processes:
 
     def start(self, port):
         """Starts a process at this port, or a free one."""
-        server = KeepingServer(self.folder, rooms=(), sessions=0, workers=2, on_demand=MOST, close_after=1, by_path=True)
+        server = KeepingServer(self.folder, (), sessions=0, workers=2, on_demand=MOST, close_after=1, by_path=True)
         server.port = port
         server.__enter__()
         return server
@@ -95,7 +95,7 @@ class Guest(Person):
             if self.let_in(addresses[attempt % len(addresses)]):
                 break
             if time.monotonic() > bound:
-                raise CheckFailed(f"no process serves room {self.room}")
+                raise AssertionError(f"no process serves room {self.room}")
             time.sleep(AGAIN)
         self.enter(self.clients[-1])
         return self.clients[-1]
@@ -137,7 +137,7 @@ class Guest(Person):
         bound = time.monotonic() + patience()
         while not self.visit(addresses, self.read_and_leave):
             if time.monotonic() > bound:
-                raise CheckFailed(f"nobody can leave room {self.room}")
+                raise AssertionError(f"nobody can leave room {self.room}")
 
 
 class Guests:
@@ -152,29 +152,34 @@ class Guests:
         for guest in self.guests:
             crowd.start(guest.stay, addresses, self.over)
         crowd.end(patience())
-        expect_equal("the guests without a site", [guest for guest in self.guests if guest.drawer.site is None], [])
+        check.assertEqual(
+            [guest for guest in self.guests if guest.drawer.site is None], [], "the guests without a site",
+        )
         return [(guest.room, [client.transcript for client in guest.clients]) for guest in self.guests]
 
 
-def test_processes_that_are_killed():
-    """People draw in rooms on demand that three processes serve. Each process is killed once and started again. Each
-    person comes back as the same site, and nothing is lost that a reply told. `--crowd` times as many people draw in as
-    many times the rooms, from as many processes."""
-    rooms = [f"room-{number}" for number in range(OPTIONS.crowd * ROOMS)]
-    guests = [Guest(number, rooms[number % len(rooms)]) for number in range(OPTIONS.crowd * PEOPLE)]
-    over = FORK.Event()
-    shares = Shares([Guests(guests[at : at + PEOPLE], over) for at in range(0, len(guests), PEOPLE)])
-    with room_folder() as folder, shares:
-        processes = Processes(folder)
-        shares.begin(Guests.stay, processes.addresses())
-        for number in random.sample(range(PROCESSES), PROCESSES):
+class TestProcesses(unittest.TestCase):
+    time_limit = 900
+
+    def test_processes_that_are_killed(self):
+        """People draw in rooms on demand that three processes serve. Each process is killed once and started again.
+        Each person comes back as the same site, and nothing is lost that a reply told. `--crowd` times as many people
+        draw in as many times the rooms, from as many processes."""
+        rooms = [f"room-{number}" for number in range(OPTIONS.crowd * ROOMS)]
+        guests = [Guest(number, rooms[number % len(rooms)]) for number in range(OPTIONS.crowd * PEOPLE)]
+        over = FORK.Event()
+        shares = Shares([Guests(guests[at : at + PEOPLE], over) for at in range(0, len(guests), PEOPLE)])
+        with room_folder() as folder, shares:
+            processes = Processes(folder)
+            shares.begin(Guests.stay, processes.addresses())
+            for number in random.sample(range(PROCESSES), PROCESSES):
+                time.sleep(BETWEEN * OPTIONS.crowd)
+                processes.replace(number)
             time.sleep(BETWEEN * OPTIONS.crowd)
-            processes.replace(number)
-        time.sleep(BETWEEN * OPTIONS.crowd)
-        over.set()
-        transcripts = {room: [] for room in rooms}
-        for room, of_guest in itertools.chain(*shares.results(patience())):
-            transcripts[room] += of_guest
-        processes.end()
-        for room in rooms:
-            expect_kept(folder, [room], transcripts[room])
+            over.set()
+            transcripts = {room: [] for room in rooms}
+            for room, of_guest in itertools.chain(*shares.results(patience())):
+                transcripts[room] += of_guest
+            processes.end()
+            for room in rooms:
+                expect_kept(folder, [room], transcripts[room])

@@ -5,7 +5,6 @@ import signal
 import threading
 import time
 
-from lib.serving import CheckFailed
 from lib.websocket_client import SECONDS
 
 
@@ -34,7 +33,7 @@ class Crowd:
         if self.faults:
             raise self.faults[0]
         if any(thread.is_alive() for thread in self.threads):
-            raise CheckFailed("a client did not finish")
+            raise AssertionError("a client did not finish")
 
 
 # ---- in several processes
@@ -85,10 +84,10 @@ class Shares:
         bound, found = time.monotonic() + seconds, []
         for pipe in self.pipes:
             if not pipe.poll(max(0, bound - time.monotonic())):
-                raise CheckFailed("a process of clients did not finish")
+                raise AssertionError("a process of clients did not finish")
             result, fault = pipe.recv()
             if fault:
-                raise CheckFailed(fault)
+                raise AssertionError(fault)
             found.append(result)
         return found
 

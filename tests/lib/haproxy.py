@@ -5,7 +5,6 @@ import socket
 import subprocess
 import time
 
-from lib.serving import CheckFailed
 from lib.websocket_client import SECONDS
 
 
@@ -29,4 +28,4 @@ def await_port(port, process):
         with contextlib.suppress(ConnectionRefusedError), socket.create_connection(("127.0.0.1", port)):
             return
         time.sleep(0.05)
-    raise CheckFailed("HAProxy does not start")
+    raise AssertionError("HAProxy does not start")

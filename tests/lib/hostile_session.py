@@ -9,9 +9,9 @@ import struct
 
 import lib.hostile_bytes as bad
 from lib.answers import check_reply, request_of
+from lib.checks import check
 from lib.frame_reader import CLOSED, FAULT, FrameReader
 from lib.records import Transcript, compact
-from lib.serving import CheckFailed, expect_equal
 from lib.websocket_client import BINARY, CLOSE, PING, PONG, TEXT, Ended, closing, head
 
 # The longest wait, in seconds.
@@ -51,9 +51,9 @@ def requested_key(data):
     fields = {name.lower(): value for name, value in FIELD.findall(data)}
     is_upgrade = re.match(rb"GET \S+ HTTP/1\.1\r?\n", data) and b"upgrade" in fields.get(b"connection", b"").lower()
     if not is_upgrade or fields.get(b"upgrade", b"").lower() != b"websocket":
-        raise CheckFailed("the server opened a WebSocket that the client did not request")
+        raise AssertionError("the server opened a WebSocket that the client did not request")
     if fields.get(b"sec-websocket-version") != b"13" or b"sec-websocket-key" not in fields:
-        raise CheckFailed("the server opened a WebSocket for a head without key or of another version")
+        raise AssertionError("the server opened a WebSocket for a head without key or of another version")
     return fields[b"sec-websocket-key"].decode("latin-1")
 
 
@@ -156,15 +156,15 @@ class HostileSession:
         """Reads one frame and compares it with the next expected answer."""
         opcode, payload = self.client.read_frame()
         if not self.expected:
-            raise CheckFailed(f"unexpected frame {opcode} {payload!r:.200}")
+            raise AssertionError(f"unexpected frame {opcode} {payload!r:.200}")
         opcode_sent, content, reply = self.expected.popleft()
         if opcode_sent == PING:
-            expect_equal("the answer to a ping", (opcode, payload), (PONG, content))
+            check.assertEqual((opcode, payload), (PONG, content), "the answer to a ping")
         elif opcode_sent == CLOSE:
-            expect_equal("the kind of the answer to a close", opcode, CLOSE)
+            check.assertEqual(opcode, CLOSE, "the kind of the answer to a close")
             self.take_close(content, payload)
         else:
-            expect_equal("the kind of the answer to a message", opcode, TEXT)
+            check.assertEqual(opcode, TEXT, "the kind of the answer to a message")
             self.take_reply(content, payload.decode(), reply)
 
     def take_close(self, request, answer):
@@ -172,9 +172,9 @@ class HostileSession:
         self.is_closed = True
         code = int.from_bytes(request[:2], "big")
         if not request or code in SENDABLE:
-            expect_equal("the answer to a close", answer, request)
+            check.assertEqual(answer, request, "the answer to a close")
         elif code not in KEPT_FOR_LATER:
-            expect_equal("the code that answers a close", answer[:2], closing(1002))
+            check.assertEqual(answer[:2], closing(1002), "the code that answers a close")
 
     def take_reply(self, request, text, reply):
         """Checks the reply to a message."""
@@ -183,7 +183,7 @@ class HostileSession:
         value = json.loads(text)
         self.replies[value[3] if value[0] == "no" else value[0]] += 1
         if reply is not None:
-            expect_equal(f"the reply to {request!r:.100}", text, reply)
+            check.assertEqual(text, reply, f"the reply to {request!r:.100}")
         transcript.add_reply(text)
 
     def catch_up(self):
@@ -209,7 +209,7 @@ class HostileSession:
         except TimeoutError:
             pass
         except ConnectionError:
-            raise CheckFailed("the server ended a session that only sends requests") from None
+            raise AssertionError("the server ended a session that only sends requests") from None
         self.reset_or_close()
 
     # ---- the end
@@ -218,7 +218,7 @@ class HostileSession:
         """Ends the connection, or waits for the server to end it if it must. Raises CheckFailed if the server ended a
         valid session or continued an invalid one."""
         if self.is_open and self.is_gone and self.reader.end is None and not self.reader.may_end():
-            raise CheckFailed("the server ended a valid session")
+            raise AssertionError("the server ended a valid session")
         if not self.is_open or self.reader.end is None:
             self.leave()
         elif self.reader.end == FAULT and self.source.random() < 0.2:
@@ -226,7 +226,7 @@ class HostileSession:
         else:
             self.read_while(lambda: True)
         if (self.reader.end == CLOSED) != self.is_closed:
-            raise CheckFailed("the server did not answer a close")
+            raise AssertionError("the server did not answer a close")
         self.client.socket.close()
 
     def leave(self):
@@ -262,7 +262,8 @@ class HostileSession:
                 self.client.fill()
         except Ended:
             if self.client.received:
-                raise CheckFailed(f"unexpected answer to a handshake: {bytes(self.client.received)!r:.200}") from None
+                answer = bytes(self.client.received)
+                raise AssertionError(f"unexpected answer to a handshake: {answer!r:.200}") from None
             return
         self.client.read_answer(requested_key(bytes(self.sent)))
         self.is_open = True

@@ -1,15 +1,16 @@
 """Servers that keep their rooms in a folder, and the files in it."""
 
 import contextlib
-import os
 import pathlib
 import shutil
 import signal
 import subprocess
 import tempfile
+import unittest
 
+from lib.checks import check
 from lib.records import compare_record, split_rooms, transcript_lines
-from lib.serving import ROOT, Server, Skipped, expect_equal, run, verdict
+from lib.serving import ROOT, Server, run, verdict
 from lib.websocket_client import CLOSE, SECONDS, closing
 
 # The notice of the library that makes file calls fail.
@@ -26,7 +27,7 @@ class KeepingServer(Server):
     def kill(self, by=signal.SIGKILL):
         """Ends the program by a signal. Later calls of its clients find the connection closed."""
         self.process.send_signal(by)
-        expect_equal("the status", self.process.wait(SECONDS), -by)
+        check.assertEqual(self.process.wait(SECONDS), -by, "the status")
         for client in self.clients:
             client.is_over = client.transcript.hung_up = True
 
@@ -47,7 +48,7 @@ class KeepingServer(Server):
     def expect_exit(self, status, line):
         """Expects that the program exits with this status and this last line on standard error."""
         self.output()
-        expect_equal("the end", (self.process.returncode, self.error_lines()[-1:]), (status, [line]))
+        check.assertEqual((self.process.returncode, self.error_lines()[-1:]), (status, [line]), "the end")
 
 
 class OnDemandServer(KeepingServer):
@@ -65,9 +66,9 @@ class OnDemandServer(KeepingServer):
                 client.close()
         self.end_input()
         printed_rooms = split_rooms(self.output(), self.rooms, self.on_demand)
-        expect_equal("the status", self.process.returncode, status)
-        expect_equal("the warnings", self.warnings(), warnings or {})
-        expect_equal("the rooms that are printed", list(printed_rooms), [*self.rooms, *printed])
+        check.assertEqual(self.process.returncode, status, "the status")
+        check.assertEqual(self.warnings(), warnings or {}, "the warnings")
+        check.assertEqual(list(printed_rooms), [*self.rooms, *printed], "the rooms that are printed")
         transcripts = self.transcripts()
         rooms = {room for transcript in transcripts for room, *_ in transcript.lines}
         expect_kept(self.keep, sorted(rooms), transcripts)
@@ -79,7 +80,7 @@ class FileLibrary:
 
     def __init__(self):
         if not shutil.which("cc"):
-            raise Skipped("there is no C compiler")
+            raise unittest.SkipTest("there is no C compiler")
         self.folder = tempfile.TemporaryDirectory()
         self.path = f"{self.folder.name}/fail_file.so"
         self.hold = pathlib.Path(self.folder.name) / "held"
@@ -124,14 +125,14 @@ def expect_kept(folder, rooms, transcripts):
         record = whole_lines(folder, room)
         compare_record(room, record, transcripts)
         result = verdict(record, transcript_lines(room, transcripts))
-        expect_equal(f"the verdict of room {room}", result, (0, "holds\n"))
+        check.assertEqual(result, (0, "holds\n"), f"the verdict of room {room}")
 
 
 def expect_not_kept(client, request):
     """Expects that the server closes the session in place of a reply, because it cannot keep the entry."""
     client.send_request(request)
     opcode, payload = client.read_frame()
-    expect_equal("the frame", (opcode, payload[:2]), (CLOSE, closing(1011)))
+    check.assertEqual((opcode, payload[:2]), (CLOSE, closing(1011)), "the frame")
     client.transcript.hung_up = True
     client.expect_end()
 
@@ -140,7 +141,7 @@ def expect_no_start(line, folder, *rooms, address="127.0.0.1:0", status=3):
     """Expects that a server over this folder exits with this last line and prints nothing. Returns the other lines on
     standard error."""
     ended, output, errors = run("serve", "--keep", folder, address, 1, 1, *rooms)
-    expect_equal("the end", (ended, output, errors.splitlines()[-1:]), (status, "", [line]))
+    check.assertEqual((ended, output, errors.splitlines()[-1:]), (status, "", [line]), "the end")
     return errors.splitlines()[:-1]
 
 
@@ -160,14 +161,8 @@ def mounted(options):
         mount = ["mount", "-t", "tmpfs", "-o", options, "tmpfs", name]
         done = subprocess.run(mount, capture_output=True, text=True)
         if done.returncode:
-            raise Skipped("mounting a file system is not permitted")
+            raise unittest.SkipTest("mounting a file system is not permitted")
         try:
             yield name
         finally:
             subprocess.run(["umount", name], check=True)
-
-
-def needs_root():
-    """Skips the test unless it runs as root."""
-    if os.geteuid():
-        raise Skipped("only root can run this test")

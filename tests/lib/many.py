@@ -11,11 +11,12 @@ import time
 from functools import partial
 
 from keep.test_kills import Person
+from lib.checks import check
 from lib.crowd import Crowd
 from lib.keeping import KeepingServer, expect_kept, room_folder
 from lib.haproxy import running_haproxy
 from lib.nginx import lines_of_document, replace_once, running_nginx
-from lib.serving import CheckFailed, Client, expect_equal, free_address
+from lib.serving import Client, free_address
 from lib.websocket_client import Connection, Ended
 
 ROOMS = [f"room-{number}" for number in range(6)]
@@ -132,7 +133,7 @@ class Many:
         expect_kept(self.folder, self.rooms, transcripts)
         away = max(person.away for person in self.people)
         if away > BACK:
-            raise CheckFailed(f"somebody was back after {away:.1f} seconds only")
+            raise AssertionError(f"somebody was back after {away:.1f} seconds only")
         return sum(len(client.transcript.lines) for person in self.people for client in person.clients), away
 
 
@@ -160,7 +161,7 @@ def kind_of(row, attempt, gone):
         return "behind the killed"
     if len(row) > 1 and row[0] == (gone, 503) and attempt == 0:
         return "behind the returned"
-    raise CheckFailed(f"attempt {attempt} to reach a room asked {row}")
+    raise AssertionError(f"attempt {attempt} to reach a room asked {row}")
 
 
 def expect_rows(rows, gone, moved):
@@ -168,11 +169,11 @@ def expect_rows(rows, gone, moved):
     and in one after it. Returns how often each way was taken."""
     counts, holders = collections.Counter(), collections.defaultdict(set)
     for (room, _, attempt), row in rows.items():
-        expect_equal("the last answer", row[-1][1], 101)
+        check.assertEqual(row[-1][1], 101, "the last answer")
         counts[kind_of(row, attempt, gone)] += 1
         holders[room].add(row[-1][0])
     numbers = {room: len(found) for room, found in holders.items()}
-    expect_equal("the processes of each room", numbers, {room: 2 if room in moved else 1 for room in ROOMS})
+    check.assertEqual(numbers, {room: 2 if room in moved else 1 for room in ROOMS}, "the processes of each room")
     return dict(counts)
 
 
@@ -215,13 +216,13 @@ def check_stop(proxy):
         time.sleep(STILL)
         stopped.process.send_signal(signal.SIGCONT)
         time.sleep(BETWEEN)
-        expect_equal("the rooms of the process", rooms_in(stopped), rooms)
+        check.assertEqual(rooms_in(stopped), rooms, "the rooms of the process")
         replies, _ = many.end()
         connections = sum(len(person.clients) for person in many.people)
-        expect_equal("the connections", connections, len(many.people))
+        check.assertEqual(connections, len(many.people), "the connections")
         if proxy is behind_nginx:
             rows = rows_of_log(place / "asked")
-            expect_equal("those that nginx asked for twice", [row for row in rows.values() if len(row) > 1], [])
+            check.assertEqual([row for row in rows.values() if len(row) > 1], [], "those that nginx asked for twice")
     print(f"a stop: {len(ROOMS)} rooms with {replies} replies hold")
 
 
@@ -233,7 +234,9 @@ def check_crowd(proxy):
             many.restart(server, CROWD_BETWEEN / 2)
         time.sleep(CROWD_BETWEEN)
         replies, away = many.end()
-        expect_equal("those who never came in", [person for person in many.people if person.drawer.site is None], [])
+        check.assertEqual(
+            [person for person in many.people if person.drawer.site is None], [], "those who never came in",
+        )
     print(f"a crowd: {len(many.people)} people in {len(many.rooms)} rooms with {replies} replies hold")
     print(f"all were back after {away:.2f} s")
 

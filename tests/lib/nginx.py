@@ -6,7 +6,7 @@ import subprocess
 import textwrap
 import time
 
-from lib.serving import ROOT, CheckFailed
+from lib.serving import ROOT
 from lib.websocket_client import SECONDS
 
 MAIN = """
@@ -38,7 +38,7 @@ def lines_of_document(before):
 def replace_once(text, old, new):
     """Returns the text with the only occurrence of `old` replaced."""
     if text.count(old) != 1:
-        raise CheckFailed(f"the nginx configuration of docs/OPERATIONS.md has {old!r} {text.count(old)} times")
+        raise AssertionError(f"the nginx configuration of docs/OPERATIONS.md has {old!r} {text.count(old)} times")
     return text.replace(old, str(new))
 
 
@@ -62,5 +62,5 @@ def await_file(file, process):
     bound = time.monotonic() + SECONDS
     while not file.exists():
         if process.poll() is not None or time.monotonic() > bound:
-            raise CheckFailed("nginx does not start")
+            raise AssertionError("nginx does not start")
         time.sleep(0.05)

@@ -4,7 +4,7 @@ import re
 import socket
 import time
 
-from lib.serving import CheckFailed, expect_equal
+from lib.checks import check
 from lib.websocket_client import SECONDS, head, new_key
 
 METRICS = b"GET /metrics HTTP/1.1\r\nHost: localhost\r\n\r\n"
@@ -25,7 +25,7 @@ def wait_until(what, is_so):
     bound = time.monotonic() + SECONDS
     while not is_so():
         if time.monotonic() > bound:
-            raise CheckFailed(f"not within {SECONDS} seconds: {what}")
+            raise AssertionError(f"not within {SECONDS} seconds: {what}")
         time.sleep(0.02)
 
 
@@ -36,7 +36,7 @@ def expect_turned_away(server, target="/"):
         received = b""
         while data := client.recv(4096):
             received += data
-    expect_equal("the answer", received, TURNED_AWAY)
+    check.assertEqual(received, TURNED_AWAY, "the answer")
 
 
 def samples(server):
@@ -48,19 +48,19 @@ def samples(server):
             answer += data
     head = HEAD.match(answer)
     if not head:
-        raise CheckFailed(f"the answer {answer!r:.300}")
+        raise AssertionError(f"the answer {answer!r:.300}")
     body = answer[head.end():].decode()
-    expect_equal("the length of the body", len(body), int(head[1]))
+    check.assertEqual(len(body), int(head[1]), "the length of the body")
     found, family, names = {}, None, []
     for line in body.splitlines():
         if line.startswith("# HELP "):
             family = line.split()[2]
         elif line.startswith("# TYPE "):
-            expect_equal("the family", line.split()[2], family)
+            check.assertEqual(line.split()[2], family, "the family")
             names = [family + suffix for suffix in SUFFIXES[line.split()[3]]]
         else:
             name, labels, number = SAMPLE.fullmatch(line).groups()
-            expect_equal("whether the sample is of its family", name in names, True)
+            check.assertIn(name, names, "whether the sample is of its family")
             found[name + (labels or "")] = float(number) if "." in number else int(number)
     return found
 

@@ -7,7 +7,6 @@ import time
 from lib.keeping import path_of
 from lib.observing import samples, wait_until
 from lib.records import compact
-from lib.serving import CheckFailed
 
 NOT_SERVED = '["no",0,21,"not-served"]'
 GOES_AWAY = "INFO", "the input ended; the server goes away"
@@ -37,7 +36,7 @@ def ask_until_served(client, request, seconds=SOON):
     bound = time.monotonic() + seconds
     while (reply := client.ask(request)) == NOT_SERVED:
         if time.monotonic() > bound:
-            raise CheckFailed(f"{request} is refused for {seconds} seconds")
+            raise AssertionError(f"{request} is refused for {seconds} seconds")
         time.sleep(0.05)
     return reply
 

@@ -3,7 +3,7 @@
 import functools
 import re
 
-from lib.serving import ROOT, CheckFailed
+from lib.serving import ROOT
 
 LINK = re.compile(r"!?\[[^\]]*\]\(([^()\s]+)\)")
 CODE = re.compile(r"`[^`\n]*`")
@@ -53,7 +53,7 @@ def table_of(file, *titles):
             places = [names.index(title.lower()) for title in titles]
             found.append([[row[place] for place in places] for row in rows])
     if len(found) != 1:
-        raise CheckFailed(f"{file.name} has {len(found)} tables with the titles {', '.join(titles)}")
+        raise AssertionError(f"{file.name} has {len(found)} tables with the titles {', '.join(titles)}")
     return found[0]
 
 
@@ -88,16 +88,5 @@ def source_with(text):
     sources = [file.read_text() for file in sorted((ROOT / "crates").glob("*/src/**/*.rt"))]
     found = [source for source in sources if text in source]
     if len(found) != 1:
-        raise CheckFailed(f"{len(found)} sources contain {text!r}")
+        raise AssertionError(f"{len(found)} sources contain {text!r}")
     return found[0]
-
-
-def expect_same_rows(what, actual, expected):
-    """Fails unless both lists are equal. The message has the rows that only one of them has."""
-    if list(actual) == list(expected):
-        return
-    missing = [row for row in expected if row not in actual]
-    extra = [row for row in actual if row not in expected]
-    if not missing and not extra:
-        raise CheckFailed(f"{what} differ in order")
-    raise CheckFailed(f"{what}: the page has {extra}, and the source {missing}")

@@ -4,8 +4,8 @@ import re
 import socket
 import threading
 
+from lib.checks import check
 from lib.frame_reader import FrameReader
-from lib.serving import CheckFailed, expect_equal
 from lib.websocket_client import CLOSE, SECONDS, TEXT, accepted, closing, frame
 
 HEAD = (
@@ -20,11 +20,11 @@ def read_key(client):
     while not data.endswith(b"\r\n\r\n"):
         part = client.recv(65536)
         if not part:
-            raise CheckFailed(f"the client's head ends early: {data!r:.200}")
+            raise AssertionError(f"the client's head ends early: {data!r:.200}")
         data += part
     found = re.search(rb"(?i)\r\nsec-websocket-key: *(\S+)", data)
     if not found:
-        raise CheckFailed(f"the client's head has no key: {data!r:.200}")
+        raise AssertionError(f"the client's head has no key: {data!r:.200}")
     return found[1].decode()
 
 
@@ -58,7 +58,7 @@ class ScriptedServer:
         """Waits until the client is served."""
         self.thread.join(SECONDS)
         if self.thread.is_alive():
-            raise CheckFailed("the client is still served")
+            raise AssertionError("the client is still served")
         if self.fault:
             raise self.fault
 
@@ -90,7 +90,7 @@ class ScriptedServer:
         if opcode == CLOSE:
             self.is_closed = payload == closing(1000)
             return frame(CLOSE, payload, masked=False)
-        expect_equal("the opcode", opcode, TEXT)
+        check.assertEqual(opcode, TEXT, "the opcode")
         self.requests.append(payload.decode())
         return frame(TEXT, self.replies.pop(0).encode(), masked=False) if self.replies else b""
 

@@ -15,6 +15,7 @@ import tempfile
 import threading
 import time
 
+from lib.checks import check
 from lib.websocket_client import CLOSE, SECONDS, TEXT, Connection, Ended, Fault, closing, frame
 from lib.records import Transcript, compact, compare_record, compare_rooms, split_rooms, transcript_lines
 
@@ -41,21 +42,6 @@ RUN = 240
 # The first line of `grace serve`, with the port.
 LISTENING = re.compile(r"listening 127\.0\.0\.1:([1-9]\d*)\n")
 
-
-class CheckFailed(Exception):
-    """A check of a test failed."""
-
-
-class Skipped(Exception):
-    """The test cannot run here. The message says why."""
-
-
-def expect_equal(what, actual, expected):
-    """Fails the test unless both values are equal."""
-    if actual != expected:
-        raise CheckFailed(f"{what}: {actual!r:.300}, not {expected!r:.300}")
-
-
 # ---- the program
 
 
@@ -69,11 +55,10 @@ def program():
     return pathlib.Path(built.stdout.rstrip("\n"))
 
 
-def needs_program():
-    """Skips the test if there is no program. It does not build one."""
+def has_program():
+    """Returns whether there is a program. It does not build one."""
     built = ROOT / "out/proved/grace", ROOT / "out/unproved/grace"
-    if not os.environ.get("GRACE") and not any(program.exists() for program in built):
-        raise Skipped("no program is built, and GRACE names none")
+    return bool(os.environ.get("GRACE")) or any(program.exists() for program in built)
 
 
 def run(*words, stdin=b"", stdout=subprocess.PIPE, seconds=RUN):
@@ -93,7 +78,7 @@ def verdict(record, transcript, seconds=RUN):
         for file, lines in zip(files, (record, transcript)):
             file.write_text("".join(f"{line}\n" for line in lines))
         status, output, errors = run("check", *files, seconds=seconds)
-    expect_equal("the checker's standard error", errors, "")
+    check.assertEqual(errors, "", "the checker's standard error")
     return status, output
 
 
@@ -151,12 +136,12 @@ class Client(Connection):
     def expect_reply(self, request, reply, opcode=TEXT):
         """Sends a request and expects this reply."""
         text = self.ask(request, opcode)
-        expect_equal(f"the reply to {request!r:.100}", text, reply)
+        check.assertEqual(text, reply, f"the reply to {request!r:.100}")
 
     def close(self, payload=closing(1000)):
         """Closes the session. Expects that the server echoes the close and ends the connection."""
         self.send(frame(CLOSE, payload))
-        expect_equal("the answer to a close", self.read_frame(), (CLOSE, payload))
+        check.assertEqual(self.read_frame(), (CLOSE, payload), "the answer to a close")
         self.expect_end()
 
     def expect_end(self):
@@ -166,11 +151,11 @@ class Client(Connection):
             while True:
                 opcode, payload = self.read_frame()
                 if opcode != CLOSE:
-                    raise CheckFailed(f"unexpected data before the end of the connection: {payload!r:.200}")
+                    raise AssertionError(f"unexpected data before the end of the connection: {payload!r:.200}")
         except Ended:
             self.socket.close()
         except TimeoutError:
-            raise CheckFailed(f"the connection is still open after {SECONDS} seconds") from None
+            raise AssertionError(f"the connection is still open after {SECONDS} seconds") from None
 
     def await_away(self):
         """Reads replies up to a close of 1001, which it answers. Expects that the server then ends the connection.
@@ -180,7 +165,7 @@ class Client(Connection):
             if opcode != TEXT:
                 break
             self.transcript.add_reply(payload.decode())
-        expect_equal("the last frame", (opcode, payload), (CLOSE, closing(1001)))
+        check.assertEqual((opcode, payload), (CLOSE, closing(1001)), "the last frame")
         self.send(frame(CLOSE, payload))
         self.expect_end()
 
@@ -277,10 +262,10 @@ class Server:
         self.start()
         first = self.next_line(self.patience)
         if first is None:
-            raise CheckFailed(f"the program does not listen: {self.error_text():.300}")
+            raise AssertionError(f"the program does not listen: {self.error_text():.300}")
         found = LISTENING.fullmatch(first)
         if not found:
-            raise CheckFailed(f"the first line is {first!r:.100}")
+            raise AssertionError(f"the first line is {first!r:.100}")
         self.address = "127.0.0.1", int(found[1])
         self.name = "{}:{}".format(*self.address)
 
@@ -325,7 +310,7 @@ class Server:
         try:
             return self.lines.get(timeout=seconds)
         except queue.Empty:
-            raise CheckFailed("the program printed nothing") from None
+            raise AssertionError("the program printed nothing") from None
 
     def connect(self, **options):
         """Connects a further client, without a handshake."""
@@ -356,21 +341,21 @@ class Server:
         for client in self.clients:
             if not client.is_over:
                 client.close()
-        expect_equal("the sessions opened", len(self.clients), self.sessions)
+        check.assertEqual(len(self.clients), self.sessions, "the sessions opened")
         return self.check_output(warnings)
 
     def check_output(self, warnings=None):
         """Waits for the program's exit and checks all its output, as `finish`."""
         lines = self.output()
-        expect_equal("the status", self.process.returncode, 0)
-        expect_equal("the warnings", self.warnings(), warnings or {})
+        check.assertEqual(self.process.returncode, 0, "the status")
+        check.assertEqual(self.warnings(), warnings or {}, "the warnings")
         records = split_rooms(lines, self.rooms, self.on_demand)
         transcripts = self.transcripts()
         compare_rooms(records, transcripts)
         for room, record in records.items():
             compare_record(room, record, transcripts)
             result = verdict(record, transcript_lines(room, transcripts), max(RUN, self.patience))
-            expect_equal(f"the verdict of room {room}", result, (0, "holds\n"))
+            check.assertEqual(result, (0, "holds\n"), f"the verdict of room {room}")
         return records
 
     def transcripts(self):
@@ -382,10 +367,10 @@ class Server:
         try:
             self.process.wait(self.patience)
         except subprocess.TimeoutExpired:
-            raise CheckFailed("the program still runs after its last session") from None
+            raise AssertionError("the program still runs after its last session") from None
         lines = list(iter(self.next_line, None))
         if lines and not lines[-1].endswith("\n"):
-            raise CheckFailed("the last line has no line feed")
+            raise AssertionError("the last line has no line feed")
         return [line.removesuffix("\n") for line in lines]
 
     def notices(self):
@@ -395,13 +380,13 @@ class Server:
         for line in self.error_text().splitlines():
             found = LINE.fullmatch(line)
             if not found:
-                raise CheckFailed(f"unexpected line on standard error: {line!r:.200}")
+                raise AssertionError(f"unexpected line on standard error: {line!r:.200}")
             logged_at = calendar.timegm(time.strptime(found[1], TIME))
             if not self.start_time <= logged_at <= time.time():
-                raise CheckFailed(f"wrong time, at {time.time()}: {line!r:.200}")
+                raise AssertionError(f"wrong time, at {time.time()}: {line!r:.200}")
             notices.append((found[2], found[3]))
         if self.keep is None and (not notices or notices.pop(0) != IN_MEMORY):
-            raise CheckFailed("the warning about rooms in memory is missing")
+            raise AssertionError("the warning about rooms in memory is missing")
         return notices
 
     def warnings(self):
@@ -415,7 +400,7 @@ class Server:
                 continue
             session = int(found[1])
             if session in causes:
-                raise CheckFailed(f"two warnings about session {session}")
+                raise AssertionError(f"two warnings about session {session}")
             causes[session] = found[4]
             self.warned_sessions[session] = found[2], found[3]
         return causes

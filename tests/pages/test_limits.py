@@ -2,10 +2,10 @@
 
 import re
 import sys
+import unittest
 
-from lib.pages import expect_same_rows, source_with, table_of
-from lib.running import cases
-from lib.serving import ROOT, CheckFailed, expect_equal
+from lib.pages import source_with, table_of
+from lib.serving import ROOT
 
 PROTOCOL = ROOT / "docs/PROTOCOL.md"
 # A constant of the sources, a word in its row of the table, and a word that is not in it.
@@ -28,37 +28,9 @@ SOURCE_NAMES = {
 }
 
 
-def number_of(text):
-    """Returns the number at the start of a text, with commas or underscores between its digits."""
-    found = re.match(r"[\d,_]+", text)
-    if not found:
-        raise CheckFailed(f"{text!r} begins with no number")
-    return int(re.sub(r"[,_]", "", found[0]))
-
-
-def constant(name):
-    """Returns the value of a constant of the sources."""
-    return number_of(re.search(rf"pub const {name}: \w+ = ([\d_]+);", source_with(f"pub const {name}: "))[1])
-
-
 def longest(name):
     """Returns the most bytes of a text of this type."""
     return int(re.search(rf"pub type {name} = Label<(\d+),", source_with(f"pub type {name} = Label<"))[1])
-
-
-def row_with(word, other):
-    """Returns the number in the only row of the table of limits that has the first word and not the other."""
-    rows = table_of(PROTOCOL, "What", "At most")
-    found = [number_of(most) for what, most in rows if word in what and other not in what]
-    if len(found) != 1:
-        raise CheckFailed(f"{len(found)} rows of the table of limits match {word}")
-    return found[0]
-
-
-@cases((name, name, word, other) for name, word, other in CONSTANTS)
-def test_limit(name, word, other):
-    """The row of the table agrees with the source."""
-    expect_equal(f"the row of {name}", row_with(word, other), constant(name))
 
 
 def javascript_limits():
@@ -78,29 +50,43 @@ def python_limits():
     return {re.sub(r"_(\w)", lambda it: it[1].upper(), name): number for name, number in vars(LIMITS).items()}
 
 
-@cases([("in JavaScript", javascript_limits), ("in Python", python_limits)])
-def test_client(limits):
-    """A client's limits agree with the sources, and its limit of attributes with the table."""
-    known = {name: constant(name) for name in [*(name for name, *_ in CONSTANTS), "MAX_VALUE_LEN", "MAX_ROOM_LEN"]}
-    known |= {name: longest(name) for name in ("Key", "Kind")}
-    expect_equal("the longest kind", known["Kind"], known["Key"])
-    expected = {name: known[source] for name, source in SOURCE_NAMES.items()}
-    expected["attributes"] = row_with("attributes", "page")
-    expect_equal("the limits", dict(sorted(limits().items())), dict(sorted(expected.items())))
+class TestLimits(unittest.TestCase):
+    def number_of(self, text):
+        """Returns the number at the start of a text, with commas or underscores between its digits."""
+        found = re.match(r"[\d,_]+", text)
+        self.assertTrue(found, f"{text!r} begins with no number")
+        return int(re.sub(r"[,_]", "", found[0]))
+
+    def constant(self, name):
+        """Returns the value of a constant of the sources."""
+        return self.number_of(re.search(rf"pub const {name}: \w+ = ([\d_]+);", source_with(f"pub const {name}: "))[1])
+
+    def row_with(self, word, other):
+        """Returns the number in the only row of the table of limits that has the first word and not the other."""
+        rows = table_of(PROTOCOL, "What", "At most")
+        found = [self.number_of(most) for what, most in rows if word in what and other not in what]
+        self.assertEqual(len(found), 1, f"the rows of the table of limits that match {word}")
+        return found[0]
+
+    def test_limit(self):
+        """The row of the table agrees with the source."""
+        for name, word, other in CONSTANTS:
+            with self.subTest(name):
+                self.assertEqual(self.row_with(word, other), self.constant(name), f"the row of {name}")
+
+    def test_client(self):
+        """A client's limits agree with the sources, and its limit of attributes with the table."""
+        names = [*(name for name, *_ in CONSTANTS), "MAX_VALUE_LEN", "MAX_ROOM_LEN"]
+        known = {name: self.constant(name) for name in names} | {name: longest(name) for name in ("Key", "Kind")}
+        self.assertEqual(known["Kind"], known["Key"], "the longest kind")
+        expected = {name: known[source] for name, source in SOURCE_NAMES.items()}
+        expected["attributes"] = self.row_with("attributes", "page")
+        for name, limits in [("in JavaScript", javascript_limits), ("in Python", python_limits)]:
+            with self.subTest(name):
+                self.assertEqual(limits(), expected)
 
 
 # ---- the program's lines and statuses
-
-
-def statuses_of_commands():
-    """Returns the message of each fault of a command, with its status."""
-    text = source_with("    RoomNamedTwice,\n")
-    texts = {name: message for message, name in re.findall(r'#\[error\("(.*?)"\)\]\n\s+(\w+)', text)}
-    body = re.search(r"pub fn status\(self\) -> u8.*?\n    \}\n", text, re.DOTALL)[0]
-    arms = re.findall(r"((?:Fault::\w+(?:\(_\))?\s*\|?\s*)+)=> (\d+),", body)
-    codes = {name: int(status) for names, status in arms for name in re.findall(r"Fault::(\w+)", names)}
-    expect_equal("the faults that have a status", sorted(codes), sorted(texts))
-    return {texts[name]: status for name, status in codes.items()}
 
 
 def lines_of_page():
@@ -109,27 +95,39 @@ def lines_of_page():
     return {line: int(status) for cell, status in rows for line in re.findall(r"`grace: ([^`]*)`", cell)}
 
 
-def test_statuses():
-    """The page has the messages on standard error and their statuses: those of all commands, and those of `grace serve`
-    alone, which are 3."""
-    sources = source_with("kept by another: {0}"), source_with("room not kept")
-    own = [text for source in sources for text in re.findall(r'#\[error\("(.*?)"\)\]', source)]
-    expected = {text: 3 for text in own if text != "{0}"} | statuses_of_commands()
-    documented = lines_of_page()
-    filled = {"path": "DIR/ROOM.record", "line": "N"}
-    fill = lambda text: re.sub(r"\{(\w+)\}", lambda it: filled.get(it[1], "{0}"), text)
-    shorten = lambda line: re.sub(r"^((?:cannot|kept) [a-z ]+): [A-Z]+$", r"\1: {0}", line)
-    expect_same_rows("the lines", sorted({(shorten(line), status) for line, status in documented.items()}),
-                     sorted((fill(text), status) for text, status in expected.items()))
-
-
 # The starts of messages of other commands than `grace serve`.
 LINES_OF_OTHER_COMMANDS = "input failed", "session failed", "cannot connect"
 
 
-def test_operations_has_each_line():
-    """The table of docs/OPERATIONS.md has each message that ends `grace serve`."""
-    listed = " ".join(line for line, *_ in table_of(ROOT / "docs/OPERATIONS.md", "Line", "Means", "What to do"))
-    for line in lines_of_page():
-        if not line.startswith(LINES_OF_OTHER_COMMANDS) and f"grace: {line.partition(' line N;')[0]}" not in listed:
-            raise CheckFailed(f"docs/OPERATIONS.md lacks {line}")
+class TestStatuses(unittest.TestCase):
+    def statuses_of_commands(self):
+        """Returns the message of each fault of a command, with its status."""
+        text = source_with("    RoomNamedTwice,\n")
+        texts = {name: message for message, name in re.findall(r'#\[error\("(.*?)"\)\]\n\s+(\w+)', text)}
+        body = re.search(r"pub fn status\(self\) -> u8.*?\n    \}\n", text, re.DOTALL)[0]
+        arms = re.findall(r"((?:Fault::\w+(?:\(_\))?\s*\|?\s*)+)=> (\d+),", body)
+        codes = {name: int(status) for names, status in arms for name in re.findall(r"Fault::(\w+)", names)}
+        self.assertEqual(sorted(codes), sorted(texts), "the faults that have a status")
+        return {texts[name]: status for name, status in codes.items()}
+
+    def test_statuses(self):
+        """The page has the messages on standard error and their statuses: those of all commands, and those of `grace
+        serve` alone, which are 3."""
+        sources = source_with("kept by another: {0}"), source_with("room not kept")
+        own = [text for source in sources for text in re.findall(r'#\[error\("(.*?)"\)\]', source)]
+        expected = {text: 3 for text in own if text != "{0}"} | self.statuses_of_commands()
+        documented = lines_of_page()
+        filled = {"path": "DIR/ROOM.record", "line": "N"}
+        fill = lambda text: re.sub(r"\{(\w+)\}", lambda it: filled.get(it[1], "{0}"), text)
+        shorten = lambda line: re.sub(r"^((?:cannot|kept) [a-z ]+): [A-Z]+$", r"\1: {0}", line)
+        self.assertEqual(
+            sorted({(shorten(line), status) for line, status in documented.items()}),
+            sorted((fill(text), status) for text, status in expected.items()),
+        )
+
+    def test_operations_has_each_line(self):
+        """The table of docs/OPERATIONS.md has each message that ends `grace serve`."""
+        listed = " ".join(line for line, *_ in table_of(ROOT / "docs/OPERATIONS.md", "Line", "Means", "What to do"))
+        for line in lines_of_page():
+            if not line.startswith(LINES_OF_OTHER_COMMANDS):
+                self.assertIn(f"grace: {line.partition(' line N;')[0]}", listed)

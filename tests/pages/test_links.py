@@ -1,10 +1,10 @@
 """Links of the pages."""
 
+import unittest
 import urllib.parse
 
 from lib.pages import anchors_of, links_of, pages
-from lib.running import cases
-from lib.serving import ROOT, CheckFailed
+from lib.serving import ROOT
 
 
 def fault_of(file, target):
@@ -20,10 +20,11 @@ def fault_of(file, target):
     return None
 
 
-@cases((str(file.relative_to(ROOT)), file) for file in pages())
-def test_links(file):
-    """Each relative link of a page leads to a file of the repository, and its anchor to a heading."""
-    targets = [target for target in links_of(file) if not urllib.parse.urlsplit(target).scheme]
-    faults = [fault for fault in (fault_of(file, target) for target in targets) if fault]
-    if faults:
-        raise CheckFailed("; ".join(faults))
+class TestLinks(unittest.TestCase):
+    def test_links(self):
+        """Each relative link of a page leads to a file of the repository, and its anchor to a heading."""
+        for file in pages():
+            with self.subTest(str(file.relative_to(ROOT))):
+                targets = [target for target in links_of(file) if not urllib.parse.urlsplit(target).scheme]
+                faults = [fault for fault in (fault_of(file, target) for target in targets) if fault]
+                self.assertEqual(faults, [])

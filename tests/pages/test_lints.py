@@ -2,14 +2,17 @@
 
 import shutil
 import subprocess
+import unittest
 
-from lib.serving import ROOT, CheckFailed, Skipped
+from lib.serving import ROOT
 
 # Two warnings of shellcheck are not for these scripts: word splitting is meant in some places, and `$name[` begins a
 # class of characters in a regular expression.
 NOT_FOR_US = "SC2046,SC1087"
 # Folders without sources of ours.
 LEFT_OUT = {".git", "out", "node_modules", "__pycache__", "rooms"}
+# Debian's name of the command, and the other one.
+PYFLAKES = shutil.which("pyflakes3") or shutil.which("pyflakes")
 
 
 def files(folder=ROOT):
@@ -39,28 +42,19 @@ def python_files():
     return [path for path in files() if path.suffix == ".py" or "python3" in first_line_of(path)]
 
 
-def installed(*names):
-    """Returns the first of these commands that is installed. Skips the test if none is."""
-    for name in names:
-        if shutil.which(name):
-            return name
-    raise Skipped(f"{' and '.join(names)} {'is' if len(names) == 1 else 'are'} not installed")
+class TestLints(unittest.TestCase):
+    def expect_clean(self, command):
+        """Expects that a checker ends well, and finds nothing."""
+        done = subprocess.run(command, cwd=ROOT, stdout=subprocess.PIPE, stderr=subprocess.STDOUT, text=True)
+        self.assertEqual((done.returncode, done.stdout), (0, ""))
 
+    @unittest.skipUnless(shutil.which("shellcheck"), "shellcheck is not installed")
+    def test_shell(self):
+        """`shellcheck` has no warning of a script of shell."""
+        options = ["--external-sources", "--source-path=SCRIPTDIR", "--severity=warning", "--format=gcc"]
+        self.expect_clean(["shellcheck", *options, f"--exclude={NOT_FOR_US}", *shell_scripts()])
 
-def expect_clean(command):
-    """Expects that a checker ends well, and finds nothing."""
-    done = subprocess.run(command, cwd=ROOT, stdout=subprocess.PIPE, stderr=subprocess.STDOUT, text=True)
-    if done.returncode:
-        raise CheckFailed("; ".join(done.stdout.splitlines()[:20]))
-
-
-def test_shell():
-    """`shellcheck` has no warning of a script of shell."""
-    checker = installed("shellcheck")
-    options = ["--external-sources", "--source-path=SCRIPTDIR", "--severity=warning", "--format=gcc"]
-    expect_clean([checker, *options, f"--exclude={NOT_FOR_US}", *shell_scripts()])
-
-
-def test_python():
-    """`pyflakes` finds nothing in a file of Python."""
-    expect_clean([installed("pyflakes3", "pyflakes"), *python_files()])
+    @unittest.skipUnless(PYFLAKES, "pyflakes3 is not installed")
+    def test_python(self):
+        """`pyflakes` finds nothing in a file of Python."""
+        self.expect_clean([PYFLAKES, *python_files()])

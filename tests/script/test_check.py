@@ -3,9 +3,10 @@
 import json
 import pathlib
 import tempfile
+import unittest
 
-from lib.running import cases
-from lib.serving import expect_equal, run, verdict
+from lib.checks import check
+from lib.serving import run, verdict
 from lib.worked import RECORD
 
 TRANSCRIPT = [
@@ -55,19 +56,7 @@ def with_line_replaced(lines, number, other):
 
 def expect_verdict(record, transcript, line):
     """Expects this verdict."""
-    expect_equal("the verdict", verdict(record, transcript), (0 if line == "holds" else 1, f"{line}\n"))
-
-
-@cases((f"{name}: {line}", number, other, line) for name, number, other, line in OTHER_ENTRIES)
-def test_other_entry(number, other, line):
-    """The verdict after an entry is replaced or removed."""
-    expect_verdict(with_line_replaced(RECORD, number, other), TRANSCRIPT, line)
-
-
-@cases((f"{name}: {line}", number, other, line) for name, number, other, line in OTHER_LINES)
-def test_other_line(number, other, line):
-    """The verdict after a line of the transcript is replaced."""
-    expect_verdict(RECORD, with_line_replaced(TRANSCRIPT, number, other), line)
+    check.assertEqual(verdict(record, transcript), (0 if line == "holds" else 1, f"{line}\n"), "the verdict")
 
 
 # The lines after the join of site 1 in a transcript, and the verdict.
@@ -141,12 +130,6 @@ BACKS = [
 ]
 
 
-@cases((f"{lines!r}: {line}", lines, line) for lines, line in [*AFTER_JOIN, *BACKS])
-def test_after_a_join(lines, line):
-    """The verdict if these lines follow the join of site 1."""
-    expect_verdict(RECORD, [TRANSCRIPT[0], *lines.split("\n")], line)
-
-
 def join_lines(lines, end):
     """Returns the lines, each followed by this end."""
     return "".join(line + end for line in lines)
@@ -166,44 +149,46 @@ FILES = [
 ]
 
 
-@cases((f"{name}: {line}", record, transcript, line) for name, record, transcript, line in FILES)
-def test_files(record, transcript, line):
-    """The verdict on files with these texts."""
-    with tempfile.TemporaryDirectory() as name:
-        paths = [pathlib.Path(name) / "record", pathlib.Path(name) / "transcript"]
-        for path, text in zip(paths, (record, transcript)):
-            path.write_bytes(text.encode())
-        result = run("check", *paths)
-    expect_equal("the end", result, (0 if line == "holds" else 1, f"{line}\n", ""))
+class TestVerdicts(unittest.TestCase):
+    def test_other_entry(self):
+        """The verdict after an entry is replaced or removed."""
+        for name, number, other, line in OTHER_ENTRIES:
+            with self.subTest(f"{name}: {line}"):
+                expect_verdict(with_line_replaced(RECORD, number, other), TRANSCRIPT, line)
 
+    def test_other_line(self):
+        """The verdict after a line of the transcript is replaced."""
+        for name, number, other, line in OTHER_LINES:
+            with self.subTest(f"{name}: {line}"):
+                expect_verdict(RECORD, with_line_replaced(TRANSCRIPT, number, other), line)
 
-def test_true_transcript():
-    """The checker accepts a true transcript."""
-    expect_verdict(RECORD, TRANSCRIPT, "holds")
+    def test_after_a_join(self):
+        """The verdict if these lines follow the join of site 1."""
+        for lines, line in [*AFTER_JOIN, *BACKS]:
+            with self.subTest(f"{lines!r}: {line}"):
+                expect_verdict(RECORD, [TRANSCRIPT[0], *lines.split("\n")], line)
 
+    def test_files(self):
+        """The verdict on files with these texts."""
+        for name, record, transcript, line in FILES:
+            with self.subTest(f"{name}: {line}"):
+                with tempfile.TemporaryDirectory() as folder:
+                    paths = [pathlib.Path(folder) / "record", pathlib.Path(folder) / "transcript"]
+                    for path, text in zip(paths, (record, transcript)):
+                        path.write_bytes(text.encode())
+                    result = run("check", *paths)
+                self.assertEqual(result, (0 if line == "holds" else 1, f"{line}\n", ""), "the end")
 
-def test_no_files():
-    """The checker reports files that do not exist."""
-    expect_equal("the end", run("check", "no/record", "no/transcript"), (3, "", "grace: input failed\n"))
+    def test_true_transcript(self):
+        """The checker accepts a true transcript."""
+        expect_verdict(RECORD, TRANSCRIPT, "holds")
+
+    def test_no_files(self):
+        """The checker reports files that do not exist."""
+        self.assertEqual(run("check", "no/record", "no/transcript"), (3, "", "grace: input failed\n"), "the end")
 
 
 # ---- rooms that answered scripts
-
-
-def expect_holds(requests, codes):
-    """Sends these requests, pairs of a site and a text, and expects these codes of refusals, 0 for none. The checker
-    must accept the record and the transcript. Sites join in the order of their numbers, so a session's number is its
-    site's; the first site stays to read the record."""
-    pulls = [f'1 ["pull",{place}]' for place in range(0, codes.count(0) + 1, 64)]
-    lines = [*(f"{site} {request}" for site, request in requests), *pulls]
-    status, output, errors = run("script", "r", stdin="\n".join(lines).encode())
-    expect_equal("the script's end", (status, errors), (0, ""))
-    replies = [line.split(" ", 1)[1] for line in output.splitlines()]
-    values = [json.loads(reply) for reply in replies]
-    expect_equal("the refusals", [reply[2] if reply[0] == "no" else 0 for reply in values[: len(requests)]], codes)
-    record = [entry for reply in values[len(requests) :] if reply[0] == "entries" for entry in reply[3]]
-    transcript = [f"[{site},{request},{reply}]" for (site, request), reply in zip(requests, replies)]
-    expect_verdict([json.dumps(entry, separators=(",", ":")) for entry in record], transcript, "holds")
 
 
 def joins(sites):
@@ -243,11 +228,6 @@ REQUESTS = [
 ]
 
 
-def test_each_request():
-    """Each request, and each refusal of it that a site in a room can get."""
-    expect_holds([*joins(3), *(row[:2] for row in REQUESTS)], [0, 0, 0, *(row[2] for row in REQUESTS)])
-
-
 def own_request(word, seq, rest):
     """Returns the first site's request for its operation of this number. Its state vector has only its own
     operations."""
@@ -255,29 +235,48 @@ def own_request(word, seq, rest):
     return 1, f'["{word}",{seq},{seen},{rest}]'
 
 
-def test_many_versions():
-    """The most versions of an object, and a put that would create more."""
-    changes = [(site, f'["put",{2 if site == 1 else 1},[[1,1]],[1,1],[],[["{key}",{1 + (site - 1) % 2}]]]')
-            for site, key in enumerate("aabbccddeeff", 1)]
-    requests = [*joins(12), own_request("new", 1, '"rect",[]'), *changes, (12, '["show",[1,1]]')]
-    expect_holds(requests, 13 * [0] + 11 * [0] + [15, 0])
+class TestRoomsThatAnsweredScripts(unittest.TestCase):
+    def expect_holds(self, requests, codes):
+        """Sends these requests, pairs of a site and a text, and expects these codes of refusals, 0 for none. The
+        checker must accept the record and the transcript. Sites join in the order of their numbers, so a session's
+        number is its site's; the first site stays to read the record."""
+        pulls = [f'1 ["pull",{place}]' for place in range(0, codes.count(0) + 1, 64)]
+        lines = [*(f"{site} {request}" for site, request in requests), *pulls]
+        status, output, errors = run("script", "r", stdin="\n".join(lines).encode())
+        self.assertEqual((status, errors), (0, ""), "the script's end")
+        replies = [line.split(" ", 1)[1] for line in output.splitlines()]
+        values = [json.loads(reply) for reply in replies]
+        self.assertEqual(
+            [reply[2] if reply[0] == "no" else 0 for reply in values[: len(requests)]], codes, "the refusals",
+        )
+        record = [entry for reply in values[len(requests) :] if reply[0] == "entries" for entry in reply[3]]
+        transcript = [f"[{site},{request},{reply}]" for (site, request), reply in zip(requests, replies)]
+        expect_verdict([json.dumps(entry, separators=(",", ":")) for entry in record], transcript, "holds")
 
+    def test_each_request(self):
+        """Each request, and each refusal of it that a site in a room can get."""
+        self.expect_holds([*joins(3), *(row[:2] for row in REQUESTS)], [0, 0, 0, *(row[2] for row in REQUESTS)])
 
-def test_many_keys():
-    """The most keys of an object, and one more."""
-    changes = [own_request("put", key + 1, f'[1,1],[],[["k{key}",1]]') for key in range(1, 66)]
-    expect_holds([*joins(1), own_request("new", 1, '"rect",[]'), *changes], 66 * [0] + [14])
+    def test_many_versions(self):
+        """The most versions of an object, and a put that would create more."""
+        changes = [(site, f'["put",{2 if site == 1 else 1},[[1,1]],[1,1],[],[["{key}",{1 + (site - 1) % 2}]]]')
+                for site, key in enumerate("aabbccddeeff", 1)]
+        requests = [*joins(12), own_request("new", 1, '"rect",[]'), *changes, (12, '["show",[1,1]]')]
+        self.expect_holds(requests, 13 * [0] + 11 * [0] + [15, 0])
 
+    def test_many_keys(self):
+        """The most keys of an object, and one more."""
+        changes = [own_request("put", key + 1, f'[1,1],[],[["k{key}",1]]') for key in range(1, 66)]
+        self.expect_holds([*joins(1), own_request("new", 1, '"rect",[]'), *changes], 66 * [0] + [14])
 
-def test_many_objects():
-    """The most objects of a room and the most changes of an object, and one more of each."""
-    creations = [own_request("new", seq, '"rect",[]') for seq in range(1, 8194)]
-    changes = [own_request("put", 8192 + number, '[1,1],[],[["x",1]]') for number in range(1, 1026)]
-    expect_holds([*joins(1), *creations, *changes], 8193 * [0] + [16] + 1024 * [0] + [13])
+    def test_many_objects(self):
+        """The most objects of a room and the most changes of an object, and one more of each."""
+        creations = [own_request("new", seq, '"rect",[]') for seq in range(1, 8194)]
+        changes = [own_request("put", 8192 + number, '[1,1],[],[["x",1]]') for number in range(1, 1026)]
+        self.expect_holds([*joins(1), *creations, *changes], 8193 * [0] + [16] + 1024 * [0] + [13])
 
-
-def test_many_entries():
-    """The most entries of a record, and one more."""
-    creations = [own_request("new", seq, '"rect",[]') for seq in range(1, 33)]
-    changes = [own_request("put", seq, f'[1,{1 + seq % 32}],[],[["x",{seq}]]') for seq in range(33, 16_385)]
-    expect_holds([*joins(1), *creations, *changes], 16_384 * [0] + [6])
+    def test_many_entries(self):
+        """The most entries of a record, and one more."""
+        creations = [own_request("new", seq, '"rect",[]') for seq in range(1, 33)]
+        changes = [own_request("put", seq, f'[1,{1 + seq % 32}],[],[["x",{seq}]]') for seq in range(33, 16_385)]
+        self.expect_holds([*joins(1), *creations, *changes], 16_384 * [0] + [6])

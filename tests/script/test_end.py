@@ -2,9 +2,9 @@
 
 import pathlib
 import tempfile
+import unittest
 
-from lib.running import cases
-from lib.serving import expect_equal, run, verdict
+from lib.serving import run, verdict
 from lib.worked import RECORD
 
 END = '["next",2]'
@@ -43,37 +43,41 @@ REPLIES = [
 ]
 
 
-@cases(RECORDS)
-def test_record(record, bad):
-    """`grace migrate` prints a legal record as it is, and otherwise reports its first bad line."""
-    with tempfile.TemporaryDirectory() as name:
-        path = pathlib.Path(name) / "record"
-        path.write_text("".join(f"{line}\n" for line in record))
-        result = run("migrate", path)
-    lines = record if bad is None else [f"bad record line {bad}"]
-    expect_equal("the end", result, (0 if bad is None else 1, "".join(f"{line}\n" for line in lines), ""))
+class TestEndedRecords(unittest.TestCase):
+    def test_record(self):
+        """`grace migrate` prints a legal record as it is, and otherwise reports its first bad line."""
+        for name, record, bad in RECORDS:
+            with self.subTest(name):
+                self.check_record(record, bad)
 
+    def check_record(self, record, bad):
+        """Expects that this is the first bad line of a record, or that it has none."""
+        with tempfile.TemporaryDirectory() as name:
+            path = pathlib.Path(name) / "record"
+            path.write_text("".join(f"{line}\n" for line in record))
+            result = run("migrate", path)
+        lines = record if bad is None else [f"bad record line {bad}"]
+        self.assertEqual(result, (0 if bad is None else 1, "".join(f"{line}\n" for line in lines), ""), "the end")
 
-@cases(REPLIES)
-def test_reply(line, found):
-    """The checker's verdict on a reply of the room that has ended."""
-    expect_equal("the verdict", verdict(ENDED, [line]), (0 if found == "holds" else 1, f"{found}\n"))
+    def test_reply(self):
+        """The checker's verdict on a reply of the room that has ended."""
+        for name, line, found in REPLIES:
+            with self.subTest(name):
+                self.assertEqual(verdict(ENDED, [line]), (0 if found == "holds" else 1, f"{found}\n"), "the verdict")
 
+    def test_request(self):
+        """No request ends a record."""
+        lines = ['1 ["join","r"]', f"1 {END}"]
+        result = run("script", "r", stdin="".join(f"{line}\n" for line in lines).encode())
+        self.assertEqual(result, (0, '1 ["joined",0,1]\n1 ["no",0,1,"bad-message"]\n', ""), "the replies")
 
-def test_request():
-    """No request ends a record."""
-    lines = ['1 ["join","r"]', f"1 {END}"]
-    result = run("script", "r", stdin="".join(f"{line}\n" for line in lines).encode())
-    expect_equal("the replies", result, (0, '1 ["joined",0,1]\n1 ["no",0,1,"bad-message"]\n', ""))
-
-
-def test_renewal():
-    """The renewal of a record that has ended draws the same, and has not ended."""
-    with tempfile.TemporaryDirectory() as name:
-        old, new = pathlib.Path(name) / "old", pathlib.Path(name) / "new"
-        old.write_text("".join(f"{line}\n" for line in ENDED))
-        status, output, _ = run("renew", old)
-        new.write_text(output)
-        expect_equal("the end", status, 0)
-        expect_equal("the ends", [line for line in output.splitlines() if "next" in line], [])
-        expect_equal("the comparison", run("renewed", old, new), (0, "holds\n", ""))
+    def test_renewal(self):
+        """The renewal of a record that has ended draws the same, and has not ended."""
+        with tempfile.TemporaryDirectory() as name:
+            old, new = pathlib.Path(name) / "old", pathlib.Path(name) / "new"
+            old.write_text("".join(f"{line}\n" for line in ENDED))
+            status, output, _ = run("renew", old)
+            new.write_text(output)
+            self.assertEqual(status, 0, "the end")
+            self.assertEqual([line for line in output.splitlines() if "next" in line], [], "the ends")
+            self.assertEqual(run("renewed", old, new), (0, "holds\n", ""), "the comparison")

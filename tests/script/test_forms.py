@@ -3,10 +3,10 @@ them in one place."""
 
 import pathlib
 import tempfile
+import unittest
 
-from lib.running import cases
 from lib.scripts import expect_answers
-from lib.serving import expect_equal, run, verdict
+from lib.serving import run, verdict
 from lib.worked import RECORD
 
 BAD_MESSAGE = '["no",0,1,"bad-message"]'
@@ -184,23 +184,6 @@ def rows_of(text):
     return text.strip("\n").split("\n")
 
 
-@cases([
-    ("of any word", NO_REQUESTS),
-    ("creations", NO_CREATIONS),
-    ("puts", NO_PUTS),
-    ("drops", NO_DROPS),
-    ("puts in the old form", NO_OLD_PUTS),
-    ("pages", NO_PAGES),
-    ("notes", NO_NOTES),
-    ("a note that is too long", f'["note","{257 * "a"}"]\n["note","{129 * "é"}"]'),
-    ("lists in lists", f'{127 * "["}{127 * "]"}\n{128 * "["}{128 * "]"}'),
-])
-def test_no_request(text):
-    """These texts are no requests."""
-    lines = [f"1 {line}" for line in rows_of(text)]
-    expect_answers(["r"], lines, len(lines) * [f"1 {BAD_MESSAGE}"])
-
-
 # Texts of a request before and after a part that may be repeated, the most times, and the part.
 BOUNDS = [
     ("a message", '["leave"]', 16_375, " ", ""),
@@ -214,26 +197,45 @@ BOUNDS = [
 ]
 
 
-@cases(BOUNDS)
-def test_bound(before, most, part, after):
-    """A request with this many parts is one, and with one more it is none. The session is in no room, and no room has
-    the name."""
-    longest = '["no",0,4,"no-such-room"]' if before.startswith('["join"') else NOT_JOINED
-    expect_answers(
-        ["r"],
-        [f"1 {before}{count * part}{after}" for count in (most, most + 1)],
-        [f"1 {longest}", f"1 {BAD_MESSAGE}"],
-    )
-
-
 PAIRS = [f'["{number}",0]' for number in range(17)]
 
 
-@cases([("a creation", '["new",1,[],"rect",[{}]]'), ("a put", '["put",1,[],[1,1],[],[{}]]')])
-def test_attributes(form):
-    """A request has at most 16 attributes."""
-    lines = [f"1 {form.format(','.join(PAIRS[:count]))}" for count in (16, 17)]
-    expect_answers(["r"], lines, [f"1 {NOT_JOINED}", f"1 {BAD_MESSAGE}"])
+class TestRequests(unittest.TestCase):
+    def test_no_request(self):
+        """These texts are no requests."""
+        for name, text in [
+            ("of any word", NO_REQUESTS),
+            ("creations", NO_CREATIONS),
+            ("puts", NO_PUTS),
+            ("drops", NO_DROPS),
+            ("puts in the old form", NO_OLD_PUTS),
+            ("pages", NO_PAGES),
+            ("notes", NO_NOTES),
+            ("a note that is too long", f'["note","{257 * "a"}"]\n["note","{129 * "é"}"]'),
+            ("lists in lists", f'{127 * "["}{127 * "]"}\n{128 * "["}{128 * "]"}'),
+        ]:
+            with self.subTest(name):
+                lines = [f"1 {line}" for line in rows_of(text)]
+                expect_answers(["r"], lines, len(lines) * [f"1 {BAD_MESSAGE}"])
+
+    def test_bound(self):
+        """A request with this many parts is one, and with one more it is none. The session is in no room, and no room
+        has the name."""
+        for name, before, most, part, after in BOUNDS:
+            with self.subTest(name):
+                longest = '["no",0,4,"no-such-room"]' if before.startswith('["join"') else NOT_JOINED
+                expect_answers(
+                    ["r"],
+                    [f"1 {before}{count * part}{after}" for count in (most, most + 1)],
+                    [f"1 {longest}", f"1 {BAD_MESSAGE}"],
+                )
+
+    def test_attributes(self):
+        """A request has at most 16 attributes."""
+        for name, form in [("a creation", '["new",1,[],"rect",[{}]]'), ("a put", '["put",1,[],[1,1],[],[{}]]')]:
+            with self.subTest(name):
+                lines = [f"1 {form.format(','.join(PAIRS[:count]))}" for count in (16, 17)]
+                expect_answers(["r"], lines, [f"1 {NOT_JOINED}", f"1 {BAD_MESSAGE}"])
 
 
 # ---- requests with their entries
@@ -260,23 +262,14 @@ WRITTEN = r"""
 """
 
 
-def test_written():
-    """The requests are read as they are meant: the record has their entries in compact form."""
-    talk = [row.rsplit(" -> ", 1) for row in rows_of(WRITTEN)]
-    expect_answers(["a-9"], [f"1 {request}" for request, _ in talk], [f"1 {reply}" for _, reply in talk])
+class TestRequestsWithTheirEntries(unittest.TestCase):
+    def test_written(self):
+        """The requests are read as they are meant: the record has their entries in compact form."""
+        talk = [row.rsplit(" -> ", 1) for row in rows_of(WRITTEN)]
+        expect_answers(["a-9"], [f"1 {request}" for request, _ in talk], [f"1 {reply}" for _, reply in talk])
 
 
 # ---- entries
-
-
-def migrated(lines):
-    """Returns the status and output of `grace migrate` for a record of these lines."""
-    with tempfile.TemporaryDirectory() as name:
-        path = pathlib.Path(name) / "record"
-        path.write_text("".join(f"{line}\n" for line in lines))
-        status, output, errors = run("migrate", path)
-    expect_equal("standard error", errors, "")
-    return status, output
 
 
 # A legal record with the greatest site, and with an entry of each word.
@@ -287,13 +280,6 @@ ENTRIES = [
     '["put",[1,1],[[256,1]],[256,1],[],[["x",9]]]',
     '["drop",[1,2],[[1,1],[256,2]],[256,1],[[1,1]]]',
 ]
-
-
-def test_entries():
-    """Entries are written as they were read. An entry may have a text of any length."""
-    text = "".join(f"{line}\n" for line in ENTRIES)
-    expect_equal("the entries", migrated(ENTRIES), (0, text))
-    expect_equal("a long line", migrated([f'["join",1{20_000 * " "}]']), (0, '["join",1]\n'))
 
 
 # Two sites with an object each. The third line of the first site could be its second operation.
@@ -340,12 +326,28 @@ NO_ENTRIES = """
 """
 
 
-def test_no_entries():
-    """A line that is no entry ends a record, and one in the right form does not."""
-    for line in rows_of(NEXT_ENTRIES):
-        expect_equal(f"the status for {line}", migrated([*TWO_OBJECTS, line])[0], 0)
-    for line in ["", *rows_of(NO_ENTRIES)]:
-        expect_equal(f"the verdict on {line}", migrated([*TWO_OBJECTS, line]), (1, "bad record line 5\n"))
+class TestEntries(unittest.TestCase):
+    def migrated(self, lines):
+        """Returns the status and output of `grace migrate` for a record of these lines."""
+        with tempfile.TemporaryDirectory() as name:
+            path = pathlib.Path(name) / "record"
+            path.write_text("".join(f"{line}\n" for line in lines))
+            status, output, errors = run("migrate", path)
+        self.assertEqual(errors, "", "standard error")
+        return status, output
+
+    def test_entries(self):
+        """Entries are written as they were read. An entry may have a text of any length."""
+        text = "".join(f"{line}\n" for line in ENTRIES)
+        self.assertEqual(self.migrated(ENTRIES), (0, text), "the entries")
+        self.assertEqual(self.migrated([f'["join",1{20_000 * " "}]']), (0, '["join",1]\n'), "a long line")
+
+    def test_no_entries(self):
+        """A line that is no entry ends a record, and one in the right form does not."""
+        for line in rows_of(NEXT_ENTRIES):
+            self.assertEqual(self.migrated([*TWO_OBJECTS, line])[0], 0, f"the status for {line}")
+        for line in ["", *rows_of(NO_ENTRIES)]:
+            self.assertEqual(self.migrated([*TWO_OBJECTS, line]), (1, "bad record line 5\n"), f"the verdict on {line}")
 
 
 # ---- replies
@@ -433,29 +435,29 @@ NO_REPLIES = """
 JOIN = '[1,["join","r"],["joined",0,1]]'
 
 
-def expect_verdicts(lines, line):
-    """Expects this verdict on each of these lines as the second line of a transcript."""
-    for second in lines:
-        status = 0 if line == "holds" else 1
-        expect_equal(f"the verdict on {second:.100}", verdict(RECORD, [JOIN, second]), (status, f"{line}\n"))
+class TestReplies(unittest.TestCase):
+    def expect_verdicts(self, lines, line):
+        """Expects this verdict on each of these lines as the second line of a transcript."""
+        for second in lines:
+            status = 0 if line == "holds" else 1
+            self.assertEqual(verdict(RECORD, [JOIN, second]), (status, f"{line}\n"), f"the verdict on {second:.100}")
 
+    def test_replies(self):
+        """The checker reads replies of each form, of any length, and compares them with the rules'."""
+        self.expect_verdicts([f'[1,["leave"],{reply}]' for reply in rows_of(OTHER_REPLIES)], "wrong reply line 2")
+        self.expect_verdicts([f'[1,["leave"],["left",5{20_000 * " "}]]', '[2,["join","r"],["joined",2,2]]'], "holds")
 
-def test_replies():
-    """The checker reads replies of each form, of any length, and compares them with the rules'."""
-    expect_verdicts([f'[1,["leave"],{reply}]' for reply in rows_of(OTHER_REPLIES)], "wrong reply line 2")
-    expect_verdicts([f'[1,["leave"],["left",5{20_000 * " "}]]', '[2,["join","r"],["joined",2,2]]'], "holds")
+    def test_notes(self):
+        """A request about notes is no line of a transcript."""
+        lines = [
+            '[1,["notes"],["notes",5,[]]]', '[1,["note","a"],["notes",5,[[1,"a"]]]]', '[1,["note","a"],["left",5]]',
+        ]
+        self.expect_verdicts(lines, "bad transcript line 2")
 
-
-def test_notes():
-    """A request about notes is no line of a transcript."""
-    lines = ['[1,["notes"],["notes",5,[]]]', '[1,["note","a"],["notes",5,[[1,"a"]]]]', '[1,["note","a"],["left",5]]']
-    expect_verdicts(lines, "bad transcript line 2")
-
-
-def test_no_replies():
-    """A line with no reply is no line of a transcript."""
-    expect_verdicts([f'[1,["leave"],{reply}]' for reply in rows_of(NO_REPLIES)], "bad transcript line 2")
-    joined = ['["joined",2]', '["joined",2,2,2]', '["joined",2.0,2]', '["joined",2,[2]]', '["joined",-2,2]']
-    expect_verdicts([f'[2,["join","r"],{reply}]' for reply in joined], "bad transcript line 2")
-    back = ['["back",5,1]', '["back",5,1,2,2]', '["back",5,1,2.0]', '["back",5,1,-2]']
-    expect_verdicts([f'[1,["back","r",1],{reply}]' for reply in back], "bad transcript line 2")
+    def test_no_replies(self):
+        """A line with no reply is no line of a transcript."""
+        self.expect_verdicts([f'[1,["leave"],{reply}]' for reply in rows_of(NO_REPLIES)], "bad transcript line 2")
+        joined = ['["joined",2]', '["joined",2,2,2]', '["joined",2.0,2]', '["joined",2,[2]]', '["joined",-2,2]']
+        self.expect_verdicts([f'[2,["join","r"],{reply}]' for reply in joined], "bad transcript line 2")
+        back = ['["back",5,1]', '["back",5,1,2,2]', '["back",5,1,2.0]', '["back",5,1,-2]']
+        self.expect_verdicts([f'[1,["back","r",1],{reply}]' for reply in back], "bad transcript line 2")

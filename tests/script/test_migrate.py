@@ -2,9 +2,9 @@
 
 import pathlib
 import tempfile
+import unittest
 
-from lib.running import cases
-from lib.serving import expect_equal, run, verdict
+from lib.serving import run, verdict
 from lib.worked import RECORD
 
 OLD_RECORD = [
@@ -32,25 +32,26 @@ RECORDS = [
 ]
 
 
-@cases(RECORDS)
-def test_migrated(record, status, lines):
-    """The output of `grace migrate` for this record."""
-    with tempfile.TemporaryDirectory() as name:
-        path = pathlib.Path(name) / "record"
-        path.write_text("".join(f"{line}\n" for line in record))
-        result = run("migrate", path)
-    expect_equal("the end", result, (status, "".join(f"{line}\n" for line in lines), ""))
+class TestMigration(unittest.TestCase):
+    def test_migrated(self):
+        """The output of `grace migrate` for this record."""
+        for name, record, status, lines in RECORDS:
+            with self.subTest(name):
+                with tempfile.TemporaryDirectory() as folder:
+                    path = pathlib.Path(folder) / "record"
+                    path.write_text("".join(f"{line}\n" for line in record))
+                    result = run("migrate", path)
+                self.assertEqual(result, (status, "".join(f"{line}\n" for line in lines), ""), "the end")
 
+    def test_no_file(self):
+        """`grace migrate` reports a file that does not exist."""
+        self.assertEqual(run("migrate", "no/record"), (3, "", "grace: input failed\n"), "the end")
 
-def test_no_file():
-    """`grace migrate` reports a file that does not exist."""
-    expect_equal("the end", run("migrate", "no/record"), (3, "", "grace: input failed\n"))
-
-
-@cases([
-    ("an old record", OLD_RECORD, OLD_TRANSCRIPT),
-    ("a record in current forms", RECORD, OLD_TRANSCRIPT),
-])
-def test_old_transcript(record, transcript):
-    """The checker accepts a transcript in old forms with a record in old or current forms."""
-    expect_equal("the verdict", verdict(record, transcript), (0, "holds\n"))
+    def test_old_transcript(self):
+        """The checker accepts a transcript in old forms with a record in old or current forms."""
+        for name, record, transcript in [
+            ("an old record", OLD_RECORD, OLD_TRANSCRIPT),
+            ("a record in current forms", RECORD, OLD_TRANSCRIPT),
+        ]:
+            with self.subTest(name):
+                self.assertEqual(verdict(record, transcript), (0, "holds\n"), "the verdict")

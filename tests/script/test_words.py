@@ -1,8 +1,9 @@
 """The command line."""
 
 
-from lib.running import cases
-from lib.serving import expect_equal, run
+import unittest
+
+from lib.serving import run
 
 # Arguments, and the first line on standard error.
 MISTAKES = [
@@ -74,23 +75,24 @@ OUTPUTS = [
 ]
 
 
-@cases((f"grace {' '.join(words)}", words, line) for words, line in MISTAKES)
-def test_mistake(words, line):
-    """The program exits with status 2 and this line. It reads and prints nothing."""
-    status, output, errors = run(*words, stdin=b'0 ["leave"]\n')
-    expect_equal("the end", (status, output, errors.split("\n")[0]), (2, "", line))
+class TestCommandLine(unittest.TestCase):
+    def test_mistake(self):
+        """The program exits with status 2 and this line. It reads and prints nothing."""
+        for words, line in MISTAKES:
+            with self.subTest(f"grace {' '.join(words)}"):
+                status, output, errors = run(*words, stdin=b'0 ["leave"]\n')
+                self.assertEqual((status, output, errors.split("\n")[0]), (2, "", line), "the end")
 
+    def test_output(self):
+        """The program prints text that begins like this, and succeeds."""
+        for words, start in OUTPUTS:
+            with self.subTest(f"grace {' '.join(words)}"):
+                status, output, errors = run(*words)
+                self.assertEqual((status, output[: len(start)], errors), (0, start, ""), "the end")
 
-@cases((f"grace {' '.join(words)}", words, start) for words, start in OUTPUTS)
-def test_output(words, start):
-    """The program prints text that begins like this, and succeeds."""
-    status, output, errors = run(*words)
-    expect_equal("the end", (status, output[: len(start)], errors), (0, start, ""))
-
-
-@cases([("help", "--help"), ("a script's answers", "script", "r")])
-def test_full_output(*words):
-    """If the program cannot write its output, it reports that and exits with 3."""
-    with open("/dev/full", "wb") as full:
-        status, _, errors = run(*words, stdin=b'0 ["leave"]\n', stdout=full)
-    expect_equal("the end", (status, errors), (3, "grace: output failed\n"))
+    def test_full_output(self):
+        """If the program cannot write its output, it reports that and exits with 3."""
+        for words in ["--help"], ["script", "r"]:
+            with self.subTest(words=words), open("/dev/full", "wb") as full:
+                status, _, errors = run(*words, stdin=b'0 ["leave"]\n', stdout=full)
+                self.assertEqual((status, errors), (3, "grace: output failed\n"), "the end")

@@ -3,13 +3,13 @@
 import statistics
 import threading
 import time
+import unittest
 from functools import partial
 
 from lib.crowd import Crowd
 from lib.drawing import Drawer, draw_in_rounds
 from lib.records import compact
-from lib.running import cases
-from lib.serving import CheckFailed, Server, expect_equal, run
+from lib.serving import Server, run
 from lib.websocket_client import PING, PONG, SECONDS, TEXT, frame
 
 JOIN = '["join","r"]'
@@ -35,87 +35,43 @@ def requests_of_one(count):
         yield f'["sit",{turn}]', '["no",0,1,"bad-message"]'
 
 
-@cases([("in one piece", 1 << 20), ("in small pieces", 1009)])
-def test_in_flight(size):
-    """One client sends 802 requests before it reads, in pieces of this size that end anywhere. Each request gets one
-    reply, in order."""
-    with Server() as server:
-        client = server.client()
-        talk = list(requests_of_one(200))
-        data = b"".join(client.frame_of(request) for request, _ in talk)
-        for place in range(0, len(data), size):
-            client.send(data[place : place + size])
-        for request, reply in talk:
-            expect_equal(f"the reply to {request}", client.read_reply(), reply)
-        client.send(frame(PING, b"no more"))
-        expect_equal("the frame after the replies", client.read_frame(), (PONG, b"no more"))
-        server.finish()
+class TestOneClient(unittest.TestCase):
+    def test_in_flight(self):
+        """One client sends 802 requests before it reads, in pieces of this size that end anywhere. Each request gets
+        one reply, in order."""
+        for name, size in [("in one piece", 1 << 20), ("in small pieces", 1009)]:
+            with self.subTest(name), Server() as server:
+                client = server.client()
+                talk = list(requests_of_one(200))
+                data = b"".join(client.frame_of(request) for request, _ in talk)
+                for place in range(0, len(data), size):
+                    client.send(data[place : place + size])
+                for request, reply in talk:
+                    self.assertEqual(client.read_reply(), reply, f"the reply to {request}")
+                client.send(frame(PING, b"no more"))
+                self.assertEqual(client.read_frame(), (PONG, b"no more"), "the frame after the replies")
+                server.finish()
 
-
-def test_two_at_a_time():
-    """The server answers two requests in one piece at once: no reply waits for the TCP acknowledgement of the one
-    before. Such a wait takes 40 ms. The bound is 30 ms for the fastest quarter of 100 pairs, so stalls during some
-    pairs do no harm. A system acknowledges at most the first 16 pairs at once."""
-    with Server() as server:
-        client = server.client()
-        times = []
-        for _ in range(100):
-            data = client.frame_of('["leave"]') + client.frame_of('["leave"]')
-            start = time.monotonic()
-            client.send(data)
-            client.read_reply()
-            client.read_reply()
-            times.append(time.monotonic() - start)
-        quarter, *_ = statistics.quantiles(times)
-        if quarter > 0.03:
-            raise CheckFailed(f"two replies take {quarter * 1000:.0f} ms")
-        server.finish()
+    def test_two_at_a_time(self):
+        """The server answers two requests in one piece at once: no reply waits for the TCP acknowledgement of the one
+        before. Such a wait takes 40 ms. The bound is 30 ms for the fastest quarter of 100 pairs, so stalls during some
+        pairs do no harm. A system acknowledges at most the first 16 pairs at once."""
+        with Server() as server:
+            client = server.client()
+            times = []
+            for _ in range(100):
+                data = client.frame_of('["leave"]') + client.frame_of('["leave"]')
+                start = time.monotonic()
+                client.send(data)
+                client.read_reply()
+                client.read_reply()
+                times.append(time.monotonic() - start)
+            quarter, *_ = statistics.quantiles(times)
+            self.assertLessEqual(quarter, 0.03, f"two replies take {quarter * 1000:.0f} ms")
+            server.finish()
 
 
 # ---- many clients
-
-
-def draw(client, room, others):
-    """Joins and waits until the room's first client has made an object. Creates an object, changes it ten times, and
-    changes the first client's object ten times, by a key of its own."""
-    client.ask(["join", room])
-    site = client.transcript.site
-    if site != 1:
-        others[room].wait(SECONDS)
-    for seq in range(1, PUTS + 2):
-        seen = [[1, 1]] if site > 1 else []
-        seen += [[site, seq - 1]] if seq > 1 else []
-        if seq == 1:
-            client.ask(["new", 1, seen, "rect", [["x", site]]])
-            others[room].set()
-            continue
-        on_own = seq % 2 == 0 or site == 1
-        reply = client.ask(["put", seq, seen, [site if on_own else 1, 1], [], [[f"key-{site}", seq]]])
-        if not reply.startswith('["taken",') or not reply.endswith(",[[]]]"):
-            raise CheckFailed(f"the reply to a put is {reply}")
-
-
-def test_many_at_once():
-    """64 clients in parallel, half in each of two rooms. Each creates an object and sends 20 puts."""
-    with Server(CLIENTS, CLIENTS, ["a", "b"]) as server:
-        clients = [server.client() for _ in range(CLIENTS)]
-        made = {"a": threading.Event(), "b": threading.Event()}
-        crowd = Crowd()
-        for place, client in enumerate(clients):
-            crowd.start(draw, client, "ab"[place % 2], made)
-        crowd.end()
-        records = server.finish()
-    expect_equal("the entries", [len(records[room]) for room in "ab"], [CLIENTS // 2 * (PUTS + 2)] * 2)
-
-
-def test_many_sessions():
-    """The server serves 200 sessions, one after another. The rooms keep their state between sessions."""
-    with Server(200, 4) as server:
-        for turn in range(200):
-            client = server.client()
-            client.expect_reply(JOIN, f'["joined",{turn},{turn + 1}]')
-            client.close()
-        server.finish()
 
 
 def end_badly(server, kind):
@@ -127,56 +83,93 @@ def end_badly(server, kind):
     return "stream fault" if kind else "handshake failed"
 
 
-def test_memory_of_ended_sessions():
-    """The server keeps at most 64 bytes for each ended session that was in no room."""
-    warnings = {}
-    with Server(WARM_UP + COUNTED + 1, 4) as server:
-        for session in range(1, WARM_UP + COUNTED + 1):
-            if session == WARM_UP + 1:
-                before = server.memory()[0]
-            if session % 3:
-                warnings[session] = end_badly(server, session % 3 - 1)
-            else:
-                client = server.client()
-                client.expect_reply('["join","elsewhere"]', '["no",0,4,"no-such-room"]')
-                client.close()
-        grown = server.memory()[0] - before
-        server.client().close()
-        server.finish(warnings)
-    if 1024 * grown > BYTES_EACH * COUNTED:
-        raise CheckFailed(f"{COUNTED} ended sessions occupy {grown} KiB")
-
-
-def test_one_thread():
-    """One thread serves 200 clients at once, each in turn."""
-    with Server(200, 1) as server:
-        clients = [server.client() for _ in range(200)]
-        for turn, client in enumerate(clients):
-            client.expect_reply(JOIN, f'["joined",{turn},{turn + 1}]')
-        for turn, client in enumerate(reversed(clients)):
-            client.expect_reply('["leave"]', '["left",200]')
-        server.finish()
-
-
-def test_as_script():
-    """Five clients draw in turn. `grace script` gives the same replies to the same requests."""
-    talk = []
-    with Server(5, 5) as server:
-        clients = [server.client() for _ in range(5)]
-        drawers = [Drawer(partial(ask_and_record, client, talk), place) for place, client in enumerate(clients)]
-        for drawer in drawers:
-            drawer.join("r")
-        draw_in_rounds(drawers, 200)
-        server.finish()
-    script = "".join(f"{session} {request}\n" for session, request, _ in talk)
-    status, output, errors = run("script", "r", stdin=script.encode())
-    expect_equal("the script's status", (status, errors), (0, ""))
-    for (session, request, reply), line in zip(talk, output.splitlines(), strict=True):
-        expect_equal(f"the script's line for {request:.200}", line, f"{session} {reply}")
-
-
 def ask_and_record(client, talk, request):
     """Sends a request and appends it with its reply to `talk`. Returns the reply."""
     text = compact(request)
     talk.append((client.session, text, client.ask(text)))
     return talk[-1][2]
+
+
+class TestManyClients(unittest.TestCase):
+    def draw(self, client, room, others):
+        """Joins and waits until the room's first client has made an object. Creates an object, changes it ten times,
+        and changes the first client's object ten times, by a key of its own."""
+        client.ask(["join", room])
+        site = client.transcript.site
+        if site != 1:
+            others[room].wait(SECONDS)
+        for seq in range(1, PUTS + 2):
+            seen = [[1, 1]] if site > 1 else []
+            seen += [[site, seq - 1]] if seq > 1 else []
+            if seq == 1:
+                client.ask(["new", 1, seen, "rect", [["x", site]]])
+                others[room].set()
+                continue
+            on_own = seq % 2 == 0 or site == 1
+            reply = client.ask(["put", seq, seen, [site if on_own else 1, 1], [], [[f"key-{site}", seq]]])
+            self.assertRegex(reply, r'^\["taken",\d+,\[\[\]\]\]$')
+
+    def test_many_at_once(self):
+        """64 clients in parallel, half in each of two rooms. Each creates an object and sends 20 puts."""
+        with Server(CLIENTS, CLIENTS, ["a", "b"]) as server:
+            clients = [server.client() for _ in range(CLIENTS)]
+            made = {"a": threading.Event(), "b": threading.Event()}
+            crowd = Crowd()
+            for place, client in enumerate(clients):
+                crowd.start(self.draw, client, "ab"[place % 2], made)
+            crowd.end()
+            records = server.finish()
+        self.assertEqual([len(records[room]) for room in "ab"], [CLIENTS // 2 * (PUTS + 2)] * 2, "the entries")
+
+    def test_many_sessions(self):
+        """The server serves 200 sessions, one after another. The rooms keep their state between sessions."""
+        with Server(200, 4) as server:
+            for turn in range(200):
+                client = server.client()
+                client.expect_reply(JOIN, f'["joined",{turn},{turn + 1}]')
+                client.close()
+            server.finish()
+
+    def test_memory_of_ended_sessions(self):
+        """The server keeps at most 64 bytes for each ended session that was in no room."""
+        warnings = {}
+        with Server(WARM_UP + COUNTED + 1, 4) as server:
+            for session in range(1, WARM_UP + COUNTED + 1):
+                if session == WARM_UP + 1:
+                    before = server.memory()[0]
+                if session % 3:
+                    warnings[session] = end_badly(server, session % 3 - 1)
+                else:
+                    client = server.client()
+                    client.expect_reply('["join","elsewhere"]', '["no",0,4,"no-such-room"]')
+                    client.close()
+            grown = server.memory()[0] - before
+            server.client().close()
+            server.finish(warnings)
+        self.assertLessEqual(1024 * grown, BYTES_EACH * COUNTED, f"{COUNTED} ended sessions occupy {grown} KiB")
+
+    def test_one_thread(self):
+        """One thread serves 200 clients at once, each in turn."""
+        with Server(200, 1) as server:
+            clients = [server.client() for _ in range(200)]
+            for turn, client in enumerate(clients):
+                client.expect_reply(JOIN, f'["joined",{turn},{turn + 1}]')
+            for turn, client in enumerate(reversed(clients)):
+                client.expect_reply('["leave"]', '["left",200]')
+            server.finish()
+
+    def test_as_script(self):
+        """Five clients draw in turn. `grace script` gives the same replies to the same requests."""
+        talk = []
+        with Server(5, 5) as server:
+            clients = [server.client() for _ in range(5)]
+            drawers = [Drawer(partial(ask_and_record, client, talk), place) for place, client in enumerate(clients)]
+            for drawer in drawers:
+                drawer.join("r")
+            draw_in_rounds(drawers, 200)
+            server.finish()
+        script = "".join(f"{session} {request}\n" for session, request, _ in talk)
+        status, output, errors = run("script", "r", stdin=script.encode())
+        self.assertEqual((status, errors), (0, ""), "the script's status")
+        for (session, request, reply), line in zip(talk, output.splitlines(), strict=True):
+            self.assertEqual(line, f"{session} {reply}", f"the script's line for {request:.200}")

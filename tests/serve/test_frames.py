@@ -1,9 +1,9 @@
 """Frames: fragments, pings, closes, sizes and violations of RFC 6455."""
 
 import time
+import unittest
 
-from lib.running import cases
-from lib.serving import CheckFailed, Server, expect_equal
+from lib.serving import Server
 from lib.websocket_client import BINARY, CLOSE, CONTINUATION, PING, PONG, TEXT, Ended, closing, frame, header
 
 SHOW_MISSING = '["show",[9,9]]'
@@ -17,149 +17,141 @@ GROWTH = 8 * 1024
 # ---- allowed
 
 
-def test_fragments():
-    """Three fragments form one message, even if they split a character. The server answers a ping between them."""
-    with Server() as server:
-        client = server.client()
-        client.expect_reply(["join", "r"], '["joined",0,1]')
-        request = '["new",1,[],"text",[["t","é"]]]'.encode()
-        cut = request.index("é".encode()) + 1
-        client.transcript.add_request(request)
-        client.send(frame(TEXT, request[:cut], final=False))
-        client.send(frame(PING, b"between"))
-        client.send(frame(CONTINUATION, request[cut : cut + 1], final=False))
-        client.send(frame(CONTINUATION, request[cut + 1 :]))
-        expect_equal("the answer to the ping", client.read_frame(), (PONG, b"between"))
-        expect_equal("the reply", client.read_reply(), '["made",1,[1,1]]')
-        server.finish()
-
-
-def test_binary_fragments():
-    """Fragments of a binary message form one message, even if some are empty."""
-    with Server() as server:
-        client = server.client()
-        client.transcript.add_request(JOIN)
-        for place, part in enumerate((b"", JOIN[:1], b"", JOIN[1:])):
-            client.send(frame(CONTINUATION if place else BINARY, part, final=False))
-        client.send(frame(CONTINUATION))
-        expect_equal("the reply", client.read_reply(), '["joined",0,1]')
-        server.finish()
-
-
-def test_single_bytes():
-    """The server answers a frame that arrives byte by byte."""
-    with Server() as server:
-        client = server.client()
-        client.transcript.add_request(JOIN)
-        for byte in frame(TEXT, JOIN):
-            client.send(bytes([byte]))
-            time.sleep(0.005)
-        expect_equal("the reply", client.read_reply(), '["joined",0,1]')
-        server.finish()
-
-
-def test_pings():
-    """The server answers a ping with a pong of the same payload, and does not answer a pong."""
-    with Server() as server:
-        client = server.client()
-        for payload in (b"", b"x", bytes(range(125))):
-            client.send(frame(PING, payload))
-            expect_equal("the answer to a ping", client.read_frame(), (PONG, payload))
-        client.send(frame(PONG, b"unasked"))
-        client.expect_reply(["join", "r"], '["joined",0,1]')
-        server.finish()
-
-
-@cases([
-    ("1000", closing(1000)),
-    ("1001 with a reason", closing(1001, "bye, é")),
-    ("without a body", b""),
-])
-def test_close(payload):
-    """The server echoes a close and ends the connection, without a warning."""
-    with Server(2, 2) as server:
-        client = server.client()
-        client.expect_reply(["join", "r"], '["joined",0,1]')
-        server.client()
-        client.close(payload)
-        server.finish()
-
-
-def test_nothing_after_close():
-    """The server does not execute a request after a close."""
-    with Server() as server:
-        client = server.client()
-        client.send(frame(CLOSE, closing(1000)) + frame(TEXT, JOIN))
-        expect_equal("the answer to a close", client.read_frame(), (CLOSE, closing(1000)))
-        client.expect_end()
-        server.finish()
-
-
-def test_two_in_sequence():
-    """The worker of a closed session serves the next client."""
-    with Server(2, 1) as server:
-        for site in (1, 2):
+class TestAllowedFrames(unittest.TestCase):
+    def test_fragments(self):
+        """Three fragments form one message, even if they split a character. The server answers a ping between them."""
+        with Server() as server:
             client = server.client()
-            client.expect_reply(["join", "r"], f'["joined",{site - 1},{site}]')
-            client.close()
-        server.finish()
+            client.expect_reply(["join", "r"], '["joined",0,1]')
+            request = '["new",1,[],"text",[["t","é"]]]'.encode()
+            cut = request.index("é".encode()) + 1
+            client.transcript.add_request(request)
+            client.send(frame(TEXT, request[:cut], final=False))
+            client.send(frame(PING, b"between"))
+            client.send(frame(CONTINUATION, request[cut : cut + 1], final=False))
+            client.send(frame(CONTINUATION, request[cut + 1 :]))
+            self.assertEqual(client.read_frame(), (PONG, b"between"), "the answer to the ping")
+            self.assertEqual(client.read_reply(), '["made",1,[1,1]]', "the reply")
+            server.finish()
+
+    def test_binary_fragments(self):
+        """Fragments of a binary message form one message, even if some are empty."""
+        with Server() as server:
+            client = server.client()
+            client.transcript.add_request(JOIN)
+            for place, part in enumerate((b"", JOIN[:1], b"", JOIN[1:])):
+                client.send(frame(CONTINUATION if place else BINARY, part, final=False))
+            client.send(frame(CONTINUATION))
+            self.assertEqual(client.read_reply(), '["joined",0,1]', "the reply")
+            server.finish()
+
+    def test_single_bytes(self):
+        """The server answers a frame that arrives byte by byte."""
+        with Server() as server:
+            client = server.client()
+            client.transcript.add_request(JOIN)
+            for byte in frame(TEXT, JOIN):
+                client.send(bytes([byte]))
+                time.sleep(0.005)
+            self.assertEqual(client.read_reply(), '["joined",0,1]', "the reply")
+            server.finish()
+
+    def test_pings(self):
+        """The server answers a ping with a pong of the same payload, and does not answer a pong."""
+        with Server() as server:
+            client = server.client()
+            for payload in (b"", b"x", bytes(range(125))):
+                client.send(frame(PING, payload))
+                self.assertEqual(client.read_frame(), (PONG, payload), "the answer to a ping")
+            client.send(frame(PONG, b"unasked"))
+            client.expect_reply(["join", "r"], '["joined",0,1]')
+            server.finish()
+
+    def test_close(self):
+        """The server echoes a close and ends the connection, without a warning."""
+        for name, payload in [
+            ("1000", closing(1000)),
+            ("1001 with a reason", closing(1001, "bye, é")),
+            ("without a body", b""),
+        ]:
+            with self.subTest(name), Server(2, 2) as server:
+                client = server.client()
+                client.expect_reply(["join", "r"], '["joined",0,1]')
+                server.client()
+                client.close(payload)
+                server.finish()
+
+    def test_nothing_after_close(self):
+        """The server does not execute a request after a close."""
+        with Server() as server:
+            client = server.client()
+            client.send(frame(CLOSE, closing(1000)) + frame(TEXT, JOIN))
+            self.assertEqual(client.read_frame(), (CLOSE, closing(1000)), "the answer to a close")
+            client.expect_end()
+            server.finish()
+
+    def test_two_in_sequence(self):
+        """The worker of a closed session serves the next client."""
+        with Server(2, 1) as server:
+            for site in (1, 2):
+                client = server.client()
+                client.expect_reply(["join", "r"], f'["joined",{site - 1},{site}]')
+                client.close()
+            server.finish()
 
 
 # ---- sizes
 
 
-@cases([
-    ("16,384 bytes", 16_384, TEXT, NOT_JOINED),
-    ("16,385 bytes", 16_385, TEXT, BAD_MESSAGE),
-    ("100,000 bytes", 100_000, TEXT, BAD_MESSAGE),
-    ("100,000 bytes, binary", 100_000, BINARY, BAD_MESSAGE),
-    ("262,144 bytes", 262_144, TEXT, BAD_MESSAGE),
-])
-def test_message_of(size, opcode, reply):
-    """The reply to a message of this size, mostly white space."""
-    with Server() as server:
-        client = server.client()
-        client.expect_reply('["leave"]'.ljust(size), reply, opcode)
-        client.expect_reply(["join", "r"], '["joined",0,1]')
-        server.finish()
+class TestSizes(unittest.TestCase):
+    def test_message_of(self):
+        """The reply to a message of this size, mostly white space."""
+        for name, size, opcode, reply in [
+            ("16,384 bytes", 16_384, TEXT, NOT_JOINED),
+            ("16,385 bytes", 16_385, TEXT, BAD_MESSAGE),
+            ("100,000 bytes", 100_000, TEXT, BAD_MESSAGE),
+            ("100,000 bytes, binary", 100_000, BINARY, BAD_MESSAGE),
+            ("262,144 bytes", 262_144, TEXT, BAD_MESSAGE),
+        ]:
+            with self.subTest(name), Server() as server:
+                client = server.client()
+                client.expect_reply('["leave"]'.ljust(size), reply, opcode)
+                client.expect_reply(["join", "r"], '["joined",0,1]')
+                server.finish()
 
+    def test_long_message_in_fragments(self):
+        """A message of 100,000 bytes in ten fragments gets bad-message."""
+        with Server() as server:
+            client = server.client()
+            client.transcript.add_request(b"")
+            for place in range(10):
+                client.send(frame(CONTINUATION if place else TEXT, b" " * 10000, final=place == 9))
+            self.assertEqual(client.read_reply(), BAD_MESSAGE, "the reply")
+            client.expect_reply(["join", "r"], '["joined",0,1]')
+            server.finish()
 
-def test_long_message_in_fragments():
-    """A message of 100,000 bytes in ten fragments gets bad-message."""
-    with Server() as server:
-        client = server.client()
-        client.transcript.add_request(b"")
-        for place in range(10):
-            client.send(frame(CONTINUATION if place else TEXT, b" " * 10000, final=place == 9))
-        expect_equal("the reply", client.read_reply(), BAD_MESSAGE)
-        client.expect_reply(["join", "r"], '["joined",0,1]')
-        server.finish()
+    def test_binary_without_utf8(self):
+        """A binary message that is not UTF-8 gets bad-message."""
+        with Server() as server:
+            client = server.client()
+            client.expect_reply(b'["join","\xff"]', BAD_MESSAGE, BINARY)
+            client.expect_reply(["join", "r"], '["joined",0,1]')
+            server.finish()
 
-
-def test_binary_without_utf8():
-    """A binary message that is not UTF-8 gets bad-message."""
-    with Server() as server:
-        client = server.client()
-        client.expect_reply(b'["join","\xff"]', BAD_MESSAGE, BINARY)
-        client.expect_reply(["join", "r"], '["joined",0,1]')
-        server.finish()
-
-
-def test_long_header():
-    """A header that declares 100 MB ends the session. The server allocates no memory for it."""
-    with Server(2, 2) as server:
-        other = server.client()
-        other.expect_reply(["join", "r"], '["joined",0,1]')
-        client = server.client()
-        client.expect_reply('["leave"]'.ljust(200000), BAD_MESSAGE)
-        before = server.memory()
-        client.send(header(BINARY, 100_000_000) + bytes(4))
-        client.expect_end()
-        grown = max(after - past for past, after in zip(before, server.memory()))
-        if grown > GROWTH:
-            raise CheckFailed(f"the memory grew by {grown} KiB")
-        other.expect_reply(SHOW_MISSING, NO_OBJECT)
-        server.finish(warnings={2: "stream fault"})
+    def test_long_header(self):
+        """A header that declares 100 MB ends the session. The server allocates no memory for it."""
+        with Server(2, 2) as server:
+            other = server.client()
+            other.expect_reply(["join", "r"], '["joined",0,1]')
+            client = server.client()
+            client.expect_reply('["leave"]'.ljust(200000), BAD_MESSAGE)
+            before = server.memory()
+            client.send(header(BINARY, 100_000_000) + bytes(4))
+            client.expect_end()
+            grown = max(after - past for past, after in zip(before, server.memory()))
+            self.assertLessEqual(grown, GROWTH, f"the memory grew by {grown} KiB")
+            other.expect_reply(SHOW_MISSING, NO_OBJECT)
+            server.finish(warnings={2: "stream fault"})
 
 
 # ---- violations that end the session
@@ -197,19 +189,18 @@ FAULTS = [
 ]
 
 
-@cases(FAULTS)
-def test_ends_session(data):
-    """These bytes end the session, and the server does not execute the request after them. The only worker then serves
-    the next client."""
-    with Server(2, 1) as server:
-        client = server.client()
-        client.expect_reply(JOIN, '["joined",0,1]')
-        try:
-            client.send(data + frame(TEXT, b'["new",1,[],"rect",[]]'))
-        except Ended:
-            pass
-        client.expect_end()
-        server.client().expect_reply(JOIN, '["joined",1,2]')
-        server.finish(warnings={1: "stream fault"})
-
-
+class TestViolations(unittest.TestCase):
+    def test_ends_session(self):
+        """These bytes end the session, and the server does not execute the request after them. The only worker then
+        serves the next client."""
+        for name, data in FAULTS:
+            with self.subTest(name), Server(2, 1) as server:
+                client = server.client()
+                client.expect_reply(JOIN, '["joined",0,1]')
+                try:
+                    client.send(data + frame(TEXT, b'["new",1,[],"rect",[]]'))
+                except Ended:
+                    pass
+                client.expect_end()
+                server.client().expect_reply(JOIN, '["joined",1,2]')
+                server.finish(warnings={1: "stream fault"})

@@ -3,9 +3,9 @@
 import json
 import threading
 import time
+import unittest
 
-from lib.running import cases, time_limit
-from lib.serving import CheckFailed, Client, Server, expect_equal
+from lib.serving import Client, Server
 from lib.websocket_client import BINARY, SECONDS
 
 JOIN = '["join","r"]'
@@ -25,115 +25,9 @@ def two_in_room(server):
     return first, second
 
 
-def expect_held(client):
-    """Expects that the server sends the client nothing for a while."""
-    client.socket.settimeout(PATIENCE)
-    try:
-        client.fill()
-        raise CheckFailed(f"a wait was answered by {bytes(client.received)!r:.200}")
-    except TimeoutError:
-        client.socket.settimeout(SECONDS)
-
-
-@cases([("in one thread", 1), ("in two threads", 2)])
-def test_a_note_changes(workers):
-    """A held wait of a session that has asked for notes is answered when one changes, and at once if one has changed
-    since."""
-    with Server(2, workers) as server:
-        moving, waiting = two_in_room(server)
-        waiting.send_request('["wait",2]')
-        expect_held(waiting)
-        moving.expect_reply('["note","a"]', '["notes",2,[[1,"a"]]]')
-        expect_equal("the page", waiting.read_reply(), '["entries",2,2,[]]')
-        moving.expect_reply('["note","b"]', '["notes",2,[[1,"b"]]]')
-        waiting.expect_reply('["wait",2]', '["entries",2,2,[]]')
-        waiting.expect_reply('["notes"]', '["notes",2,[[1,"b"]]]')
-        waiting.send_request('["wait",2]')
-        moving.expect_reply('["note","b"]', '["notes",2,[[1,"b"]]]')
-        expect_held(waiting)
-        waiting.close()
-        server.finish()
-
-
-def test_who_has_not_asked():
-    """A session that has not asked for notes is not told of them, and its own note is no news for a session."""
-    with Server(2, 1) as server:
-        first, second = two_in_room(server)
-        first.send_request('["wait",2]')
-        second.expect_reply('["note","a"]', '["notes",2,[[2,"a"]]]')
-        second.send_request('["wait",2]')
-        expect_held(first)
-        expect_held(second)
-        second.close()
-        server.finish()
-
-
 def leave(client):
     """The session leaves the room."""
     client.expect_reply('["leave"]', '["left",2]')
-
-
-@cases([
-    ("that leaves", leave, {}),
-    ("that closes", Client.close, {}),
-    ("whose connection is cut", Client.hang_up, {1: "stream fault"}),
-])
-def test_a_session_goes(end, warnings):
-    """The note of a session that goes is removed, and others are told."""
-    with Server(3, 1) as server:
-        going, waiting = two_in_room(server)
-        going.expect_reply('["note","a"]', '["notes",2,[[1,"a"]]]')
-        waiting.expect_reply('["notes"]', '["notes",2,[[1,"a"]]]')
-        waiting.send_request('["wait",2]')
-        end(going)
-        expect_equal("the page", waiting.read_reply(), '["entries",2,2,[]]')
-        waiting.expect_reply('["notes"]', '["notes",2,[]]')
-        again = server.client()
-        again.expect_reply('["back","r",1]', '["back",2,1,0]')
-        again.expect_reply('["notes"]', '["notes",2,[]]')
-        server.finish(warnings)
-
-
-def test_hostile_notes():
-    """A note of controls comes back with its escapes. One of 257 bytes and one that is not UTF-8 are bad messages, and
-    change no note."""
-    with Server(1, 1) as server:
-        client = server.client()
-        client.expect_reply(JOIN, '["joined",0,1]')
-        controls = 256 * "\\u0001"
-        client.expect_reply(f'["note","{controls}"]', f'["notes",1,[[1,"{controls}"]]]')
-        client.expect_reply(f'["note","{257 * "a"}"]', '["no",0,1,"bad-message"]')
-        client.expect_reply(b'["note","\xff"]', '["no",0,1,"bad-message"]', BINARY)
-        client.expect_reply('["notes"]', f'["notes",1,[[1,"{controls}"]]]')
-        server.finish()
-
-
-@time_limit(60)
-def test_rings_are_joined():
-    """However fast a note changes, a session that waits is told of it at most 20 times a second, and of the last one."""
-    with Server(2, 2) as server:
-        moving, waiting = two_in_room(server)
-        told = []
-
-        def listen():
-            while not told or told[-1] != "last":
-                waiting.send_request('["wait",2]')
-                waiting.read_reply()
-                waiting.send_request('["notes"]')
-                told.append(json.loads(waiting.read_reply())[2][0][1])
-
-        listener = threading.Thread(target=listen)
-        listener.start()
-        end, count = time.monotonic() + CHANGING_SECONDS, 0
-        while time.monotonic() < end:
-            count += 1
-            moving.expect_reply(f'["note","{count}"]', f'["notes",2,[[1,"{count}"]]]')
-        moving.expect_reply('["note","last"]', '["notes",2,[[1,"last"]]]')
-        listener.join(SECONDS)
-        expect_equal("the last note told", told[-1], "last")
-        if not 2 < len(told) <= RINGS * CHANGING_SECONDS + 3:
-            raise CheckFailed(f"{len(told)} rings for {count} changes")
-        server.finish()
 
 
 def sit(client, site, faults):
@@ -156,21 +50,126 @@ def draw(client, site, faults):
         time.sleep(PAUSE)
 
 
-@time_limit(120)
-def test_a_crowd():
-    """64 sessions change their notes ten times a second while 8 draw. The record has only what these drew."""
-    with Server(SITTERS + DRAWERS, 4) as server:
-        clients, faults = [server.client() for _ in range(SITTERS + DRAWERS)], []
-        for site, client in enumerate(clients, start=1):
-            client.expect_reply(JOIN, f'["joined",{site - 1},{site}]')
-        threads = [
-            threading.Thread(target=sit if site <= SITTERS else draw, args=(client, site, faults))
-            for site, client in enumerate(clients, start=1)
-        ]
-        for thread in threads:
-            thread.start()
-        for thread in threads:
-            thread.join()
-        expect_equal("the faults", faults, [])
-        records = server.finish()
-        expect_equal("the entries", len(records["r"]), SITTERS + DRAWERS + DRAWERS * ROUNDS)
+class TestNotes(unittest.TestCase):
+    def expect_held(self, client):
+        """Expects that the server sends the client nothing for a while."""
+        client.socket.settimeout(PATIENCE)
+        with self.assertRaises(TimeoutError, msg="a wait was answered"):
+            client.fill()
+        client.socket.settimeout(SECONDS)
+
+    def test_a_note_changes(self):
+        """A held wait of a session that has asked for notes is answered when one changes, and at once if one has
+        changed since."""
+        for name, workers in [("in one thread", 1), ("in two threads", 2)]:
+            with self.subTest(name), Server(2, workers) as server:
+                moving, waiting = two_in_room(server)
+                waiting.send_request('["wait",2]')
+                self.expect_held(waiting)
+                moving.expect_reply('["note","a"]', '["notes",2,[[1,"a"]]]')
+                self.assertEqual(waiting.read_reply(), '["entries",2,2,[]]', "the page")
+                moving.expect_reply('["note","b"]', '["notes",2,[[1,"b"]]]')
+                waiting.expect_reply('["wait",2]', '["entries",2,2,[]]')
+                waiting.expect_reply('["notes"]', '["notes",2,[[1,"b"]]]')
+                waiting.send_request('["wait",2]')
+                moving.expect_reply('["note","b"]', '["notes",2,[[1,"b"]]]')
+                self.expect_held(waiting)
+                waiting.close()
+                server.finish()
+
+    def test_who_has_not_asked(self):
+        """A session that has not asked for notes is not told of them, and its own note is no news for a session."""
+        with Server(2, 1) as server:
+            first, second = two_in_room(server)
+            first.send_request('["wait",2]')
+            second.expect_reply('["note","a"]', '["notes",2,[[2,"a"]]]')
+            second.send_request('["wait",2]')
+            self.expect_held(first)
+            self.expect_held(second)
+            second.close()
+            server.finish()
+
+    def test_a_session_goes(self):
+        """The note of a session that goes is removed, and others are told."""
+        for name, end, warnings in [
+            ("that leaves", leave, {}),
+            ("that closes", Client.close, {}),
+            ("whose connection is cut", Client.hang_up, {1: "stream fault"}),
+        ]:
+            with self.subTest(name), Server(3, 1) as server:
+                going, waiting = two_in_room(server)
+                going.expect_reply('["note","a"]', '["notes",2,[[1,"a"]]]')
+                waiting.expect_reply('["notes"]', '["notes",2,[[1,"a"]]]')
+                waiting.send_request('["wait",2]')
+                end(going)
+                self.assertEqual(waiting.read_reply(), '["entries",2,2,[]]', "the page")
+                waiting.expect_reply('["notes"]', '["notes",2,[]]')
+                again = server.client()
+                again.expect_reply('["back","r",1]', '["back",2,1,0]')
+                again.expect_reply('["notes"]', '["notes",2,[]]')
+                server.finish(warnings)
+
+    def test_hostile_notes(self):
+        """A note of controls comes back with its escapes. One of 257 bytes and one that is not UTF-8 are bad messages,
+        and change no note."""
+        with Server(1, 1) as server:
+            client = server.client()
+            client.expect_reply(JOIN, '["joined",0,1]')
+            controls = 256 * "\\u0001"
+            client.expect_reply(f'["note","{controls}"]', f'["notes",1,[[1,"{controls}"]]]')
+            client.expect_reply(f'["note","{257 * "a"}"]', '["no",0,1,"bad-message"]')
+            client.expect_reply(b'["note","\xff"]', '["no",0,1,"bad-message"]', BINARY)
+            client.expect_reply('["notes"]', f'["notes",1,[[1,"{controls}"]]]')
+            server.finish()
+
+
+class TestRings(unittest.TestCase):
+    time_limit = 60
+
+    def test_rings_are_joined(self):
+        """However fast a note changes, a session that waits is told of it at most 20 times a second, and of the last
+        one."""
+        with Server(2, 2) as server:
+            moving, waiting = two_in_room(server)
+            told = []
+
+            def listen():
+                while not told or told[-1] != "last":
+                    waiting.send_request('["wait",2]')
+                    waiting.read_reply()
+                    waiting.send_request('["notes"]')
+                    told.append(json.loads(waiting.read_reply())[2][0][1])
+
+            listener = threading.Thread(target=listen)
+            listener.start()
+            end, count = time.monotonic() + CHANGING_SECONDS, 0
+            while time.monotonic() < end:
+                count += 1
+                moving.expect_reply(f'["note","{count}"]', f'["notes",2,[[1,"{count}"]]]')
+            moving.expect_reply('["note","last"]', '["notes",2,[[1,"last"]]]')
+            listener.join(SECONDS)
+            self.assertEqual(told[-1], "last", "the last note told")
+            self.assertIn(len(told), range(3, RINGS * CHANGING_SECONDS + 4), f"the rings for {count} changes")
+            server.finish()
+
+
+class TestCrowd(unittest.TestCase):
+    time_limit = 120
+
+    def test_a_crowd(self):
+        """64 sessions change their notes ten times a second while 8 draw. The record has only what these drew."""
+        with Server(SITTERS + DRAWERS, 4) as server:
+            clients, faults = [server.client() for _ in range(SITTERS + DRAWERS)], []
+            for site, client in enumerate(clients, start=1):
+                client.expect_reply(JOIN, f'["joined",{site - 1},{site}]')
+            threads = [
+                threading.Thread(target=sit if site <= SITTERS else draw, args=(client, site, faults))
+                for site, client in enumerate(clients, start=1)
+            ]
+            for thread in threads:
+                thread.start()
+            for thread in threads:
+                thread.join()
+            self.assertEqual(faults, [], "the faults")
+            records = server.finish()
+            self.assertEqual(len(records["r"]), SITTERS + DRAWERS + DRAWERS * ROUNDS, "the entries")

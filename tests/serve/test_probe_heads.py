@@ -1,8 +1,9 @@
 """The heads of probes, and heads that differ from them in one place."""
 
 import socket
+import unittest
 
-from lib.serving import CheckFailed, Server, expect_equal
+from lib.serving import Server
 from lib.websocket_client import SECONDS
 
 ANSWER = (
@@ -41,42 +42,38 @@ def answer_to(server, head):
         return received
 
 
-def expect_no_answer_yet(client):
-    """Expects that the client has received nothing."""
-    client.socket.setblocking(False)
-    try:
-        raise CheckFailed(f"unexpected answer {client.socket.recv(4096)!r}")
-    except BlockingIOError:
-        pass
+class TestProbeHeads(unittest.TestCase):
+    def expect_no_answer_yet(self, client):
+        """Expects that the client has received nothing."""
+        client.socket.setblocking(False)
+        with self.assertRaises(BlockingIOError):
+            client.socket.recv(4096)
 
+    def test_probes(self):
+        """A probe is answered, whatever its other fields are. It is no session: the only one comes after them."""
+        with Server(1, 1) as server:
+            for head in PROBES:
+                self.assertEqual(answer_to(server, head), ANSWER, f"the answer to {head!r}")
+            server.client().expect_reply('["join","r"]', '["joined",0,1]')
+            server.finish()
 
-def test_probes():
-    """A probe is answered, whatever its other fields are. It is no session: the only one comes after them."""
-    with Server(1, 1) as server:
-        for head in PROBES:
-            expect_equal(f"the answer to {head!r}", answer_to(server, head), ANSWER)
-        server.client().expect_reply('["join","r"]', '["joined",0,1]')
-        server.finish()
+    def test_other_heads(self):
+        """Other heads are sessions, which fail without an answer."""
+        with Server(len(OTHERS) + 1, 1) as server:
+            for head in OTHERS:
+                client = server.connect()
+                client.send(head)
+                client.expect_end()
+                self.assertEqual(bytes(client.received), b"", f"the answer to {head!r}")
+            server.client()
+            server.finish(dict.fromkeys(range(1, len(OTHERS) + 1), "handshake failed"))
 
-
-def test_other_heads():
-    """Other heads are sessions, which fail without an answer."""
-    with Server(len(OTHERS) + 1, 1) as server:
-        for head in OTHERS:
-            client = server.connect()
-            client.send(head)
-            client.expect_end()
-            expect_equal(f"the answer to {head!r}", bytes(client.received), b"")
-        server.client()
-        server.finish(dict.fromkeys(range(1, len(OTHERS) + 1), "handshake failed"))
-
-
-def test_heads_at_a_full_server():
-    """While all places are taken, the server answers each probe, and no head that is not complete."""
-    with Server(100, 1, clients=1) as server:
-        server.client().expect_reply('["join","r"]', '["joined",0,1]')
-        for place, head in enumerate(BEGUN):
-            client = server.connect()
-            client.send(head)
-            expect_equal("the answer to a probe", answer_to(server, PROBES[place % len(PROBES)]), ANSWER)
-            expect_no_answer_yet(client)
+    def test_heads_at_a_full_server(self):
+        """While all places are taken, the server answers each probe, and no head that is not complete."""
+        with Server(100, 1, clients=1) as server:
+            server.client().expect_reply('["join","r"]', '["joined",0,1]')
+            for place, head in enumerate(BEGUN):
+                client = server.connect()
+                client.send(head)
+                self.assertEqual(answer_to(server, PROBES[place % len(PROBES)]), ANSWER, "the answer to a probe")
+                self.expect_no_answer_yet(client)

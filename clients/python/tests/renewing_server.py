@@ -10,9 +10,8 @@ from grace import Drawing, Refused, operation_of
 from grace.forms import frozen, write_text
 from lib.frame_reader import FrameReader
 from lib.scripted_server import HEAD, read_key
-from lib.serving import CheckFailed
 from lib.websocket_client import CLOSE, TEXT, accepted, frame
-from transfers import renewal_of
+from test_transfers import renewal_of
 
 PAGE = 64
 
@@ -71,7 +70,7 @@ class Session:
     def serve(self):
         """Serves the client to its end."""
         # The connection may be cut before the client has sent its head.
-        with contextlib.suppress(OSError, CheckFailed):
+        with contextlib.suppress(OSError, AssertionError):
             self.client.sendall(HEAD.format(accepted(read_key(self.client))).encode())
         with contextlib.suppress(OSError):
             self.answer_all()

@@ -5,11 +5,13 @@ the program did not find it, the refusal would show."""
 import os
 import random
 import time
+import unittest
 
 from grace import Drawing, LIMITS, entry_of, operation_of
 from grace.forms import write_text
-from lib.serving import CheckFailed, expect_equal, run
-from shown_rows import shown
+from lib.checks import check
+from lib.serving import run
+from test_shown_rows import shown
 
 HISTORIES = int(os.environ.get("HISTORIES", 300))
 # The number of rooms in one process of the program.
@@ -98,7 +100,7 @@ class History:
             other.add(operation)
             rest.remove(operation)
         for name in self.whole.names():
-            expect_equal("the versions in another order", shown(other, name), shown(self.whole, name))
+            check.assertEqual(shown(other, name), shown(self.whole, name), "the versions in another order")
 
 
 def history_of(room, source, values=VALUES):
@@ -111,36 +113,35 @@ def history_of(room, source, values=VALUES):
     return history
 
 
-def compare(some):
-    """Runs histories in one process of the program, and compares all replies."""
-    lines = [line for history in some for line in history.lines]
-    text = "".join(f"{request}\n" for request, _ in lines)
-    status, output, errors = run("script", *(f"r{it.room}" for it in some), stdin=text.encode(), seconds=200)
-    expect_equal("the end", (status, errors), (0, ""))
-    replies = output.splitlines()
-    for (request, expected), reply in zip(lines, replies):
-        expect_equal(f"the reply to {request}", reply, expected)
-    expect_equal("how many replies", len(replies), len(lines))
+class TestHistories(unittest.TestCase):
+    def compare(self, some):
+        """Runs histories in one process of the program, and compares all replies."""
+        lines = [line for history in some for line in history.lines]
+        text = "".join(f"{request}\n" for request, _ in lines)
+        status, output, errors = run("script", *(f"r{it.room}" for it in some), stdin=text.encode(), seconds=200)
+        self.assertEqual((status, errors), (0, ""), "the end")
+        replies = output.splitlines()
+        for (request, expected), reply in zip(lines, replies):
+            self.assertEqual(reply, expected, f"the reply to {request}")
+        self.assertEqual(len(replies), len(lines), "how many replies")
 
-
-def histories():
-    """Runs random histories and prints their seed."""
-    seed = int(os.environ.get("SEED", time.time() % 1_000_000))
-    print(f"random histories: seed {seed} (SEED={seed} runs the same again)", flush=True)
-    source = random.Random(seed)
-    all_histories = [history_of(room, source) for room in range(HISTORIES)]
-    for start in range(0, HISTORIES, ROOMS):
-        compare(all_histories[start:start + ROOMS])
-    counts = [history.most_versions() for history in all_histories]
-    several = sum(count > 1 for count in counts)
-    gone = sum(
-        any(it.is_gone for name in one.whole.names() for it in one.whole.versions(name)) for one in all_histories
-    )
-    replies = sum(len(history.lines) for history in all_histories)
-    print(f"{HISTORIES} histories, {replies} replies, {several} with several versions, up to {max(counts)}, "
-          f"{gone} with one that is gone", flush=True)
-    if several < HISTORIES / 4 or gone < HISTORIES / 8:
-        raise CheckFailed("too few histories have several versions, or one that is gone")
-
-
-TESTS = [("random histories", histories)]
+    def test_random_histories(self):
+        """Runs random histories and prints their seed."""
+        seed = int(os.environ.get("SEED", time.time() % 1_000_000))
+        print(f"random histories: seed {seed} (SEED={seed} runs the same again)", flush=True)
+        source = random.Random(seed)
+        all_histories = [history_of(room, source) for room in range(HISTORIES)]
+        for start in range(0, HISTORIES, ROOMS):
+            self.compare(all_histories[start:start + ROOMS])
+        counts = [history.most_versions() for history in all_histories]
+        several = sum(count > 1 for count in counts)
+        gone = sum(
+            any(it.is_gone for name in one.whole.names() for it in one.whole.versions(name)) for one in all_histories
+        )
+        replies = sum(len(history.lines) for history in all_histories)
+        print(f"{HISTORIES} histories, {replies} replies, {several} with several versions, up to {max(counts)}, "
+              f"{gone} with one that is gone", flush=True)
+        self.assertFalse(
+            several < HISTORIES / 4 or gone < HISTORIES / 8,
+            "too few histories have several versions, or one that is gone",
+        )

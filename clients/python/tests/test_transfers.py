@@ -6,12 +6,13 @@ import pathlib
 import random
 import tempfile
 import time
+import unittest
 from collections import Counter
 
 from grace.forms import LIMITS, entry_of, frozen, write_text
 from grace.transfer import Transfer, draw_same, drawing_of, drawn_objects
-from histories import history_of
-from lib.serving import CheckFailed, expect_equal, run
+from test_histories import history_of
+from lib.serving import run
 
 HISTORIES = 200
 # The client is site 1 of the old room and site 9 of the successor.
@@ -84,64 +85,9 @@ def sent(transfer):
     return [entry_of(operation) for group in transfer.groups for operation in group.operations]
 
 
-def by_hand():
-    """The transfers of all rows."""
-    for name, *row in ROWS:
-        record, pending, start, operations, copies = map(frozen, row)
-        expect_equal(f"{name}: the same is drawn", draw_same(drawing_of(record), drawing_of(start)), True)
-        *_, transfer = transfer_of(record, pending, start)
-        expect_equal(name, (sent(transfer), transfer.copies), (list(operations), list(copies)))
-
-
 def row_of(words):
     """Returns the record, the pending operations and the successor's first entries of a row."""
     return map(frozen, next(row[1:4] for row in ROWS if row[0].startswith(words)))
-
-
-def too_many_keys():
-    """The most keys of an object are used up by others meanwhile. Then its version becomes an object of its own."""
-    keys = many_keys("k", LIMITS.keys)
-    record = [MADE]
-    for part in range(4):
-        seen = [[1, 1], [2, part]] if part else [[1, 1]]
-        record.append(put([2, part + 1], seen, [], keys[16 * part:16 * part + 16]))
-    every = sorted([["x", 0], *keys])
-    start = [["join", 1], ["new", [1, 1], [], "rect", every[:1]]]
-    for part in range(4):
-        start.append(put([1, part + 2], [[1, part + 1]], [], every[16 * part + 1:16 * part + 17]))
-    pending = [put([1, 2], [[1, 1]], [], [["one-more", 1]])]
-    *_, transfer = transfer_of(*map(frozen, (record, pending, start)))
-    expect_equal("the words", [word for word, *_ in sent(transfer)], ["new", *["put"] * 4])
-    expect_equal("the copy", transfer.copies, [((1, 1), (9, 1))])
-
-
-def long_texts():
-    """Long texts go into several requests, as each is one message."""
-    texts = [[key, "\x01" * LIMITS.text_bytes] for key, _ in many_keys("k", 16)]
-    pending = [put([1, part + 2], [[1, part + 1]], [], [["x", 5], *texts[4 * part:4 * part + 4]]) for part in range(4)]
-    record = [MADE, put([2, 1], [[1, 1]], [], [["x", 9]])]
-    start = [["join", 1], ["new", [1, 1], [], "rect", [["x", 9]]]]
-    *_, transfer = transfer_of(*map(frozen, (record, pending, start)))
-    sizes = [len(write_text(entry).encode()) for entry in sent(transfer)]
-    expect_equal("whether each is one message", max(sizes) <= LIMITS.message_bytes, True)
-    attributes = sorted(pair for entry in sent(transfer) for pair in entry[-1])
-    expect_equal("the attributes", attributes, sorted(frozen([["x", 5], *texts])))
-
-
-def correspondences():
-    """Where versions and names of the old room are in the successor."""
-    every, _, transfer = transfer_of(*row_of("a put on the second"))
-    # The put makes the second version the first one.
-    second, first = every.versions((1, 1))
-    where = lambda *found: [(it.object, it.version.id) for it in found]
-    expect_equal("one that stays", where(transfer.find((1, 1), first.id)), [((1, 1), ((1, 2),))])
-    expect_equal("one that goes on", where(transfer.find((1, 1), second.id)), [((1, 1), ((2, 1), (9, 1)))])
-    expect_equal("what contains one change", where(*transfer.continuations((1, 1), [(3, 1)])),
-                 [((1, 1), ((2, 1), (9, 1)))])
-    expect_equal("all versions", len(transfer.continuations((1, 1), [])), 2)
-    expect_equal("what was never there", (transfer.find((1, 1), ()), transfer.continuations((7, 7), [])), (None, []))
-    *_, transfer = transfer_of(*row_of("an object before it"))
-    expect_equal("the names", transfer.renamed, [((1, 3), (1, 1))])
 
 
 def run_on(word, entries, *rest):
@@ -183,41 +129,90 @@ def shown(drawing):
     )
 
 
-def at_random():
-    """Each version that the old room would show with the pending operations is shown by the successor, and no other.
-    The program refuses none of the operations."""
-    seed = int(os.environ.get("SEED", time.time() % 1_000_000))
-    print(f"transfers at random: seed {seed}", flush=True)
-    source = random.Random(seed)
-    counts = Counter()
-    for room in range(HISTORIES):
-        record, pending = split(history_of(room, source), source)
-        start = renewal_of(record)
-        # A record of few changes may have no renewal that is not longer.
-        if start is not None:
-            check_one(record, pending, start, counts)
-    print(dict(counts), flush=True)
-    if counts["rooms"] < HISTORIES / 2 or not all(counts[word] for word in ("new", "put", "drop")):
-        raise CheckFailed("too few rooms were renewed, or not every kind of operation was sent")
+class TestTransfers(unittest.TestCase):
+    def test_by_hand(self):
+        """The transfers of all rows."""
+        for name, *row in ROWS:
+            record, pending, start, operations, copies = map(frozen, row)
+            self.assertTrue(draw_same(drawing_of(record), drawing_of(start)), f"{name}: the same is drawn")
+            *_, transfer = transfer_of(record, pending, start)
+            self.assertEqual((sent(transfer), transfer.copies), (list(operations), list(copies)), name)
 
+    def test_too_many_keys(self):
+        """The most keys of an object are used up by others meanwhile. Then its version becomes an object of its own."""
+        keys = many_keys("k", LIMITS.keys)
+        record = [MADE]
+        for part in range(4):
+            seen = [[1, 1], [2, part]] if part else [[1, 1]]
+            record.append(put([2, part + 1], seen, [], keys[16 * part:16 * part + 16]))
+        every = sorted([["x", 0], *keys])
+        start = [["join", 1], ["new", [1, 1], [], "rect", every[:1]]]
+        for part in range(4):
+            start.append(put([1, part + 2], [[1, part + 1]], [], every[16 * part + 1:16 * part + 17]))
+        pending = [put([1, 2], [[1, 1]], [], [["one-more", 1]])]
+        *_, transfer = transfer_of(*map(frozen, (record, pending, start)))
+        self.assertEqual([word for word, *_ in sent(transfer)], ["new", *["put"] * 4], "the words")
+        self.assertEqual(transfer.copies, [((1, 1), (9, 1))], "the copy")
 
-def check_one(record, pending, start, counts):
-    """Checks the transfer of one client."""
-    expect_equal("whether the same is drawn", draw_same(drawing_of(record), drawing_of(start)), True)
-    site = sum(word == "join" for word, *_ in start) + 1
-    every, following, transfer = transfer_of(record, pending, start, site)
-    expect_equal("what is shown", shown(following), shown(every))
-    after = [*start, ("join", site), *sent(transfer)]
-    expect_equal("the verdict", run_on("check", after, "/dev/null"), (0, "holds\n"))
-    expect_equal("what the entries draw", shown(drawing_of(after)), shown(every))
-    counts.update(rooms=1, pending=len(pending), copies=len(transfer.copies))
-    counts.update(word for word, *_ in sent(transfer))
+    def test_long_texts(self):
+        """Long texts go into several requests, as each is one message."""
+        texts = [[key, "\x01" * LIMITS.text_bytes] for key, _ in many_keys("k", 16)]
+        pending = [
+            put([1, part + 2], [[1, part + 1]], [], [["x", 5], *texts[4 * part:4 * part + 4]]) for part in range(4)
+        ]
+        record = [MADE, put([2, 1], [[1, 1]], [], [["x", 9]])]
+        start = [["join", 1], ["new", [1, 1], [], "rect", [["x", 9]]]]
+        *_, transfer = transfer_of(*map(frozen, (record, pending, start)))
+        sizes = [len(write_text(entry).encode()) for entry in sent(transfer)]
+        self.assertLessEqual(max(sizes), LIMITS.message_bytes, "whether each is one message")
+        attributes = sorted(pair for entry in sent(transfer) for pair in entry[-1])
+        self.assertEqual(attributes, sorted(frozen([["x", 5], *texts])), "the attributes")
 
+    def test_what_corresponds(self):
+        """Where versions and names of the old room are in the successor."""
+        every, _, transfer = transfer_of(*row_of("a put on the second"))
+        # The put makes the second version the first one.
+        second, first = every.versions((1, 1))
+        where = lambda *found: [(it.object, it.version.id) for it in found]
+        self.assertEqual(where(transfer.find((1, 1), first.id)), [((1, 1), ((1, 2),))], "one that stays")
+        self.assertEqual(where(transfer.find((1, 1), second.id)), [((1, 1), ((2, 1), (9, 1)))], "one that goes on")
+        self.assertEqual(
+            where(*transfer.continuations((1, 1), [(3, 1)])), [((1, 1), ((2, 1), (9, 1)))], "what contains one change",
+        )
+        self.assertEqual(len(transfer.continuations((1, 1), [])), 2, "all versions")
+        self.assertEqual(
+            (transfer.find((1, 1), ()), transfer.continuations((7, 7), [])), (None, []), "what was never there",
+        )
+        *_, transfer = transfer_of(*row_of("an object before it"))
+        self.assertEqual(transfer.renamed, [((1, 3), (1, 1))], "the names")
 
-TESTS = [
-    ("transfers by hand", by_hand),
-    ("a transfer of too many keys", too_many_keys),
-    ("a transfer of long texts", long_texts),
-    ("what corresponds after a transfer", correspondences),
-    ("transfers at random", at_random),
-]
+    def test_at_random(self):
+        """Each version that the old room would show with the pending operations is shown by the successor, and no
+        other. The program refuses none of the operations."""
+        seed = int(os.environ.get("SEED", time.time() % 1_000_000))
+        print(f"transfers at random: seed {seed}", flush=True)
+        source = random.Random(seed)
+        counts = Counter()
+        for room in range(HISTORIES):
+            record, pending = split(history_of(room, source), source)
+            start = renewal_of(record)
+            # A record of few changes may have no renewal that is not longer.
+            if start is not None:
+                self.check_one(record, pending, start, counts)
+        print(dict(counts), flush=True)
+        self.assertFalse(
+            counts["rooms"] < HISTORIES / 2 or not all(counts[word] for word in ("new", "put", "drop")),
+            "too few rooms were renewed, or not every kind of operation was sent",
+        )
+
+    def check_one(self, record, pending, start, counts):
+        """Checks the transfer of one client."""
+        self.assertTrue(draw_same(drawing_of(record), drawing_of(start)), "whether the same is drawn")
+        site = sum(word == "join" for word, *_ in start) + 1
+        every, following, transfer = transfer_of(record, pending, start, site)
+        self.assertEqual(shown(following), shown(every), "what is shown")
+        after = [*start, ("join", site), *sent(transfer)]
+        self.assertEqual(run_on("check", after, "/dev/null"), (0, "holds\n"), "the verdict")
+        self.assertEqual(shown(drawing_of(after)), shown(every), "what the entries draw")
+        counts.update(rooms=1, pending=len(pending), copies=len(transfer.copies))
+        counts.update(word for word, *_ in sent(transfer))

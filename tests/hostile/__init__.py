@@ -1,0 +1,1 @@
+"""Thousands of hostile connections while others draw."""

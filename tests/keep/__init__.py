@@ -1,0 +1,1 @@
+"""`grace serve --keep`: folders, killed servers, full disks, failing files."""

@@ -1,0 +1,5 @@
+"""The assertions of `unittest` for what is no test itself: servers, clients and people who draw."""
+
+import unittest
+
+check = unittest.TestCase()

@@ -1,0 +1,1 @@
+"""README.md and docs/, `./believed`, and what checkers find in the scripts."""

@@ -1,0 +1,1 @@
+"""`grace script`, `check`, `migrate`, `renew`, `renewed` and the command line."""

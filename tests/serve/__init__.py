@@ -1,0 +1,1 @@
+"""`grace serve` over WebSocket, `grace watch` and the terminal client."""

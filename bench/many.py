@@ -21,7 +21,7 @@ import time
 from server import Server, program_of, row, titles, words_of
 
 from lib.serving import verdict
-from lib.websocket_client import TEXT, Connection, head, header, new_key
+from lib.websocket_client import TEXT, Connection, frame, head, new_key, take_frame
 
 IN_A_ROOM = 25
 HALF_HEADS = 1000
@@ -30,12 +30,8 @@ PAUSE = 20
 PROBES = 20
 # A client sends no put above this number of entries.
 FULL = 16_000
-
-
-def request_frame(text):
-    """Returns the frame of a request, with a mask of zeros."""
-    data = text.encode()
-    return header(TEXT, len(data), True, 0, True) + bytes(4) + data
+# The mask of each frame.
+ZEROS = bytes(4)
 
 
 class Client:
@@ -56,7 +52,7 @@ class Client:
     def ask(self, text):
         """Sends a request."""
         self.sent.append((text, time.monotonic()))
-        self.socket.sendall(request_frame(text))
+        self.socket.sendall(frame(TEXT, text.encode(), key=ZEROS))
 
     def put(self):
         """Puts a value to its object."""
@@ -66,19 +62,9 @@ class Client:
     def replies(self):
         """Yields the replies that have come, each with its request and the time that it took."""
         self.received += self.socket.recv(1 << 18) or sys.exit("bench: the server ended a connection")
-        while len(self.received) >= 2:
-            size, front = self.received[1], 2
-            if size >= 126:
-                front = 4 if size == 126 else 10
-                if len(self.received) < front:
-                    return
-                size = int.from_bytes(self.received[2:front], "big")
-            if len(self.received) < front + size:
-                return
-            reply = self.received[front:front + size].decode()
-            del self.received[:front + size]
+        while (found := take_frame(self.received)) is not None:
             request, start = self.sent.popleft()
-            yield request, reply, time.monotonic() - start
+            yield request, found.payload.decode(), time.monotonic() - start
 
     def take(self, request, reply):
         """Takes a reply. The client then waits for the next entry."""

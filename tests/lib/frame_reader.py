@@ -3,7 +3,7 @@ docs/PROTOCOL.md. It uses no code of a server."""
 
 import codecs
 
-from lib.websocket_client import BINARY, CLOSE, CONTINUATION, PING, PONG, TEXT, mask
+from lib.websocket_client import BINARY, CLOSE, CONTINUATION, PING, PONG, TEXT, Fault, take_frame
 
 # The most bytes of a message over all its fragments, and of the payload of a ping, a pong or a close.
 LONGEST_MESSAGE = 262_144
@@ -11,10 +11,6 @@ LONGEST_CONTROL = 125
 
 CLOSED = "closed"
 FAULT = "fault"
-
-
-class Forbidden(Exception):
-    """These bytes end the session."""
 
 
 def is_utf8(data):
@@ -43,33 +39,13 @@ class FrameReader:
         found = []
         try:
             while self.end is None:
-                frame = self.next_frame()
+                frame = take_frame(self.buffer, LONGEST_MESSAGE)
                 if frame is None:
                     break
                 found += self.handle_frame(*frame)
-        except Forbidden:
+        except Fault:
             self.end = FAULT
         return found
-
-    def next_frame(self):
-        """Returns the first two bytes and the payload of the next frame, or None if it is incomplete."""
-        if len(self.buffer) < 2:
-            return None
-        first, second = self.buffer[:2]
-        long_by = {126: 2, 127: 8}.get(second & 127, 0)
-        front = 2 + long_by + (4 if second & 128 else 0)
-        if len(self.buffer) < front:
-            return None
-        length = int.from_bytes(self.buffer[2 : 2 + long_by], "big") if long_by else second & 127
-        if length < {0: 0, 2: 126, 8: 65_536}[long_by] or length > LONGEST_MESSAGE:
-            raise Forbidden
-        if len(self.buffer) < front + length:
-            return None
-        payload = bytes(self.buffer[front : front + length])
-        if second & 128:
-            payload = mask(payload, bytes(self.buffer[front - 4 : front]))
-        del self.buffer[: front + length]
-        return first, second, payload
 
     def may_end(self):
         """Returns whether an incomplete frame or message is already invalid. A server may end the session at once, or
@@ -80,20 +56,20 @@ class FrameReader:
                 self.check_front(*front)
             if self.opcode == TEXT:
                 codecs.getincrementaldecoder("utf-8")().decode(bytes(self.parts))
-        except (Forbidden, UnicodeDecodeError):
+        except (Fault, UnicodeDecodeError):
             return True
         return False
 
     def check_front(self, first, second):
-        """Raises Forbidden unless these may be the first two bytes of the next frame."""
+        """Raises Fault unless these may be the first two bytes of the next frame."""
         opcode, is_final = first & 15, first & 128
         if first & 0x70 or not second & 128:
-            raise Forbidden
+            raise Fault("reserved bits, or no mask")
         if opcode in (CLOSE, PING, PONG):
             if not is_final or second & 127 > LONGEST_CONTROL:
-                raise Forbidden
+                raise Fault("a control frame that is fragmented or too long")
         elif opcode not in (CONTINUATION, TEXT, BINARY) or (opcode == CONTINUATION) != (self.opcode is not None):
-            raise Forbidden
+            raise Fault("an opcode out of place")
 
     def handle_frame(self, first, second, payload):
         """Returns what the frame completes: opcodes with payloads that need an answer."""
@@ -109,7 +85,7 @@ class FrameReader:
             return []
         if opcode == CLOSE:
             if len(payload) == 1 or not is_utf8(payload[2:]):
-                raise Forbidden
+                raise Fault("the payload of a close")
             self.end = CLOSED
         return [(opcode, payload)]
 
@@ -118,11 +94,11 @@ class FrameReader:
         self.opcode = self.opcode or opcode
         self.parts += payload
         if len(self.parts) > LONGEST_MESSAGE:
-            raise Forbidden
+            raise Fault("a message that is too long")
         if not is_final:
             return []
         opcode, message = self.opcode, bytes(self.parts)
         self.opcode, self.parts = None, bytearray()
         if opcode == TEXT and not is_utf8(message):
-            raise Forbidden
+            raise Fault("a text that is not UTF-8")
         return [(opcode, message)]

@@ -2,20 +2,18 @@
 
 import base64
 
+from lib import websocket_client
 from lib.frame_reader import LONGEST_MESSAGE
-from lib.websocket_client import BINARY, CLOSE, CONTINUATION, PING, PONG, TEXT, closing, header, mask
+from lib.websocket_client import BINARY, CLOSE, CONTINUATION, PING, PONG, TEXT, closing, header
 
 RESERVED_OPCODES = [3, 4, 5, 6, 7, 11, 12, 13, 14, 15]
 LEAVE = b'["leave"]'
 
 
-def frame(source, opcode, payload=b"", **options):
+def frame(source, opcode, payload=b"", masked=True, **options):
     """Returns a frame, with a random mask unless `masked` is false."""
-    front = header(opcode, len(payload), **options)
-    if not options.get("masked", True):
-        return front + payload
-    key = source.randbytes(4)
-    return front + key + mask(payload, key)
+    key = source.randbytes(4) if masked else None
+    return websocket_client.frame(opcode, payload, masked, key, **options)
 
 
 def key(source):

@@ -3,12 +3,16 @@ nothing that the RFC forbids. A wait longer than SECONDS raises TimeoutError. Th
 allows for stalls of a loaded machine."""
 
 import base64
+import collections
 import hashlib
 import os
 import socket
 import struct
 
 CONTINUATION, TEXT, BINARY, CLOSE, PING, PONG = 0, 1, 2, 8, 9, 10
+# How many bytes of the length follow the second byte of a frame, and the least length that needs so many.
+LENGTH_BYTES = {126: 2, 127: 8}
+LEAST_LENGTHS = {0: 0, 2: 126, 8: 65_536}
 SECONDS = 30
 SUFFIX = b"258EAFA5-E914-47DA-95CA-C5AB0DC85B11"
 
@@ -21,7 +25,7 @@ class Ended(Exception):
 
 
 class Fault(Exception):
-    """The server violated the protocol."""
+    """The other side violated the protocol."""
 
 
 # ---- bytes to send
@@ -62,18 +66,46 @@ def mask(payload, key):
     return changed.to_bytes(len(payload), "big")
 
 
-def frame(opcode, payload=b"", final=True, reserved=0, masked=True):
-    """Returns a frame, with a random mask unless `masked` is false."""
-    front = header(opcode, len(payload), final, reserved, masked)
+def frame(opcode, payload=b"", masked=True, key=None, **options):
+    """Returns a frame, with this mask or a random one unless `masked` is false. The options are those of its header."""
+    front = header(opcode, len(payload), masked=masked, **options)
     if not masked:
         return front + payload
-    key = os.urandom(4)
+    key = key or os.urandom(4)
     return front + key + mask(payload, key)
 
 
 def closing(code, reason=""):
     """Returns the payload of a close."""
     return struct.pack("!H", code) + reason.encode()
+
+
+# ---- received bytes
+
+
+Frame = collections.namedtuple("Frame", "first second payload")
+
+
+def take_frame(received, longest=None):
+    """Takes the next frame off the received bytes, and its mask off the payload. Returns None if it is not complete.
+    Raises Fault once its length is known, if that is above the longest or not in its shortest form."""
+    if len(received) < 2:
+        return None
+    first, second = received[:2]
+    long_by = LENGTH_BYTES.get(second & 127, 0)
+    front = 2 + long_by + (4 if second & 128 else 0)
+    if len(received) < front:
+        return None
+    length = int.from_bytes(received[2 : 2 + long_by], "big") if long_by else second & 127
+    if length < LEAST_LENGTHS[long_by] or longest is not None and length > longest:
+        raise Fault(f"a frame declares {length} bytes in {long_by} bytes of length")
+    if len(received) < front + length:
+        return None
+    payload = bytes(received[front : front + length])
+    if second & 128:
+        payload = mask(payload, bytes(received[front - 4 : front]))
+    del received[: front + length]
+    return Frame(first, second, payload)
 
 
 # ---- a connection
@@ -140,18 +172,17 @@ class Connection:
 
     def read_frame(self):
         """Reads the next frame. Returns its opcode and payload."""
-        first, second = self.take(2)
-        opcode, length = first & 15, second & 127
+        while len(self.received) < 2:
+            self.fill()
+        first, second = self.received[:2]
+        opcode = first & 15
         if not first & 128 or first & 112 or second & 128 or opcode not in (TEXT, CLOSE, PING, PONG):
             raise Fault(f"a frame begins with {first:02x} {second:02x}")
-        if length > 125:
-            if opcode != TEXT:
-                raise Fault(f"a control frame begins with {first:02x} {second:02x}")
-            short = length == 126
-            (length,) = struct.unpack("!H" if short else "!Q", self.take(2 if short else 8))
-            if length < (126 if short else 65536):
-                raise Fault(f"a length of {length} is not in its shortest form")
-        return opcode, self.take(length)
+        if opcode != TEXT and second & 127 > 125:
+            raise Fault(f"a control frame begins with {first:02x} {second:02x}")
+        while (found := take_frame(self.received)) is None:
+            self.fill()
+        return opcode, found.payload
 
     def hang_up(self):
         """Disconnects without a close."""

@@ -9,6 +9,8 @@ import re
 import threading
 from collections import deque
 
+from lib.websocket_client import TEXT, frame, take_frame
+
 PASS = "pass"
 # The relay cuts the connection; the message does not reach the server.
 CUT_BEFORE = "cut before"
@@ -26,24 +28,15 @@ HOLD_SECONDS = 25
 ADDED = re.compile(rb'\["(?:joined|made|taken)",(\d+)')
 
 
-def as_pull(data):
-    """Returns the frame of a short wait as that of a pull, which has the same size."""
-    changed = bytearray(data)
-    for place, letter in enumerate(b"pull", 2):
-        changed[6 + place] = letter ^ data[2 + place % 4]
-    return bytes(changed)
-
-
-async def frame_from(reader):
-    """Reads the next frame of a client. Returns its bytes and its text."""
-    front = await reader.readexactly(2)
-    length = front[1] & 127
-    if length > 125:
-        front += await reader.readexactly(2 if length == 126 else 8)
-        length = int.from_bytes(front[2:], "big")
-    key, payload = await reader.readexactly(4), await reader.readexactly(length)
-    text = bytes(byte ^ key[place % 4] for place, byte in enumerate(payload))
-    return front + key + payload, text.decode(errors="replace")
+async def frames_from(reader):
+    """Yields the opcode and the payload of each frame of a client. The library sends no fragments. Raises
+    IncompleteReadError at the end of the connection."""
+    received = bytearray()
+    while data := await reader.read(65536):
+        received += data
+        while (found := take_frame(received)) is not None:
+            yield found.first & 15, found.payload
+    raise asyncio.IncompleteReadError(bytes(received), None)
 
 
 class Relay:
@@ -125,8 +118,8 @@ class Relay:
 
     async def hand_on(self, reader, server, cut):
         """Forwards the frames of a client, up to a cut."""
-        while not cut.is_set():
-            data, text = await frame_from(reader)
+        async for opcode, payload in frames_from(reader):
+            text = payload.decode(errors="replace")
             self.texts.append(text)
             what = self.what_to_do(text)
             self.cuts += what != PASS
@@ -134,7 +127,9 @@ class Relay:
                 raise ConnectionAbortedError
             if what == CUT_AFTER:
                 cut.set()
-            self.pass_on(data, text, server)
+            self.pass_on(frame(opcode, payload), text, server)
+            if cut.is_set():
+                return
 
     def pass_on(self, data, text, server):
         """Passes a message on, as `waits` says."""
@@ -142,7 +137,7 @@ class Relay:
         if self.waits == LEFT or not text.startswith('["wait"'):
             self.send(server, data)
         elif self.waits == AT_ONCE:
-            self.send(server, as_pull(data))
+            self.send(server, frame(TEXT, text.replace("wait", "pull", 1).encode()))
         elif json.loads(text)[1] < self.length:
             self.send(server, data)
         else:

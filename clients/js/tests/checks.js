@@ -1,35 +1,33 @@
-/** Helpers of the tests. */
+/** Helpers of the tests. Those of the library use `node:assert`; `expect` and `expectEqual` are thin names of it. */
 
-import { isDeepStrictEqual, inspect } from "node:util"
+import assert, { AssertionError } from "node:assert/strict"
+import { spawnSync } from "node:child_process"
+import { inspect, isDeepStrictEqual } from "node:util"
+
+/** The time limit of a test. */
+export const LIMIT = { timeout: 180_000 }
+
+/** Returns the option that skips a test unless this command is installed. */
+export function needs(command) {
+  const { error } = spawnSync(command, ["--version"], { stdio: "ignore" })
+  return error?.code === "ENOENT" ? { skip: `there is no ${command}` } : {}
+}
 
 /** A check of a test failed. */
-export class CheckFailed extends Error {}
-
-/** The test cannot run here. The message says why. */
-export class Skipped extends Error {}
+export class CheckFailed extends AssertionError {
+  constructor(message) {
+    super({ message })
+  }
+}
 
 /** Fails the test unless both values are equal. */
 export function expectEqual(what, actual, expected) {
   if (isDeepStrictEqual(actual, expected)) return
-  throw new CheckFailed(`${what}: ${inspect(actual, { depth: 9 })}, not ${inspect(expected, { depth: 9 })}`)
+  assert.fail(`${what}: ${inspect(actual, { depth: 9 })}, not ${inspect(expected, { depth: 9 })}`)
 }
 
 /** Fails the test unless the condition holds. */
-export function expect(what, isTrue) {
-  if (!isTrue) throw new CheckFailed(what)
-}
-
-/** Expects that the call fails with an error of this name, and with this word if it is a refusal. Returns the error. */
-export function expectError(what, call, name, word) {
-  try {
-    call()
-  } catch (fault) {
-    expectEqual(`${what}: the error`, fault.name, name)
-    if (word !== undefined) expectEqual(`${what}: its word`, fault.word, word)
-    return fault
-  }
-  throw new CheckFailed(`${what}: it did not fail`)
-}
+export const expect = (what, isTrue) => assert.ok(isTrue, what)
 
 /** Returns a version in the form of a reply. */
 export const shownVersion = ({ id, isGone, attributes }) => [id, isGone ? "gone" : [...attributes]]
@@ -40,7 +38,7 @@ export async function waitUntil(what, isTrue) {
     if (isTrue()) return
     await new Promise((resolve) => setTimeout(resolve, 5))
   }
-  throw new CheckFailed(`not in a minute: ${what}`)
+  assert.fail(`not in a minute: ${what}`)
 }
 
 /** Returns a random source of whole numbers from 0 to below a bound. The same seed gives the same numbers. */

@@ -1,16 +1,9 @@
-/**
- * Random histories of up to five sites. After each step the library's versions of each object must be those of the
- * program. Each site knows a part of the history, and names a version that the library computes from that part alone.
- * If the program did not find it, the refusal would show.
- */
+/** Random histories of up to five sites, of which each knows a part of the history. */
 
+import assert from "node:assert/strict"
 import { Drawing, LIMITS, entryOf, operationOf, writeText } from "../grace.js"
-import { expect, expectEqual, numbersFrom, shownVersion } from "./checks.js"
-import { script } from "./program.js"
+import { shownVersion } from "./checks.js"
 
-const HISTORIES = Number(process.env.HISTORIES ?? 2000)
-// The number of rooms in one process of the program.
-const ROOMS = 50
 const KEYS = ["x", "y", "fill"]
 const VALUES = [1, 2, "1"]
 
@@ -107,7 +100,7 @@ class History {
       rest.splice(rest.indexOf(operation), 1)
     }
     for (const object of this.whole.names()) {
-      expectEqual(`room ${this.room}, in another order`, shown(other, object), shown(this.whole, object))
+      assert.deepEqual(shown(other, object), shown(this.whole, object), `room ${this.room}, in another order`)
     }
   }
 }
@@ -127,57 +120,3 @@ export function historyOf(room, draw) {
   history.checkOtherOrder()
   return history
 }
-
-/** Runs histories in one process of the program, and compares all replies. */
-async function compare(histories) {
-  const lines = histories.flatMap((history) => history.lines)
-  const expected = histories.flatMap((history) => history.replies)
-  const replies = await script(histories.map(({ room }) => `r${room}`), lines)
-  expected.forEach((reply, place) => expectEqual(`the reply to ${lines[place]}`, replies[place], reply))
-  expectEqual("the replies", replies.length, expected.length)
-}
-
-async function histories() {
-  const seed = Number(process.env.SEED ?? Date.now() % 1000000)
-  console.log(`random histories: seed ${seed} (SEED=${seed} runs the same again)`)
-  const draw = numbersFrom(seed)
-  const all = Array.from({ length: HISTORIES }, (_, room) => historyOf(room, draw))
-  for (let room = 0; room < HISTORIES; room += ROOMS) await compare(all.slice(room, room + ROOMS))
-  const counts = all.map(({ whole }) => Math.max(0, ...whole.names().map((object) => whole.versions(object).length)))
-  const several = counts.filter((count) => count > 1).length
-  const isGone = ({ isGone }) => isGone
-  const gone = all.filter(({ whole }) => whole.names().some((object) => whole.versions(object).some(isGone))).length
-  expect("too few histories have several versions", several > HISTORIES / 4)
-  expect("too few histories have a version that is gone", gone > HISTORIES / 8)
-  const total = (numberOf) => all.reduce((sum, history) => sum + numberOf(history).length, 0)
-  const sums = `${total(({ operations }) => operations)} operations, ${total(({ lines }) => lines)} replies`
-  const most = Math.max(...counts)
-  return `${HISTORIES} histories, ${sums}, ${several} with several versions, up to ${most}, ${gone} with one that is gone`
-}
-
-/** An object with the most changes, and the processor time of one more. */
-function largeObjects() {
-  const notes = []
-  for (const sites of [1, 4]) {
-    const drawing = new Drawing()
-    drawing.add(operationOf(["new", [1, 1], [], "rect", []]))
-    const start = process.cpuUsage()
-    for (let change = 0; change < LIMITS.changes; change++) {
-      const site = 1 + (change % sites)
-      const number = drawing.count(site) + 1
-      const seen = site === 1 ? [[1, number - 1]] : [[1, 1], ...(number > 1 ? [[site, number - 1]] : [])]
-      drawing.add(operationOf(["put", [site, number], seen, [1, 1], [], [["x", change]]]))
-      expectEqual("the versions", drawing.versions([1, 1]).length, Math.min(change + 1, sites))
-    }
-    const { user, system } = process.cpuUsage(start)
-    const mean = (user + system) / 1000 / LIMITS.changes
-    expect(`${mean} ms a put with ${sites} versions`, mean < 5)
-    notes.push(`${mean.toFixed(2)} ms a put with ${sites} version${sites > 1 ? "s" : ""}`)
-  }
-  return `${LIMITS.changes} puts: ${notes.join(", ")}`
-}
-
-export const TESTS = [
-  ["random histories", histories],
-  ["objects of many changes", largeObjects],
-]

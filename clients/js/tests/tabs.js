@@ -3,10 +3,10 @@
  * again. It needs `chromium`, and is no part of `./test`.
  */
 
+import assert from "node:assert/strict"
 import { createServer } from "node:http"
 import { readFile } from "node:fs/promises"
 import { Chromium } from "../../../examples/whiteboard/tests/chromium.mjs"
-import { expectEqual } from "./checks.js"
 import { Server, build } from "./program.js"
 
 const FOLDER = new URL("../", import.meta.url)
@@ -41,22 +41,22 @@ try {
   }
   const siteOf = (tab) => tab.look("room.site")
   const [first, second] = [await open(), await open()]
-  expectEqual("two open tabs", [await siteOf(first), await siteOf(second)], [1, 2])
+  assert.deepEqual([await siteOf(first), await siteOf(second)], [1, 2], "two open tabs")
   await second.look('room.create("rect", { x: 1 }).done')
   await first.close()
   await second.ask("Page.reload")
   const isReloaded = 'performance.getEntriesByType("navigation")[0].type === "reload"'
   await second.waitUntil("the reload", `${isReloaded} && window.room?.state === "open"`)
-  expectEqual("a reloaded tab, while the first seat is free", await siteOf(second), 2)
+  assert.equal(await siteOf(second), 2, "a reloaded tab, while the first seat is free")
   const third = await open()
-  expectEqual("the next tab", [await siteOf(third), await third.look("room.objects()")], [1, [[2, 1]]])
+  assert.deepEqual([await siteOf(third), await third.look("room.objects()")], [1, [[2, 1]]], "the next tab")
   await second.close()
   await third.close()
   const [fourth, fifth] = [await open(), await open()]
-  expectEqual("two later tabs", [await siteOf(fourth), await siteOf(fifth)].sort(), [1, 2])
+  assert.deepEqual([await siteOf(fourth), await siteOf(fifth)].sort(), [1, 2], "two later tabs")
   const joins = await fifth.look('room.record.filter(([word]) => word === "join").length')
-  expectEqual("the joins of all tabs", joins, 2)
-  expectEqual("faults of the pages", browser.pages.flatMap(({ faults }) => faults), [])
+  assert.equal(joins, 2, "the joins of all tabs")
+  assert.deepEqual(browser.pages.flatMap(({ faults }) => faults), [], "faults of the pages")
   console.log("passed: a site that lasts in a browser")
 } finally {
   await browser.end()

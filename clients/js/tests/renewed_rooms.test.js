@@ -1,10 +1,12 @@
 /** Clients of rooms that the program renews, at a start or when it opens them on demand. They go on in the next one. */
 
+import assert from "node:assert/strict"
+import test from "node:test"
 import { mkdtempSync, rmSync, writeFileSync } from "node:fs"
 import { tmpdir } from "node:os"
 import { join } from "node:path"
 import { writeText } from "../grace.js"
-import { expectEqual, waitUntil } from "./checks.js"
+import { LIMIT, waitUntil } from "./checks.js"
 import { Server, freePort } from "./program.js"
 import { CUT_AFTER, CUT_BEFORE, PASS, Proxy } from "./proxy.js"
 import { agree, enter, versionsOf } from "./rooms.js"
@@ -30,7 +32,7 @@ function recordOf(joins) {
  * Runs a test with a server of a room with this many joins, a proxy before it, and a function that opens a client. The
  * server keeps its port and its folder: `end` and `listen` start it again.
  */
-const withRoom = (joins, { rooms, options }, test) => async () => {
+const withRoom = (joins, { rooms, options }, run) => async () => {
   const folder = mkdtempSync(join(tmpdir(), "rooms-"))
   writeFileSync(join(folder, "r.record"), recordOf(joins))
   const server = Object.assign(new Server(), { rooms, options: ["--keep", folder, ...options], port: await freePort() })
@@ -46,7 +48,7 @@ const withRoom = (joins, { rooms, options }, test) => async () => {
   }
   try {
     await server.listen(0)
-    return await test(client, proxy, server)
+    await run(client, proxy, server)
   } finally {
     clients.forEach((room) => room.close())
     proxy.end()
@@ -90,18 +92,20 @@ const startedAgain = (what) => async (client, proxy, server) => {
   proxy.whatToDo = () => PASS
   await Promise.all(changes.map(({ done }) => done))
   await agree(room, other)
-  expectEqual("where they are", [room, other].map(({ name, site }) => [name, site]), [["r.2", 3], ["r.2", 2]])
-  expectEqual("what is shown", shown(room), [
+  assert.deepEqual([room, other].map(({ name, site }) => [name, site]), [["r.2", 3], ["r.2", 2]], "where they are")
+  assert.deepEqual(shown(room), [
     ["rect", [[[], [["x", 9]]]]], ["line", [[[], [["fill", "red"], ["x", 0], ["y", 7]]]]],
     ["rect", [[[], [["x", 5]]]]], ["rect", [[[], [["x", 7]]]]],
-  ])
+  ], "what is shown")
   const late = await client(server)
   await agree(room, other, late)
-  expectEqual("where a late client is", [late.name, late.site], ["r.2", 4])
+  assert.deepEqual([late.name, late.site], ["r.2", 4], "where a late client is")
   for (const it of [other, late]) {
-    expectEqual("what another shows", [it.record, shown(it)], [room.record, shown(room)])
+    assert.deepEqual([it.record, shown(it)], [room.record, shown(room)], "what another shows")
   }
-  expectEqual("the news", [room, other, late].map(({ news }) => news), [[goesOn([[[1, 1], [3, 1]]])], [goesOn()], []])
+  assert.deepEqual(
+    [room, other, late].map(({ news }) => news), [[goesOn([[[1, 1], [3, 1]]])], [goesOn()], []], "the news",
+  )
 }
 
 /** A room is renewed while two clients draw. Both go on, and nothing is lost or refused. */
@@ -116,8 +120,8 @@ async function inUse(client, proxy, server) {
   }
   await agree(...clients)
   const both = [["rect", [[[], [["x", number]]]]], ["line", [[[], [["x", number]]]]]]
-  expectEqual("what both show", clients.map(shown), [both, both])
-  expectEqual("the news", clients.map(({ news }) => news), [[goesOn()], [goesOn()]])
+  assert.deepEqual(clients.map(shown), [both, both], "what both show")
+  assert.deepEqual(clients.map(({ news }) => news), [[goesOn()], [goesOn()]], "the news")
 }
 
 /** A client that comes after the renewal is sent on to the next room. It comes back to that, also after a start. */
@@ -137,15 +141,15 @@ async function late(client, proxy, server) {
   await server.listen(0)
   await room.put(made.object, [], { y: 9 }).done
   await agree(room)
-  expectEqual("how it entered", [...new Set(asked)], ['["join","r"]', '["join","r.2"]', '["back","r.2",2]'])
-  expectEqual("what it shows", shown(room), [
+  assert.deepEqual([...new Set(asked)], ['["join","r"]', '["join","r.2"]', '["back","r.2",2]'], "how it entered")
+  assert.deepEqual(shown(room), [
     ["rect", [[[], [["x", 0]]]]], ["line", [[[], [["x", 0]]]]], ["rect", [[[], [["x", 8], ["y", 9]]]]],
-  ])
-  expectEqual("the news", room.news, [])
+  ], "what it shows")
+  assert.deepEqual(room.news, [], "the news")
 }
 
 /** A page that is reloaded after the renewal reads the end of its room, and takes along what it had not sent. */
-async function reloaded(client, proxy, server) {
+test("renewed at a start, and reloaded", LIMIT, withRoom(JOINS - 2, AT_A_START, async (client, proxy, server) => {
   const storage = new Storage()
   const first = await client(proxy, { storage })
   // With its join the room is nearly full. The server looks again after eight entries, or at a start.
@@ -161,18 +165,13 @@ async function reloaded(client, proxy, server) {
   proxy.whatToDo = () => PASS
   const second = await client(proxy, { storage })
   await agree(second)
-  expectEqual("where it is", [second.name, second.site, second.news], ["r.2", 2, [goesOn()]])
-  expectEqual("what it shows", shown(second), [["rect", [[[], [["x", 5]]]]], ["line", [[[], [["x", 0]]]]]])
-}
+  assert.deepEqual([second.name, second.site, second.news], ["r.2", 2, [goesOn()]], "where it is")
+  assert.deepEqual(shown(second), [["rect", [[[], [["x", 5]]]]], ["line", [[[], [["x", 0]]]]]], "what it shows")
+}))
 
-export const TESTS = [
-  ["renewed at a start, with a change that it lacks", withRoom(JOINS - 2, AT_A_START, startedAgain(CUT_BEFORE))],
-  ["renewed at a start, with a change that it has", withRoom(JOINS - 2, AT_A_START, startedAgain(CUT_AFTER))],
-  ["renewed on demand, with a change that it lacks", withRoom(JOINS - 2, ON_DEMAND, startedAgain(CUT_BEFORE))],
-  ["renewed on demand, with a change that it has", withRoom(JOINS - 2, ON_DEMAND, startedAgain(CUT_AFTER))],
-  ["renewed while they draw", withRoom(JOINS - 2, AT_A_START, inUse)],
-  ["renewed on demand, while they draw", withRoom(JOINS - 2, ON_DEMAND, inUse)],
-  ["renewed at a start, before it came", withRoom(JOINS, AT_A_START, late)],
-  ["renewed on demand, when it comes", withRoom(JOINS, ON_DEMAND, late)],
-  ["renewed at a start, and reloaded", withRoom(JOINS - 2, AT_A_START, reloaded)],
-]
+for (const [how, place] of [["at a start", AT_A_START], ["on demand", ON_DEMAND]]) {
+  test(`renewed ${how}, with a change that it lacks`, LIMIT, withRoom(JOINS - 2, place, startedAgain(CUT_BEFORE)))
+  test(`renewed ${how}, with a change that it has`, LIMIT, withRoom(JOINS - 2, place, startedAgain(CUT_AFTER)))
+  test(`renewed ${how}, while they draw`, LIMIT, withRoom(JOINS - 2, place, inUse))
+  test(`renewed ${how}, before it came`, LIMIT, withRoom(JOINS, place, late))
+}

@@ -1,31 +1,11 @@
 /** Lost connections: no change is lost, and none is made twice. */
 
-import { expect, expectEqual, numbersFrom, waitUntil } from "./checks.js"
-import { Server, verdictOf } from "./program.js"
-import { CUT_AFTER, CUT_BEFORE, CUT_LATE, PASS, Proxy } from "./proxy.js"
-import { agree, enter, versionsOf } from "./rooms.js"
-
-/** Runs a test with a server, a proxy before it, a client through the proxy and one that connects directly. */
-export function withProxy(test) {
-  return async () => {
-    const server = await Server.start()
-    const proxy = await Proxy.start(server.port)
-    const rooms = []
-    try {
-      for (const address of [proxy.address, server.address]) {
-        rooms.push(await enter(address))
-      }
-      return await test(proxy, ...rooms, server)
-    } finally {
-      rooms.forEach((room) => room.close())
-      proxy.end()
-      await server.end()
-    }
-  }
-}
-
-export const operations = ({ record }) => record.filter(([word]) => word !== "join")
-export const sitesOf = ({ record }) => record.filter(([word]) => word === "join").map(([, site]) => site)
+import assert from "node:assert/strict"
+import test from "node:test"
+import { LIMIT, numbersFrom, waitUntil } from "./checks.js"
+import { verdictOf } from "./program.js"
+import { CUT_AFTER, CUT_BEFORE, CUT_LATE, PASS } from "./proxy.js"
+import { agree, enter, operations, sitesOf, versionsOf, withProxy } from "./rooms.js"
 
 /** The proxy cuts each request in turn, before or after it reached the server. The client keeps its site. */
 const cutOnce = (what) => async (proxy, room, other) => {
@@ -33,8 +13,8 @@ const cutOnce = (what) => async (proxy, room, other) => {
   const made = room.create("rect", { x: 0 })
   await made.done
   await waitUntil("the connection is back", () => room.state === "open")
-  expectEqual("the site", room.site, 1)
-  expectEqual("the object's name", made.name, [1, 1])
+  assert.equal(room.site, 1, "the site")
+  assert.deepEqual(made.name, [1, 1], "the object's name")
   proxy.cutOnce('["put"', what)
   const put = room.put(made.name, [], { x: 5, y: 7 })
   const behind = room.set(made.name, put.version, "fill", "red")
@@ -44,7 +24,7 @@ const cutOnce = (what) => async (proxy, room, other) => {
   proxy.cutOnce('["drop"', what)
   const drop = room.drop(line.name, [])
   await drop.done
-  expectEqual("the dropped one", room.versions(line.name).map(({ isGone }) => isGone), [true])
+  assert.deepEqual(room.versions(line.name).map(({ isGone }) => isGone), [true], "the dropped one")
   proxy.cutOnce('["wait"', what)
   await room.set(made.name, [], "y", 8).done
   await waitUntil("a wait was cut", () => proxy.cuts === 4)
@@ -54,37 +34,36 @@ const cutOnce = (what) => async (proxy, room, other) => {
   await waitUntil("the connection is back", () => room.state === "open")
   room.set(made.name, [], "x", 6)
   await agree(room, other)
-  expectEqual("the changes", operations(other).map(([word, , , ...rest]) => [word, rest.at(-1)]), [
+  assert.deepEqual(operations(other).map(([word, , , ...rest]) => [word, rest.at(-1)]), [
     ["new", [["x", 0]]], ["put", [["x", 5], ["y", 7]]], ["put", [["fill", "red"]]], ["new", []], ["drop", []],
     ["put", [["y", 8]]], ["put", [["x", 6]]],
-  ])
+  ], "the changes")
   const one = [[[], [["fill", "red"], ["x", 6], ["y", 8]]]]
-  expectEqual("what both show", [versionsOf(room, made.name), versionsOf(other, made.name)], [one, one])
-  expectEqual("the refusals", room.refused, [])
-  expectEqual("the sites", sitesOf(other), [1, 2])
-  return `the record: ${other.record.length} entries, 5 cuts`
+  assert.deepEqual([versionsOf(room, made.name), versionsOf(other, made.name)], [one, one], "what both show")
+  assert.deepEqual(room.refused, [], "the refusals")
+  assert.deepEqual(sitesOf(other), [1, 2], "the sites")
 }
 
 /** A join whose reply is lost uses up a site; a join that did not reach the server does not. */
 const joinCut = (what) => async (proxy) => {
   proxy.cutOnce('["join"', what)
   const late = await enter(proxy.address)
-  expectEqual("the site", late.site, what === CUT_AFTER ? 4 : 3)
+  assert.deepEqual(late.site, what === CUT_AFTER ? 4 : 3, "the site")
   late.close()
 }
 
 /** A change is still on its way when its connection is lost. The client waits until the old session has ended. */
-async function onItsWay(proxy, room, other) {
+test("a change on its way at the cut", LIMIT, withProxy(async (proxy, room, other) => {
   proxy.cutOnce('["new"', CUT_LATE)
   const made = room.create("rect")
   await made.done
   await agree(room, other)
-  expectEqual("the object", [made.name, operations(other).length], [[1, 1], 1])
-  expectEqual("the site", [room.site, sitesOf(other)], [1, [1, 2]])
-}
+  assert.deepEqual([made.name, operations(other).length], [[1, 1], 1], "the object")
+  assert.deepEqual([room.site, sitesOf(other)], [1, [1, 2]], "the site")
+}))
 
 /** Changes made without a connection are sent once there is one. They conflict with concurrent changes of others. */
-async function drawnApart(proxy, room, other) {
+test("changes without a connection", LIMIT, withProxy(async (proxy, room, other) => {
   const made = room.create("rect", { x: 0 })
   await agree(room, other)
   proxy.whatToDo = () => CUT_BEFORE
@@ -94,22 +73,22 @@ async function drawnApart(proxy, room, other) {
   const second = room.create("line")
   room.set(second.name, [], "y", 1)
   await other.set(made.name, [], "x", 9).done
-  expectEqual("what is shown meanwhile", versionsOf(room, made.name), [[[], [["x", 5]]]])
+  assert.deepEqual(versionsOf(room, made.name), [[[], [["x", 5]]]], "what is shown meanwhile")
   const [looked] = room.versions(made.name)
   const renamed = new Map()
   room.on("change", (news) => news.renamed.forEach(([old, name]) => renamed.set(`${old}`, `${name}`)))
   proxy.whatToDo = () => PASS
   await agree(room, other)
-  expectEqual("the names", [[...renamed], put.name, second.name], [[], [1, 2], [1, 3]])
+  assert.deepEqual([[...renamed], put.name, second.name], [[], [1, 2], [1, 3]], "the names")
   const two = [[[[1, 2]], [["x", 5]]], [[[2, 1]], [["x", 9]]]]
-  expectEqual("what both show", [versionsOf(room, made.name), versionsOf(other, made.name)], [two, two])
-  expectEqual("what became of the version", room.successors(made.name, looked).map(({ id }) => id), [[put.name]])
-  expectEqual("the objects", [room.objects(), other.objects()], Array(2).fill([[1, 1], [1, 3]]))
-  expectEqual("the second", versionsOf(other, second.name), [[[], [["y", 1]]]])
-}
+  assert.deepEqual([versionsOf(room, made.name), versionsOf(other, made.name)], [two, two], "what both show")
+  assert.deepEqual(room.successors(made.name, looked).map(({ id }) => id), [[put.name]], "what became of the version")
+  assert.deepEqual([room.objects(), other.objects()], Array(2).fill([[1, 1], [1, 3]]), "the objects")
+  assert.deepEqual(versionsOf(other, second.name), [[[], [["y", 1]]]], "the second")
+}))
 
 /** Two clients draw while the connection of one is cut at random messages. */
-async function byChance(proxy, room, other, server) {
+test("cuts by chance", LIMIT, withProxy(async (proxy, room, other, server, t) => {
   const seed = Number(process.env.SEED ?? Date.now() % 1000000)
   const draw = numbersFrom(seed)
   console.log(`cuts by chance: seed ${seed}`)
@@ -140,22 +119,22 @@ async function byChance(proxy, room, other, server) {
   const [, ...changes] = operations(other)
   const dropped = changes.filter(([word]) => word === "drop")
   const values = changes.filter(([word]) => word !== "drop").map((entry) => entry.at(-1)[0][1])
-  expectEqual("the values, each once", [...values].sort((one, next) => one - next), expected)
-  expectEqual("the drops", dropped.length, drops)
-  expectEqual("the sites", sitesOf(other), [1, 2])
+  assert.deepEqual([...values].sort((one, next) => one - next), expected, "the values, each once")
+  assert.deepEqual(dropped.length, drops, "the drops")
+  assert.deepEqual(sitesOf(other), [1, 2], "the sites")
   const late = await enter(server.address)
   for (const object of other.objects()) {
     const versions = versionsOf(other, object)
-    expectEqual(`object ${object}`, [versionsOf(room, object), versionsOf(late, object)], [versions, versions])
+    assert.deepEqual([versionsOf(room, object), versionsOf(late, object)], [versions, versions], `object ${object}`)
   }
   late.close()
-  expectEqual("the refusals", [room.refused, other.refused], [[], []])
-  expect("the connection was cut", proxy.cuts > 5)
-  return `${expected.length} values, ${drops} drops, ${proxy.cuts} cuts, ${other.record.length} entries`
-}
+  assert.deepEqual([room.refused, other.refused], [[], []], "the refusals")
+  assert.ok(proxy.cuts > 5, "the connection was cut")
+  t.diagnostic(`${expected.length} values, ${drops} drops, ${proxy.cuts} cuts, ${other.record.length} entries`)
+}))
 
 /** A restarted server has a new room. The client drops the state of the old one and reports it with its text. */
-async function anotherRoom(proxy, room, other, server) {
+test("a restarted server", LIMIT, withProxy(async (proxy, room, other, server) => {
   const resets = []
   const loaded = []
   room.on("reset", (news) => resets.push(news))
@@ -170,24 +149,24 @@ async function anotherRoom(proxy, room, other, server) {
   await waitUntil("the refusal", () => room.refused.length > 0)
   await waitUntil("the connection is back", () => room.state === "open")
   const word = await lost.done.catch((refusal) => refusal.word)
-  expectEqual("the refusal", [room.refused, word], [["another-room"], "another-room"])
+  assert.deepEqual([room.refused, word], [["another-room"], "another-room"], "the refusal")
   const lines = [
     '["join",1]', '["join",2]', '["new",[1,1],[],"rect",[]]', '["put",[1,2],[[1,1]],[1,1],[],[["x",1]]]', "",
   ]
-  expectEqual("the texts of the resets", resets.map(({ text }) => text), [lines.join("\n")])
-  expectEqual("how the new one is loaded", loaded, [
+  assert.deepEqual(resets.map(({ text }) => text), [lines.join("\n")], "the texts of the resets")
+  assert.deepEqual(loaded, [
     { have: 0, of: 1, isLoaded: false }, { have: 1, of: 1, isLoaded: true },
-  ])
-  expectEqual("the verdict on it", verdictOf(resets[0].text), "holds")
-  expect("the words of the news", resets[0].words.startsWith("The room was started again"))
-  expectEqual("what is left", [room.objects(), room.record, room.has(made.name)], [[], [["join", 1]], false])
+  ], "how the new one is loaded")
+  assert.equal(verdictOf(resets[0].text), "holds", "the verdict on it")
+  assert.ok(resets[0].words.startsWith("The room was started again"), "the words of the news")
+  assert.deepEqual([room.objects(), room.record, room.has(made.name)], [[], [["join", 1]], false], "what is left")
   const anew = room.create("line")
   await anew.done
-  expectEqual("a new object", [room.objects(), room.record.length], [[[1, 1]], 2])
-}
+  assert.deepEqual([room.objects(), room.record.length], [[[1, 1]], 2], "a new object")
+}))
 
 /** The old site may be another client's in the new room. */
-async function anothersSite(proxy, room, other, server) {
+test("a restarted server, with another client's site", LIMIT, withProxy(async (proxy, room, other, server) => {
   const resets = []
   room.on("reset", ({ text }) => resets.push(text))
   await room.create("rect").done
@@ -202,22 +181,15 @@ async function anothersSite(proxy, room, other, server) {
   proxy.whatToDo = () => PASS
   await waitUntil("the news", () => resets.length > 0)
   await waitUntil("the connection is back", () => room.state === "open")
-  expectEqual("the texts of the resets", resets, ['["join",1]\n["join",2]\n["new",[1,1],[],"rect",[]]\n'])
-  expectEqual("the site", room.site, 2)
+  assert.deepEqual(resets, ['["join",1]\n["join",2]\n["new",[1,1],[],"rect",[]]\n'], "the texts of the resets")
+  assert.equal(room.site, 2, "the site")
   const kinds = room.objects().map((name) => [name, room.kind(name)])
-  expectEqual("the objects", kinds, [1, 2, 3].map((seq) => [[1, seq], "line"]))
+  assert.deepEqual(kinds, [1, 2, 3].map((seq) => [[1, seq], "line"]), "the objects")
   await room.create("rect").done
-  expectEqual("the record", room.record.at(-1), ["new", [2, 1], [[1, 3]], "rect", []])
-}
+  assert.deepEqual(room.record.at(-1), ["new", [2, 1], [[1, 3]], "rect", []], "the record")
+}))
 
-export const TESTS = [
-  ["cut before the server had it", withProxy(cutOnce(CUT_BEFORE))],
-  ["cut after the server had it", withProxy(cutOnce(CUT_AFTER))],
-  ["a join that was cut before the server had it", withProxy(joinCut(CUT_BEFORE))],
-  ["a join that was cut after the server had it", withProxy(joinCut(CUT_AFTER))],
-  ["a change on its way at the cut", withProxy(onItsWay)],
-  ["changes without a connection", withProxy(drawnApart)],
-  ["cuts by chance", withProxy(byChance)],
-  ["a restarted server", withProxy(anotherRoom)],
-  ["a restarted server, with another client's site", withProxy(anothersSite)],
-]
+test("cut before the server had it", LIMIT, withProxy(cutOnce(CUT_BEFORE)))
+test("cut after the server had it", LIMIT, withProxy(cutOnce(CUT_AFTER)))
+test("a join that was cut before the server had it", LIMIT, withProxy(joinCut(CUT_BEFORE)))
+test("a join that was cut after the server had it", LIMIT, withProxy(joinCut(CUT_AFTER)))

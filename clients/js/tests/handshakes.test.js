@@ -1,7 +1,9 @@
 /** Handshakes: the path that a client asks for, and what it makes of each answer, told or not. */
 
+import assert from "node:assert/strict"
+import test from "node:test"
 import { Room } from "../grace.js"
-import { expect, expectEqual, waitUntil } from "./checks.js"
+import { LIMIT, waitUntil } from "./checks.js"
 import { Server } from "./program.js"
 import { Proxy } from "./proxy.js"
 import { agree, enter } from "./rooms.js"
@@ -28,7 +30,7 @@ const connectLikeBrowser = (address) => Object.assign(new WebSocket(address), { 
 const sleep = (milliseconds) => new Promise((resolve) => setTimeout(resolve, milliseconds))
 
 /** Runs a test with a server, a proxy before it and a function that opens a client through the proxy. */
-const behindProxy = (test) => async () => {
+const behindProxy = (run) => async () => {
   const server = await Server.start()
   const proxy = await Proxy.start(server.port)
   const rooms = []
@@ -40,7 +42,7 @@ const behindProxy = (test) => async () => {
     return room
   }
   try {
-    return await test(proxy, open, server)
+    await run(proxy, open, server)
   } finally {
     rooms.forEach((room) => room.close())
     proxy.end()
@@ -54,14 +56,14 @@ const isOpen = (room) => waitUntil("the client is in the room", () => room.state
 const denied = (status) => async (proxy, open) => {
   proxy.answers.push(ANSWERS[status])
   const room = open()
-  expectEqual("the error at first", room.fault, null)
+  assert.equal(room.fault, null, "the error at first")
   await waitUntil("the end", () => room.state === "closed")
   await sleep(SEVERAL_ATTEMPTS)
   const { fault } = room
   const reason = ANSWERS[status][0].slice("HTTP/1.1 401 ".length)
-  expectEqual("the error", [fault.name, fault.status, fault.reason], ["Denied", status, reason])
-  expectEqual("the words", [room.words, fault.message, room.waits], [WORDS[status], WORDS[status], []])
-  expectEqual("the attempts", proxy.heads.length, 1)
+  assert.deepEqual([fault.name, fault.status, fault.reason], ["Denied", status, reason], "the error")
+  assert.deepEqual([room.words, fault.message, room.waits], [WORDS[status], WORDS[status], []], "the words")
+  assert.equal(proxy.heads.length, 1, "the attempts")
 }
 
 /** So does one to an attempt to come back. The storage keeps the site and the changes for the next client. */
@@ -79,13 +81,13 @@ const deniedLater = (status) => async (proxy, open) => {
   await waitUntil("the connection is lost", () => room.state !== "open")
   const word = room.create("rect").done.catch((refusal) => refusal.word)
   await waitUntil("the end", () => room.state === "closed")
-  expectEqual("the error", [room.fault.status, room.words, await word], [status, WORDS[status], "closed"])
+  assert.deepEqual([room.fault.status, room.words, await word], [status, WORDS[status], "closed"], "the error")
   await sleep(SEVERAL_ATTEMPTS)
-  expectEqual("the attempts", proxy.heads.length, 2)
+  assert.equal(proxy.heads.length, 2, "the attempts")
   const next = open({ storage })
   await isOpen(next)
   await next.settled()
-  expectEqual("what the next one is", [next.site, next.objects()], [1, [[1, 1]]])
+  assert.deepEqual([next.site, next.objects()], [1, [[1, 1]]], "what the next one is")
 }
 
 /** While the server is not there, the client waits. Then it comes back as its site with its changes. */
@@ -98,9 +100,9 @@ const comesBackAfter = (line, words) => async (proxy, open, server) => {
   await waitUntil("the connection is lost", () => room.state !== "open")
   await room.create("rect").done
   await agree(room, other)
-  expectEqual("the site and the object", [room.site, other.objects()], [1, [[1, 1]]])
-  expectEqual("the attempts", proxy.heads.length, 5)
-  expectEqual("the words", room.waits.slice(1), Array(3).fill(`${words} Trying again.`))
+  assert.deepEqual([room.site, other.objects()], [1, [[1, 1]]], "the site and the object")
+  assert.equal(proxy.heads.length, 5, "the attempts")
+  assert.deepEqual(room.waits.slice(1), Array(3).fill(`${words} Trying again.`), "the words")
   other.close()
 }
 
@@ -110,22 +112,22 @@ const retryAfter = (value, longest, least, most) => async (proxy, open) => {
   await isOpen(open({ retryMilliseconds: [10, longest] }))
   const [first, second] = proxy.heads
   const passed = second.at - first.at
-  expect(`the second attempt came after ${passed} ms`, passed >= least - EARLY && passed < most)
+  assert.ok(passed >= least - EARLY && passed < most, `the second attempt came after ${passed} ms`)
 }
 
 /** After any other answer the client tries again, and says what it was. */
-async function otherAnswers(proxy, open) {
+test("other answers to a handshake", LIMIT, behindProxy(async (proxy, open) => {
   proxy.answers.push(["HTTP/1.1 500 Internal Server Error"], ["HTTP/1.1 200"])
   const room = open()
   await isOpen(room)
   const front = "The server did not accept the WebSocket handshake"
-  expectEqual("the words", room.waits, [
+  assert.deepEqual(room.waits, [
     `${front}: 500 Internal Server Error. Trying again.`, `${front}: 200. Trying again.`,
-  ])
-}
+  ], "the words")
+}))
 
 /** A browser tells no answer: the client tries again after growing pauses, and comes back once it is let in. */
-async function untold(proxy, open) {
+test("answers that a browser does not tell", LIMIT, behindProxy(async (proxy, open) => {
   const waits = [20, 100, 200, 400]
   const room = open({ connect: connectLikeBrowser, retryMilliseconds: waits })
   await isOpen(room)
@@ -136,15 +138,15 @@ async function untold(proxy, open) {
   await waitUntil("the connection is lost", () => room.state !== "open")
   await isOpen(room)
   const times = proxy.heads.slice(1).map(({ at }) => at)
-  expectEqual("the attempts", times.length, 5)
+  assert.equal(times.length, 5, "the attempts")
   // The lost connection has used up the first pause.
   for (const [place, wait] of [100, 200, 400, 400].entries()) {
     const passed = times[place + 1] - times[place]
-    expect(`attempt ${place + 2} came after ${passed} ms`, passed >= wait - EARLY)
+    assert.ok(passed >= wait - EARLY, `attempt ${place + 2} came after ${passed} ms`)
   }
-  expectEqual("the words", room.waits.slice(1), Array(4).fill("The connection failed. Trying again."))
-  expectEqual("the site and the objects", [room.site, room.objects()], [1, [made.name]])
-}
+  assert.deepEqual(room.waits.slice(1), Array(4).fill("The connection failed. Trying again."), "the words")
+  assert.deepEqual([room.site, room.objects()], [1, [made.name]], "the site and the objects")
+}))
 
 /** Sockets that answer each request by the next reply of theirs and end when there is none left. */
 function scripted(requests, ...connections) {
@@ -161,7 +163,7 @@ function scripted(requests, ...connections) {
 }
 
 /** While the server cannot serve the room, a client that comes back asks again as its site. */
-async function notServedBack() {
+test("not served when it comes back", LIMIT, async () => {
   const requests = []
   const joined = ['["joined",0,1]', '["entries",1,0,[["join",1]]]']
   const back = [
@@ -177,19 +179,19 @@ async function notServedBack() {
   room.on("reset", (news) => resets.push(news))
   try {
     await waitUntil("the client is back", () => requests.length > 3 && room.state === "open")
-    expectEqual("the requests", requests.slice(2, 7), [
+    assert.deepEqual(requests.slice(2, 7), [
       '["wait",1]', ...Array(3).fill('["back","r",1]'), '["pull",0]',
-    ])
-    expectEqual("what it is", [room.site, resets], [1, []])
+    ], "the requests")
+    assert.deepEqual([room.site, resets], [1, []], "what it is")
     const wanted = "The server cannot open this room now: it may have no place for one more. Trying again."
-    expect("it says so", words.includes(wanted))
+    assert.ok(words.includes(wanted), "it says so")
   } finally {
     room.close()
   }
-}
+})
 
 /** With the option the path ends with the room's name. Without it the path is that of the address. */
-async function roomInPath() {
+test("the room in the path", LIMIT, async () => {
   const addresses = []
   const options = (isInPath) => ({
     roomInPath: isInPath,
@@ -209,30 +211,26 @@ async function roomInPath() {
     await sleep(0)
     room.close()
   }
-  expectEqual("the addresses", addresses, rows.map(([, , expected]) => expected))
-}
+  assert.deepEqual(addresses, rows.map(([, , expected]) => expected), "the addresses")
+})
 
 /** The server lets a client in by this path. */
-async function byPath(proxy, open) {
+test("by the room's path", LIMIT, behindProxy(async (proxy, open) => {
   await isOpen(open({ roomInPath: true }))
-  expect("the path", proxy.heads[0].head.startsWith("GET /r HTTP/1.1\r\n"))
-}
+  assert.ok(proxy.heads[0].head.startsWith("GET /r HTTP/1.1\r\n"), "the path")
+}))
 
 const UNREACHED = "The proxy does not reach the server."
 
-export const TESTS = [
-  ...[401, 403, 404].map((status) => [`denied by ${status}`, behindProxy(denied(status))]),
-  ...[401, 403, 404].map((status) => [`denied by ${status} when it comes back`, behindProxy(deniedLater(status))]),
-  ["back after 502", behindProxy(comesBackAfter("HTTP/1.1 502 Bad Gateway", UNREACHED))],
-  ["back after 503", behindProxy(comesBackAfter("HTTP/1.1 503 Service Unavailable",
-    "All places of the server are taken."))],
-  ["back after 504", behindProxy(comesBackAfter("HTTP/1.1 504 Gateway Timeout", UNREACHED))],
-  ["a pause that the server asks for", behindProxy(retryAfter(1, 5000, 1000, 4000))],
-  ["a longer pause than the client's own", behindProxy(retryAfter(86400, 500, 500, 4000))],
-  ["a pause until a date", behindProxy(retryAfter("Fri, 31 Dec 2027 23:59:59 GMT", 5000, 0, 4000))],
-  ["other answers to a handshake", behindProxy(otherAnswers)],
-  ["answers that a browser does not tell", behindProxy(untold)],
-  ["not served when it comes back", notServedBack],
-  ["the room in the path", roomInPath],
-  ["by the room's path", behindProxy(byPath)],
-]
+for (const status of [401, 403, 404]) {
+  test(`denied by ${status}`, LIMIT, behindProxy(denied(status)))
+  test(`denied by ${status} when it comes back`, LIMIT, behindProxy(deniedLater(status)))
+}
+test("back after 502", LIMIT, behindProxy(comesBackAfter("HTTP/1.1 502 Bad Gateway", UNREACHED)))
+test("back after 503", LIMIT, behindProxy(comesBackAfter(
+  "HTTP/1.1 503 Service Unavailable", "All places of the server are taken.",
+)))
+test("back after 504", LIMIT, behindProxy(comesBackAfter("HTTP/1.1 504 Gateway Timeout", UNREACHED)))
+test("a pause that the server asks for", LIMIT, behindProxy(retryAfter(1, 5000, 1000, 4000)))
+test("a longer pause than the client's own", LIMIT, behindProxy(retryAfter(86400, 500, 500, 4000)))
+test("a pause until a date", LIMIT, behindProxy(retryAfter("Fri, 31 Dec 2027 23:59:59 GMT", 5000, 0, 4000)))

@@ -1,9 +1,11 @@
 /** The state of a room's connection: waiting changes, a silent server, the progress of loading, and waits for news. */
 
+import assert from "node:assert/strict"
+import test from "node:test"
 import { readFileSync, readdirSync } from "node:fs"
 import { createServer } from "node:net"
 import { Room } from "../grace.js"
-import { expect, expectEqual, waitUntil } from "./checks.js"
+import { LIMIT, waitUntil } from "./checks.js"
 import { AT_ONCE, HELD, PASS, Proxy } from "./proxy.js"
 import { agree, enter, withServer } from "./rooms.js"
 import { WebSocket } from "./websocket.js"
@@ -30,7 +32,7 @@ async function stop(program) {
 }
 
 /** When a server stops, changes wait. The room reports that after a second, then each second, and at its end. */
-async function saving(client, server) {
+test("changes that wait", LIMIT, withServer(async (client, server) => {
   const room = await client()
   const made = room.create("rect")
   await made.done
@@ -39,19 +41,23 @@ async function saving(client, server) {
   try {
     const start = performance.now()
     room.set(made.name, [], "x", 1)
-    expectEqual("the state at once", [room.state, news], ["open", []])
+    assert.deepEqual([room.state, news], ["open", []], "the state at once")
     await waitUntil("news after four seconds", () => news.at(-1)?.milliseconds >= 4000)
     room.set(made.name, [], "x", 2)
-    expectEqual("the state", [room.state, room.pending.map(({ object }) => object)], ["saving", [made.name, made.name]])
+    assert.deepEqual(
+      [room.state, room.pending.map(({ object }) => object)], ["saving", [made.name, made.name]], "the state",
+    )
     let before = 0
     for (const { state, words, milliseconds, at } of news) {
-      expectEqual("its state", state, "saving")
-      expect(`after ${before} ms came ${milliseconds} ms`, milliseconds >= 1000 && milliseconds - before < 1000 + LATE)
-      expect(`news of ${milliseconds} ms came after ${at - start} ms`, at - start - milliseconds < LATE)
+      assert.equal(state, "saving", "its state")
+      assert.ok(
+        milliseconds >= 1000 && milliseconds - before < 1000 + LATE, `after ${before} ms came ${milliseconds} ms`,
+      )
+      assert.ok(at - start - milliseconds < LATE, `news of ${milliseconds} ms came after ${at - start} ms`)
       // The room counts the server's silence from its request, which may be a little earlier or later.
       const isSilent = milliseconds > 3000
       if (Math.abs(milliseconds - 3000) > LATE) {
-        expectEqual(`after ${milliseconds} ms`, words.includes("places"), isSilent)
+        assert.deepEqual(words.includes("places"), isSilent, `after ${milliseconds} ms`)
       }
       before = milliseconds
     }
@@ -60,19 +66,19 @@ async function saving(client, server) {
   }
   await room.settled()
   const { state, words, milliseconds } = news.at(-1)
-  expectEqual("the last news", [state, words, milliseconds], ["open", "Connected as site 1.", 0])
-  expectEqual("the state at the end", [room.state, room.pending], ["open", []])
-}
+  assert.deepEqual([state, words, milliseconds], ["open", "Connected as site 1.", 0], "the last news")
+  assert.deepEqual([room.state, room.pending], ["open", []], "the state at the end")
+}))
 
 /** The room reports nothing about a change that is answered in time. */
-async function savedInTime(client) {
+test("changes that don't wait", LIMIT, withServer(async (client) => {
   const room = await client()
   const news = recordNews(room)
   for (let number = 0; number < 50; number++) room.create("rect")
   await room.settled()
   await sleep(1100)
-  expectEqual("the news", news, [])
-}
+  assert.deepEqual(news, [], "the news")
+}))
 
 /** A server that accepts connections and sends nothing. `times` has the times of its connections. */
 async function silentServer() {
@@ -94,7 +100,7 @@ async function silentServer() {
 const connect = (address) => new WebSocket(address)
 
 /** A client of a server that accepts and is silent reports that after three seconds. */
-async function silentWords() {
+test("a silent server", LIMIT, async () => {
   const { address, end } = await silentServer()
   const room = new Room(address, "r", { connect })
   try {
@@ -103,17 +109,17 @@ async function silentWords() {
     await waitUntil("two news", () => news.length === 2)
     const after = news[1].at - start
     const states = news.map(({ state, milliseconds }) => [state, milliseconds])
-    expectEqual("the states", states, Array(2).fill(["connecting", 0]))
-    expectEqual("whether places are spoken of", news.map(({ words }) => words.includes("places")), [false, true])
-    expect(`the news came after ${after} ms`, after >= 3000 - EARLY && after < 3000 + LATE)
+    assert.deepEqual(states, Array(2).fill(["connecting", 0]), "the states")
+    assert.deepEqual(news.map(({ words }) => words.includes("places")), [false, true], "whether places are spoken of")
+    assert.ok(after >= 3000 - EARLY && after < 3000 + LATE, `the news came after ${after} ms`)
   } finally {
     room.close()
     end()
   }
-}
+})
 
 /** A listener of the state `connecting` can close the room. Then the client makes no connection. */
-async function closedEarly() {
+test("closed while it connects", LIMIT, async () => {
   const { times, address, end } = await silentServer()
   const room = new Room(address, "r", { connect })
   const news = recordNews(room)
@@ -121,15 +127,15 @@ async function closedEarly() {
   try {
     await waitUntil("the end", () => room.state === "closed")
     await sleep(200)
-    expectEqual("the states", news.map(({ state }) => state), ["connecting", "closed"])
-    expectEqual("the connections", times, [])
+    assert.deepEqual(news.map(({ state }) => state), ["connecting", "closed"], "the states")
+    assert.deepEqual(times, [], "the connections")
   } finally {
     end()
   }
-}
+})
 
 /** An accepted connection without an answer is a failed attempt: the waits between attempts grow. */
-async function silentTries() {
+test("attempts at a silent server", LIMIT, async () => {
   const { times, address, end } = await silentServer()
   const waits = [20, 100, 200, 400]
   const room = new Room(address, "r", { connect, replyMilliseconds: 50, retryMilliseconds: waits })
@@ -137,40 +143,40 @@ async function silentTries() {
     await waitUntil("five attempts", () => times.length > waits.length)
     for (const [place, wait] of waits.entries()) {
       const passed = times[place + 1] - times[place]
-      expect(`attempt ${place + 1} came after ${passed} ms`, passed >= 50 + wait - 2 * EARLY)
+      assert.ok(passed >= 50 + wait - 2 * EARLY, `attempt ${place + 1} came after ${passed} ms`)
     }
   } finally {
     room.close()
     end()
   }
-}
+})
 
 /** The room reports the progress of loading page by page, and its end once. It does so for an empty room too. */
-async function progress(client) {
+test("the progress of loading", LIMIT, withServer(async (client) => {
   const told = []
   const connecting = (room) => {
     told.splice(0)
-    expectEqual("before it is connected", [room.progress, room.isLoaded], [{ have: 0, of: 0 }, false])
+    assert.deepEqual([room.progress, room.isLoaded], [{ have: 0, of: 0 }, false], "before it is connected")
     room.on("progress", (news) => told.push([news, room.progress, room.isLoaded, room.objects().length, room.state]))
   }
   const first = await client({ connecting })
   const news = (have, of, isLoaded, objects) =>
     [{ have, of, isLoaded }, { have, of }, isLoaded, objects, "connecting"]
-  expectEqual("of an empty room", told, [news(0, 1, false, 0), news(1, 1, true, 0)])
+  assert.deepEqual(told, [news(0, 1, false, 0), news(1, 1, true, 0)], "of an empty room")
   for (let number = 0; number < 150; number++) first.create("rect")
   await agree(first)
   const second = await client({ connecting })
   // 151 entries and its own join, 64 on a page.
-  expectEqual("of a room of 151 entries", told, [
+  assert.deepEqual(told, [
     news(0, 152, false, 0), news(64, 152, false, 0), news(128, 152, false, 0), news(152, 152, true, 150),
-  ])
+  ], "of a room of 151 entries")
   first.create("rect")
   await agree(first, second)
-  expectEqual("the later news", [told.length, second.progress, second.isLoaded], [4, { have: 153, of: 153 }, true])
-}
+  assert.deepEqual([told.length, second.progress, second.isLoaded], [4, { have: 153, of: 153 }, true], "the later news")
+}))
 
 /** Runs a test with a proxy that does this with waits, and counts them. */
-const withWaits = (what, test) => withServer(async (client, server) => {
+const withWaits = (what, run) => withServer(async (client, server) => {
   const proxy = await Proxy.start(server.port)
   const texts = []
   proxy.waits = what
@@ -189,7 +195,7 @@ const withWaits = (what, test) => withServer(async (client, server) => {
     return rooms.at(-1)
   }
   try {
-    return await test(enterBehind, during, texts)
+    await run(enterBehind, during, texts)
   } finally {
     rooms.forEach((room) => room.close())
     proxy.end()
@@ -197,43 +203,42 @@ const withWaits = (what, test) => withServer(async (client, server) => {
 })
 
 /** A server answers waits at once. The client waits often while there is news, then less often, and often again. */
-async function answeredAtOnce(enterBehind, during) {
+test("waits that are answered at once", LIMIT, withWaits(AT_ONCE, async (enterBehind, during) => {
   const other = await enterBehind({ pauseMilliseconds: 60000, longestPauseMilliseconds: 60000 })
   const room = await enterBehind({ longestPauseMilliseconds: 400 })
   await room.create("rect").done
   const busy = await during(500)
   // The pauses are 20, 25, 31, .. milliseconds: at most ten fit. A busy machine lets fewer through.
-  expect(`${busy} waits after news`, busy >= 4 && busy <= 10)
+  assert.ok(busy >= 4 && busy <= 10, `${busy} waits after news`)
   await sleep(2500)
   const idle = await during(1300)
-  expect(`${idle} waits without news`, idle >= 2 && idle <= 4)
+  assert.ok(idle >= 2 && idle <= 4, `${idle} waits without news`)
   other.create("rect")
   await waitUntil("the news", () => room.objects().length === 2)
   const again = await during(500)
-  expect(`${again} waits after news`, again >= 4 && again <= 10)
-  return `${busy}, ${idle} and ${again} waits`
-}
+  assert.ok(again >= 4 && again <= 10, `${again} waits after news`)
+}))
 
 /** A server holds waits. The client sends nothing meanwhile. A change over a held wait is answered at once. */
-async function held(enterBehind, during, texts) {
+test("waits that are held", LIMIT, withWaits(HELD, async (enterBehind, during, texts) => {
   const [other, room] = [await enterBehind(), await enterBehind({ replyMilliseconds: 1000 })]
   const made = room.create("rect")
   await agree(room, other)
   const news = recordNews(room)
-  expectEqual("the waits of both while nothing happens", await during(2000), 0)
+  assert.equal(await during(2000), 0, "the waits of both while nothing happens")
   const start = performance.now()
   const before = texts.length
   await room.set(made.name, [], "x", 1).done
   await waitUntil("the news", () => other.record.length === room.record.length)
   const passed = performance.now() - start
-  expect(`the news came after ${passed} ms`, passed < LATE)
+  assert.ok(passed < LATE, `the news came after ${passed} ms`)
   // Both waits have ended, and each client has sent the next one.
   await waitUntil("the next waits", () => texts.length >= before + 3)
-  expectEqual("what was sent", texts.slice(before).sort(), [
+  assert.deepEqual(texts.slice(before).sort(), [
     '["put",2,[[2,1]],[2,1],[],[["x",1]]]', '["wait",4]', '["wait",4]',
-  ])
-  expectEqual("the changes of the connection's state", news, [])
-}
+  ], "what was sent")
+  assert.deepEqual(news, [], "the changes of the connection's state")
+}))
 
 /** Answers the requests of each connection in turn by a table. It never answers what the table lacks. */
 const answering = (...tables) => () => {
@@ -246,7 +251,7 @@ const answering = (...tables) => () => {
 }
 
 /** A server refuses a wait because it has fewer entries: the room was started again. */
-async function tooFar() {
+test("a wait that is refused", LIMIT, async () => {
   const joined = { '["join","r"]': '["joined",0,1]', '["pull",0]': '["entries",1,0,[["join",1]]]' }
   const connect = answering(
     { ...joined, '["wait",1]': '["no",0,17,"too-far"]' },
@@ -258,21 +263,11 @@ async function tooFar() {
     const resets = []
     room.on("reset", ({ text }) => resets.push(text))
     await waitUntil("the room again", () => resets.length === 1 && room.state === "open")
-    expectEqual("the old room", resets, ['["join",1]\n'])
-    expectEqual("the states", news.map(({ state }) => state), ["connecting", "open", "waiting", "connecting", "open"])
+    assert.deepEqual(resets, ['["join",1]\n'], "the old room")
+    assert.deepEqual(
+      news.map(({ state }) => state), ["connecting", "open", "waiting", "connecting", "open"], "the states",
+    )
   } finally {
     room.close()
   }
-}
-
-export const TESTS = [
-  ["changes that wait", withServer(saving)],
-  ["changes that don't wait", withServer(savedInTime)],
-  ["a silent server", silentWords],
-  ["closed while it connects", closedEarly],
-  ["attempts at a silent server", silentTries],
-  ["the progress of loading", withServer(progress)],
-  ["waits that are answered at once", withWaits(AT_ONCE, answeredAtOnce)],
-  ["waits that are held", withWaits(HELD, held)],
-  ["a wait that is refused", tooFar],
-]
+})

@@ -1,8 +1,10 @@
 /** Integers of 64 bits, and texts: parsing, writing, and replies of the program. */
 
+import assert from "node:assert/strict"
+import test from "node:test"
 import { Drawing, operationOf, readText, writeText } from "../grace.js"
 import { asAttributes, asId, asKind, asName, asPairs, asRoomName, asValue } from "../arguments.js"
-import { expect, expectEqual, expectError } from "./checks.js"
+import { LIMIT } from "./checks.js"
 import { script } from "./program.js"
 
 const EXACT = 9007199254740991n
@@ -13,28 +15,28 @@ const NUMBERS = [
   ["9223372036854775807", 2n ** 63n - 1n], ["-9223372036854775808", -(2n ** 63n)],
 ]
 
-function numbers() {
+test("numbers of 64 bits", LIMIT, () => {
   for (const [text, value] of NUMBERS) {
-    expectEqual(`the value of ${text}`, readText(text), value)
-    expectEqual(`the text of ${text}`, writeText(value), text)
-    expectEqual(`${text} as a value`, asValue(BigInt(text), "x"), value)
+    assert.deepEqual(readText(text), value, `the value of ${text}`)
+    assert.deepEqual(writeText(value), text, `the text of ${text}`)
+    assert.deepEqual(asValue(BigInt(text), "x"), value, `${text} as a value`)
   }
-  expectEqual("a zero below zero", [writeText(-0), Object.is(asValue(-0, "x"), 0)], ["0", true])
-}
+  assert.deepEqual([writeText(-0), Object.is(asValue(-0, "x"), 0)], ["0", true], "a zero below zero")
+})
 
-function texts() {
-  expectEqual("lists", readText(' [ "set" , [ [1,2] ] , [] , -5 ] '), ["set", [[1, 2]], [], -5])
+test("texts of messages", LIMIT, () => {
+  assert.deepEqual(readText(' [ "set" , [ [1,2] ] , [] , -5 ] '), ["set", [[1, 2]], [], -5], "lists")
   const letters = '"\\\b\f\n\r\t\u0001 é€😀'
-  expectEqual("letters", readText(writeText([letters])), [letters])
-  expectEqual("escapes", readText('"\\u00e9\\u20AC\\ud83d\\ude00\\/\\u0041"'), "é€😀/A")
-  expectEqual("a long text", readText(JSON.stringify("\\".repeat(100000))).length, 100000)
+  assert.deepEqual(readText(writeText([letters])), [letters], "letters")
+  assert.equal(readText('"\\u00e9\\u20AC\\ud83d\\ude00\\/\\u0041"'), "é€😀/A", "escapes")
+  assert.equal(readText(JSON.stringify("\\".repeat(100000))).length, 100000, "a long text")
   const none = [
     "", "1.0", "1e0", "-0", "01", "+1", "[1,]", "[,1]", "[1 2]", "[1", "1]", "[1]]", "{}", "null", "true", '"', '"\n"',
     "'a'", "1 2", '"\\x"', "[".repeat(128) + "]".repeat(128),
   ]
-  for (const text of none) expectError(`the text ${text.slice(0, 20)}`, () => readText(text), "SyntaxError")
-  expect("127 lists in each other", Array.isArray(readText("[".repeat(127) + "]".repeat(127))))
-}
+  for (const text of none) assert.throws(() => readText(text), { name: "SyntaxError" }, `the text ${text.slice(0, 20)}`)
+  assert.ok(Array.isArray(readText("[".repeat(127) + "]".repeat(127))), "127 lists in each other")
+})
 
 // The attributes, the error's name, and its message: the key and the reason.
 const OUTSIDE = "is outside the 64-bit range from -2^63 to 2^63 - 1"
@@ -64,9 +66,9 @@ const NONE = [
   [{}, "RangeError", "a put needs at least one attribute"],
 ]
 
-function values() {
+test("values", LIMIT, () => {
   for (const [attributes, name, message] of NONE) {
-    expectEqual("the message", expectError(message, () => asPairs(attributes), name).message, message)
+    assert.throws(() => asPairs(attributes), { name, message })
   }
   for (const [call, message] of [
     [() => asKind("a b"), 'the kind "a b" isn\'t 1 to 32 of a-z, 0-9 and -'],
@@ -75,14 +77,16 @@ function values() {
     [() => asName("1,1"), "the object must be a name such as [1, 2]"],
     [() => asId(undefined), "the version must be a Version or its identifier"],
     [() => asId([1, 2]), "the version must be a Version or its identifier"],
-  ]) expectEqual("the message", expectError(message, call, "TypeError").message, message)
-  expectEqual("a text of 256 bytes", asValue("é".repeat(128), "x"), "é".repeat(128))
-  expectEqual("no attributes of a new object", [asAttributes({}), asAttributes(new Map([["x", 1]]))], [[], [["x", 1]]])
-  expectError("a number that is not exact", () => writeText([0.5]), "RangeError")
-}
+  ]) assert.throws(call, { name: "TypeError", message })
+  assert.deepEqual(asValue("é".repeat(128), "x"), "é".repeat(128), "a text of 256 bytes")
+  assert.deepEqual(
+    [asAttributes({}), asAttributes(new Map([["x", 1]]))], [[], [["x", 1]]], "no attributes of a new object",
+  )
+  assert.throws(() => writeText([0.5]), { name: "RangeError" }, "a number that is not exact")
+})
 
 /** Numbers that are equal as a `Number` stay distinct when sent, shown and compared. */
-async function apart() {
+test("numbers beyond 2^53 by the program", LIMIT, async () => {
   const replies = await script(["r"], [
     '1 ["join","r"]', '2 ["join","r"]', `1 ${writeText(["new", 1, [], "n", [["x", -(2n ** 63n)]]])}`,
     `1 ${writeText(["put", 2, [[1, 1]], [1, 1], [], [["x", EXACT + 1n]]])}`,
@@ -92,13 +96,6 @@ async function apart() {
   const drawing = new Drawing()
   for (const entry of entries.slice(2)) drawing.add(operationOf(entry))
   const versions = drawing.versions([1, 1]).map(({ id, attributes }) => [id, [...attributes]])
-  expectEqual("the versions", versions, [[[[1, 2]], [["x", EXACT + 1n]]], [[[2, 1]], [["x", EXACT + 2n]]]])
-  expectEqual("the program's", replies[6], `1 ${writeText(["versions", 5, [1, 1], "n", versions])}`)
-}
-
-export const TESTS = [
-  ["numbers of 64 bits", numbers],
-  ["texts of messages", texts],
-  ["values", values],
-  ["numbers beyond 2^53 by the program", apart],
-]
+  assert.deepEqual(versions, [[[[1, 2]], [["x", EXACT + 1n]]], [[[2, 1]], [["x", EXACT + 2n]]]], "the versions")
+  assert.equal(replies[6], `1 ${writeText(["versions", 5, [1, 1], "n", versions])}`, "the program's")
+})

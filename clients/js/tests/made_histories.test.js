@@ -1,8 +1,10 @@
 /** The histories of clients/histories, which the program has made: the library shows the same. */
 
+import assert from "node:assert/strict"
+import test from "node:test"
 import { readFileSync } from "node:fs"
 import { Drawing, operationOf, readText } from "../grace.js"
-import { expectEqual, shownVersion } from "./checks.js"
+import { LIMIT, shownVersion } from "./checks.js"
 
 const FILE = new URL("../../histories/histories.json", import.meta.url)
 
@@ -15,7 +17,7 @@ function histories() {
   })
 }
 
-function made() {
+test("histories of the folder", LIMIT, (t) => {
   const all = histories()
   let compared = 0
   for (const [number, { entries, shown }] of all.entries()) {
@@ -27,13 +29,11 @@ function made() {
         if (operation !== null) drawing.add(operation)
       }
       const what = `history ${number}, object ${object} after ${at} entries`
-      expectEqual(what, [drawing.kind(object), drawing.versions(object).map(shownVersion)], [kind, versions])
+      assert.deepEqual([drawing.kind(object), drawing.versions(object).map(shownVersion)], [kind, versions], what)
       compared += 1
     }
-    expectEqual(`the entries of history ${number}`, count, entries.length)
+    assert.equal(count, entries.length, `the entries of history ${number}`)
   }
-  expectEqual("how many there are", all.length, 200)
-  return `${compared} objects`
-}
-
-export const TESTS = [["histories of the folder", made]]
+  assert.equal(all.length, 200, "how many there are")
+  t.diagnostic(`${compared} objects`)
+})

@@ -3,12 +3,14 @@
  * with its comments.
  */
 
+import assert from "node:assert/strict"
+import test from "node:test"
 import { spawnSync } from "node:child_process"
 import { readFileSync } from "node:fs"
 import { fileURLToPath } from "node:url"
 import * as grace from "../grace.js"
 import { withDefaults } from "../options.js"
-import { CheckFailed, Skipped, expectEqual } from "./checks.js"
+import { LIMIT, needs } from "./checks.js"
 
 const WORDS = [
   "--noEmit", "--strict", "--noUnusedLocals", "--target", "es2020", "--module", "es2020", "--moduleResolution", "node",
@@ -18,44 +20,39 @@ const INTERNAL = ["become", "moveTo"]
 const fileOf = (name) => fileURLToPath(new URL(name, import.meta.url))
 
 function check(...words) {
-  const { status, stdout, error } = spawnSync("tsc", [...WORDS, ...words], { encoding: "utf8" })
-  if (error?.code === "ENOENT") throw new Skipped("there is no tsc")
-  if (status !== 0) throw new CheckFailed(stdout)
+  const { status, stdout } = spawnSync("tsc", [...WORDS, ...words], { encoding: "utf8" })
+  assert.equal(status, 0, stdout)
 }
 
 /** Checks a program for node and one for browsers. */
-function byTsc() {
+test("types by tsc", { ...LIMIT, ...needs("tsc") }, () => {
   check("--lib", "es2020", "--exactOptionalPropertyTypes", fileOf("types.ts"))
   check("--lib", "es2020,dom", fileOf("types.ts"), fileOf("types_browser.ts"))
-}
+})
 
 /** The library's own code agrees with its comments. */
-function ownCode() {
+test("types of the library's own code", { ...LIMIT, ...needs("tsc") }, () => {
   check("--allowJs", "--checkJs", "--strict", "false", "--target", "es2022", "--lib", "es2022,dom",
     fileOf("../grace.js"), fileOf("array_methods.d.ts"))
-}
+})
 
 const blockOf = (text, head) => text.split(`export ${head} {\n`)[1].split("\n}")[0]
 const namesIn = (text, pattern) => [...text.matchAll(pattern)].map(([, name]) => name).sort()
 
 /** The library exports what the types declare, and its classes have the declared methods. */
-function allNamed() {
+test("types name all", LIMIT, () => {
   const text = readFileSync(fileOf("../grace.d.ts"), "utf8")
-  expectEqual("what is exported", namesIn(text, /^export (?:class|const|function) (\w+)/gm), Object.keys(grace).sort())
+  assert.deepEqual(
+    namesIn(text, /^export (?:class|const|function) (\w+)/gm), Object.keys(grace).sort(), "what is exported",
+  )
   for (const [, name, body] of text.matchAll(/^export class (\w+) [^\n]*\{\n(.*?)^\}/gms)) {
     const methods = new Set(namesIn(body, /^ {2}(?:get )?(\w+)(?:<.*>)?\(/gm))
     methods.delete("private")
     const own = Object.getOwnPropertyNames(grace[name].prototype).filter((method) => !INTERNAL.includes(method))
-    expectEqual(`the methods of ${name}`, [...methods.add("constructor")].sort(), own.sort())
+    assert.deepEqual([...methods.add("constructor")].sort(), own.sort(), `the methods of ${name}`)
   }
   const options = namesIn(blockOf(text, "interface Options"), /^ {2}(\w+)\?:/gm)
-  expectEqual("the options", options, Object.keys(withDefaults({})).sort())
+  assert.deepEqual(options, Object.keys(withDefaults({})).sort(), "the options")
   const limits = namesIn(blockOf(text, "const LIMITS:"), /readonly (\w+): /g)
-  expectEqual("the limits", limits, Object.keys(grace.LIMITS).sort())
-}
-
-export const TESTS = [
-  ["types by tsc", byTsc],
-  ["types name all", allNamed],
-  ["types of the library's own code", ownCode],
-]
+  assert.deepEqual(limits, Object.keys(grace.LIMITS).sort(), "the limits")
+})

@@ -1,14 +1,15 @@
 /** Clients that continue from stored state, as a reloaded page does. */
 
+import assert from "node:assert/strict"
+import test from "node:test"
 import { withDefaults } from "../options.js"
-import { agree, enter, versionsOf, withServer } from "./rooms.js"
-import { expect, expectEqual, numbersFrom, waitUntil } from "./checks.js"
+import { agree, enter, operations, sitesOf, versionsOf, withProxy, withServer } from "./rooms.js"
+import { LIMIT, numbersFrom, waitUntil } from "./checks.js"
 import { CUT_AFTER, CUT_BEFORE, CUT_LATE, PASS } from "./proxy.js"
-import { operations, sitesOf, withProxy } from "./reconnecting.js"
 import { SmallStorage, Storage } from "./storage.js"
 
 /** A reloaded client keeps its site, shows all objects at once, and continues its numbers. */
-async function keepsAll(client) {
+test("reloaded", LIMIT, withServer(async (client) => {
   const storage = new Storage()
   const [first, other] = [await client({ storage }), await client()]
   const made = first.create("rect", { x: 2n ** 63n - 1n, name: "é\u2028\"" })
@@ -19,17 +20,19 @@ async function keepsAll(client) {
   await other.set(made.name, [], "x", 7).done
   const objects = []
   const again = await client({ storage, connecting: (room) => {
-    expectEqual("what it is before it is connected", [room.state, room.site, room.record], ["connecting", site, record])
+    assert.deepEqual(
+      [room.state, room.site, room.record], ["connecting", site, record], "what it is before it is connected",
+    )
     room.on("change", (news) => objects.push(news.objects.length))
   } })
-  expectEqual("the numbers of changed objects", objects, [101, 1])
-  expectEqual("the site", [again.site, sitesOf(again)], [1, [1, 2]])
-  expectEqual("what it shows", versionsOf(again, made.name), [[[], [["name", "é\u2028\""], ["x", 7]]]])
+  assert.deepEqual(objects, [101, 1], "the numbers of changed objects")
+  assert.deepEqual([again.site, sitesOf(again)], [1, [1, 2]], "the site")
+  assert.deepEqual(versionsOf(again, made.name), [[[], [["name", "é\u2028\""], ["x", 7]]]], "what it shows")
   const next = again.set(made.name, [], "x", 8)
   await agree(again, other)
-  expectEqual("the next change", [next.name, again.record.at(-1)[2]], [[1, 2], [[1, 1], [2, 101]]])
-  expectEqual("what both show", versionsOf(again, made.name), versionsOf(other, made.name))
-}
+  assert.deepEqual([next.name, again.record.at(-1)[2]], [[1, 2], [[1, 1], [2, 101]]], "the next change")
+  assert.deepEqual(versionsOf(again, made.name), versionsOf(other, made.name), "what both show")
+}))
 
 /** A change was on its way when the page was reloaded. The client sends it again if the server lacks it. */
 const onItsWay = (what) => async (proxy, room, other) => {
@@ -43,24 +46,24 @@ const onItsWay = (what) => async (proxy, room, other) => {
   const behind = first.set(made.name, put.version, "y", 6)
   await waitUntil("the connection is cut", () => proxy.cuts === 1)
   first.close()
-  expectEqual("the outcome of the change", await put.done.catch(({ word }) => word), "closed")
+  assert.equal(await put.done.catch(({ word }) => word), "closed", "the outcome of the change")
   await other.set(made.name, [], "x", 9).done
   release()
   const again = await enter(proxy.address, { storage })
   await agree(again, other)
-  expectEqual("the site", [again.site, sitesOf(other)], [3, [1, 2, 3]])
-  expectEqual("the operations", operations(other).filter(([, [site]]) => site === 3), [
+  assert.deepEqual([again.site, sitesOf(other)], [3, [1, 2, 3]], "the site")
+  assert.deepEqual(operations(other).filter(([, [site]]) => site === 3), [
     ["new", [3, 1], [], "rect", []], ["put", [3, 2], [[3, 1]], [3, 1], [], [["x", 5]]],
     ["put", [3, 3], [[3, 2]], [3, 1], [], [["y", 6]]],
-  ])
-  expectEqual("their names", [put.name, behind.name], [[3, 2], [3, 3]])
+  ], "the operations")
+  assert.deepEqual([put.name, behind.name], [[3, 2], [3, 3]], "their names")
   const two = [[[[2, 1]], [["x", 9]]], [[[3, 2], [3, 3]], [["x", 5], ["y", 6]]]]
-  expectEqual("what both show", [versionsOf(again, made.name), versionsOf(other, made.name)], [two, two])
+  assert.deepEqual([versionsOf(again, made.name), versionsOf(other, made.name)], [two, two], "what both show")
   again.close()
 }
 
 /** If the site is in use, the client tries for a while, by default 90 seconds, and then gets a new site. */
-async function siteInUse(client) {
+test("a site in use", LIMIT, withServer(async (client) => {
   const storage = new Storage()
   const first = await client({ storage })
   await first.create("rect").done
@@ -68,18 +71,18 @@ async function siteInUse(client) {
   const recordWords = (room) => room.on("state", (news) => words.push(news.words))
   const second = await client({ storage: new Storage(storage), connecting: recordWords, backMilliseconds: 300 })
   const still = "The server still has your previous connection. Trying again."
-  expectEqual("the words", words, ["Connecting.", still, "Connected as site 2."])
-  expectEqual("the sites", [first.site, second.site, second.objects()], [1, 2, [[1, 1]]])
+  assert.deepEqual(words, ["Connecting.", still, "Connected as site 2."], "the words")
+  assert.deepEqual([first.site, second.site, second.objects()], [1, 2, [[1, 1]]], "the sites")
   setTimeout(() => first.close(), 6000)
   const third = await client({ storage: new Storage(storage), connecting: recordWords })
-  expectEqual("the later words", words.slice(3), ["Connecting.", still, "Connected as site 1."])
+  assert.deepEqual(words.slice(3), ["Connecting.", still, "Connected as site 1."], "the later words")
   await third.create("line").done
-  expectEqual("the sites", [third.site, third.record.at(-1)[1], sitesOf(third)], [1, [1, 2], [1, 2]])
-  expectEqual("how long it tries", withDefaults({}).backMilliseconds, 90000)
-}
+  assert.deepEqual([third.site, third.record.at(-1)[1], sitesOf(third)], [1, [1, 2], [1, 2]], "the sites")
+  assert.equal(withDefaults({}).backMilliseconds, 90000, "how long it tries")
+}))
 
 /** Any client can come back as a free site. If another was in as its site meanwhile, a client gets a new one. */
-async function anotherWasIn(proxy, room, other, server) {
+test("a site that another client used", LIMIT, withProxy(async (proxy, room, other, server) => {
   const storage = new Storage()
   const first = await enter(proxy.address, { storage })
   const made = first.create("rect")
@@ -88,31 +91,31 @@ async function anotherWasIn(proxy, room, other, server) {
   proxy.cut()
   await waitUntil("the connection is lost", () => first.state !== "open")
   const stranger = await enter(server.address, { storage: storage.copyFor(server.address) })
-  expectEqual("the stranger's site", stranger.site, 3)
+  assert.equal(stranger.site, 3, "the stranger's site")
   await stranger.set(made.name, [], "x", 1).done
   stranger.close()
   const put = first.set(made.name, [], "x", 2)
   proxy.whatToDo = () => PASS
   await agree(first, other)
-  expectEqual("the sites", [first.site, put.name, sitesOf(other)], [4, [4, 1], [1, 2, 3, 4]])
+  assert.deepEqual([first.site, put.name, sitesOf(other)], [4, [4, 1], [1, 2, 3, 4]], "the sites")
   const two = [[[[3, 2]], [["x", 1]]], [[[4, 1]], [["x", 2]]]]
-  expectEqual("what both show", [versionsOf(first, made.name), versionsOf(other, made.name)], [two, two])
+  assert.deepEqual([versionsOf(first, made.name), versionsOf(other, made.name)], [two, two], "what both show")
   proxy.whatToDo = () => CUT_BEFORE
   proxy.cut()
   await waitUntil("the connection is lost", () => first.state !== "open")
   const next = await enter(server.address, { storage: storage.copyFor(server.address) })
-  expectEqual("the next stranger's site", next.site, 4)
+  assert.equal(next.site, 4, "the next stranger's site")
   await next.create("line").done
   next.close()
   proxy.whatToDo = () => PASS
   await agree(first, other)
-  expectEqual("the sites, with nothing to send", [first.site, first.objects()], [5, [[3, 1], [4, 2]]])
-  expectEqual("the refusals", first.refused, [])
+  assert.deepEqual([first.site, first.objects()], [5, [[3, 1], [4, 2]]], "the sites, with nothing to send")
+  assert.deepEqual(first.refused, [], "the refusals")
   first.close()
-}
+}))
 
 /** A room that started again while the page was closed is reported, with the text of the stored record. */
-async function reset(client, server) {
+test("reloaded in a room that started again", LIMIT, withServer(async (client, server) => {
   const storage = new Storage()
   const first = await client({ storage })
   await first.create("rect").done
@@ -122,41 +125,41 @@ async function reset(client, server) {
   await server.listen(10)
   const resets = []
   const again = await client({ storage, connecting: (room) => {
-    expectEqual("what is shown", room.objects(), [[1, 1]])
+    assert.deepEqual(room.objects(), [[1, 1]], "what is shown")
     room.on("reset", ({ text }) => resets.push([text, room.objects()]))
   } })
-  expectEqual("the news", resets, [['["join",1]\n["new",[1,1],[],"rect",[]]\n', []]])
-  expectEqual("what it has", [again.site, again.record], [1, [["join", 1]]])
+  assert.deepEqual(resets, [['["join",1]\n["new",[1,1],[],"rect",[]]\n', []]], "the news")
+  assert.deepEqual([again.site, again.record], [1, [["join", 1]]], "what it has")
   again.close()
   const last = await client({ storage })
-  expectEqual("what is kept then", [last.site, last.record, resets.length], [1, [["join", 1]], 1])
-}
+  assert.deepEqual([last.site, last.record, resets.length], [1, [["join", 1]], 1], "what is kept then")
+}))
 
 /** If the storage is full, the site stays stored, and the client pulls the record again. */
-async function storageFull(client) {
+test("reloaded with a full storage", LIMIT, withServer(async (client) => {
   const storage = new SmallStorage()
   const [first, other] = [await client({ storage }), await client()]
   const made = first.create("rect")
   await made.done
-  expect("the record is kept", [...storage.texts.keys()].some((key) => key.endsWith("record 0")))
+  assert.ok([...storage.texts.keys()].some((key) => key.endsWith("record 0")), "the record is kept")
   for (let number = 0; number < 40; number++) first.create("line", { number })
   await agree(first, other)
-  expectEqual("what is kept", [...storage.texts.values()], ["1"])
+  assert.deepEqual([...storage.texts.values()], ["1"], "what is kept")
   first.close()
   const again = await client({ storage })
-  expectEqual("what it has", [again.site, again.objects().length, sitesOf(again)], [1, 41, [1, 2]])
-  expectEqual("the next change", again.create("line").name, [1, 42])
+  assert.deepEqual([again.site, again.objects().length, sitesOf(again)], [1, 41, [1, 2]], "what it has")
+  assert.deepEqual(again.create("line").name, [1, 42], "the next change")
   await agree(again, other)
-}
+}))
 
 /** Damaged stored state is ignored. */
-async function damaged(client) {
+test("reloaded with a damaged storage", LIMIT, withServer(async (client) => {
   const storage = new Storage()
   const first = await client({ storage })
   await first.create("rect").done
   await waitUntil("the record", () => first.record.length === 2)
   const keys = [...storage.texts.keys()]
-  expectEqual("what is kept", keys.map((key) => key.split(" r ")[1]).sort(), ["changes", "record 0", "site"])
+  assert.deepEqual(keys.map((key) => key.split(" r ")[1]).sort(), ["changes", "record 0", "site"], "what is kept")
   let site = 1
   for (const key of keys) {
     for (const text of ["", "[", "[[1]]", '[["new",[1,7],[],"rect",[]]]', "{}", "0"]) {
@@ -164,13 +167,13 @@ async function damaged(client) {
       other.setItem(key, text)
       const next = await client({ storage: other })
       site += 1
-      expectEqual(`the site with ${key} as ${text}`, [next.site, next.objects()], [site, [[1, 1]]])
+      assert.deepEqual([next.site, next.objects()], [site, [[1, 1]]], `the site with ${key} as ${text}`)
     }
   }
-}
+}))
 
 /** A client draws while its connections are cut and it is reloaded at random. Each change is made exactly once. */
-async function byChance(proxy, room, other) {
+test("reloaded at random", LIMIT, withProxy(async (proxy, room, other, server, t) => {
   const seed = Number(process.env.SEED ?? Date.now() % 1000000)
   const draw = numbersFrom(seed)
   console.log(`reloaded at random: seed ${seed}`)
@@ -197,25 +200,16 @@ async function byChance(proxy, room, other) {
   }
   await agree(mine, other)
   const values = operations(other).map((entry) => entry.at(-1)[0][1])
-  expectEqual("the values, each once", values.sort((one, next) => one - next), expected)
+  assert.deepEqual(values.sort((one, next) => one - next), expected, "the values, each once")
   for (const object of other.objects()) {
-    expectEqual(`object ${object}`, versionsOf(mine, object), versionsOf(other, object))
+    assert.deepEqual(versionsOf(mine, object), versionsOf(other, object), `object ${object}`)
   }
-  expectEqual("the sites", [mine.site, sitesOf(other)], [3, [1, 2, 3]])
-  expectEqual("the refusals", [mine.refused, other.refused], [[], []])
+  assert.deepEqual([mine.site, sitesOf(other)], [3, [1, 2, 3]], "the sites")
+  assert.deepEqual([mine.refused, other.refused], [[], []], "the refusals")
   mine.close()
-  return `${expected.length} values, ${loads} loads, ${proxy.cuts} cuts`
-}
+  t.diagnostic(`${expected.length} values, ${loads} loads, ${proxy.cuts} cuts`)
+}))
 
-export const TESTS = [
-  ["reloaded", withServer(keepsAll)],
-  ["reloaded with a change on its way that the server lacks", withProxy(onItsWay(CUT_BEFORE))],
-  ["reloaded with a change on its way that the server has", withProxy(onItsWay(CUT_AFTER))],
-  ["reloaded with a change on its way that arrives late", withProxy(onItsWay(CUT_LATE))],
-  ["a site in use", withServer(siteInUse)],
-  ["a site that another client used", withProxy(anotherWasIn)],
-  ["reloaded in a room that started again", withServer(reset)],
-  ["reloaded with a full storage", withServer(storageFull)],
-  ["reloaded with a damaged storage", withServer(damaged)],
-  ["reloaded at random", withProxy(byChance)],
-]
+test("reloaded with a change on its way that the server lacks", LIMIT, withProxy(onItsWay(CUT_BEFORE)))
+test("reloaded with a change on its way that the server has", LIMIT, withProxy(onItsWay(CUT_AFTER)))
+test("reloaded with a change on its way that arrives late", LIMIT, withProxy(onItsWay(CUT_LATE)))

@@ -1,7 +1,9 @@
 /** How a client loads a record: with several pulls in flight, over a line with a long round trip too. */
 
+import assert from "node:assert/strict"
+import test from "node:test"
 import { loadAll } from "../loading.js"
-import { expect, expectEqual } from "./checks.js"
+import { LIMIT } from "./checks.js"
 import { fill } from "./full_rooms.js"
 import { PASS, Proxy } from "./proxy.js"
 import { agree, enter, withServer } from "./rooms.js"
@@ -13,7 +15,7 @@ const ROUND_TRIP_MILLISECONDS = 100
 const MOST_PULLS = 32
 
 /** Over a line of 100 ms a client loads a record with 32 pulls in flight, and has each entry once and in order. */
-async function slowLine(client, server) {
+test("loading over a slow line", LIMIT, withServer(async (client, server) => {
   const direct = await client()
   await fill(server.address, ENTRIES, OBJECTS)
   const proxy = await Proxy.start(server.port)
@@ -31,13 +33,13 @@ async function slowLine(client, server) {
   }
   const room = await enter(proxy.address)
   await agree(direct, room)
-  expectEqual("the record", room.record, direct.record)
-  expectEqual("its length", room.record.length, ENTRIES + 3)
-  expectEqual("the objects", room.objects(), direct.objects())
-  expectEqual("the most pulls that the server had not answered", most, MOST_PULLS)
+  assert.deepEqual(room.record, direct.record, "the record")
+  assert.equal(room.record.length, ENTRIES + 3, "its length")
+  assert.deepEqual(room.objects(), direct.objects(), "the objects")
+  assert.deepEqual(most, MOST_PULLS, "the most pulls that the server had not answered")
   room.close()
   proxy.end()
-}
+}))
 
 /** The round trips in which a client loads a record of this many entries. In each, all pulls that were sent arrive. */
 async function roundTripsFor(length) {
@@ -53,16 +55,16 @@ async function roundTripsFor(length) {
     return Array(Math.min(64, length - from)).fill("")
   }
   await loadAll({ progress: () => ({ have, of: length }), pull, take: (entries) => (have += entries.length) })
-  expectEqual("what is loaded", have, length)
+  assert.deepEqual(have, length, "what is loaded")
   return trips
 }
 
 /** A nearly full record takes few round trips: 25 of 100 ms leave half a second of 3 s. */
-async function roundTrips() {
+test("the round trips of a nearly full record", LIMIT, async (t) => {
   const trips = await roundTripsFor(16200)
-  expect(`it took ${trips} round trips`, trips <= 25)
-  return `${trips} round trips`
-}
+  assert.ok(trips <= 25, `it took ${trips} round trips`)
+  t.diagnostic(`${trips} round trips`)
+})
 
 /** Loads a record from a server of pages of this length, where a further entry is there after each page. */
 async function loadFrom(pageLength, length, more) {
@@ -82,22 +84,22 @@ async function loadFrom(pageLength, length, more) {
     },
     take: (entries) => record.push(...entries),
   })
-  expectEqual(`the record by pages of ${pageLength}`, record, server)
+  assert.deepEqual(record, server, `the record by pages of ${pageLength}`)
   return asked.length
 }
 
 /** The order holds for any length of the server's pages, also while the record grows. */
-async function anyPages() {
+test("pages of any length", LIMIT, async () => {
   for (const length of [0, 1, 63, 64, 65, 128, 1000, 5000]) {
     for (const pageLength of [1, 10, 63, 64, 65, 200]) await loadFrom(pageLength, length, 70)
   }
-  expectEqual("the pulls for pages of 64", await loadFrom(64, 6400, 0), 100)
+  assert.equal(await loadFrom(64, 6400, 0), 100, "the pulls for pages of 64")
   // After the first page the client knows the length of the others.
-  expectEqual("the pulls for pages of 10", await loadFrom(10, 1000, 0), 16 + 99)
-}
+  assert.equal(await loadFrom(10, 1000, 0), 16 + 99, "the pulls for pages of 10")
+})
 
 /** A failed pull ends the loading, and the pulls behind it are no uncaught errors. */
-async function failedPull() {
+test("a pull that fails", LIMIT, async () => {
   const pull = async (from) => {
     if (from >= 128) throw new Error(`no page ${from}`)
     return Array(64).fill(from)
@@ -105,12 +107,5 @@ async function failedPull() {
   const record = []
   const loaded = { progress: () => ({ have: record.length, of: 1000 }), pull, take: (some) => record.push(...some) }
   const words = await loadAll(loaded).catch(({ message }) => message)
-  expectEqual("what failed, and what is loaded", [words, record.length], ["no page 128", 128])
-}
-
-export const TESTS = [
-  ["pages of any length", anyPages],
-  ["a pull that fails", failedPull],
-  ["the round trips of a nearly full record", roundTrips],
-  ["loading over a slow line", withServer(slowLine)],
-]
+  assert.deepEqual([words, record.length], ["no page 128", 128], "what failed, and what is loaded")
+})

@@ -1,8 +1,10 @@
 /** Clients of a room that is renewed: they go on in the next one, and no work is lost. */
 
+import assert from "node:assert/strict"
+import test from "node:test"
 import { Room, UndoManager, writeText } from "../grace.js"
 import { isAfter, successorOf } from "../room_names.js"
-import { expectEqual, expectError, numbersFrom, waitUntil } from "./checks.js"
+import { LIMIT, numbersFrom, waitUntil } from "./checks.js"
 import { RenewingServer } from "./renewing_server.js"
 import { versionsOf } from "./rooms.js"
 import { Storage } from "./storage.js"
@@ -26,7 +28,7 @@ async function enter(server, options) {
 }
 
 /** Runs a test with a server and clients, and closes these in any case. */
-const withServer = (test, entries) => async () => {
+const withServer = (run, entries) => async (context) => {
   const server = new RenewingServer(entries)
   const rooms = []
   const client = async (options) => {
@@ -34,7 +36,7 @@ const withServer = (test, entries) => async () => {
     return rooms.at(-1)
   }
   try {
-    return await test(client, server)
+    await run(client, server, context)
   } finally {
     rooms.forEach((room) => room.close())
   }
@@ -50,10 +52,10 @@ async function agree(server, ...rooms) {
     name === newest.name && pending.length === 0 && record.length === newest.record.length && !hasNews
   await waitUntil("all have the record", () => rooms.every(isCurrent))
   for (const room of rooms) {
-    expectEqual("the record", room.record, newest.record)
-    expectEqual("the objects", room.objects(), newest.drawing.names())
+    assert.deepEqual(room.record, newest.record, "the record")
+    assert.deepEqual(room.objects(), newest.drawing.names(), "the objects")
     for (const name of room.objects()) {
-      expectEqual(`object ${name}`, versionsOf(room, name), versionsOf(newest.drawing, name))
+      assert.deepEqual(versionsOf(room, name), versionsOf(newest.drawing, name), `object ${name}`)
     }
   }
 }
@@ -62,7 +64,7 @@ const news = (oldRoom, newRoom, copies = [], text = null) =>
   ({ oldRoom, newRoom, words: "This drawing goes on in another room.", copies, text })
 
 /** A client that only looks learns of the end by a page. Names, versions and changes that it holds go on. */
-async function looking(client, server) {
+test("renewed while it looks", LIMIT, withServer(async (client, server) => {
   const [room, other] = [await client(), await client()]
   const gone = room.create("line")
   room.drop(gone.object, gone.version)
@@ -73,21 +75,21 @@ async function looking(client, server) {
   server.renew()
   await Promise.all([isIn(room, "r.2"), isIn(other, "r.2")])
   await agree(server, room, other)
-  expectEqual("the news", [room.renewals, other.renewals], [[news("r", "r.2")], [news("r", "r.2")]])
-  expectEqual("the names", [object, other.renamed, made.object], [[1, 3], [[[1, 3], [1, 1]]], [1, 1]])
-  expectEqual("what became of a version", other.successors(made.object, looked), other.versions([1, 1]))
-  expectEqual("what became of one that is gone", room.successors(gone.object, gone.version), [])
+  assert.deepEqual([room.renewals, other.renewals], [[news("r", "r.2")], [news("r", "r.2")]], "the news")
+  assert.deepEqual([object, other.renamed, made.object], [[1, 3], [[[1, 3], [1, 1]]], [1, 1]], "the names")
+  assert.deepEqual(other.successors(made.object, looked), other.versions([1, 1]), "what became of a version")
+  assert.deepEqual(room.successors(gone.object, gone.version), [], "what became of one that is gone")
   room.put(made.object, made.version, { x: 5 })
   other.put(object, looked, { y: 7 })
   await agree(server, room, other)
-  expectEqual("what both show", versionsOf(room, [1, 1]), [[[], [["x", 5], ["y", 7]]]])
+  assert.deepEqual(versionsOf(room, [1, 1]), [[[], [["x", 5], ["y", 7]]]], "what both show")
   const putToGone = () => room.put(gone.object, gone.version, { x: 1 })
-  expectError("a version that is gone", putToGone, "Refused", "no-such-version")
-  expectEqual("the refusals", [room.refused, other.refused], [[], []])
-}
+  assert.throws(putToGone, { name: "Refused", word: "no-such-version" }, "a version that is gone")
+  assert.deepEqual([room.refused, other.refused], [[], []], "the refusals")
+}))
 
 /** The room ends while a client has work that was not sent. Each change settles, and nothing is lost. */
-async function unsent(client, server) {
+test("renewed with unsent work", LIMIT, withServer(async (client, server) => {
   const room = await client()
   const made = room.create("rect", { x: 0 })
   const line = room.create("line", { x: 0 })
@@ -107,23 +109,23 @@ async function unsent(client, server) {
   await Promise.all(changes.map(({ done }) => done))
   await agree(server, room)
   const shown = room.objects().map((name) => [room.kind(name), versionsOf(room, name)])
-  expectEqual("what is shown", shown, [
+  assert.deepEqual(shown, [
     ["rect", [[[], [["x", 2], ["y", 3]]]]], ["line", [[[], [["x", 9]]]]], ["line", [[[], [["x", 5]]]]],
     ["rect", [[[], [["fill", "red"], ["x", 7]]]]],
-  ])
-  expectEqual("what was sent", server.requests.filter((text) => /^."(new|put)"/.test(text)).slice(2), [
+  ], "what is shown")
+  assert.deepEqual(server.requests.filter((text) => /^."(new|put)"/.test(text)).slice(2), [
     '["put",3,[[1,2]],[1,1],[],[["x",1]]]', '["put",1,[[1,2]],[1,1],[],[["x",2],["y",3]]]',
     '["new",2,[[1,2],[2,1]],"line",[["x",5]]]',
     '["new",3,[[1,2],[2,2]],"rect",[["fill","red"],["x",7]]]',
-  ])
-  expectEqual("the news", room.renewals, [news("r", "r.2", [[[1, 2], [2, 2]]])])
+  ], "what was sent")
+  assert.deepEqual(room.renewals, [news("r", "r.2", [[[1, 2], [2, 2]]])], "the news")
   const objects = changes.map(({ object }) => object)
-  expectEqual("the objects of the changes", objects, [[1, 1], [1, 1], [2, 2], [2, 3], [2, 3]])
-  expectEqual("the refusals", room.refused, [])
-}
+  assert.deepEqual(objects, [[1, 1], [1, 1], [2, 2], [2, 3], [2, 3]], "the objects of the changes")
+  assert.deepEqual(room.refused, [], "the refusals")
+}))
 
 /** A client that comes later is sent on to the newest room. */
-async function late(client, server) {
+test("renewed before it came", LIMIT, withServer(async (client, server) => {
   server.add(["join", 1])
   server.add(["new", [1, 1], [], "rect", [["x", 0]]])
   server.renew()
@@ -131,12 +133,12 @@ async function late(client, server) {
   const room = await client()
   await agree(server, room)
   const asked = server.requests.filter((text) => text.startsWith('["join"'))
-  expectEqual("what it asks", [asked, room.name], [['["join","r"]', '["join","r.3"]'], "r.3"])
-  expectEqual("the news", room.renewals, [])
-}
+  assert.deepEqual([asked, room.name], [['["join","r"]', '["join","r.3"]'], "r.3"], "what it asks")
+  assert.deepEqual(room.renewals, [], "the news")
+}))
 
 /** The room ends while the connection is lost. The client comes back to it, reads it to its end, and goes on. */
-async function away(client, server) {
+test("renewed while it was away", LIMIT, withServer(async (client, server) => {
   const room = await client()
   const made = room.create("rect", { x: 0 })
   await room.settled()
@@ -147,13 +149,13 @@ async function away(client, server) {
   server.renew()
   await isIn(room, "r.2")
   await agree(server, room)
-  expectEqual("what is shown", versionsOf(room, [1, 1]), [[[], [["x", 1], ["y", 9]]]])
+  assert.deepEqual(versionsOf(room, [1, 1]), [[[], [["x", 1], ["y", 9]]]], "what is shown")
   const entered = server.requests.filter((text) => /^."(join|back|leave)"/.test(text))
-  expectEqual("how it entered", entered, ['["join","r"]', '["back","r",1]', '["leave"]', '["join","r.2"]'])
-}
+  assert.deepEqual(entered, ['["join","r"]', '["back","r",1]', '["leave"]', '["join","r.2"]'], "how it entered")
+}))
 
 /** The next room ends too before the client is in it. The client reads it as another site, and goes on. */
-async function chain(client, server) {
+test("renewed twice", LIMIT, withServer(async (client, server) => {
   const [room, other] = [await client(), await client()]
   const made = room.create("rect", { x: 0 })
   const line = room.create("line", { x: 0 })
@@ -174,18 +176,22 @@ async function chain(client, server) {
   await isIn(room, "r.3")
   await agree(server, room)
   const shown = room.objects().map((name) => [room.kind(name), versionsOf(room, name)])
-  expectEqual("what is shown", shown, [
+  assert.deepEqual(shown, [
     ["rect", [[[], [["x", 1]]]]], ["line", [[[], [["x", 9]]]]], ["line", [[[], [["x", 2]]]]],
     ["rect", [[[], [["x", 3]]]]],
-  ])
-  expectEqual("the news", room.renewals, [news("r", "r.2"), news("r.2", "r.3", [[[1, 2], [2, 2]]])])
-  expectEqual("a change that it holds", [added.object, versionsOf(room, added.object)], [[2, 3], [[[], [["x", 3]]]]])
+  ], "what is shown")
+  assert.deepEqual(room.renewals, [news("r", "r.2"), news("r.2", "r.3", [[[1, 2], [2, 2]]])], "the news")
+  assert.deepEqual(
+    [added.object, versionsOf(room, added.object)], [[2, 3], [[[], [["x", 3]]]]], "a change that it holds",
+  )
   const entered = server.requests.filter((text) => /^."(join|back)"/.test(text)).slice(-4)
-  expectEqual("how it entered", entered, ['["back","r",1]', '["join","r.2"]', '["back","r.2",1]', '["join","r.3"]'])
-}
+  assert.deepEqual(
+    entered, ['["back","r",1]', '["join","r.2"]', '["back","r.2",1]', '["join","r.3"]'], "how it entered",
+  )
+}))
 
 /** The old room can no longer be read. The client tells what it could not take along, and enters the newest one. */
-async function leftBehind(client, server) {
+test("renewed, and the old room is closed", LIMIT, withServer(async (client, server) => {
   const room = await client()
   const made = room.create("rect", { x: 0 })
   await agree(server, room)
@@ -197,18 +203,20 @@ async function leftBehind(client, server) {
   await agree(server, room)
   const lines = ['["join",1]', '["new",[1,1],[],"rect",[["x",0]]]', '["put",[1,2],[[1,1]],[1,1],[],[["x",1]]]', ""]
   const words = "This drawing went on in another room without your last changes. You can save a copy of them."
-  expectEqual("the news", room.renewals, [{ oldRoom: "r", newRoom: "r.3", words, copies: [], text: lines.join("\n") }])
-  expectEqual("the refusals", [room.refused, await put.done.catch(({ word }) => word)], [["renewed"], "renewed"])
-  expectEqual("what is shown", versionsOf(room, [1, 1]), [[[], [["x", 0]]]])
+  assert.deepEqual(
+    room.renewals, [{ oldRoom: "r", newRoom: "r.3", words, copies: [], text: lines.join("\n") }], "the news",
+  )
+  assert.deepEqual([room.refused, await put.done.catch(({ word }) => word)], [["renewed"], "renewed"], "the refusals")
+  assert.deepEqual(versionsOf(room, [1, 1]), [[[], [["x", 0]]]], "what is shown")
   server.cut()
   server.renew()
   server.renew()
   await isIn(room, "r.5")
-  expectEqual("the news with nothing to take along", room.renewals.at(-1), news("r.3", "r.5"))
-}
+  assert.deepEqual(room.renewals.at(-1), news("r.3", "r.5"), "the news with nothing to take along")
+}))
 
 /** While there is a hold, the client stays in the old room. What it draws then goes along when the hold is released. */
-async function held(client, server) {
+test("renewed during a hold", LIMIT, withServer(async (client, server) => {
   const room = await client()
   const made = room.create("rect", { x: 0 })
   await agree(server, room)
@@ -219,18 +227,18 @@ async function held(client, server) {
   await waitUntil("the end", () => room.hasEnded)
   const put = room.put(made.object, made.version, { x: 5 })
   await waitUntil("the client has left", () => server.sessions.values().next().value.room === null)
-  expectEqual("what is shown meanwhile", [room.name, versionsOf(room, [1, 1])], ["r", [[[], [["x", 5]]]]])
+  assert.deepEqual([room.name, versionsOf(room, [1, 1])], ["r", [[[], [["x", 5]]]]], "what is shown meanwhile")
   release()
   await put.done
   await agree(server, room)
   const shown = room.objects().map((name) => versionsOf(room, name))
-  expectEqual("what is shown then", shown, [[[[], [["x", 9]]]], [[[], [["x", 5]]]]])
-  expectEqual("the news", room.renewals, [news("r", "r.2", [[[1, 1], [2, 1]]])])
-  expectEqual("the object of the change", put.object, [2, 1])
-}
+  assert.deepEqual(shown, [[[[], [["x", 9]]]], [[[], [["x", 5]]]]], "what is shown then")
+  assert.deepEqual(room.renewals, [news("r", "r.2", [[[1, 1], [2, 1]]])], "the news")
+  assert.deepEqual(put.object, [2, 1], "the object of the change")
+}))
 
 /** A put by an earlier state vector and a version of the old room conflicts with what others changed since. */
-async function seenBefore(client, server) {
+test("renewed during a put by an earlier state vector", LIMIT, withServer(async (client, server) => {
   const room = await client()
   const made = room.create("rect", { x: 0 })
   await agree(server, room)
@@ -242,14 +250,18 @@ async function seenBefore(client, server) {
   await agree(server, room)
   room.put(made.object, looked, { x: 5 }, seen)
   await agree(server, room)
-  expectEqual("what is shown", versionsOf(room, [1, 1]), [[[[2, 1]], [["x", 5]]], [[[3, 1]], [["x", 9]]]])
+  assert.deepEqual(versionsOf(room, [1, 1]), [[[[2, 1]], [["x", 5]]], [[[3, 1]], [["x", 9]]]], "what is shown")
   server.renew()
   await isIn(room, "r.3")
-  expectError("after two renewals", () => room.put(made.object, looked, { x: 6 }, seen), "Refused", "no-such-version")
-}
+  assert.throws(
+    () => room.put(made.object, looked, { x: 6 }, seen),
+    { name: "Refused", word: "no-such-version" },
+    "after two renewals",
+  )
+}))
 
 /** The next room is not open yet. The client asks again. */
-async function notYet(client, server) {
+test("renewed, and the next room opens later", LIMIT, withServer(async (client, server) => {
   const room = await client()
   await room.create("rect").done
   const { rooms } = server
@@ -262,12 +274,12 @@ async function notYet(client, server) {
   }
   server.renew()
   await isIn(room, "r.2")
-  expectEqual("the attempts", answers, 2)
+  assert.equal(answers, 2, "the attempts")
   await agree(server, room)
-}
+}))
 
 /** The server never opens the next room. After a while the client begins anew in the first one. */
-async function neverOpened(client, server) {
+test("renewed, and the next room is never opened", LIMIT, withServer(async (client, server) => {
   const room = await client({ backMilliseconds: 100 })
   const made = room.create("rect", { x: 0 })
   await agree(server, room)
@@ -280,15 +292,15 @@ async function neverOpened(client, server) {
     server.rooms = new RenewingServer().rooms
   }
   const put = room.put(made.object, [], { x: 1 })
-  expectEqual("the refusal", await put.done.catch(({ word }) => word), "another-room")
+  assert.equal(await put.done.catch(({ word }) => word), "another-room", "the refusal")
   await isIn(room, "r")
   await agree(server, room)
   const lines = ['["join",1]', '["new",[1,1],[],"rect",[["x",0]]]', '["put",[1,2],[[1,1]],[1,1],[],[["x",1]]]', ""]
-  expectEqual("the text", resets, [lines.join("\n")])
-}
+  assert.deepEqual(resets, [lines.join("\n")], "the text")
+}))
 
 /** A reloaded page continues in the room that it was in, and takes along what it had not sent. */
-async function reloaded(client, server) {
+test("renewed and reloaded", LIMIT, withServer(async (client, server) => {
   const storage = new Storage()
   const first = await client({ storage })
   const made = first.create("rect", { x: 0 })
@@ -299,10 +311,10 @@ async function reloaded(client, server) {
   const second = await client({ storage })
   await isIn(second, "r.2")
   await agree(server, second)
-  expectEqual("what is shown", [put.isSent, versionsOf(second, [1, 1])], [false, [[[], [["x", 1]]]]])
+  assert.deepEqual([put.isSent, versionsOf(second, [1, 1])], [false, [[[], [["x", 1]]]]], "what is shown")
   second.close()
   const third = await client({ storage })
-  expectEqual("where the third is", [third.name, third.site, third.renewals], ["r.2", second.site, []])
+  assert.deepEqual([third.name, third.site, third.renewals], ["r.2", second.site, []], "where the third is")
   server.cut()
   third.put([1, 1], [], { x: 2 })
   third.close()
@@ -314,11 +326,11 @@ async function reloaded(client, server) {
   const fourth = await client({ storage })
   await isIn(fourth, "r.3")
   await agree(server, fourth)
-  expectEqual("what the fourth shows", versionsOf(fourth, [1, 1]), [[[], [["x", 2]]]])
-}
+  assert.deepEqual(versionsOf(fourth, [1, 1]), [[[], [["x", 2]]]], "what the fourth shows")
+}))
 
 /** Another client was in the old room as this site, and made changes. The client's own go on under another site. */
-async function anothersSite(client, server) {
+test("renewed after another used the site", LIMIT, withServer(async (client, server) => {
   const room = await client()
   const made = room.create("rect", { x: 0 })
   await agree(server, room)
@@ -328,11 +340,11 @@ async function anothersSite(client, server) {
   server.renew()
   await isIn(room, "r.2")
   await agree(server, room)
-  expectEqual("what is shown", versionsOf(room, [1, 1]), [[[], [["x", 1], ["y", 9]]]])
-}
+  assert.deepEqual(versionsOf(room, [1, 1]), [[[], [["x", 1], ["y", 9]]]], "what is shown")
+}))
 
 /** The site is still in use, and the room has ended. The client reads it as another site. */
-async function siteInUse(client, server) {
+test("renewed while the site is in use", LIMIT, withServer(async (client, server) => {
   const room = await client({ backMilliseconds: 100 })
   const other = await client()
   const made = room.create("rect", { x: 0 })
@@ -344,13 +356,13 @@ async function siteInUse(client, server) {
   server.renew()
   await isIn(room, "r.2")
   await agree(server, room)
-  expectEqual("what is shown", versionsOf(room, [1, 1]), [[[], [["x", 1]]]])
+  assert.deepEqual(versionsOf(room, [1, 1]), [[[], [["x", 1]]]], "what is shown")
   const entered = server.requests.filter((text) => /^."(join|back)"/.test(text)).slice(-4)
-  expectEqual("how it entered", entered, ['["join","r"]', '["back","r",1]', '["back","r",2]', '["join","r.2"]'])
-}
+  assert.deepEqual(entered, ['["join","r"]', '["back","r",1]', '["back","r",2]', '["join","r.2"]'], "how it entered")
+}))
 
 /** The next room draws something else. The client leaves its work behind, as it cannot tell what corresponds. */
-async function otherDrawing(client, server) {
+test("renewed as something else", LIMIT, withServer(async (client, server) => {
   const room = await client()
   const made = room.create("rect", { x: 0 })
   await agree(server, room)
@@ -361,15 +373,15 @@ async function otherDrawing(client, server) {
     server.newest.record[1] = ["new", [1, 1], [], "oval", [["x", 0]]]
   }
   const put = room.put(made.object, [], { x: 1 })
-  expectEqual("the refusal", await put.done.catch(({ word }) => word), "renewed")
+  assert.equal(await put.done.catch(({ word }) => word), "renewed", "the refusal")
   await isIn(room, "r.2")
-  expectEqual("what is shown", [room.kind([1, 1]), versionsOf(room, [1, 1])], ["oval", [[[], [["x", 0]]]]])
-  expectEqual("the end of the text", room.renewals[0].text.split("\n").at(-2), writeText(["put", [1, 2], [[1, 1]],
-    [1, 1], [], [["x", 1]]]))
-}
+  assert.deepEqual([room.kind([1, 1]), versionsOf(room, [1, 1])], ["oval", [[[], [["x", 0]]]]], "what is shown")
+  assert.deepEqual(room.renewals[0].text.split("\n").at(-2), writeText(["put", [1, 2], [[1, 1]],
+    [1, 1], [], [["x", 1]]]), "the end of the text")
+}))
 
 /** The server has lost all rooms but an empty first one. The client begins anew in that. */
-async function lostRooms(client, server) {
+test("renewed, and all rooms are lost", LIMIT, withServer(async (client, server) => {
   const room = await client()
   await room.create("rect").done
   server.renew()
@@ -379,12 +391,12 @@ async function lostRooms(client, server) {
   server.rooms = new RenewingServer().rooms
   server.cut()
   await isIn(room, "r")
-  expectEqual("the text", resets, ['["join",1]\n["new",[1,1],[],"rect",[]]\n["join",2]\n'])
+  assert.deepEqual(resets, ['["join",1]\n["new",[1,1],[],"rect",[]]\n["join",2]\n'], "the text")
   await agree(server, room)
-}
+}))
 
 /** A server that names a room of another drawing, or an earlier one, is not followed. */
-async function wrongRoom() {
+test("renewed as a room of another drawing", LIMIT, async () => {
   for (const name of ["s.2", "r", "r.1", "r.02", "r.2.3", ".2", "r.1000000"]) {
     const connect = () => {
       const data = `["renewed",0,"${name}"]`
@@ -394,18 +406,21 @@ async function wrongRoom() {
     }
     const room = new Room("ws://localhost/", "r", { connect })
     await waitUntil("the end", () => room.state === "closed")
-    expectEqual(`the fault with ${name}`, room.fault.name, "ProtocolFault")
+    assert.equal(room.fault.name, "ProtocolFault", `the fault with ${name}`)
   }
-}
+})
 
-function names() {
+test("names of renewed rooms", LIMIT, () => {
   const long = "a".repeat(62)
-  expectEqual("the successors", ["r", "r.2", "r.9", "r.99", "r.999998", "r.999999", long, `${long}aa`].map(successorOf),
-    ["r.2", "r.3", "r.10", "r.100", "r.999999", null, `${long}.2`, null])
+  assert.deepEqual(
+    ["r", "r.2", "r.9", "r.99", "r.999998", "r.999999", long, `${long}aa`].map(successorOf),
+    ["r.2", "r.3", "r.10", "r.100", "r.999999", null, `${long}.2`, null],
+    "the successors",
+  )
   const after = [["r.2", "r"], ["r.10", "r.9"]]
   const notAfter = [["r.2", "r.2"], ["r", "r.2"], ["s.2", "r"], ["r.01", "r"], ["r.2", "r-2"]]
-  expectEqual("which come after", [...after, ...notAfter].filter((pair) => isAfter(...pair)), after)
-}
+  assert.deepEqual([...after, ...notAfter].filter((pair) => isAfter(...pair)), after, "which come after")
+})
 
 /** Whether a client can go on after one more renewal: what it has to read is then still open. */
 function mayLag(room, { rooms }) {
@@ -449,7 +464,7 @@ async function drawAtRandom(server, rooms, draw, isRenewed) {
  * Clients draw while the room is renewed and connections are cut at random. Each object is there once, and its copies.
  * If rooms may be closed before a client has read them, each object that is not there was refused.
  */
-const byChance = (areRead) => async (client, server) => {
+const byChance = (areRead) => async (client, server, t) => {
   const seed = Number(process.env.SEED ?? Date.now() % 1000000)
   console.log(`renewed at random: seed ${seed}`)
   const rooms = [await client(), await client(), await client()]
@@ -462,14 +477,17 @@ const byChance = (areRead) => async (client, server) => {
   await agree(server, ...rooms)
   const values = rooms[0].objects().map((name) => valueOf(rooms[0].versions(name)[0]))
   const lost = created.filter((value) => !values.includes(value) && !refused.has(value))
-  expectEqual("what is lost", lost, [])
+  assert.deepEqual(lost, [], "what is lost")
   const copies = rooms.flatMap(({ renewals }) => renewals.flatMap((one) => one.copies)).length
-  if (areRead) expectEqual("the objects, and the refusals", [values.length, refused.size], [created.length + copies, 0])
-  return `${server.rooms.size - 1} renewals, ${created.length} objects, ${copies} copies, ${refused.size} refused`
+  if (areRead) {
+    assert.deepEqual([values.length, refused.size], [created.length + copies, 0], "the objects, and the refusals")
+  }
+  const renewals = server.rooms.size - 1
+  t.diagnostic(`${renewals} renewals, ${created.length} objects, ${copies} copies, ${refused.size} refused`)
 }
 
 /** Steps from before a renewal can be undone and redone after it, unless the values are others now. */
-async function undone(client, server) {
+test("renewed, with steps to undo", LIMIT, withServer(async (client, server) => {
   const [room, other] = [await client(), await client()]
   const undo = new UndoManager(room)
   const [rect, line] = room.transaction(() => [room.create("rect", { x: 0 }), room.create("line", { y: 0 })])
@@ -483,55 +501,37 @@ async function undone(client, server) {
   other.put(line.object, [], { y: 2 })
   await agree(server, room, other)
   const { changes, failures } = undo.undo()
-  expectEqual("what is undone", [changes.map(({ object }) => object), failures.map(({ reason }) => reason)],
-    [[rect.object], ["changed"]])
-  expectEqual("the values", versionsOf(room, rect.object), [[[], [["x", 0]]]])
-  expectEqual("what is redone", undo.redo().changes.length, 1)
-  expectEqual("the values then", versionsOf(room, rect.object), [[[], [["x", 1]]]])
+  assert.deepEqual(
+    [changes.map(({ object }) => object), failures.map(({ reason }) => reason)],
+    [[rect.object], ["changed"]],
+    "what is undone",
+  )
+  assert.deepEqual(versionsOf(room, rect.object), [[[], [["x", 0]]]], "the values")
+  assert.equal(undo.redo().changes.length, 1, "what is redone")
+  assert.deepEqual(versionsOf(room, rect.object), [[[], [["x", 1]]]], "the values then")
   await agree(server, room, other)
-}
+}))
 
 /** A full room is only looked at. When it is renewed, the client joins the next one, and can draw. */
-async function fullRoom(client, server) {
+test("renewed, of a full room", LIMIT, withServer(async (client, server) => {
   const other = await client()
   const made = other.create("rect", { x: 0 })
   await agree(server, other)
   server.add(["join", 2])
   server.isFull = true
   const room = await client({ lookIfFull: true })
-  expectEqual("what it is", [room.isReadOnly, room.site, room.objects()], [true, null, [made.object]])
-  expectEqual("the sites in use between two looks", [...server.newest.sites], [1])
+  assert.deepEqual([room.isReadOnly, room.site, room.objects()], [true, null, [made.object]], "what it is")
+  assert.deepEqual([...server.newest.sites], [1], "the sites in use between two looks")
   other.put(made.object, [], { x: 1 })
   await agree(server, other)
   server.isFull = false
   server.renew()
   await Promise.all([isIn(room, "r.2"), isIn(other, "r.2")])
-  expectEqual("what it is then", [room.isReadOnly, room.site !== null], [false, true])
+  assert.deepEqual([room.isReadOnly, room.site !== null], [false, true], "what it is then")
   room.create("line")
   await agree(server, room, other)
-  expectEqual("what was refused", [room.refused, other.refused], [[], []])
-}
+  assert.deepEqual([room.refused, other.refused], [[], []], "what was refused")
+}))
 
-export const TESTS = [
-  ["renewed, of a full room", withServer(fullRoom)],
-  ["renewed, with steps to undo", withServer(undone)],
-  ["names of renewed rooms", names],
-  ["renewed while it looks", withServer(looking)],
-  ["renewed with unsent work", withServer(unsent)],
-  ["renewed before it came", withServer(late)],
-  ["renewed while it was away", withServer(away)],
-  ["renewed twice", withServer(chain)],
-  ["renewed, and the old room is closed", withServer(leftBehind)],
-  ["renewed during a hold", withServer(held)],
-  ["renewed during a put by an earlier state vector", withServer(seenBefore)],
-  ["renewed, and the next room opens later", withServer(notYet)],
-  ["renewed, and the next room is never opened", withServer(neverOpened)],
-  ["renewed and reloaded", withServer(reloaded)],
-  ["renewed after another used the site", withServer(anothersSite)],
-  ["renewed while the site is in use", withServer(siteInUse)],
-  ["renewed as something else", withServer(otherDrawing)],
-  ["renewed, and all rooms are lost", withServer(lostRooms)],
-  ["renewed as a room of another drawing", wrongRoom],
-  ["renewed at random", withServer(byChance(true))],
-  ["renewed at random, and old rooms are closed", withServer(byChance(false))],
-]
+test("renewed at random", LIMIT, withServer(byChance(true)))
+test("renewed at random, and old rooms are closed", LIMIT, withServer(byChance(false)))

@@ -1,8 +1,10 @@
 /** Worked examples: changes of one object and its versions after them, by the library and by the program. */
 
+import assert from "node:assert/strict"
+import test from "node:test"
 import { Drawing, entryOf, operationOf, writeText } from "../grace.js"
 import { requestOf } from "../forms.js"
-import { expectEqual, expectError, shownVersion } from "./checks.js"
+import { LIMIT, shownVersion } from "./checks.js"
 import { script } from "./program.js"
 
 const MADE = [[1, 1]]
@@ -64,15 +66,14 @@ const changeOf = ([name, seen, version, attributes]) =>
 const shownBy = (drawing) => drawing.versions([1, 1]).map(shownVersion)
 const shownOf = (versions) => versions.map(([id, shown]) => [id, shown === "gone" ? shown : Object.entries(shown)])
 
-function byTheLibrary() {
+test("worked examples", LIMIT, () => {
   for (const [name, attributes, changes, versions] of ROWS) {
     const drawing = new Drawing()
     drawing.add(creationOf(attributes))
     for (const change of changes) drawing.add(changeOf(change))
-    expectEqual(name, shownBy(drawing), shownOf(versions))
+    assert.deepEqual(shownBy(drawing), shownOf(versions), name)
   }
-  return `${ROWS.length} rows`
-}
+})
 
 /** Returns the lines of an example for sessions 1 to 5, and the reply to the last. */
 function linesOf([, attributes, changes, versions], room) {
@@ -85,51 +86,64 @@ function linesOf([, attributes, changes, versions], room) {
   return [[...lines, `${session(1)} ["show",[1,1]]`], `${session(1)} ${writeText(reply)}`]
 }
 
-async function byTheProgram() {
+test("worked examples by the program", LIMIT, async () => {
   const rows = ROWS.map(linesOf)
   const replies = await script(rows.map((_, room) => `r${room}`), rows.flatMap(([lines]) => lines))
   let end = 0
   rows.forEach(([lines, reply], row) => {
     end += lines.length
-    expectEqual(`${ROWS[row][0]}, by the program`, replies[end - 1], reply)
+    assert.deepEqual(replies[end - 1], reply, `${ROWS[row][0]}, by the program`)
   })
-  return `${rows.length} rows`
-}
+})
 
 /** The library refuses changes that are not admissible. Refusals change nothing. */
-function refusals() {
+test("what is not admitted", LIMIT, () => {
   const drawing = new Drawing()
   drawing.add(creationOf([["x", 0]]))
   drawing.add(changeOf(X5))
   drawing.add(changeOf(X9))
   const shown = shownBy(drawing)
   const add = (change) => () => drawing.add(changeOf(change))
-  expectError("no version of this name", add([[2, 2], BOTH, [], { line: 3 }]), "Refused", "no-such-version")
-  expectError("one that is not in dispute", add([[3, 1], [[1, 2]], [[1, 2]], { x: 1 }]), "Refused", "no-such-version")
-  expectError("both of two that conflict", add([[3, 1], BOTH, BOTH, { x: 1 }]), "Refused", "no-such-version")
-  expectError("an unknown change", add([[3, 1], MADE, [[2, 1]], { x: 1 }]), "Refused", "no-such-version")
-  expectError("one that has not seen the object", add([[3, 1], [], [], { x: 1 }]), "Refused", "no-such-object")
-  expectError("a wrong number", add([[1, 2], MADE, [], { x: 1 }]), "ProtocolFault")
-  expectError("one that counts a missing operation", add([[3, 1], [[1, 3]], [], { x: 1 }]), "ProtocolFault")
-  expectError("no such object", () => drawing.versions([3, 3]), "Refused", "no-such-object")
-  expectEqual("the versions afterwards", shownBy(drawing), shown)
+  assert.throws(
+    add([[2, 2], BOTH, [], { line: 3 }]), { name: "Refused", word: "no-such-version" }, "no version of this name",
+  )
+  assert.throws(
+    add([[3, 1], [[1, 2]], [[1, 2]], { x: 1 }]),
+    { name: "Refused", word: "no-such-version" },
+    "one that is not in dispute",
+  )
+  assert.throws(
+    add([[3, 1], BOTH, BOTH, { x: 1 }]), { name: "Refused", word: "no-such-version" }, "both of two that conflict",
+  )
+  assert.throws(
+    add([[3, 1], MADE, [[2, 1]], { x: 1 }]), { name: "Refused", word: "no-such-version" }, "an unknown change",
+  )
+  assert.throws(
+    add([[3, 1], [], [], { x: 1 }]), { name: "Refused", word: "no-such-object" }, "one that has not seen the object",
+  )
+  assert.throws(add([[1, 2], MADE, [], { x: 1 }]), { name: "ProtocolFault" }, "a wrong number")
+  assert.throws(add([[3, 1], [[1, 3]], [], { x: 1 }]), { name: "ProtocolFault" }, "one that counts a missing operation")
+  assert.throws(() => drawing.versions([3, 3]), { name: "Refused", word: "no-such-object" }, "no such object")
+  assert.deepEqual(shownBy(drawing), shown, "the versions afterwards")
   drawing.add(changeOf([[2, 2], BOTH, [[2, 1]], DROP]))
-  expectError("one that is gone", add([[3, 1], [[1, 2], [2, 2]], [[2, 1], [2, 2]], { x: 1 }]), "Refused", "gone")
-}
+  assert.throws(
+    add([[3, 1], [[1, 2], [2, 2]], [[2, 1], [2, 2]], { x: 1 }]), { name: "Refused", word: "gone" }, "one that is gone",
+  )
+})
 
 /** The same operations in another order produce the same versions. */
-function otherOrders() {
+test("another order", LIMIT, () => {
   const [, attributes, changes, versions] = ROWS.find(([name]) => name === "five of five")
   for (const order of [[4, 3, 2, 1, 0], [2, 0, 4, 1, 3], [1, 3, 0, 2, 4]]) {
     const drawing = new Drawing()
     drawing.add(creationOf(attributes))
     for (const place of order) drawing.add(changeOf(changes[place]))
-    expectEqual(`in the order ${order}`, shownBy(drawing), shownOf(versions))
+    assert.deepEqual(shownBy(drawing), shownOf(versions), `in the order ${order}`)
   }
-}
+})
 
 /** A version outlives a drop whose author deleted it in an earlier state, and no other drop. */
-function outlived() {
+test("what outlived a drop", LIMIT, () => {
   const cases = [
     ["changed in the meantime", [X5, [[2, 1], [[1, 2]], [], DROP], [[1, 3], [[1, 2]], [], { x: 6 }]], [[[2, 1]], []]],
     ["changed from an older one", [X5, [[2, 1], [[1, 2]], [], DROP], [[3, 1], MADE, [], { x: 6 }]], [[], [[2, 1]]]],
@@ -147,22 +161,13 @@ function outlived() {
     const drawing = new Drawing()
     drawing.add(creationOf([["x", 0]]))
     for (const change of changes) drawing.add(changeOf(change))
-    expectEqual(name, drawing.versions([1, 1]).map((version) => version.outlived), expected)
+    assert.deepEqual(drawing.versions([1, 1]).map((version) => version.outlived), expected, name)
   }
-}
+})
 
 /** The library reads the old form of one attribute as a put, and writes it in its own form. */
-function oldForm() {
+test("the old form", LIMIT, () => {
   const put = operationOf(["set", [1, 2], MADE, [1, 1], [], "x", 5])
-  expectEqual("read", put, changeOf(X5))
-  expectEqual("written", entryOf(put), ["put", [1, 2], MADE, [1, 1], [], [["x", 5]]])
-}
-
-export const TESTS = [
-  ["worked examples", byTheLibrary],
-  ["worked examples by the program", byTheProgram],
-  ["what is not admitted", refusals],
-  ["another order", otherOrders],
-  ["what outlived a drop", outlived],
-  ["the old form", oldForm],
-]
+  assert.deepEqual(put, changeOf(X5), "read")
+  assert.deepEqual(entryOf(put), ["put", [1, 2], MADE, [1, 1], [], [["x", 5]]], "written")
+})

@@ -1,9 +1,11 @@
 /** A person draws for so long that the room is renewed, as it had too many objects in all. */
 
+import assert from "node:assert/strict"
+import test from "node:test"
 import { mkdtempSync, rmSync } from "node:fs"
 import { tmpdir } from "node:os"
 import { join } from "node:path"
-import { expectEqual } from "./checks.js"
+import { LIMIT } from "./checks.js"
 import { Server, freePort } from "./program.js"
 import { agree, enter, versionsOf } from "./rooms.js"
 
@@ -44,7 +46,7 @@ const shown = (room) =>
     .filter(([, versions]) => versions.some(([, attributes]) => attributes !== "gone"))
 
 /** Runs a test with a server that opens rooms on demand, and a function that opens a client of one. */
-const withServer = (test) => async () => {
+const withServer = (run) => async () => {
   const folder = mkdtempSync(join(tmpdir(), "rooms-"))
   const server = Object.assign(new Server(), {
     rooms: [], options: ["--keep", folder, "--rooms", "3"], port: await freePort(),
@@ -58,7 +60,7 @@ const withServer = (test) => async () => {
   }
   try {
     await server.listen(0)
-    return await test(client)
+    await run(client)
   } finally {
     clients.forEach((room) => room.close())
     await server.end()
@@ -67,21 +69,20 @@ const withServer = (test) => async () => {
 }
 
 /** A person draws 5,000 strokes, deletes 4,000 of them and draws 5,000 more. Nothing is refused, and none is lost. */
-async function goesOn(client) {
+test("5,000 strokes, 4,000 of them deleted, and 5,000 more", LIMIT, withServer(async (client) => {
   const room = await client()
   const strokes = await draw(room, 0)
   await inFlight(strokes.filter((_, number) => !isKept(number)), ({ object, version }) => room.drop(object, version))
-  expectEqual("where it is when it has deleted them", [room.name, shown(room).length], ["r", STROKES - DELETED])
+  assert.deepEqual([room.name, shown(room).length], ["r", STROKES - DELETED], "where it is when it has deleted them")
   await draw(room, STROKES)
   const late = await client()
   await agree(room, late)
-  expectEqual("where they are", [room.name, late.name, room.renewed, late.renewed], ["r.2", "r.2", [["r", "r.2"]], []])
-  expectEqual("what was refused", room.refused, [])
+  assert.deepEqual(
+    [room.name, late.name, room.renewed, late.renewed], ["r.2", "r.2", [["r", "r.2"]], []], "where they are",
+  )
+  assert.deepEqual(room.refused, [], "what was refused")
   const kept = Array.from({ length: 2 * STROKES }, (_, number) => number).filter(isKept)
   const attributes = (number) => Object.entries(strokeOf(number)).sort(([one], [other]) => (one < other ? -1 : 1))
   const expected = kept.map((number) => ["pen", [[[], attributes(number)]]])
-  for (const it of [room, late]) expectEqual("what is shown", shown(it), expected)
-  return `${kept.length} strokes`
-}
-
-export const TESTS = [["5,000 strokes, 4,000 of them deleted, and 5,000 more", withServer(goesOn)]]
+  for (const it of [room, late]) assert.deepEqual(shown(it), expected, "what is shown")
+}))

@@ -1,13 +1,14 @@
 /** Notes: who sees them, how often they are sent, and what a client that does not use them sends. */
 
+import assert from "node:assert/strict"
+import test from "node:test"
 import { isDeepStrictEqual } from "node:util"
 import { Room } from "../grace.js"
 import { Notes } from "../notes.js"
-import { expect, expectEqual, expectError, waitUntil } from "./checks.js"
+import { LIMIT, waitUntil } from "./checks.js"
 import { AT_ONCE, CUT_BEFORE, PASS, Proxy } from "./proxy.js"
-import { withProxy } from "./reconnecting.js"
 import { RenewingServer } from "./renewing_server.js"
-import { enter, withServer } from "./rooms.js"
+import { enter, withProxy, withServer } from "./rooms.js"
 import { WebSocket } from "./websocket.js"
 
 // How many milliseconds earlier than due a message may seem to be sent.
@@ -38,32 +39,32 @@ async function untilWait(texts, from) {
 const isOfNotes = (text) => text.startsWith('["note')
 
 /** Two clients see each other's notes, and hear of each change. A note is gone when its client leaves. */
-async function seen(client) {
+test("notes that others see", LIMIT, withServer(async (client) => {
   const [first, second] = [await client(), await client()]
   const news = []
   second.on("notes", ({ notes }) => news.push([...notes]))
-  expectEqual("before the first", [first.note, [...first.notes]], ["", []])
+  assert.deepEqual([first.note, [...first.notes]], ["", []], "before the first")
   first.note = "a"
   await seeNotes(second, [[1, "a"]])
   second.note = "b"
   await Promise.all([first, second].map((room) => seeNotes(room, [[1, "a"], [2, "b"]])))
   second.notes.clear()
-  expectEqual("the notes after a copy was changed", second.notes.size, 2)
+  assert.equal(second.notes.size, 2, "the notes after a copy was changed")
   first.note = ""
   await Promise.all([first, second].map((room) => seeNotes(room, [[2, "b"]])))
   first.note = "c"
   await seeNotes(second, [[1, "c"], [2, "b"]])
   first.close()
-  expectEqual("the notes of a closed room", [...first.notes], [])
+  assert.deepEqual([...first.notes], [], "the notes of a closed room")
   await seeNotes(second, [[2, "b"]])
-  expectEqual("the news", news, [
+  assert.deepEqual(news, [
     [[1, "a"]], [[1, "a"], [2, "b"]], [[2, "b"]], [[1, "c"], [2, "b"]], [[2, "b"]],
-  ])
-  expectEqual("the record", second.record, [["join", 1], ["join", 2]])
-}
+  ], "the news")
+  assert.deepEqual(second.record, [["join", 1], ["join", 2]], "the record")
+}))
 
 /** A note is gone when the connection of its client is cut. The client sets it again when it is back. */
-async function cut(proxy, room, other) {
+test("a note and a lost connection", LIMIT, withProxy(async (proxy, room, other) => {
   room.note = "a"
   await seeNotes(other, [[1, "a"]])
   await seeNotes(room, [[1, "a"]])
@@ -73,16 +74,16 @@ async function cut(proxy, room, other) {
   proxy.cut()
   await seeNotes(other, [])
   await waitUntil("the connection is lost", () => room.state !== "open")
-  expectEqual("the notes meanwhile", [...room.notes], [])
+  assert.deepEqual([...room.notes], [], "the notes meanwhile")
   const texts = recordTexts(proxy)
   await seeNotes(other, [[1, "a"]])
   await seeNotes(room, [[1, "a"]])
-  expectEqual("the first request about notes", texts.find(isOfNotes), '["note","a"]')
-  expectEqual("the numbers of notes that it told", sizes, [0, 1])
-}
+  assert.equal(texts.find(isOfNotes), '["note","a"]', "the first request about notes")
+  assert.deepEqual(sizes, [0, 1], "the numbers of notes that it told")
+}))
 
 /** The server was started again, and the client has to join as a new site. It sets its note as that. */
-async function newSite(proxy, room, other, server) {
+test("a note of a new site", LIMIT, withProxy(async (proxy, room, other, server) => {
   room.note = "a"
   await seeNotes(room, [[1, "a"]])
   proxy.whatToDo = () => CUT_BEFORE
@@ -93,10 +94,10 @@ async function newSite(proxy, room, other, server) {
   first.close()
   proxy.whatToDo = () => PASS
   await seeNotes(room, [[2, "a"]])
-}
+}))
 
 /** The client sets its note in the next room of a chain. */
-async function renewed() {
+test("a note in a renewed room", LIMIT, async () => {
   const server = new RenewingServer()
   const rooms = [1, 2].map(() => new Room("ws://localhost/", "r", { connect: server.connect }))
   try {
@@ -112,10 +113,10 @@ async function renewed() {
   } finally {
     rooms.forEach((room) => room.close())
   }
-}
+})
 
 /** A note that changes often is sent at once, then ten times a second, and the newest one last. */
-async function often(client) {
+test("a note that changes often", LIMIT, withServer(async (client) => {
   const sent = []
   const connect = (address) => {
     const socket = new WebSocket(address)
@@ -132,31 +133,29 @@ async function often(client) {
     await sleep(5)
   }
   await seeNotes(other, [[1, "n199"]])
-  expectEqual("the first and the last one", [sent[0].text, sent.at(-1).text], ['["note","n0"]', '["note","n199"]'])
+  assert.deepEqual([sent[0].text, sent.at(-1).text], ['["note","n0"]', '["note","n199"]'], "the first and the last one")
   const milliseconds = sent.at(-1).at - sent[0].at
-  const result = `${sent.length} notes in ${milliseconds.toFixed()} ms`
-  expect(result, milliseconds >= 100 * (sent.length - 1) - EARLY)
-  return result
-}
+  assert.ok(milliseconds >= 100 * (sent.length - 1) - EARLY, `${sent.length} notes in ${milliseconds.toFixed()} ms`)
+}))
 
 /** A note that is invalid throws at once, and changes and sends nothing. */
-async function invalid(proxy, room, other) {
+test("invalid notes", LIMIT, withProxy(async (proxy, room, other) => {
   room.note = "é".repeat(128)
   await seeNotes(other, [[1, "é".repeat(128)]])
   const texts = recordTexts(proxy)
   const set = (text) => () => { room.note = text }
-  const { message } = expectError("257 bytes", set(`${"é".repeat(128)}x`), "RangeError")
-  expectEqual("its words", message, "the note: the string has 257 bytes in UTF-8; the limit is 256")
-  expectError("a number", set(5), "TypeError")
-  expectError("no text", set(undefined), "TypeError")
-  expectError("an unpaired surrogate", set("a\ud800"), "TypeError")
-  expectEqual("the note", room.note, "é".repeat(128))
+  const message = "the note: the string has 257 bytes in UTF-8; the limit is 256"
+  assert.throws(set(`${"é".repeat(128)}x`), { name: "RangeError", message }, "257 bytes")
+  assert.throws(set(5), { name: "TypeError" }, "a number")
+  assert.throws(set(undefined), { name: "TypeError" }, "no text")
+  assert.throws(set("a\ud800"), { name: "TypeError" }, "an unpaired surrogate")
+  assert.deepEqual(room.note, "é".repeat(128), "the note")
   await room.create("rect").done
-  expectEqual("the notes sent before the change", texts.filter((text) => text.startsWith('["note",')), [])
-}
+  assert.deepEqual(texts.filter((text) => text.startsWith('["note",')), [], "the notes sent before the change")
+}))
 
 /** A client that does not use notes sends nothing about them, and its wait does not end at a note of others. */
-async function unused(proxy, room, other) {
+test("notes that are not used", LIMIT, withProxy(async (proxy, room, other) => {
   const texts = recordTexts(proxy)
   const made = room.create("rect")
   await untilWait(texts, 3)
@@ -166,15 +165,15 @@ async function unused(proxy, room, other) {
   }
   await room.set(made.name, [], "x", 1).done
   await waitUntil("the next wait", () => texts.length >= 2)
-  expectEqual("the messages", texts, ['["put",2,[[1,1]],[1,1],[],[["x",1]]]', '["wait",4]'])
-}
+  assert.deepEqual(texts, ['["put",2,[[1,1]],[1,1],[],[["x",1]]]', '["wait",4]'], "the messages")
+}))
 
 /** A client asks once for each wait that brought nothing, unless it has set its note meanwhile. */
-async function asked(proxy, room, other) {
+test("when notes are asked for", LIMIT, withProxy(async (proxy, room, other) => {
   const texts = recordTexts(proxy)
   const expectTexts = async (what, expected) => {
     await waitUntil(what, () => texts.length >= expected.length && texts.at(-1).startsWith('["wait"'))
-    expectEqual(what, texts.splice(0), expected)
+    assert.deepEqual(texts.splice(0), expected, what)
   }
   other.create("rect")
   await untilWait(texts, 3)
@@ -188,7 +187,7 @@ async function asked(proxy, room, other) {
   await expectTexts("a change over a wait", ['["new",1,[[2,1]],"line",[]]', '["notes"]', '["wait",4]'])
   other.create("line")
   await expectTexts("another's change", ['["wait",5]'])
-}
+}))
 
 /** Where waits are answered at once, a client asks for notes once after each. */
 const atOnce = withServer(async (client, server) => {
@@ -205,7 +204,7 @@ const atOnce = withServer(async (client, server) => {
     await waitUntil("ten waits", () => texts.filter((text) => text.startsWith('["wait"')).length === 10)
     const words = texts.map((text) => text.match(/[a-z]+/)[0])
     const isRepeated = (word, place) => word === words[place - 1]
-    expect(`the messages are ${words}`, words.includes("notes") && !words.some(isRepeated))
+    assert.ok(words.includes("notes") && !words.some(isRepeated), `the messages are ${words}`)
   } finally {
     room.close()
     proxy.end()
@@ -213,7 +212,7 @@ const atOnce = withServer(async (client, server) => {
 })
 
 /** A server that does not know notes is asked once each time the client enters. All else works. */
-async function unknown() {
+test("a server without notes", LIMIT, async () => {
   const server = new RenewingServer()
   server.knowsNotes = false
   const room = new Room("ws://localhost/", "r", { connect: server.connect, retryMilliseconds: [10] })
@@ -229,18 +228,18 @@ async function unknown() {
     await room.create("rect").done
     server.add(["join", 2])
     await waitUntil("the news", () => room.record.length === 3)
-    expectEqual("what was asked", questions(), ['["note","a"]'])
-    expectEqual("what there is", [room.state, room.note, room.notes.size, news], ["open", "b", 0, []])
+    assert.deepEqual(questions(), ['["note","a"]'], "what was asked")
+    assert.deepEqual([room.state, room.note, room.notes.size, news], ["open", "b", 0, []], "what there is")
     server.knowsNotes = true
     server.cut()
     await seeNotes(room, [[1, "b"]])
   } finally {
     room.close()
   }
-}
+})
 
 /** A note that stays is sent again every 20 seconds, until it is empty. */
-function again() {
+test("a note that stays", LIMIT, () => {
   let time = 0
   const sent = []
   const connection = { request: (text) => new Promise(() => sent.push(text)) }
@@ -266,20 +265,8 @@ function again() {
   look()
   notes.send(connection)
   look()
-  expectEqual("the times to the next request", times, [Infinity, 20000, 70, 19970, 0, 0, Infinity])
-  expectEqual("what is sent", sent, ['["note","a"]', '["note","a"]', '["note",""]'])
-}
+  assert.deepEqual(times, [Infinity, 20000, 70, 19970, 0, 0, Infinity], "the times to the next request")
+  assert.deepEqual(sent, ['["note","a"]', '["note","a"]', '["note",""]'], "what is sent")
+})
 
-export const TESTS = [
-  ["notes that others see", withServer(seen)],
-  ["a note and a lost connection", withProxy(cut)],
-  ["a note of a new site", withProxy(newSite)],
-  ["a note in a renewed room", renewed],
-  ["a note that changes often", withServer(often)],
-  ["invalid notes", withProxy(invalid)],
-  ["notes that are not used", withProxy(unused)],
-  ["when notes are asked for", withProxy(asked)],
-  ["notes and waits that are answered at once", atOnce],
-  ["a server without notes", unknown],
-  ["a note that stays", again],
-]
+test("notes and waits that are answered at once", LIMIT, atOnce)

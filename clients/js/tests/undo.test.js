@@ -1,11 +1,12 @@
 /** Transactions, and undo and redo of what one client did. */
 
+import assert from "node:assert/strict"
+import test from "node:test"
 import { readFileSync } from "node:fs"
 import { UndoManager } from "../grace.js"
-import { expectEqual, waitUntil } from "./checks.js"
+import { LIMIT, waitUntil } from "./checks.js"
 import { AT_ONCE, CUT_AFTER, CUT_BEFORE, PASS, Proxy } from "./proxy.js"
-import { operations, withProxy } from "./reconnecting.js"
-import { agree, enter, versionsOf, withServer } from "./rooms.js"
+import { agree, enter, operations, versionsOf, withProxy, withServer } from "./rooms.js"
 import { Storage } from "./storage.js"
 
 /** Returns what is shown: of each object its kind and its versions that are not gone. */
@@ -18,7 +19,7 @@ const drawMany = (room, count) =>
   room.transaction(() => Array.from({ length: count }, (_, number) => room.create("rect", { number })))
 
 /** The changes of a transaction are one event, and are sent without waiting for replies. */
-async function sentTogether(client, server) {
+test("a transaction is sent together", LIMIT, withServer(async (client, server) => {
   const proxy = await Proxy.start(server.port)
   const room = await enter(proxy.address)
   proxy.roundTripMilliseconds = 200
@@ -38,14 +39,14 @@ async function sentTogether(client, server) {
     room.on(word, ({ objects, changes }) => events.push([word, (objects ?? changes).length]))
   }
   const changes = drawMany(room, 100)
-  expectEqual("the events", events, [["change", 100], ["transaction", 100]])
+  assert.deepEqual(events, [["change", 100], ["transaction", 100]], "the events")
   const other = await client()
   await agree(room, other)
-  expectEqual("the most changes in flight", most, 32)
-  expectEqual("their order", operations(other).map((entry) => entry[1]), changes.map(({ name }) => name))
+  assert.equal(most, 32, "the most changes in flight")
+  assert.deepEqual(operations(other).map((entry) => entry[1]), changes.map(({ name }) => name), "their order")
   room.close()
   proxy.end()
-}
+}))
 
 /** Ten others make 32 versions of an object, the most that it may have: five keys get two values each at once. */
 async function makeMostVersions(client, object) {
@@ -55,12 +56,12 @@ async function makeMostVersions(client, object) {
   await Promise.all(others.map((other) => other.settled()))
   releases.forEach((release) => release())
   await agree(...others)
-  expectEqual("the versions", others[0].versions(object).length, 32)
+  assert.equal(others[0].versions(object).length, 32, "the versions")
   return others[0]
 }
 
 /** The server refuses one change of a transaction, and all behind it for their numbers. The others are sent again. */
-async function oneRefused(client) {
+test("a transaction of which one change is refused", LIMIT, withServer(async (client) => {
   const room = await client()
   const [full, free] = [room.create("rect"), room.create("rect")]
   await room.settled()
@@ -71,18 +72,18 @@ async function oneRefused(client) {
     room.put(free.object, [], { after: 2 }), room.create("line"),
   ])
   const outcomes = await Promise.all(changes.map(({ done }) => done.then(() => "taken", ({ word }) => word)))
-  expectEqual("the outcomes", outcomes, ["taken", "too-many-versions", "taken", "taken"])
+  assert.deepEqual(outcomes, ["taken", "too-many-versions", "taken", "taken"], "the outcomes")
   release()
   await agree(room, other)
-  expectEqual("the refusals", room.refused, ["too-many-versions"])
+  assert.deepEqual(room.refused, ["too-many-versions"], "the refusals")
   const own = operations(other).filter(([, [site]]) => site === room.site).slice(2)
   const words = own.map(([word, [, number]]) => [word, number])
-  expectEqual("what the record has", words, [["put", 3], ["put", 4], ["new", 5]])
-  expectEqual("what both show", shown(room), shown(other))
-}
+  assert.deepEqual(words, [["put", 3], ["put", 4], ["new", 5]], "what the record has")
+  assert.deepEqual(shown(room), shown(other), "what both show")
+}))
 
 /** A connection that is cut within a transaction: each change is made once. */
-async function cutWithin(client, server) {
+test("a transaction that is cut", LIMIT, withServer(async (client, server) => {
   const proxy = await Proxy.start(server.port)
   proxy.waits = AT_ONCE
   const [room, other] = [await enter(proxy.address), await client()]
@@ -94,13 +95,13 @@ async function cutWithin(client, server) {
   drawMany(room, 50)
   await agree(room, other)
   const numbers = operations(other).map((entry) => entry[4][0][1])
-  expectEqual("the changes", [numbers, proxy.cuts], [Array.from({ length: 50 }, (_, number) => number), 1])
+  assert.deepEqual([numbers, proxy.cuts], [Array.from({ length: 50 }, (_, number) => number), 1], "the changes")
   room.close()
   proxy.end()
-}
+}))
 
 /** A call that throws keeps what it changed, and is one step. */
-async function throwing(client) {
+test("a transaction that throws", LIMIT, withServer(async (client) => {
   const room = await client()
   const undo = new UndoManager(room)
   let words = ""
@@ -113,13 +114,13 @@ async function throwing(client) {
     words = name
   }
   await room.settled()
-  expectEqual("what it threw, and what is shown", [words, shown(room).length], ["TypeError", 1])
+  assert.deepEqual([words, shown(room).length], ["TypeError", 1], "what it threw, and what is shown")
   undo.undo()
-  expectEqual("what is shown then", shown(room), [])
-}
+  assert.deepEqual(shown(room), [], "what is shown then")
+}))
 
 /** A step is undone and redone as one: values come back, and so do objects. */
-async function oneStep(client) {
+test("undo of a transaction", LIMIT, withServer(async (client) => {
   const [room, other] = [await client(), await client()]
   const undo = new UndoManager(room, { valueOfAbsent: (kind, key) => (key === "fill" ? "none" : "") })
   const [rect, line] = room.transaction(() => [room.create("rect", { x: 0 }), room.create("line", { y: 1 })])
@@ -128,27 +129,27 @@ async function oneStep(client) {
     room.drop(line.object, line.version)
   })
   const states = [[["rect", [["x", 0]]], ["line", [["y", 1]]]], [["rect", [["fill", "red"], ["x", 5]]]]]
-  expectEqual("what is drawn", shown(room), states[1])
+  assert.deepEqual(shown(room), states[1], "what is drawn")
   const back = undo.undo()
   const undone = [["rect", [["fill", "none"], ["x", 0]]], ["line", [["y", 1]]]]
-  expectEqual("the first step back", [shown(room), back.failures, back.changes.length], [undone, [], 2])
-  expectEqual("the next ones", [undo.canUndo, undo.canRedo], [true, true])
+  assert.deepEqual([shown(room), back.failures, back.changes.length], [undone, [], 2], "the first step back")
+  assert.deepEqual([undo.canUndo, undo.canRedo], [true, true], "the next ones")
   undo.undo()
-  expectEqual("both steps back", [shown(room), undo.canUndo], [[], false])
+  assert.deepEqual([shown(room), undo.canUndo], [[], false], "both steps back")
   undo.redo()
-  expectEqual("the first step again", shown(room), undone)
+  assert.deepEqual(shown(room), undone, "the first step again")
   undo.redo()
-  expectEqual("both steps again", [shown(room), undo.canRedo], [states[1], false])
-  expectEqual("no step more", undo.redo(), { changes: [], failures: [] })
+  assert.deepEqual([shown(room), undo.canRedo], [states[1], false], "both steps again")
+  assert.deepEqual(undo.redo(), { changes: [], failures: [] }, "no step more")
   undo.undo()
   room.create("text")
-  expectEqual("a new change forgets what was undone", undo.canRedo, false)
+  assert.equal(undo.canRedo, false, "a new change forgets what was undone")
   await agree(room, other)
-  expectEqual("what both show", shown(other), shown(room))
-}
+  assert.deepEqual(shown(other), shown(room), "what both show")
+}))
 
 /** What others did stays, and what they have built on cannot be undone: the manager says why. */
-async function builtOn(client) {
+test("undo of what others built on", LIMIT, withServer(async (client) => {
   const [room, other] = [await client(), await client()]
   const undo = new UndoManager(room)
   const names = ["a", "b", "c", "d"].map((word) => room.create("rect", { word }).object)
@@ -167,17 +168,20 @@ async function builtOn(client) {
   // The last step is the put of z, which has a version beside it now.
   undo.undo()
   const { changes, failures } = undo.undo()
-  expectEqual("what is undone", changes.map(({ object }) => object), [names[3]])
-  expectEqual("what is not", failures.map(({ change, reason }) => [change.object, reason]),
-    [[twice, "several-versions"], [dropped, "deleted"], [changed, "changed"]])
-  expectEqual("what it tells people", failures[2].words, "Somebody has changed it since.")
-  expectEqual("what is left to undo", undo.canUndo, false)
+  assert.deepEqual(changes.map(({ object }) => object), [names[3]], "what is undone")
+  assert.deepEqual(
+    failures.map(({ change, reason }) => [change.object, reason]),
+    [[twice, "several-versions"], [dropped, "deleted"], [changed, "changed"]],
+    "what is not",
+  )
+  assert.equal(failures[2].words, "Somebody has changed it since.", "what it tells people")
+  assert.equal(undo.canUndo, false, "what is left to undo")
   await agree(room, other)
-  expectEqual("the values of the last", [...room.versions(names[3])[0].attributes], [["word", "d"], ["x", ""]])
-}
+  assert.deepEqual([...room.versions(names[3])[0].attributes], [["word", "d"], ["x", ""]], "the values of the last")
+}))
 
 /** The server refuses a change that undoes another: that can be undone again. */
-async function refusedUndo(client) {
+test("undo that the server refuses", LIMIT, withServer(async (client) => {
   const room = await client()
   const undo = new UndoManager(room)
   const made = room.create("rect", { k0: 7 })
@@ -185,19 +189,20 @@ async function refusedUndo(client) {
   await room.settled()
   const release = room.hold()
   const other = await makeMostVersions(client, made.object)
-  expectEqual("what is undone at first", undo.undo().changes.length, 1)
-  expectEqual("what can be redone at first", undo.canRedo, true)
+  assert.equal(undo.undo().changes.length, 1, "what is undone at first")
+  assert.equal(undo.canRedo, true, "what can be redone at first")
   await waitUntil("the refusal", () => room.refused.length > 0)
-  expectEqual("what can be undone and redone", [room.refused, undo.canUndo, undo.canRedo],
-    [["too-many-versions"], true, false])
+  assert.deepEqual(
+    [room.refused, undo.canUndo, undo.canRedo], [["too-many-versions"], true, false], "what can be undone and redone",
+  )
   release()
   await agree(room, other)
-  expectEqual("what is told then", undo.undo().failures.map(({ reason }) => reason), ["several-versions"])
-  expectEqual("what both show", shown(room), shown(other))
-}
+  assert.deepEqual(undo.undo().failures.map(({ reason }) => reason), ["several-versions"], "what is told then")
+  assert.deepEqual(shown(room), shown(other), "what both show")
+}))
 
 /** A client comes back as a new site, with a transaction that was not sent. It can still be undone as one step. */
-async function asNewSite(proxy, room, other, server) {
+test("undo as a new site", LIMIT, withProxy(async (proxy, room, other, server) => {
   const storage = new Storage()
   const first = await enter(proxy.address, { storage })
   const undo = new UndoManager(first)
@@ -216,15 +221,15 @@ async function asNewSite(proxy, room, other, server) {
   const old = first.site
   proxy.whatToDo = () => PASS
   await agree(first, other)
-  expectEqual("whether it has another site", first.site !== old, true)
-  expectEqual("the failures", undo.undo().failures, [])
+  assert.equal(first.site !== old, true, "whether it has another site")
+  assert.deepEqual(undo.undo().failures, [], "the failures")
   await agree(first, other)
-  expectEqual("the values", versionsOf(other, made.object), [[[], [["x", 0]]]])
+  assert.deepEqual(versionsOf(other, made.object), [[[], [["x", 0]]]], "the values")
   first.close()
-}
+}))
 
 /** An object of more attributes than a creation takes comes back whole. Only so many steps are kept. */
-async function large(client) {
+test("undo of a large object", LIMIT, withServer(async (client) => {
   const room = await client()
   const undo = new UndoManager(room, { mostSteps: 3 })
   const pairs = Array.from({ length: 40 }, (_, number) => [`k${10 + number}`, number])
@@ -233,20 +238,20 @@ async function large(client) {
   const last = room.put(made.object, next.version, pairs.slice(32))
   room.drop(made.object, last.version)
   undo.undo()
-  expectEqual("what came back", shown(room), [["rect", pairs]])
+  assert.deepEqual(shown(room), [["rect", pairs]], "what came back")
   undo.redo()
-  expectEqual("what is gone again", shown(room), [])
-  for (let steps = 0; steps < 3; steps++) expectEqual(`step ${steps}`, undo.canUndo && undo.undo().failures, [])
-  expectEqual("the steps", [undo.canUndo, shown(room).length], [false, 1])
+  assert.deepEqual(shown(room), [], "what is gone again")
+  for (let steps = 0; steps < 3; steps++) assert.deepEqual(undo.canUndo && undo.undo().failures, [], `step ${steps}`)
+  assert.deepEqual([undo.canUndo, shown(room).length], [false, 1], "the steps")
   undo.end()
   room.create("line")
-  expectEqual("a manager that has ended", undo.canUndo, false)
+  assert.equal(undo.canUndo, false, "a manager that has ended")
   await room.settled()
-  expectEqual("the refusals", room.refused, [])
-}
+  assert.deepEqual(room.refused, [], "the refusals")
+}))
 
 /** The program of the README does what the README says. */
-async function readmeProgram(client) {
+test("the program of transactions and undo", LIMIT, withServer(async (client) => {
   const text = readFileSync(new URL("../README.md", import.meta.url), "utf8")
   const program = /^ {4}import \{ UndoManager \}[^]*?(?=^At the end)/m.exec(text)[0]
   const room = await client()
@@ -254,18 +259,7 @@ async function readmeProgram(client) {
   const console = { log: (...words) => printed.push(words) }
   new Function("UndoManager", "room", "console", program.replace(/.*import .*\n/, ""))(UndoManager, room, console)
   await room.settled()
-  expectEqual("what is shown and printed", [shown(room), printed], [[["rect", [["x", 0]]], ["line", [["x", 0]]]], []])
-}
-
-export const TESTS = [
-  ["the program of transactions and undo", withServer(readmeProgram)],
-  ["a transaction is sent together", withServer(sentTogether)],
-  ["a transaction of which one change is refused", withServer(oneRefused)],
-  ["a transaction that is cut", withServer(cutWithin)],
-  ["a transaction that throws", withServer(throwing)],
-  ["undo of a transaction", withServer(oneStep)],
-  ["undo of what others built on", withServer(builtOn)],
-  ["undo that the server refuses", withServer(refusedUndo)],
-  ["undo as a new site", withProxy(asNewSite)],
-  ["undo of a large object", withServer(large)],
-]
+  assert.deepEqual(
+    [shown(room), printed], [[["rect", [["x", 0]]], ["line", [["x", 0]]]], []], "what is shown and printed",
+  )
+}))

@@ -1,8 +1,10 @@
 /** What a client takes with it from a room that has ended into its successor: rows by hand, and random histories. */
 
+import assert from "node:assert/strict"
+import test from "node:test"
 import { Drawing, LIMITS, entryOf, operationOf, writeText } from "../grace.js"
 import { Transfer, drawSame, drawingOf, drawnObjects } from "../transfer.js"
-import { expect, expectEqual, numbersFrom } from "./checks.js"
+import { LIMIT, numbersFrom } from "./checks.js"
 import { renewalOf, verdictOf } from "./program.js"
 import { historyOf } from "./random_histories.js"
 
@@ -64,17 +66,16 @@ function transferOf(record, pending, start) {
 
 const sent = ({ groups }) => groups.flatMap(({ operations }) => operations.map(entryOf))
 
-function byHand() {
+test("transfers by hand", LIMIT, () => {
   for (const [name, record, pending, start, operations, copies] of ROWS) {
-    expect(`${name}: the successor draws the same`, drawSame(drawingOf(record), drawingOf(start)))
+    assert.ok(drawSame(drawingOf(record), drawingOf(start)), `${name}: the successor draws the same`)
     const { transfer } = transferOf(record, pending, start)
-    expectEqual(name, [sent(transfer), transfer.copies], [operations, copies])
+    assert.deepEqual([sent(transfer), transfer.copies], [operations, copies], name)
   }
-  return `${ROWS.length} rows`
-}
+})
 
 /** The most keys of an object are used up by others meanwhile. Then its version becomes an object of its own. */
-function tooManyKeys() {
+test("a transfer of too many keys", LIMIT, () => {
   const keys = manyKeys("k", LIMITS.keys)
   const parts = [0, 16, 32, 48].map((from) => keys.slice(from, from + 16))
   const seen = (place) => (place > 0 ? [[1, 1], [2, place]] : [[1, 1]])
@@ -83,12 +84,12 @@ function tooManyKeys() {
   const start = [["join", 1], ["new", [1, 1], [], "rect", all.slice(0, 1)],
     ...[1, 17, 33, 49].map((from, place) => put([1, place + 2], [[1, place + 1]], [], all.slice(from, from + 16)))]
   const { transfer } = transferOf(record, [put([1, 2], [[1, 1]], [], [["one-more", 1]])], start)
-  expectEqual("the words", sent(transfer).map(([word]) => word), ["new", "put", "put", "put", "put"])
-  expectEqual("the copy", transfer.copies, [[[1, 1], [9, 1]]])
-}
+  assert.deepEqual(sent(transfer).map(([word]) => word), ["new", "put", "put", "put", "put"], "the words")
+  assert.deepEqual(transfer.copies, [[[1, 1], [9, 1]]], "the copy")
+})
 
 /** Long texts go into several requests, as each is one message. */
-function longTexts() {
+test("a transfer of long texts", LIMIT, () => {
   const texts = manyKeys("k", 16).map(([key]) => [key, "\u0001".repeat(LIMITS.textBytes)])
   const record = [MADE, put([2, 1], [[1, 1]], [], [["x", 9]])]
   const pending = [1, 2, 3, 4].map((part) =>
@@ -96,27 +97,29 @@ function longTexts() {
   const start = [["join", 1], ["new", [1, 1], [], "rect", [["x", 9]]]]
   const operations = sent(transferOf(record, pending, start).transfer)
   for (const [word, [, number], ...rest] of operations) {
-    expect("it is one message", writeText([word, number, ...rest]).length <= LIMITS.messageBytes)
+    assert.ok(writeText([word, number, ...rest]).length <= LIMITS.messageBytes, "it is one message")
   }
   const attributes = operations.flatMap((entry) => entry.at(-1))
-  expectEqual("the attributes", attributes.sort(), [["x", 5], ...texts].sort())
-}
+  assert.deepEqual(attributes.sort(), [["x", 5], ...texts].sort(), "the attributes")
+})
 
 /** Where versions and names of the old room are in the successor. */
-function correspondences() {
+test("what corresponds after a transfer", LIMIT, () => {
   const [, record, pending, start] = ROWS.find(([name]) => name.startsWith("a put on the second"))
   const { all, transfer } = transferOf(record, pending, start)
   // The put makes the second version the first one.
   const [second, first] = all.versions([1, 1])
   const where = (found) => found.map(({ object, version }) => [object, version.id])
-  expectEqual("one that stays", where([transfer.find([1, 1], first.id)]), [[[1, 1], [[1, 2]]]])
-  expectEqual("one that goes on", where([transfer.find([1, 1], second.id)]), [[[1, 1], [[2, 1], [9, 1]]]])
-  expectEqual("what contains no change", where(transfer.continuations([1, 1], [])).length, 2)
-  expectEqual("what contains one", where(transfer.continuations([1, 1], [[3, 1]])), [[[1, 1], [[2, 1], [9, 1]]]])
-  expectEqual("what was never there", [transfer.find([1, 1], []), transfer.continuations([7, 7], [])], [undefined, []])
+  assert.deepEqual(where([transfer.find([1, 1], first.id)]), [[[1, 1], [[1, 2]]]], "one that stays")
+  assert.deepEqual(where([transfer.find([1, 1], second.id)]), [[[1, 1], [[2, 1], [9, 1]]]], "one that goes on")
+  assert.equal(where(transfer.continuations([1, 1], [])).length, 2, "what contains no change")
+  assert.deepEqual(where(transfer.continuations([1, 1], [[3, 1]])), [[[1, 1], [[2, 1], [9, 1]]]], "what contains one")
+  assert.deepEqual(
+    [transfer.find([1, 1], []), transfer.continuations([7, 7], [])], [undefined, []], "what was never there",
+  )
   const [, ...moved] = ROWS.find(([name]) => name.startsWith("an object before it"))
-  expectEqual("the names", transferOf(...moved).transfer.renamed, [[[1, 3], [1, 1]]])
-}
+  assert.deepEqual(transferOf(...moved).transfer.renamed, [[[1, 3], [1, 1]]], "the names")
+})
 
 /** Splits a history: a record, and operations of a site that are not in it. */
 function split({ sites, operations }, draw) {
@@ -142,7 +145,7 @@ const shown = (drawing) => drawnObjects(drawing).flatMap(({ name, versions }) =>
  * Each version that the old room would show with the pending operations is shown by the successor, and no other. The
  * program refuses none of the operations.
  */
-function atRandom() {
+test("transfers at random", LIMIT, () => {
   const seed = Number(process.env.SEED ?? Date.now() % 1000000)
   console.log(`transfers at random: seed ${seed}`)
   const draw = numbersFrom(seed)
@@ -154,21 +157,21 @@ function atRandom() {
     if (start === null) counts.declined += 1
     else checkOne(record, pending, start, counts)
   }
-  expect("enough are renewed", counts.rooms > HISTORIES / 2)
-  expect("each kind of operation is sent", counts.new > 0 && counts.put > 0 && counts.drop > 0)
+  assert.ok(counts.rooms > HISTORIES / 2, "enough are renewed")
+  assert.ok(counts.new > 0 && counts.put > 0 && counts.drop > 0, "each kind of operation is sent")
   return Object.entries(counts).map(([word, count]) => `${count} ${word}`).join(", ")
-}
+})
 
 function checkOne(record, pending, start, counts) {
-  expect("the successor draws the same", drawSame(drawingOf(record), drawingOf(start)))
+  assert.ok(drawSame(drawingOf(record), drawingOf(start)), "the successor draws the same")
   const site = start.filter(([word]) => word === "join").length + 1
   const all = drawingOf([...record, ...pending])
   const next = drawingOf(start)
   const transfer = new Transfer(drawingOf(record), all, pending.map(([, name]) => name), next, site)
-  expectEqual("what is shown", shown(next), shown(all))
+  assert.deepEqual(shown(next), shown(all), "what is shown")
   const after = [...start, ["join", site], ...sent(transfer)]
-  expectEqual("the verdict", verdictOf(after.map((entry) => `${writeText(entry)}\n`).join("")), "holds")
-  expectEqual("what the entries draw", shown(drawingOf(after)), shown(all))
+  assert.equal(verdictOf(after.map((entry) => `${writeText(entry)}\n`).join("")), "holds", "the verdict")
+  assert.deepEqual(shown(drawingOf(after)), shown(all), "what the entries draw")
   counts.rooms += 1
   counts.pending += pending.length
   counts.copies += transfer.copies.length
@@ -176,20 +179,11 @@ function checkOne(record, pending, start, counts) {
 }
 
 /** A client's drawing may have got the operations in another order. The transfer is the same. */
-function otherOrder() {
+test("a transfer from another order", LIMIT, () => {
   const [, record, pending, start, operations] = ROWS.find(([name]) => name.startsWith("a put beside another"))
   const all = new Drawing()
   const order = [...record.slice(0, 1), ...pending, ...record.slice(1)]
   for (const operation of order) all.add(operationOf(operation))
   const transfer = new Transfer(drawingOf(record), all, pending.map(([, name]) => name), drawingOf(start), 9)
-  expectEqual("what is sent", sent(transfer), operations)
-}
-
-export const TESTS = [
-  ["transfers by hand", byHand],
-  ["a transfer of too many keys", tooManyKeys],
-  ["a transfer of long texts", longTexts],
-  ["what corresponds after a transfer", correspondences],
-  ["a transfer from another order", otherOrder],
-  ["transfers at random", atRandom],
-]
+  assert.deepEqual(sent(transfer), operations, "what is sent")
+})

@@ -179,3 +179,113 @@ class TestBelieved(unittest.TestCase):
         self.assertEqual(self.tree.run("--check"), (0, ["1 passed, 0 failed"]))
         self.tree.run("--write")
         self.assertEqual((self.tree.folder / PAGE).read_text(), WRITTEN.replace("The end.", "More."))
+
+    def test_printed(self):
+        """Without a word the script prints the text. It takes no other words than the two."""
+        status, lines = self.tree.run()
+        self.assertEqual((status, lines), (0, WRITTEN.splitlines()[4:-4]))
+        with contextlib.redirect_stderr(io.StringIO()):
+            self.assertEqual(self.tree.run("--other"), (2, []))
+
+
+class TestSecondPromise(unittest.TestCase):
+    def setUp(self):
+        """Makes a tree with a second promise, whose contract is that of `Pair::sum`."""
+        folder = tempfile.TemporaryDirectory()
+        self.addCleanup(folder.cleanup)
+        self.tree = Tree(folder.name)
+        self.tree.script.PROMISES += (("Sum", "`high::Pair::sum`", (("high/src/pair.rt", ("sum",)),)),)
+        self.tree.write("crates/low/specs/Sums.antt", "-- A sum.\nsum_of : Digit → Digit → Digit\n")
+        self.tree.write("crates/high/specs/Lib.antt", "pub use Rattle.low.specs.Sums\n")
+
+    def text_of_sum(self, *lines):
+        """Returns what the script prints of the second promise, if its file has these lines."""
+        self.tree.write("crates/high/src/pair.rt", "".join(f"{line}\n" for line in lines))
+        _, printed = self.tree.run()
+        _, first, *second = "\n".join(printed).split("**")
+        self.assertEqual((first, second[1]), ("Twice", "Sum"))
+        return second[2].split("\n\n")[:-1]
+
+    def test_method(self):
+        """A contract's words are those of the method, and of the ghost items of its type and of the type's model. What
+        another method says, and another type, does not count."""
+        self.tree.write("crates/low/specs/Marks.antt", "IsMarked : Digit → Set\n")
+        text = self.text_of_sum(
+            "ghost use Rattle.low.specs.Sums.{sum_of};",
+            "ghost use Rattle.low.specs.steps.Halves.{half};",
+            "",
+            "impl<const MOST: usize> Model for Pair<MOST> {",
+            "    ghost use Rattle.low.specs.Marks.{IsMarked};",
+            "    ghost invariant = { λ pair.",
+            "        IsMarked pair.first };",
+            "}",
+            "",
+            "impl<const MOST: usize> Pair<MOST> {",
+            "    pub fn sum(&self) -> u8",
+            "        ensures { result ≡ sum_of (self.first) (self.second) }",
+            "    {",
+            "    }",
+            "",
+            "    pub fn half(&self) -> u8",
+            "        ensures { result ≡ half (self.first) }",
+            "    {",
+            "    }",
+            "}",
+            "",
+            "impl Model for Other {",
+            "    ghost view = { λ other. half other.first };",
+            "}",
+        )
+        self.assertEqual(text, [" (`high::Pair::sum`): 2 modules more, 3 lines.", "- `low`: `Sums` 2, `Marks` 1"])
+
+    def test_declared(self):
+        """Types and constants that `src/` declares are listed by their modules, and not followed."""
+        text = self.text_of_sum(
+            "ghost use Rattle.high.specs.declared.pair.Pair.{Pair};",
+            "ghost use Rattle.low.specs.Sums.{sum_of};",
+            "pub fn sum(pair: Pair) -> u8",
+            "    ensures { result ≡ first Pair }",
+            "{",
+        )
+        self.assertEqual(text, [
+            " (`high::Pair::sum`): 0 modules more, 0 lines.",
+            "Types and constants as declared in `src/`: `high` `pair`.",
+        ])
+
+    def test_re_exported(self):
+        """A module that a crate only passes on is the one of the other crate."""
+        text = self.text_of_sum(
+            "ghost use Rattle.high.specs.Sums.{sum_of as both};", "pub fn sum() -> u8", "    ensures { both }", "{",
+        )
+        self.assertEqual(text, [" (`high::Pair::sum`): 1 module more, 2 lines.", "- `low`: `Sums` 2"])
+
+    def test_of_another_repository(self):
+        """A crate that is not in this repository is not followed."""
+        text = self.text_of_sum(
+            "ghost use Rattle.std.specs.Lists as lists;", "pub fn sum() -> u8", "    ensures { lists }", "{",
+        )
+        self.assertEqual(text, [" (`high::Pair::sum`): 0 modules more, 0 lines."])
+
+    def test_determined(self):
+        """In place of a module that a law determines, what the law's contract cites is reached. The module and what
+        only it imports are named, and may be steps."""
+        self.tree.script.DETERMINED = {
+            ("low", "steps/Reads"): ("`low::laws`", "low/src/laws.rt", ("read_by_form",)),
+        }
+        self.tree.write("crates/low/specs/steps/Reads.antt", (
+            "use Rattle.low.specs.steps.Halves.{half}\nuse Rattle.low.specs.Digits.{Digit}\nread : Digit → Digit\n"
+        ))
+        self.tree.write("crates/low/src/laws.rt", (
+            "ghost use Rattle.low.specs.Sums.{sum_of};\nghost use Rattle.low.specs.steps.Reads.{read};\n"
+            "pub fn read_by_form()\n    ensures { read ≡ sum_of }\n{}\n"
+        ))
+        text = self.text_of_sum(
+            "ghost use Rattle.low.specs.steps.Reads.{read};", "pub fn sum() -> u8", "    ensures { read }", "{",
+        )
+        self.assertEqual(text, [
+            " (`high::Pair::sum`): 1 module more, 2 lines.", "- `low`: `Sums` 2",
+            "Determined by the law `low::laws` (`read_by_form`), and not counted: `low` `steps/Reads` 1,"
+            " `low` `steps/Halves` 1.",
+        ])
+        self.tree.run("--write")
+        self.assertEqual(self.tree.run("--check"), (0, ["1 passed, 0 failed"]))

@@ -26,6 +26,8 @@ PROCESSES, PEOPLE_A_ROOM = 3, 2
 BETWEEN, PAUSE, STILL, BACK = 1.5, 0.03, 3, 5
 # A crowd: its rooms, its people in each room, the pause of a person and the time between two events, in seconds.
 CROWD_ROOMS, CROWD_A_ROOM, CROWD_PAUSE, CROWD_BETWEEN = [f"room-{number}" for number in range(200)], 5, 8, 10
+# The time limit of a test with a crowd, in seconds: the checker looks at the record of each room.
+CROWD_SECONDS = 900
 # A line of nginx's log: the path, with who asks behind it, and the processes that it asked with their answers.
 LOG = "log_format asked '{\"path\":\"$request_uri\",\"asked\":\"$upstream_addr\",\"answers\":\"$upstream_status\"}';"
 
@@ -239,9 +241,3 @@ def check_crowd(proxy):
         )
     print(f"a crowd: {len(many.people)} people in {len(many.rooms)} rooms with {replies} replies hold")
     print(f"all were back after {away:.2f} s")
-
-
-def check_many(proxy):
-    """Checks a kill and a stop."""
-    check_kill(proxy)
-    check_stop(proxy)

@@ -14,6 +14,12 @@ CAUSES = [
 REASONS = ["full", "elsewhere", "file", "memory", "late"]
 
 
+def ask_all(client, *requests):
+    """Sends each request and waits for its reply."""
+    for request in requests:
+        client.ask(request)
+
+
 class TestMetrics(unittest.TestCase):
     def samples_once(self, server, sessions):
         """Returns the samples once there are this many sessions."""
@@ -29,13 +35,10 @@ class TestMetrics(unittest.TestCase):
         Nothing is synced without a folder."""
         with Server(5, 2, rooms=("r", "s"), clients=7) as server:
             closed, open_client = server.client(), server.client()
-            for request in ('["join","t"]', '["join","r"]', '["new",1,[],"rect",[["x",0]]]', '["leave"]', "hello"):
-                closed.ask(request)
+            ask_all(closed, '["join","t"]', '["join","r"]', '["new",1,[],"rect",[["x",0]]]', '["leave"]', "hello")
             closed.close()
-            for request in (
-                '["back","r",1]', '["put",2,[[1,1]],[1,1],[],[["x",5]]]', '["put",9,[],[1,1],[],[["x",6]]]',
-            ):
-                open_client.ask(request)
+            ask_all(open_client, '["back","r",1]', '["put",2,[[1,1]],[1,1],[],[["x",5]]]')
+            ask_all(open_client, '["put",9,[],[1,1],[],[["x",6]]]')
             server.client().expect_reply('["join","s"]', '["joined",0,1]')
             server.client().hang_up()
             found = self.samples_once(server, 2)

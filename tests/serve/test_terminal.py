@@ -44,6 +44,23 @@ class Terminal:
         check.assertEqual(self.process.stdout.read(), "", "the rest of its output")
 
 
+def record_two(first, second):
+    """Records the requests of two terminals that put one key at once, and their replies."""
+    first.record(["join", "r"], ["joined", 0, 1])
+    first.record(["new", 1, [], "rect", [["x", 0]]], ["made", 1, [1, 1]])
+    second.record(["join", "r"], ["joined", 2, 2])
+    first.record(["put", 2, [[1, 1]], [1, 1], [], [["x", 5]]], ["taken", 3, [[]]])
+    own, both = [[2, 1]], [[1, 2], [2, 1]]
+    second.record(["put", 1, [[1, 1]], [1, 1], [], [["x", 9]]], ["taken", 4, [[[1, 2]], own]])
+    second.record(
+        ["put", 2, both, [1, 1], own, [["fill", "red"], ["name", "große"]]],
+        ["taken", 5, [[[1, 2]], [*own, [2, 2]]]],
+    )
+    first.record(
+        ["drop", 3, [[1, 2], [2, 2]], [1, 1], [[1, 2]]], ["taken", 6, [[[1, 2], [1, 3]], [*own, [2, 2]]]],
+    )
+
+
 class TestTerminal(unittest.TestCase):
     def test_two_terminals(self):
         """Two clients put one key concurrently. Both show both versions, and the second continues from its own."""
@@ -76,19 +93,7 @@ class TestTerminal(unittest.TestCase):
             first.enter("put 1 1 x 1", "refused: 18 gone")
             first.close()
             second.close()
-            first.record(["join", "r"], ["joined", 0, 1])
-            first.record(["new", 1, [], "rect", [["x", 0]]], ["made", 1, [1, 1]])
-            second.record(["join", "r"], ["joined", 2, 2])
-            first.record(["put", 2, [[1, 1]], [1, 1], [], [["x", 5]]], ["taken", 3, [[]]])
-            own, both = [[2, 1]], [[1, 2], [2, 1]]
-            second.record(["put", 1, [[1, 1]], [1, 1], [], [["x", 9]]], ["taken", 4, [[[1, 2]], own]])
-            second.record(
-                ["put", 2, both, [1, 1], own, [["fill", "red"], ["name", "große"]]],
-                ["taken", 5, [[[1, 2]], [*own, [2, 2]]]],
-            )
-            first.record(
-                ["drop", 3, [[1, 2], [2, 2]], [1, 1], [[1, 2]]], ["taken", 6, [[[1, 2], [1, 3]], [*own, [2, 2]]]],
-            )
+            record_two(first, second)
             server.finish()
 
     def test_comes_back(self):

@@ -105,28 +105,33 @@ class TestFromJoinToClose(unittest.TestCase):
         """Requests behind a join in one burst of bytes are answered in their order, also where the rooms are first to
         be opened."""
         for name, most in [("where each has to be opened", 1), ("where they stay open", 3)]:
-            with self.subTest(name), room_folder() as folder, OnDemandServer(folder, most, workers=1) as server:
-                client = server.client()
-                draw_once(client, "b")
-                requests = {
-                    '["join","a"]': '["joined",0,1]',
-                    new(1): '["made",1,[1,1]]',
-                    new(2): '["made",2,[1,2]]',
-                    '["join","c"]': '["no",0,3,"already-joined"]',
-                    '["leave"]': '["left",3]',
-                    '["list",0]': '["no",0,2,"not-joined"]',
-                    '["back","b",1]': '["back",2,1,1]',
-                    '["show",[1,1]]': '["versions",2,[1,1],"rect",[[[],[["x",1]]]]]',
-                    '["pull",2]': '["entries",2,2,[]]',
-                    '["leave"] ': '["left",2]',
-                    '["join","R"]': '["no",0,1,"bad-message"]',
-                    '["back","a",1]': '["back",3,1,2]',
-                    '["list",1]': '["objects",3,1,2,[[[1,2],"rect"]]]',
-                }
-                client.send(b"".join(client.frame_of(request) for request in requests))
-                for request, reply in requests.items():
-                    self.assertEqual(client.read_reply(), reply, f"the reply to {request}")
-                server.finish()
+            with self.subTest(name):
+                self.check_burst(most)
+
+    def check_burst(self, most):
+        """Sends requests in one burst to a server that may have so many rooms open."""
+        with room_folder() as folder, OnDemandServer(folder, most, workers=1) as server:
+            client = server.client()
+            draw_once(client, "b")
+            requests = {
+                '["join","a"]': '["joined",0,1]',
+                new(1): '["made",1,[1,1]]',
+                new(2): '["made",2,[1,2]]',
+                '["join","c"]': '["no",0,3,"already-joined"]',
+                '["leave"]': '["left",3]',
+                '["list",0]': '["no",0,2,"not-joined"]',
+                '["back","b",1]': '["back",2,1,1]',
+                '["show",[1,1]]': '["versions",2,[1,1],"rect",[[[],[["x",1]]]]]',
+                '["pull",2]': '["entries",2,2,[]]',
+                '["leave"] ': '["left",2]',
+                '["join","R"]': '["no",0,1,"bad-message"]',
+                '["back","a",1]': '["back",3,1,2]',
+                '["list",1]': '["objects",3,1,2,[[[1,2],"rect"]]]',
+            }
+            client.send(b"".join(client.frame_of(request) for request in requests))
+            for request, reply in requests.items():
+                self.assertEqual(client.read_reply(), reply, f"the reply to {request}")
+            server.finish()
 
     def test_prompt(self):
         """A join of a room that is not open is answered at once, also where another room has to give place."""

@@ -454,15 +454,19 @@ class TestOnDemand(unittest.TestCase):
             ("a first room that goes on", {OLD: lambda: b'["join",1]\n', NEW: renewed}),
         ]:
             with self.subTest(name):
-                files = {name: data() for name, data in contents.items()}
-                with folder_of(files) as folder, OnDemandServer(folder, 3) as server:
-                    client = server.client()
-                    for room in ("plan.2", "plan.3"):
-                        client.expect_reply(["join", room], NOT_SERVED)
-                        client.expect_reply(["back", room, 1], NOT_SERVED)
-                    self.assertEqual(refusals_of(server), {"file": 4}, "the refusals")
-                    server.finish()
-                    expect_files(folder, files)
+                self.check_rooms_that_are_not_reached(name, contents)
+
+    def check_rooms_that_are_not_reached(self, name, contents):
+        """Asks for the later rooms of a chain with these files."""
+        files = {name: data() for name, data in contents.items()}
+        with folder_of(files) as folder, OnDemandServer(folder, 3) as server:
+            client = server.client()
+            for room in ("plan.2", "plan.3"):
+                client.expect_reply(["join", room], NOT_SERVED)
+                client.expect_reply(["back", room, 1], NOT_SERVED)
+            self.assertEqual(refusals_of(server), {"file": 4}, "the refusals")
+            server.finish()
+            expect_files(folder, files)
 
     def test_renewal_on_demand(self):
         """The opening of a room that is nearly full ends it. Who joins is sent on, and the new room is made when it is
@@ -559,8 +563,7 @@ class TestOnDemand(unittest.TestCase):
         """With `--by-path` a handshake over /plan is let in while a later room of the chain has the only place."""
         with folder_of({OLD: ended(), NEW: renewed()}) as folder, OnDemandServer(folder, 1, by_path=True) as server:
             for site in (2, 3):
-                client = server.connect()
-                client.open("/plan")
+                client = server.client("/plan")
                 client.expect_reply(["join", "plan"], SENT_ON)
                 client.expect_reply(["join", "plan.2"], f'["joined",{RENEWED + site - 2},{site}]')
             server.kill()

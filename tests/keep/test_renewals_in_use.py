@@ -134,43 +134,51 @@ class TestRenewalsInUse(unittest.TestCase):
             ("a file in the place of the next", nearly_full, {NEW: renewed}),
         ]:
             with self.subTest(name):
-                data = record()
-                data = data if isinstance(data, bytes) else text_of(data)
-                with folder_of({OLD: data, **{name: of() for name, of in others.items()}}) as folder:
-                    with OnDemandServer(folder, 3) as server:
-                        client = server.client()
-                        site, entries = data.count(b'"join"') + 1, data.count(b"\n")
-                        client.expect_reply(["join", "plan"], f'["joined",{entries},{site}]')
-                        for seq in range(1, 20):
-                            own = [[site, seq - 1]] if seq > 1 else []
-                            reply = client.ask(compact(["put", seq, [[1, 1], *own], [1, 1], [], [["x", seq]]]))
-                            self.assertEqual(reply, f'["taken",{entries + seq},[[]]]', "the reply")
-                        self.assertFalse(has_ended(folder), "whether it has ended")
-                        server.kill()
-                        server.warnings()
+                self.check_declined(record, others)
+
+    def check_declined(self, record, others):
+        """Draws in a room with this record beside these files."""
+        data = record()
+        data = data if isinstance(data, bytes) else text_of(data)
+        with folder_of({OLD: data, **{name: of() for name, of in others.items()}}) as folder:
+            with OnDemandServer(folder, 3) as server:
+                client = server.client()
+                site, entries = data.count(b'"join"') + 1, data.count(b"\n")
+                client.expect_reply(["join", "plan"], f'["joined",{entries},{site}]')
+                for seq in range(1, 20):
+                    own = [[site, seq - 1]] if seq > 1 else []
+                    reply = client.ask(compact(["put", seq, [[1, 1], *own], [1, 1], [], [["x", seq]]]))
+                    self.assertEqual(reply, f'["taken",{entries + seq},[[]]]', "the reply")
+                self.assertFalse(has_ended(folder), "whether it has ended")
+                server.kill()
+                server.warnings()
 
     def test_joins_of_all(self):
         """A room goes on while the next one would not have a quarter of its joins left once all who are in have joined
         it."""
         for name, stay in [("all stay", True), ("all but one leave", False)]:
             with self.subTest(name):
-                record = many_versions()
-                sites = range(record.count(b'"join"') + 1, JOINS + 1)
-                with folder_of({OLD: record}) as folder, server_of(folder) as server:
-                    for site in sites:
-                        client = server.client()
-                        self.assertEqual(json.loads(client.ask(["join", "plan"]))[2], site, "the reply")
-                        if not stay and site < JOINS:
-                            client.close()
-                    for seq in range(1, 17):
-                        reply = json.loads(client.ask(["new", seq, [[JOINS, seq - 1]] if seq > 1 else [], "line", []]))
-                        if reply[0] == "no":
-                            break
-                    if not stay:
-                        wait_until("the record has ended", lambda: has_ended(folder))
-                    self.assertEqual(reply[0] == "made" and not has_ended(folder), stay, "whether all was taken")
-                    server.kill()
-                    server.warnings()
+                self.check_joins_of_all(stay)
+
+    def check_joins_of_all(self, stay):
+        """Has clients join until the room is nearly full, who stay or leave."""
+        record = many_versions()
+        sites = range(record.count(b'"join"') + 1, JOINS + 1)
+        with folder_of({OLD: record}) as folder, server_of(folder) as server:
+            for site in sites:
+                client = server.client()
+                self.assertEqual(json.loads(client.ask(["join", "plan"]))[2], site, "the reply")
+                if not stay and site < JOINS:
+                    client.close()
+            for seq in range(1, 17):
+                reply = json.loads(client.ask(["new", seq, [[JOINS, seq - 1]] if seq > 1 else [], "line", []]))
+                if reply[0] == "no":
+                    break
+            if not stay:
+                wait_until("the record has ended", lambda: has_ended(folder))
+            self.assertEqual(reply[0] == "made" and not has_ended(folder), stay, "whether all was taken")
+            server.kill()
+            server.warnings()
 
     def test_other_rooms(self):
         """A server that has only the rooms of the command line and of their chains opens no other, and leaves no file

@@ -7,10 +7,16 @@ import time
 from lib.checks import check
 from lib.websocket_client import SECONDS, head, new_key
 
+# The seconds between two pieces of what is sent.
+APART = 0.02
 METRICS = b"GET /metrics HTTP/1.1\r\nHost: localhost\r\n\r\n"
 HEAD = re.compile(
     rb"HTTP/1\.1 200 OK\r\nContent-Type: text/plain; version=0\.0\.4\r\nContent-Length: (\d+)\r\n"
     rb"Cache-Control: no-store\r\nConnection: close\r\n\r\n"
+)
+HEALTHY = (
+    b"HTTP/1.1 200 OK\r\nContent-Type: text/plain\r\nContent-Length: 3\r\nCache-Control: no-store\r\n"
+    b"Connection: close\r\n\r\nok\n"
 )
 TURNED_AWAY = (
     b"HTTP/1.1 503 Service Unavailable\r\nRetry-After: 5\r\nContent-Length: 0\r\nConnection: close\r\n\r\n"
@@ -29,23 +35,26 @@ def wait_until(what, is_so):
         time.sleep(0.02)
 
 
-def expect_turned_away(server, target="/"):
-    """Expects that the server turns a further client away, who asks for this target."""
+def answer_to(server, *pieces):
+    """Connects and sends these bytes, a little apart. Returns all that the server sends until the connection ends."""
     with socket.create_connection(server.address, SECONDS) as client:
-        client.sendall(head(new_key(), target))
+        for place, piece in enumerate(pieces):
+            time.sleep(APART if place else 0)
+            client.sendall(piece)
         received = b""
         while data := client.recv(4096):
             received += data
-    check.assertEqual(received, TURNED_AWAY, "the answer")
+        return received
+
+
+def expect_turned_away(server, target="/"):
+    """Expects that the server turns a further client away, who asks for this target."""
+    check.assertEqual(answer_to(server, head(new_key(), target)), TURNED_AWAY, "the answer")
 
 
 def samples(server):
     """Returns the samples by their name and labels. Each has the help and the type of its family before it."""
-    with socket.create_connection(server.address, SECONDS) as client:
-        client.sendall(METRICS)
-        answer = b""
-        while data := client.recv(4096):
-            answer += data
+    answer = answer_to(server, METRICS)
     head = HEAD.match(answer)
     if not head:
         raise AssertionError(f"the answer {answer!r:.300}")

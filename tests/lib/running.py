@@ -7,7 +7,8 @@ import time
 import unittest
 
 # The time limit of a test, and of each of its subtests, in seconds. The attribute `time_limit` of a class replaces it.
-# Most tests take less than a second.
+# Most tests take less than a second. Before Python 3.11 the subtests of a test have one limit together, since
+# `unittest` tells of them at the end of the test.
 SECONDS = 300
 
 # The command-line options of tests/run, with their defaults.

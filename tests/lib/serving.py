@@ -39,6 +39,9 @@ IN_MEMORY = "WARN", "rooms are in memory only; --keep DIR keeps them"
 # The default time limit of a run of the program, in seconds.
 RUN = 240
 
+# How long a client that is to get nothing is given something by mistake, in seconds.
+SILENCE = 0.3
+
 # The first line of `grace serve`, with the port.
 LISTENING = re.compile(r"listening 127\.0\.0\.1:([1-9]\d*)\n")
 
@@ -156,6 +159,13 @@ class Client(Connection):
             self.socket.close()
         except TimeoutError:
             raise AssertionError(f"the connection is still open after {SECONDS} seconds") from None
+
+    def expect_silence(self):
+        """Expects that the server sends nothing for a while."""
+        self.socket.settimeout(SILENCE)
+        with check.assertRaises(TimeoutError):
+            self.fill()
+        self.socket.settimeout(SECONDS)
 
     def await_away(self):
         """Reads replies up to a close of 1001, which it answers. Expects that the server then ends the connection.
@@ -323,10 +333,10 @@ class Server:
         self.clients.append(OtherClient())
         return self.clients[-1]
 
-    def client(self, **options):
-        """Connects a further client and performs the handshake."""
+    def client(self, target="/", **options):
+        """Connects a further client and performs the handshake, over this target."""
         client = self.connect(**options)
-        client.open()
+        client.open(target)
         return client
 
     def memory(self):

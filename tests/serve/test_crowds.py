@@ -40,17 +40,22 @@ class TestOneClient(unittest.TestCase):
         """One client sends 802 requests before it reads, in pieces of this size that end anywhere. Each request gets
         one reply, in order."""
         for name, size in [("in one piece", 1 << 20), ("in small pieces", 1009)]:
-            with self.subTest(name), Server() as server:
-                client = server.client()
-                talk = list(requests_of_one(200))
-                data = b"".join(client.frame_of(request) for request, _ in talk)
-                for place in range(0, len(data), size):
-                    client.send(data[place : place + size])
-                for request, reply in talk:
-                    self.assertEqual(client.read_reply(), reply, f"the reply to {request}")
-                client.send(frame(PING, b"no more"))
-                self.assertEqual(client.read_frame(), (PONG, b"no more"), "the frame after the replies")
-                server.finish()
+            with self.subTest(name):
+                self.check_in_flight(size)
+
+    def check_in_flight(self, size):
+        """Sends all requests in pieces of this size, and then reads the replies."""
+        with Server() as server:
+            client = server.client()
+            talk = list(requests_of_one(200))
+            data = b"".join(client.frame_of(request) for request, _ in talk)
+            for place in range(0, len(data), size):
+                client.send(data[place : place + size])
+            for request, reply in talk:
+                self.assertEqual(client.read_reply(), reply, f"the reply to {request}")
+            client.send(frame(PING, b"no more"))
+            self.assertEqual(client.read_frame(), (PONG, b"no more"), "the frame after the replies")
+            server.finish()
 
     def test_two_at_a_time(self):
         """The server answers two requests in one piece at once: no reply waits for the TCP acknowledgement of the one

@@ -9,8 +9,6 @@ from lib.serving import Client, Server
 from lib.websocket_client import BINARY, SECONDS
 
 JOIN = '["join","r"]'
-# A wait that is to be held is given this long, in seconds, to be answered by mistake.
-PATIENCE = 0.3
 # How often a room is rung in a second at most, and for how many seconds notes are changed as fast as a session can.
 RINGS, CHANGING_SECONDS = 20, 2
 SITTERS, DRAWERS, ROUNDS, PAUSE = 64, 8, 20, 0.1
@@ -51,13 +49,6 @@ def draw(client, site, faults):
 
 
 class TestNotes(unittest.TestCase):
-    def expect_held(self, client):
-        """Expects that the server sends the client nothing for a while."""
-        client.socket.settimeout(PATIENCE)
-        with self.assertRaises(TimeoutError, msg="a wait was answered"):
-            client.fill()
-        client.socket.settimeout(SECONDS)
-
     def test_a_note_changes(self):
         """A held wait of a session that has asked for notes is answered when one changes, and at once if one has
         changed since."""
@@ -65,7 +56,7 @@ class TestNotes(unittest.TestCase):
             with self.subTest(name), Server(2, workers) as server:
                 moving, waiting = two_in_room(server)
                 waiting.send_request('["wait",2]')
-                self.expect_held(waiting)
+                waiting.expect_silence()
                 moving.expect_reply('["note","a"]', '["notes",2,[[1,"a"]]]')
                 self.assertEqual(waiting.read_reply(), '["entries",2,2,[]]', "the page")
                 moving.expect_reply('["note","b"]', '["notes",2,[[1,"b"]]]')
@@ -73,7 +64,7 @@ class TestNotes(unittest.TestCase):
                 waiting.expect_reply('["notes"]', '["notes",2,[[1,"b"]]]')
                 waiting.send_request('["wait",2]')
                 moving.expect_reply('["note","b"]', '["notes",2,[[1,"b"]]]')
-                self.expect_held(waiting)
+                waiting.expect_silence()
                 waiting.close()
                 server.finish()
 
@@ -84,8 +75,8 @@ class TestNotes(unittest.TestCase):
             first.send_request('["wait",2]')
             second.expect_reply('["note","a"]', '["notes",2,[[2,"a"]]]')
             second.send_request('["wait",2]')
-            self.expect_held(first)
-            self.expect_held(second)
+            first.expect_silence()
+            second.expect_silence()
             second.close()
             server.finish()
 

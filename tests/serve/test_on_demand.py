@@ -20,13 +20,6 @@ NUMBERED = ["a.2", "a.999999", 62 * "a" + ".2"]
 CROWD, NAMES, FEW = 8, 200, 5
 
 
-def opened(server, target="/"):
-    """Connects a client over this target."""
-    client = server.connect()
-    client.open(target)
-    return client
-
-
 class TestOnDemand(unittest.TestCase):
     def draw_once(self, client, room):
         """Joins a room, creates an object there and leaves. Returns whether the server served the room."""
@@ -132,7 +125,7 @@ class TestOnDemand(unittest.TestCase):
         enter rooms of the chain NAME alone, over another path no room. What it may not enter is refused by 4, and uses
         up no room."""
         with Server(4, 1, rooms=("r",), on_demand=2, by_path=True) as server:
-            nowhere, first, second = (opened(server, target) for target in ("/", "/a", "/b"))
+            nowhere, first, second = (server.client(target) for target in ("/", "/a", "/b"))
             for target in ("/c", "/d?x"):
                 expect_turned_away(server, target)
             for request in (["join", "a"], ["join", "r"], ["back", "a", 1]):
@@ -143,7 +136,7 @@ class TestOnDemand(unittest.TestCase):
             first.expect_reply(["join", "a"], '["joined",0,1]')
             second.expect_reply(["join", "b"], '["joined",0,1]')
             expect_turned_away(server, "/c")
-            opened(server, "/b").expect_reply(["join", "b"], '["joined",1,2]')
+            server.client("/b").expect_reply(["join", "b"], '["joined",1,2]')
             self.assertEqual(list(server.finish()), ["r", "a", "b"], "the rooms")
 
     def test_watch(self):

@@ -7,16 +7,12 @@ import tempfile
 import time
 import unittest
 
-from lib.observing import await_report, expect_turned_away, report_of, wait_until
+from lib.observing import HEALTHY, answer_to, await_report, expect_turned_away, report_of, wait_until
 from lib.records import compact
 from lib.serving import Server
 from lib.websocket_client import SECONDS, TEXT, Ended, frame, head, new_key
 
 JOIN = '["join","r"]'
-ANSWER = (
-    b"HTTP/1.1 200 OK\r\nContent-Type: text/plain\r\nContent-Length: 3\r\nCache-Control: no-store\r\n"
-    b"Connection: close\r\n\r\nok\n"
-)
 NO_DESCRIPTOR = "no descriptor is left for another connection"
 PROBE = b"GET /health HTTP/1.1\r\nHost: localhost\r\nUser-Agent: monitor\r\n\r\n"
 
@@ -220,18 +216,6 @@ class TestWarningsBeforeALimit(unittest.TestCase):
 # ---- probes
 
 
-def probe_answer(server, *pieces):
-    """Sends these bytes in pieces. Returns all that the server sends until the connection ends."""
-    with socket.create_connection(server.address, SECONDS) as probe:
-        for piece in pieces:
-            probe.sendall(piece)
-            time.sleep(0.02 if len(pieces) > 1 else 0)
-        received = b""
-        while data := probe.recv(4096):
-            received += data
-        return received
-
-
 NO_PROBES = [
     ("another path", PROBE.replace(b"/health", b"/healthy")),
     ("a POST", PROBE.replace(b"GET", b"POST")),
@@ -244,7 +228,7 @@ class TestProbes(unittest.TestCase):
         """The server answers a probe and does not count it as a session: the only allowed session comes after it."""
         with Server(1, 1) as server:
             for pieces in ([PROBE], [PROBE[:3], PROBE[3:40], PROBE[40:]], [PROBE.replace(b"1.1", b"1.0")]):
-                self.assertEqual(probe_answer(server, *pieces), ANSWER, "the answer")
+                self.assertEqual(answer_to(server, *pieces), HEALTHY, "the answer")
             server.client().expect_reply(JOIN, '["joined",0,1]')
             server.finish()
             self.assertEqual(server.other_notices, [], "the notices")
@@ -257,7 +241,7 @@ class TestProbes(unittest.TestCase):
             client.expect_reply(JOIN, '["joined",0,1]')
             silent = [server.connect() for _ in range(40)]
             for _ in range(3):
-                self.assertEqual(probe_answer(server, PROBE), ANSWER, "the answer")
+                self.assertEqual(answer_to(server, PROBE), HEALTHY, "the answer")
             for other in silent:
                 other.hang_up()
             client.close()
@@ -267,8 +251,7 @@ class TestProbes(unittest.TestCase):
     def test_path_of_a_probe(self):
         """A WebSocket may use the path of a probe."""
         with Server(1, 1) as server:
-            client = server.connect()
-            client.open("/health")
+            client = server.client("/health")
             client.expect_reply(JOIN, '["joined",0,1]')
             server.finish()
 

@@ -15,20 +15,13 @@ OF_NONE = [
 ]
 
 
-def opened(server, target):
-    """Connects a client over this target."""
-    client = server.connect()
-    client.open(target)
-    return client
-
-
 class TestPaths(unittest.TestCase):
     def test_room_of_the_path(self):
         """A session over /NAME may enter NAME alone, and again after it left. It is not told whether another room
         exists."""
         with Server(len(OF_ROOM), 1, rooms=("r", "s"), by_path=True) as server:
             for site, target in enumerate(OF_ROOM, 1):
-                client = opened(server, target)
+                client = server.client(target)
                 for request in (["join", "s"], ["back", "s", 1], ["join", "t"], ["join", "rr"]):
                     client.expect_reply(request, NONE)
                 self.assertEqual(client.reply_to(["join", "r"])[0::2], ["joined", site], "the join")
@@ -42,7 +35,7 @@ class TestPaths(unittest.TestCase):
         """A session over any other target may enter no room. Nothing in it is decoded."""
         with Server(len(OF_NONE), 1, rooms=("r", "s"), by_path=True) as server:
             for target in OF_NONE:
-                client = opened(server, target)
+                client = server.client(target)
                 for request in (["join", "r"], ["join", "s"], ["back", "r", 1]):
                     client.expect_reply(request, NONE)
                 client.expect_reply(["leave"], '["no",0,2,"not-joined"]')
@@ -53,7 +46,7 @@ class TestPaths(unittest.TestCase):
         targets = ["/", "/s", "/no/room?s"]
         with Server(len(targets), 1, rooms=("r", "s")) as server:
             for site, target in enumerate(targets, 1):
-                client = opened(server, target)
+                client = server.client(target)
                 self.assertEqual(client.reply_to(["join", "r"])[0::2], ["joined", site], "the join")
                 client.reply_to(["leave"])
                 self.assertEqual(client.reply_to(["join", "s"])[0::2], ["joined", site], "the join")
@@ -62,7 +55,7 @@ class TestPaths(unittest.TestCase):
     def test_watch(self):
         """`grace watch` shows the room of its request's path."""
         with Server(2, 1, rooms=("r", "s"), by_path=True) as server:
-            client = opened(server, "/s")
+            client = server.client("/s")
             client.expect_reply(["join", "s"], '["joined",0,1]')
             client.expect_reply(["new", 1, [], "rect", [["x", 0]]], '["made",1,[1,1]]')
             shown = run("watch", server.name, "s", seconds=SECONDS)

@@ -1,15 +1,10 @@
 """The heads of probes, and heads that differ from them in one place."""
 
-import socket
 import unittest
 
+from lib.observing import HEALTHY, answer_to
 from lib.serving import Server
-from lib.websocket_client import SECONDS
 
-ANSWER = (
-    b"HTTP/1.1 200 OK\r\nContent-Type: text/plain\r\nContent-Length: 3\r\nCache-Control: no-store\r\n"
-    b"Connection: close\r\n\r\nok\n"
-)
 PROBES = [
     b"GET /health HTTP/1.1\r\n\r\n",
     b"GET /health HTTP/1.1\r\nHost: localhost:7000\r\nUser-Agent: curl/8.5.0\r\nAccept: */*\r\n\r\n",
@@ -32,16 +27,6 @@ BEGUN = [
 ]
 
 
-def answer_to(server, head):
-    """Connects and sends this head. Returns all that the server sends until the connection ends."""
-    with socket.create_connection(server.address, SECONDS) as client:
-        client.sendall(head)
-        received = b""
-        while data := client.recv(4096):
-            received += data
-        return received
-
-
 class TestProbeHeads(unittest.TestCase):
     def expect_no_answer_yet(self, client):
         """Expects that the client has received nothing."""
@@ -53,7 +38,7 @@ class TestProbeHeads(unittest.TestCase):
         """A probe is answered, whatever its other fields are. It is no session: the only one comes after them."""
         with Server(1, 1) as server:
             for head in PROBES:
-                self.assertEqual(answer_to(server, head), ANSWER, f"the answer to {head!r}")
+                self.assertEqual(answer_to(server, head), HEALTHY, f"the answer to {head!r}")
             server.client().expect_reply('["join","r"]', '["joined",0,1]')
             server.finish()
 
@@ -75,5 +60,5 @@ class TestProbeHeads(unittest.TestCase):
             for place, head in enumerate(BEGUN):
                 client = server.connect()
                 client.send(head)
-                self.assertEqual(answer_to(server, PROBES[place % len(PROBES)]), ANSWER, "the answer to a probe")
+                self.assertEqual(answer_to(server, PROBES[place % len(PROBES)]), HEALTHY, "the answer to a probe")
                 self.expect_no_answer_yet(client)

@@ -49,7 +49,7 @@ class TestHandshakes(unittest.TestCase):
                 self.check_handshake_fails(*row)
 
     def check_handshake_fails(self, data, server_ends=True):
-        """Sends these bytes. Expects that the server ends the connection, unless the client does, and serves another."""
+        """Sends these bytes, and expects that the server then serves another client."""
         with Server(2, 1) as server:
             client = server.connect()
             try:

@@ -11,8 +11,6 @@ from lib.serving import Server
 from lib.websocket_client import CLOSE, PING, PONG, SECONDS, TEXT, closing, frame
 
 JOIN = '["join","r"]'
-# A wait that is to be held is given this long, in seconds, to be answered by mistake.
-PATIENCE = 0.3
 HELD_SECONDS = 25
 WRITERS, READERS, ROUNDS = 4, 16, 200
 # Of the turns of two writers: how many a room has, and within how many seconds each reader has to get the entry.
@@ -56,17 +54,10 @@ def report_news(client, have, last, news):
 
 
 class TestWaits(unittest.TestCase):
-    def expect_held(self, client):
-        """Expects that the server sends the client nothing for a while."""
-        client.socket.settimeout(PATIENCE)
-        with self.assertRaises(TimeoutError, msg="a wait was answered"):
-            client.fill()
-        client.socket.settimeout(SECONDS)
-
     def hold(self, client, start):
         """Sends a wait from this place, which is held."""
         client.send_request(f'["wait",{start}]')
-        self.expect_held(client)
+        client.expect_silence()
 
     def test_an_entry_comes(self):
         """A wait is answered once an entry is added, whether the sessions are of one loop or not."""
@@ -105,7 +96,7 @@ class TestWaits(unittest.TestCase):
             self.hold(client, 2)
             client.send_request('["wait",2]')
             self.assertEqual(client.read_reply(), '["entries",2,2,[]]', "the page")
-            self.expect_held(client)
+            client.expect_silence()
             client.send_request('["leave"]')
             self.assertEqual(client.read_reply(), '["entries",2,2,[]]', "the page")
             self.assertEqual(client.read_reply(), '["left",2]', "the reply")
@@ -118,7 +109,7 @@ class TestWaits(unittest.TestCase):
             self.hold(waiting, 2)
             waiting.send(frame(PING, b"there"))
             self.assertEqual(waiting.read_frame(), (PONG, b"there"), "the answer")
-            self.expect_held(waiting)
+            waiting.expect_silence()
             drawing.expect_reply('["new",1,[],"rect",[]]', '["made",2,[2,1]]')
             self.assertEqual(waiting.read_reply(), '["entries",3,2,[["new",[2,1],[],"rect",[]]]]', "the page")
             server.finish()
@@ -126,22 +117,27 @@ class TestWaits(unittest.TestCase):
     def test_ended_while_held(self):
         """A close or the end of the connection drops the wait, and frees the site."""
         for name, closes in [("a close", True), ("a hang-up", False)]:
-            with self.subTest(name), Server(2, 1) as server:
-                client = server.client()
-                client.expect_reply(JOIN, '["joined",0,1]')
-                client.send(frame(TEXT, b'["wait",1]'))
-                self.expect_held(client)
-                if closes:
-                    client.send(frame(CLOSE, closing(1000)))
-                    self.assertEqual(client.read_frame(), (CLOSE, closing(1000)), "the answer")
-                    client.expect_end()
-                else:
-                    client.hang_up()
-                other = server.client()
-                bound = time.monotonic() + SECONDS
-                while other.ask('["back","r",1]') != '["back",1,1,0]':
-                    self.assertLessEqual(time.monotonic(), bound, "the site is not free")
-                server.finish(warnings={} if closes else {1: "stream fault"})
+            with self.subTest(name):
+                self.check_ended_while_held(closes)
+
+    def check_ended_while_held(self, closes):
+        """Ends a session whose wait is held, by a close or without."""
+        with Server(2, 1) as server:
+            client = server.client()
+            client.expect_reply(JOIN, '["joined",0,1]')
+            client.send(frame(TEXT, b'["wait",1]'))
+            client.expect_silence()
+            if closes:
+                client.send(frame(CLOSE, closing(1000)))
+                self.assertEqual(client.read_frame(), (CLOSE, closing(1000)), "the answer")
+                client.expect_end()
+            else:
+                client.hang_up()
+            other = server.client()
+            bound = time.monotonic() + SECONDS
+            while other.ask('["back","r",1]') != '["back",1,1,0]':
+                self.assertLessEqual(time.monotonic(), bound, "the site is not free")
+            server.finish(warnings={} if closes else {1: "stream fault"})
 
     def test_time_is_over(self):
         """After 25 seconds a wait is answered by an empty page. A second wait, sent later, is held for as long."""

@@ -140,21 +140,25 @@ class TestRenewedRooms(unittest.TestCase):
         """A room is renewed while two clients draw. Both go on, and nothing is lost or refused."""
         for name, on_demand in RENEWALS:
             with self.subTest(name):
-                events = EventLog("renewed", "refusal", "reset")
-                with (
-                    served(JOINS - 2, on_demand) as (server, _, _),
-                    open_rooms(server.name, server.name, listeners=events.listeners) as (room, other),
-                ):
-                    for number in range(1, 100):
-                        room.put(room.objects()[-2], (), {"x": number}).done.result(PATIENCE)
-                        other.put(other.objects()[-1], (), {"x": number}).done.result(PATIENCE)
-                        if (room.name, other.name) == ("r.2", "r.2"):
-                            break
-                    agree(room, other)
-                    both = [("rect", [((), {"x": number})]), ("line", [((), {"x": number})])]
-                    self.assertEqual((shown(room), shown(other)), (both, both), "what both show")
-                    wait_until("the news of both", lambda: len(events.news) == 2)
-                    self.assertEqual(events.news, [("renewed", it) for it in news() * 2], "the news")
+                self.check_renewed_while_they_draw(on_demand)
+
+    def check_renewed_while_they_draw(self, on_demand):
+        """Has two clients draw until both are in the next room."""
+        events = EventLog("renewed", "refusal", "reset")
+        with (
+            served(JOINS - 2, on_demand) as (server, _, _),
+            open_rooms(server.name, server.name, listeners=events.listeners) as (room, other),
+        ):
+            for number in range(1, 100):
+                room.put(room.objects()[-2], (), {"x": number}).done.result(PATIENCE)
+                other.put(other.objects()[-1], (), {"x": number}).done.result(PATIENCE)
+                if (room.name, other.name) == ("r.2", "r.2"):
+                    break
+            agree(room, other)
+            both = [("rect", [((), {"x": number})]), ("line", [((), {"x": number})])]
+            self.assertEqual((shown(room), shown(other)), (both, both), "what both show")
+            wait_until("the news of both", lambda: len(events.news) == 2)
+            self.assertEqual(events.news, [("renewed", it) for it in news() * 2], "the news")
 
     def test_renewed_before_it_came(self):
         """A client that comes after the renewal is sent on to the next room. It comes back to that, also after a

@@ -1,8 +1,10 @@
 /* Refuses one allocation of a program, for tests: a library for LD_PRELOAD. The variable REFUSED is the number of the
    allocation, from 1. With COUNTED=calls it counts only allocations after a line `call NAME` on standard output and
-   before the next line; otherwise all. It prints the line `refused` on standard error when it reaches the allocation. */
+   before the next line. With COUNTED=signal it counts those after the signal SIGUSR1; otherwise all. It prints the line
+   `refused` on standard error when it reaches the allocation. */
 
 #include <errno.h>
+#include <signal.h>
 #include <stdatomic.h>
 #include <stdlib.h>
 #include <string.h>
@@ -17,10 +19,18 @@ extern void *__libc_memalign(size_t alignment, size_t size);
 static atomic_long left;
 static atomic_int counts;
 
+static void count(int by) {
+    (void)by;
+    atomic_store(&counts, 1);
+}
+
 __attribute__((constructor)) static void begin(void) {
     const char *number = getenv("REFUSED"), *counted = getenv("COUNTED");
     atomic_store(&left, number ? atol(number) : 0);
-    atomic_store(&counts, !counted || strcmp(counted, "calls"));
+    int begins_by_signal = counted && !strcmp(counted, "signal");
+    atomic_store(&counts, !begins_by_signal && (!counted || strcmp(counted, "calls")));
+    if (begins_by_signal)
+        signal(SIGUSR1, count);
 }
 
 static int refuses(void) {

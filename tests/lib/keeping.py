@@ -75,17 +75,22 @@ class OnDemandServer(KeepingServer):
         return {room: whole_lines(self.keep, room) for room in rooms}
 
 
+def build_library(name, folder):
+    """Builds a library of tests/faults for LD_PRELOAD in this folder. Returns its path."""
+    if not shutil.which("cc"):
+        raise unittest.SkipTest("there is no C compiler")
+    path = f"{folder}/{name}.so"
+    subprocess.run(["cc", "-O2", "-shared", "-fPIC", "-o", path, ROOT / f"tests/faults/{name}.c"], check=True)
+    return path
+
+
 class FileLibrary:
     """A library for LD_PRELOAD that makes calls on rooms' files fail or slow (tests/faults/fail_file.c)."""
 
     def __init__(self):
-        if not shutil.which("cc"):
-            raise unittest.SkipTest("there is no C compiler")
         self.folder = tempfile.TemporaryDirectory()
-        self.path = f"{self.folder.name}/fail_file.so"
+        self.path = build_library("fail_file", self.folder.name)
         self.hold = pathlib.Path(self.folder.name) / "held"
-        source = ROOT / "tests/faults/fail_file.c"
-        subprocess.run(["cc", "-O2", "-shared", "-fPIC", "-o", self.path, source], check=True)
 
     def variables(self, **settings):
         """Returns the environment with the library and these settings."""

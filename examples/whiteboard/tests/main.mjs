@@ -1,4 +1,7 @@
-/** Runs the tests of the whiteboard: pages of a browser in a room. PICTURES names the folder of the pictures. */
+/**
+ * Runs the tests of the whiteboard, or the parts of them that are arguments: pages of a browser in a room. PICTURES
+ * names the folder of the pictures.
+ */
 
 import { mkdir } from "node:fs/promises"
 import { join } from "node:path"
@@ -81,7 +84,8 @@ async function inOneRoom(browser, address) {
   room.close()
 }
 
-async function all(browser) {
+/** One room of several people, and what then happens to its server. */
+async function oneRoom(browser) {
   const { server, address } = await serve()
   try {
     await inOneRoom(browser, address)
@@ -90,31 +94,29 @@ async function all(browser) {
   } finally {
     server.kill()
   }
-  await plan(browser)
-  await undoing(browser)
-  await choosing(browser)
-  await tools(browser)
-  await lines(browser)
-  await styles(browser)
-  await texts(browser)
-  await several(browser)
-  await sketching(browser)
-  await looking(browser)
-  await presence(browser)
-  await makers(browser)
-  await opening(browser)
-  await full(browser)
-  await keepingWork(browser)
-  await saving(browser)
-  await sharing(browser)
-  await renewing(browser)
-  await renewedInUse(browser)
+}
+
+async function servers(browser) {
   await step("a whiteboard that is killed and started again", () => connections.killed(browser))
   await step("a whiteboard whose room is gone", () => connections.roomGone())
   await step("a whiteboard at another address", () => connections.atAnotherAddress(browser))
   await step("the same ports at each start", () => connections.samePorts(browser))
   await step("a port that is taken", () => connections.portTaken())
   await step("a link at the usual ports", () => connections.atUsualPorts(browser))
+}
+
+// Each has a whiteboard of its own.
+const PARTS = {
+  together: oneRoom, plan, undoing, choosing, tools, lines, styles, texts, several, sketching, looking, presence, makers,
+  opening, full, keepingWork, saving, sharing, renewing, renewedInUse, servers,
+}
+
+/** Runs all parts, or those whose names are arguments. */
+async function all(browser) {
+  const names = process.argv.slice(2)
+  const unknown = names.filter((name) => !Object.hasOwn(PARTS, name))
+  if (unknown.length > 0) throw new Error(`no such part: ${unknown}; there are ${Object.keys(PARTS)}`)
+  for (const name of names.length > 0 ? names : Object.keys(PARTS)) await PARTS[name](browser)
 }
 
 await mkdir(PICTURES, { recursive: true })

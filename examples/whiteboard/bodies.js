@@ -2,21 +2,30 @@
 
 import { boundsOf, middleOf } from "./boxes.js"
 import { svg } from "./elements.js"
-import { LINE, TEXT_SIZES, lettering, linesOf } from "./lettering.js"
+import { FONT, LINE, TEXT_SIZES, lettering, linesOf } from "./lettering.js"
 import { pathOf } from "./pen.js"
 import { NO_FILL, THICKNESSES, USUAL_THICKNESS } from "./shapes.js"
 
 const LEAST_WIDTH = 90
-// As in the style sheet.
 const LINE_WIDTH = 4
 const EDGE_WIDTH = 2
 // An arrow's lines, in units of the drawing, and their angle to the line, in radians.
 const HEAD_LENGTH = 18
 const HEAD_ANGLE = 0.45
 const INK = "#1d2733"
-const PAPER_COLOUR = "#ffffff"
+export const PAPER_COLOUR = "#ffffff"
 // On a colour darker than this (0 to 255) the text is light.
 const DARK = 140
+
+/** What the style sheet gives the edge of a shape, a line, and letters. A picture without style sheet has it too. */
+export const EDGE_STYLE = { stroke: "#000000", "stroke-opacity": 0.45, "stroke-width": EDGE_WIDTH }
+export const LINE_STYLE = {
+  fill: "none", "stroke-width": LINE_WIDTH, "stroke-linecap": "round", "stroke-linejoin": "round",
+}
+export const FONT_STYLE = {
+  "font-family": FONT, "dominant-baseline": "central", "paint-order": "stroke", "stroke-width": 3,
+  "stroke-linejoin": "round",
+}
 
 /** The element of a shape. */
 export function bodyOf(shape, name = "body") {

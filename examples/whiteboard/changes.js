@@ -104,6 +104,15 @@ export class Changes {
     this.#show(made)
   }
 
+  /** Creates as many of these objects as the room takes, in one step, and selects them. Returns how many. */
+  drawMost(forms) {
+    const fitting = forms.slice(0, this.space.fitting(forms))
+    const createAll = () => fitting.map(({ kind, attributes }) => this.#act(() => this.#create(kind, attributes), null))
+    const acts = this.step(() => this.page.room.transaction(createAll)).filter((act) => act !== null)
+    this.#show(acts.map(({ change }) => change.object))
+    return acts.length
+  }
+
   /** Selects objects that were created or changed. */
   #show(names) {
     if (names.length === 0) return

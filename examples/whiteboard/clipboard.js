@@ -1,9 +1,12 @@
-/** Copies of objects: kind and attributes. All windows of a browser on this whiteboard share one copy. */
+/**
+ * Copies of objects. They go to the system's clipboard as the text of a drawing, so they reach other browsers and other
+ * addresses. All windows of a browser on this whiteboard share one copy too, for the button that pastes.
+ */
 
-import { readText, writeText } from "../../clients/js/grace.js"
 import { boundsOfAll, middleOf } from "./boxes.js"
-import { uniqueText } from "./links.js"
-import { moveAttributes, placeOf, shapeOf, sizeOf } from "./shapes.js"
+import { anew, formOf } from "./copies.js"
+import { isDrawingText, objectsIn, textOf } from "./drawing_file.js"
+import { shapeOf } from "./shapes.js"
 
 const KEY = "whiteboard copy"
 const SHIFT = 20
@@ -25,7 +28,7 @@ export class Clipboard {
 
   /** Copies the picked versions of the selected objects. Returns whether there are any. */
   copy() {
-    const forms = this.#formsOf(this.page.board.chosen)
+    const forms = this.#chosenForms()
     if (forms.length > 0) this.keep(forms)
     return forms.length > 0
   }
@@ -36,59 +39,46 @@ export class Clipboard {
     if (this.copy()) changes.dropAll(board.chosen)
   }
 
-  /**
-   * Makes these objects the copy.
-   * @param {{ kind: string, attributes: Map<string, any> }[]} forms
-   */
+  /** Makes these objects the copy. @param {import("./copies.js").Form[]} forms */
   keep(forms) {
-    this.#copy = { text: writeText(forms.map(({ kind, attributes }) => [kind, [...attributes]])) }
+    this.#copy = textOf(forms.map((form) => [form]))
     this.#pastes = 0
     try {
-      localStorage.setItem(KEY, this.#copy.text)
+      localStorage.setItem(KEY, this.#copy)
     } catch {
       // The browser stores nothing, so only this window has the copy.
       this.#forget()
     }
+    giveToSystem(this.#copy)
     this.page.view.change([])
   }
 
   /** Creates objects from the copy: next to the last ones, or in the centre if that place is not visible. */
   paste() {
     const copy = this.#read()
-    if (copy === null) return
+    if (copy !== null) this.pasteForms(formsIn(copy))
+  }
+
+  /** Creates objects from forms that were copied. */
+  pasteForms(forms) {
     this.#pastes += 1
-    this.#create(copy.map(([kind, pairs]) => ({ kind, attributes: new Map(pairs) })), this.#pastes * SHIFT)
+    this.#create(forms, this.#pastes * SHIFT)
   }
 
   /** Creates objects like those that are selected, next to them. */
   duplicate() {
-    this.#create(this.#formsOf(this.page.board.chosen), SHIFT)
+    this.#create(this.#chosenForms(), SHIFT)
   }
 
-  #formsOf(chosen) {
-    const { board, room } = this.page
-    return chosen.map(({ name, version }) => {
-      const shape = board.shapes(name)[board.shown(name).indexOf(version)]
-      // A line that sticks to shapes is copied as it is drawn.
-      const more = shape.from + shape.to === "" ? {} : { ...placeOf(shape), ...sizeOf(shape) }
-      return { kind: room.kind(name), attributes: new Map([...version.attributes, ...Object.entries(more)]) }
-    })
+  #chosenForms() {
+    const { board } = this.page
+    return board.chosen.map(({ name, version }) => formOf(board, name, version))
   }
 
-  /** Creates objects at some distance from others. Their groups are new ones, and lines stick to copies alone. */
   #create(forms, shift) {
     if (forms.length === 0) return
     const shapes = forms.map(({ kind, attributes }) => shapeOf(kind, attributes))
-    const [x, y] = this.#stepOf(boundsOfAll(shapes), shift)
-    const ids = newTexts(shapes, "id")
-    const maps = { group: newTexts(shapes, "group"), id: ids, from: ids, to: ids }
-    this.page.changes.drawAll(forms.map(({ kind, attributes }, place) => {
-      const shape = shapes[place]
-      const keys = Object.keys(maps).filter((key) => shape[key] !== "")
-      const texts = keys.map((key) => [key, maps[key].get(shape[key]) ?? ""])
-      const moved = Object.entries(moveAttributes(shape, x, y))
-      return { kind, attributes: new Map([...attributes, ...moved, ...texts]) }
-    }))
+    this.page.changes.drawAll(anew(forms, this.#stepOf(boundsOfAll(shapes), shift)))
   }
 
   /** How far copies are from what is in this box. */
@@ -108,24 +98,29 @@ export class Clipboard {
     }
   }
 
-  /** The latest copy of any window. */
+  /** The latest copy of any window, or null. */
   #read() {
-    let text = this.#copy?.text ?? null
+    let text = this.#copy
     try {
       text = localStorage.getItem(KEY) ?? text
     } catch {
       // Only this window's copy is available.
     }
-    try {
-      const copy = text && readText(text)
-      // An earlier page stored a single object.
-      return typeof copy?.[0] === "string" ? [copy] : copy
-    } catch {
-      return null
-    }
+    // An earlier page stored another form.
+    return text !== null && isDrawingText(text) ? text : null
   }
 }
 
-/** By text that shapes have under a key: a new one for their copies. */
-const newTexts = (shapes, key) =>
-  new Map(shapes.map((shape) => shape[key]).filter((text) => text !== "").map((text) => [text, uniqueText()]))
+/** The first version of each object in the text of a drawing. @throws {import("./drawing_file.js").NoDrawing} */
+export const formsIn = (text) => objectsIn(text).map(([form]) => form)
+
+/** Gives a text to the system's clipboard. A page without TLS can do that only in a `copy` event. */
+function giveToSystem(text) {
+  const give = (event) => {
+    event.clipboardData.setData("text/plain", text)
+    event.preventDefault()
+  }
+  document.addEventListener("copy", give)
+  document.execCommand("copy")
+  document.removeEventListener("copy", give)
+}

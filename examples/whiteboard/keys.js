@@ -34,7 +34,7 @@ export class Keys {
     const { board, changes, clipboard, grouping } = this.page
     const commands = {
       z: () => (isShift ? changes.redo() : changes.undo()), y: () => changes.redo(),
-      c: () => clipboard.copy(), x: () => clipboard.cut(), v: () => clipboard.paste(), d: () => clipboard.duplicate(),
+      c: () => clipboard.copy(), x: () => clipboard.cut(), d: () => clipboard.duplicate(),
       a: () => this.page.selectAll(board.objects()), g: () => (isShift ? grouping.ungroup() : grouping.group()),
     }
     return Object.hasOwn(commands, word) ? commands[word] : undefined
@@ -42,6 +42,8 @@ export class Keys {
 
   #key(event) {
     const { page } = this
+    // The browser closes an open menu.
+    if (document.querySelector(":popover-open") !== null) return false
     if (event.key === "Escape") return this.#escape()
     const { element } = page.view.sheet
     if (page.gestures.isBusy) return false

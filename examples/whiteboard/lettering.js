@@ -1,6 +1,6 @@
 /** How texts are broken into lines, and how large they are. */
 
-const FONT = "system-ui, 'DejaVu Sans', sans-serif"
+export const FONT = "system-ui, 'DejaVu Sans', sans-serif"
 // A text is never wider than this, unless the user has made it so.
 const MOST_WIDTH = 600
 // The lines of the last texts, by text, size and width. More than so many are forgotten.

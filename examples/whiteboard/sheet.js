@@ -144,7 +144,8 @@ export class Sheet {
   }
 }
 
-function bodiesOf(shape, stripe, id) {
+/** The elements of a shape without its text: cut to a stripe if there is one, whose clip path has this identifier. */
+export function bodiesOf(shape, stripe, id) {
   const body = bodyOf(shape)
   // A thin line gets an invisible wider outline that is easier to hit.
   if (isThin(shape)) return [outlineOf(shape, "grip"), body]

@@ -33,6 +33,14 @@ export class Space {
     return this.objects >= forms.length && this.entries >= entries
   }
 
+  /** How many of these new objects it takes, from the first one on. */
+  fitting(forms) {
+    let { entries, objects } = this
+    const isTooMuch = ({ attributes }) => (entries -= entriesOfNew(attributes.size)) < 0 || (objects -= 1) < 0
+    const first = forms.findIndex(isTooMuch)
+    return first < 0 ? forms.length : first
+  }
+
   /** Whether it takes a new object with this many attributes. */
   takes(attributes) {
     return this.objects > 0 && this.entries >= entriesOfNew(attributes)

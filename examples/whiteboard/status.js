@@ -34,22 +34,6 @@ export function say(words, action = null) {
   setTimeout(() => line.remove(), action === null ? WORDS_MILLISECONDS : ACTION_MILLISECONDS)
 }
 
-/**
- * Says that the room was reset, or that the drawing went on without the user's last changes. Offers the old drawing as
- * a file, until the user closes the message.
- */
-export function showOldDrawing(roomName, { words, text }) {
-  const href = URL.createObjectURL(new Blob([text], { type: "text/plain" }))
-  const keep = html("a", { href, download: `${roomName}.record`, textContent: "Save the old drawing" })
-  const notice = html("section", { className: "notice" }, html("p", { textContent: words }))
-  const close = () => {
-    notice.remove()
-    URL.revokeObjectURL(href)
-  }
-  notice.append(html("div", { className: "actions" }, keep, button("Close", "close", close)))
-  part("reset").append(notice)
-}
-
 /** How far the drawing is loaded, or why it never will be. */
 export function showProgress(room) {
   const { have, of } = room.progress

@@ -13,20 +13,23 @@ import { Clipboard } from "./clipboard.js"
 import { DeletedObjects } from "./deleted_objects.js"
 import { DeletionMessages } from "./deletion_messages.js"
 import { part } from "./elements.js"
+import { Files } from "./files.js"
 import { Frames } from "./frames.js"
 import { Gestures } from "./gestures.js"
 import { Grouping } from "./groups.js"
 import { Handwriting } from "./handwriting.js"
+import { Incoming } from "./incoming.js"
 import { Keys } from "./keys.js"
 import { placeOfPage } from "./links.js"
 import { Nudges } from "./nudges.js"
+import { showOldDrawing } from "./old_drawing.js"
 import { Others } from "./others.js"
 import { Panel } from "./panel.js"
 import { People } from "./people.js"
 import { PeopleList } from "./people_list.js"
 import { RefusedChanges } from "./refused_changes.js"
 import { Sharing } from "./sharing.js"
-import { StateLine, say, showOldDrawing, showProgress } from "./status.js"
+import { StateLine, say, showProgress } from "./status.js"
 import { TextField } from "./text_field.js"
 import { Toolbar } from "./toolbar.js"
 import { View } from "./view.js"
@@ -57,6 +60,8 @@ export class Page {
     this.textField = new TextField(this)
     this.gestures = new Gestures(this)
     this.keys = new Keys(this)
+    this.files = new Files(this, roomName)
+    this.incoming = new Incoming(this)
     this.sharing = new Sharing(roomName)
     this.state = new StateLine(this.board)
     this.panel = new Panel(this, part("panel"))

@@ -57,6 +57,26 @@ export const FINAL_DELETION = "Nothing new fits into this drawing, so this delet
 /** That nothing was pasted. */
 export const NOT_ALL_FIT = "Not all of this fits into the drawing, so none of it was pasted."
 
+/** Of pasted, dropped or opened pictures. */
+export const NO_PICTURES = "Pictures are not supported, so nothing was added."
+
+export const NOTHING_TO_SAVE = "Nothing is drawn yet."
+export const NO_PNG = "The browser could not make this picture. SVG may work."
+export const NOT_OPEN = "The drawing is not open, so nothing can be added."
+
+/** That a file was not opened, and why. */
+export const notOpenedWords = (what, reason) => `${what} was not opened. ${reason}`
+
+/** What of a file could not be made; empty if all was made. */
+export function openedWords(made, all, withVersions) {
+  const words = []
+  if (made < all) words.push(`Only ${numberOf(made)} of ${countOf(all, "object")} fit into this drawing.`)
+  if (withVersions > 0) {
+    words.push(`${countOf(withVersions, "object")} had several versions. Each version is now an object.`)
+  }
+  return words.join(" ")
+}
+
 /** That deleted versions of a shape came back, but not as its versions. */
 export const separateWords = (count, shape) =>
   `${countOf(count, "version")} of ${wordsOf(shape)} came back as ${count > 1 ? "new objects" : "a new object"}. ` +

@@ -97,6 +97,8 @@ export class Chromium {
 /** A page. `faults` has the errors of its program. */
 class Page {
   faults = []
+  // By event of the browser's protocol: who waits for it.
+  #waiting = new Map()
 
   constructor(browser, session, target) {
     this.browser = browser
@@ -112,7 +114,13 @@ class Page {
     return this.browser.ask(method, params, this.session)
   }
 
+  /** Waits for the next event of the browser's protocol with this name. */
+  next(method) {
+    return new Promise((tell) => this.#waiting.set(method, tell))
+  }
+
   hear(method, params) {
+    this.#waiting.get(method)?.(params)
     if (method !== "Runtime.exceptionThrown") return
     const { exception, text } = params.exceptionDetails
     this.faults.push(exception?.description ?? text)

@@ -99,11 +99,16 @@ export async function begunAnew(browser, address) {
     expect("the words of the news", (await person.look(`document.getElementById("reset").textContent`))
       .startsWith("The room was started again"))
     expectEqual("what it shows", await person.look(COUNT), 0)
-    const text = await person.look(`fetch(document.querySelector("#reset a").href).then((it) => it.text())`)
-    const lines = text.split("\n")
+    const saved = (ending) => person.look(
+      `fetch(document.querySelector('#reset a[download$="${ending}"]').href).then((it) => it.text())`)
+    const lines = (await saved(".record")).split("\n")
     expectEqual("the first line of the record", lines[0], '["join",1]')
     expectEqual("the last one", JSON.parse(lines.at(-2)).slice(3),
       ["rect", [["x", 20], ["y", 700], ["width", 60], ["height", 60], ["fill", "#3a86c8"], ["name", ""]]])
+    const [, , objects] = JSON.parse(await saved(".json"))
+    expectEqual("the same in the file of the drawing", Object.fromEntries(objects.at(-1)[1][0]),
+      { x: 20, y: 700, width: 60, height: 60, fill: "#3a86c8", name: "" })
+    expect("the picture of it", (await saved(".svg")).includes('x="20" y="700" width="60" height="60"'))
     await person.click("#reset button")
     expectEqual("the messages then", await person.look(`document.getElementById("reset").textContent`), "")
     expectEqual("faults in the page", person.faults, [])

@@ -26,6 +26,7 @@ import { several } from "./several.mjs"
 import { sharing } from "./sharing.mjs"
 import { sketching } from "./sketching.mjs"
 import { styles } from "./styles.mjs"
+import { takingAlong } from "./taking_along.mjs"
 import { texts } from "./texts.mjs"
 import * as together from "./together.mjs"
 import { tools } from "./tools.mjs"
@@ -108,7 +109,8 @@ async function servers(browser) {
 // Each has a whiteboard of its own.
 const PARTS = {
   together: oneRoom, plan, undoing, choosing, tools, lines, styles, texts, several, sketching, looking, presence, makers,
-  opening, full, keepingWork, saving, sharing, renewing, renewedInUse, servers,
+  opening, full, keepingWork, saving, sharing, renewing, renewedInUse, takingAlong,
+  servers,
 }
 
 /** Runs all parts, or those whose names are arguments. */

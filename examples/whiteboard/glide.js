@@ -1,5 +1,7 @@
 /** Numbers that move to where they are told in a short time, in place of a step: the places of others come in steps. */
 
+import { isStill } from "./preferences.js"
+
 // A little longer than the notes of a person are apart.
 const MILLISECONDS = 130
 
@@ -22,7 +24,7 @@ export class Glide {
   /** Goes on to another place, from where it is now. */
   go(place, now) {
     if (place.every((number, side) => number === this.#to[side])) return
-    this.#from = this.at(now)
+    this.#from = isStill() ? place : this.at(now)
     this.#to = place
     this.#begun = now
   }

@@ -6,6 +6,7 @@ import { isSameId } from "../../clients/js/grace.js"
 import { keyOf, nameOf } from "./board.js"
 import { boundsOf, boundsOfAll, grown, handlesOf, meet, middleOf } from "./boxes.js"
 import { svg } from "./elements.js"
+import { FINGER, isCoarse } from "./preferences.js"
 import { atOnePlace, stripeOf } from "./sheet.js"
 import { SIDE, freePlaces, rowsAbove } from "./tags.js"
 import { letterOf } from "./words.js"
@@ -13,6 +14,7 @@ import { letterOf } from "./words.js"
 const GAP = 5
 const STRIPE_GAP = -1
 const HANDLE = 14
+const TAG_RADIUS = 13
 // With more tags than these, each unselected object has a single tag with its number of versions.
 const MANY_TAGS = 80
 // An object with more versions than these has its tags in rows above it. Only the picked version and the one under the
@@ -119,14 +121,16 @@ export class Marks {
     return document.activeElement.matches(":focus-visible") ? this.board.shown(name).indexOf(focused.version) : -1
   }
 
-  /** The handles that resize the picked version. */
+  /** The handles that resize the picked version. A finger hits them also beside their shape. */
   #handles({ name, shapes, picked }) {
-    return Object.entries(handlesOf(shapes[picked])).map(([end, [x, y]]) => {
+    const isLine = shapes[picked].kind === "line"
+    return Object.entries(handlesOf(shapes[picked])).flatMap(([end, [x, y]]) => {
       const corner = this.camera.boxOf({ x, y, width: 0, height: 0 })
-      return svg("rect", {
-        class: "handle", x: corner.x - HANDLE / 2, y: corner.y - HANDLE / 2, width: HANDLE, height: HANDLE, rx: 4,
-        "data-object": keyOf(name), "data-letter": letterOf(picked), "data-end": end,
-      })
+      const own = { "data-object": keyOf(name), "data-letter": letterOf(picked), "data-end": end }
+      const handle = handleAt("handle", corner, HANDLE, own)
+      if (!isCoarse()) return [handle]
+      const beside = isLine ? 0 : HANDLE
+      return [handleAt("handle reach", { x: corner.x + beside, y: corner.y + beside }, FINGER, own), handle]
     })
   }
 
@@ -140,6 +144,9 @@ export class Marks {
     return seen.flatMap((tag, place) => (places[place] === null ? [] : [tagOf(tag, places[place])]))
   }
 }
+
+const handleAt = (name, { x, y }, side, own) =>
+  svg("rect", { class: name, x: x - side / 2, y: y - side / 2, width: side, height: side, rx: 4, ...own })
 
 /** A tag for each version: at its corner, in its stripe, or in rows above the object if there are many. */
 function letterTags({ name, shapes, stripes, boxes, picked }) {
@@ -166,7 +173,8 @@ function tagOf({ text, object, letter, isPicked, wanted }, { x, y }) {
   }
   const word = svg("text", { class: text.length > 1 ? "letter long" : "letter", x, y })
   word.textContent = text
-  element.append(svg("circle", { cx: x, cy: y, r: SIDE / 2 - 1 }), word)
+  if (isCoarse()) element.append(svg("circle", { class: "reach", cx: x, cy: y, r: SIDE / 2 }))
+  element.append(svg("circle", { cx: x, cy: y, r: TAG_RADIUS }), word)
   return element
 }
 

@@ -1,9 +1,10 @@
 /** Places the tags of versions so that none covers another. */
 
 import { between } from "./boxes.js"
+import { FINGER, isCoarse } from "./preferences.js"
 
 /** The width and height of a tag, in pixels. */
-export const SIDE = 28
+export const SIDE = isCoarse() ? FINGER : 28
 const REACH = 9
 // Offsets that are tried around the wanted position, the nearest first.
 const STEPS = stepsWithin(REACH)

@@ -84,6 +84,6 @@ export class TextField {
     const [x, y] = isAlone ? [box.x, box.y] : middleOf(box)
     element.classList.toggle("alone", isAlone)
     Object.assign(element.style, { left: `${isAlone ? x : x - width / 2}px`, top: `${y}px`, width: `${width}px` })
-    field.style.fontSize = isAlone ? `${TEXT_SIZES[shape.size] * camera.scale}px` : ""
+    if (isAlone) field.style.setProperty("--letters", `${TEXT_SIZES[shape.size] * camera.scale}px`)
   }
 }

@@ -65,7 +65,7 @@ export class Toolbar {
   #tellKeys() {
     for (const [key, tool] of Object.entries(TOOL_KEYS)) {
       const button = document.querySelector(`button[data-tool="${tool}"]`)
-      button.title = `${button.textContent} (${key.toUpperCase()})`
+      button.title = `${button.textContent.trim()} (${key.toUpperCase()})`
       button.setAttribute("aria-keyshortcuts", key.toUpperCase())
     }
   }

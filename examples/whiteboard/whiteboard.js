@@ -25,6 +25,7 @@ import { Nudges } from "./nudges.js"
 import { showOldDrawing } from "./old_drawing.js"
 import { Others } from "./others.js"
 import { Panel } from "./panel.js"
+import { PanelButton } from "./panel_button.js"
 import { People } from "./people.js"
 import { PeopleList } from "./people_list.js"
 import { RefusedChanges } from "./refused_changes.js"
@@ -65,6 +66,7 @@ export class Page {
     this.sharing = new Sharing(roomName)
     this.state = new StateLine(this.board)
     this.panel = new Panel(this, part("panel"))
+    this.panelButton = new PanelButton()
     this.view.panel = this
     this.view.overlay = this.others
     part("room").textContent = roomName
@@ -74,6 +76,7 @@ export class Page {
   /** Draws the parts around the drawing. */
   draw() {
     this.panel.draw()
+    this.panelButton.draw()
     this.textField.draw()
     this.tools.draw()
     this.state.draw()

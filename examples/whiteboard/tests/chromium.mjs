@@ -235,14 +235,21 @@ class Page {
     await this.frame()
   }
 
-  /** Moves two fingers from two places to two others. */
-  async pinch(from, to) {
-    const points = (places) => places.map(([x, y], id) => ({ x, y, id }))
+  /** Does something on a touch screen. The page has larger buttons there, so places are to be looked up within. */
+  async withTouch(act) {
     await this.ask("Emulation.setTouchEmulationEnabled", { enabled: true, maxTouchPoints: 2 })
+    await this.frame()
+    await act()
+    await this.ask("Emulation.setTouchEmulationEnabled", { enabled: false })
+    await this.frame()
+  }
+
+  /** Moves fingers from some places to as many others, on a touch screen. */
+  async touch(from, to) {
+    const points = (places) => places.map(([x, y], id) => ({ x, y, id }))
     await this.ask("Input.dispatchTouchEvent", { type: "touchStart", touchPoints: points(from) })
     await this.ask("Input.dispatchTouchEvent", { type: "touchMove", touchPoints: points(to) })
     await this.ask("Input.dispatchTouchEvent", { type: "touchEnd", touchPoints: [] })
-    await this.ask("Emulation.setTouchEmulationEnabled", { enabled: false })
     await this.frame()
   }
 

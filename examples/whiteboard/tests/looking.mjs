@@ -45,10 +45,12 @@ async function moveAndZoom(first, second) {
   near("the key", [(await first.look(BOX))[2]], [2 * width])
   await first.click("#scale")
   expectEqual("as large as it is", [await first.look(SCALE), (await first.look(BOX)).slice(2)], ["100 %", [200, 120]])
-  const [left, top] = await first.look(BOX)
-  await first.pinch([[400, 300], [500, 300]], [[350, 340], [550, 340]])
-  // The middle of the fingers is at 450 and moves down by 40; their distance doubles.
-  near("two fingers", await first.look(BOX), [450 + 2 * (left - 450), 340 + 2 * (top - 300), 400, 240])
+  await first.withTouch(async () => {
+    const [left, top] = await first.look(BOX)
+    await first.touch([[400, 300], [500, 300]], [[350, 340], [550, 340]])
+    // The middle of the fingers is at 450 and moves down by 40; their distance doubles.
+    near("two fingers", await first.look(BOX), [450 + 2 * (left - 450), 340 + 2 * (top - 300), 400, 240])
+  })
   await first.press([40, 120])
   await first.release([40, 120])
   const [here] = await first.look(BOX)

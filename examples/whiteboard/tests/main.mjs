@@ -17,6 +17,7 @@ import { looking } from "./looking.mjs"
 import { makers } from "./makers.mjs"
 import { opening } from "./opening.mjs"
 import { COUNT, PICTURES, counts, faults, isOpen, serve, step, watch } from "./people.mjs"
+import { phone } from "./phone.mjs"
 import { plan } from "./plan.mjs"
 import { presence } from "./presence.mjs"
 import { renewedInUse } from "./renewed_in_use.mjs"
@@ -34,13 +35,13 @@ import { undoing } from "./undoing.mjs"
 
 const keep = (page, word) => page.picture(join(PICTURES, `${word}.png`))
 
-async function smallScreen(phone) {
-  await isOpen(phone)
-  await phone.waitUntil("all versions", `${COUNT} === 6`)
-  await phone.click('.version[data-letter="B"] .body')
-  await phone.waitUntil("the cards", `document.querySelectorAll(".card").length === 2`)
-  expectEqual("what has the focus", await phone.look("document.activeElement.dataset.letter"), "B")
-  expect("nothing is wider than the screen", await phone.look("document.documentElement.scrollWidth <= 390"))
+async function smallScreen(page) {
+  await isOpen(page)
+  await page.waitUntil("all versions", `${COUNT} === 6`)
+  await page.click('.version[data-letter="B"] .body')
+  await page.waitUntil("the cards", `document.querySelectorAll(".card").length === 2`)
+  expectEqual("what has the focus", await page.look("document.activeElement.dataset.letter"), "B")
+  expect("nothing is wider than the screen", await page.look("document.documentElement.scrollWidth <= 390"))
 }
 
 /** Two people and then more in one room, step by step. */
@@ -66,9 +67,9 @@ async function inOneRoom(browser, address) {
   await keep(third, "told")
   await step("keys alone", () => together.keys(first, second))
   await keep(first, "keys")
-  const phone = await browser.open(address, 390, 844, true)
-  await step("a small screen", () => smallScreen(phone))
-  await keep(phone, "small")
+  const small = await browser.open(address, 390, 844, true)
+  await step("a small screen", () => smallScreen(small))
+  await keep(small, "small")
   await step("a lost connection", () => connections.lostConnection(browser, address, first))
   await step("a page is reloaded", () => connections.loadedAnew(first, second, room))
   await step("each action is one entry", () => together.onePut(first, room))
@@ -81,7 +82,7 @@ async function inOneRoom(browser, address) {
   await step("deleted while another moved it", () => deleting.deletedMeanwhile(first, second, room))
   await step("a version deleted while another moved it", () => deleting.versionDeletedMeanwhile(first, second, third))
   await step("a late page at the end", () => deleting.lateAfterAll(browser, address, first))
-  await step("no page had a fault", () => faults(first, second, third, phone))
+  await step("no page had a fault", () => faults(first, second, third, small))
   room.close()
 }
 
@@ -110,7 +111,7 @@ async function servers(browser) {
 const PARTS = {
   together: oneRoom, plan, undoing, choosing, tools, lines, styles, texts, several, sketching, looking, presence, makers,
   opening, full, keepingWork, saving, sharing, renewing, renewedInUse, takingAlong,
-  servers,
+  phone, servers,
 }
 
 /** Runs all parts, or those whose names are arguments. */

@@ -1,11 +1,12 @@
 /** What the pointer does to the view and to objects, between press and release. Each drag is one step, at its end. */
 
-import { boundsOf, isInside } from "./boxes.js"
+import { boundsOf, boundsOfAll, isInside } from "./boxes.js"
 import { canHold } from "./connections.js"
 import { svg } from "./elements.js"
 import { withGroups } from "./groups.js"
 import { Hand } from "./hand.js"
 import { lineEndAttributes, resizeAttributes } from "./shapes.js"
+import { LAST_EDGE, Snapping } from "./snapping.js"
 
 /** A movement of fewer pixels counts as a click. */
 export const CLICK_PIXELS = 2
@@ -123,16 +124,44 @@ class VersionDrag {
   }
 }
 
-export class Move extends VersionDrag {
-  show(x, y) {
-    this.hand.move(x, y)
+/** A drag of versions that snap to others. With Alt they do not. */
+class SnappingDrag extends VersionDrag {
+  #snapping = null
+
+  constructor(page, under, event) {
+    super(page, under, event)
+    this.box = boundsOfAll(this.hand.items.map(({ shape }) => shape))
+  }
+
+  /** How far these lines of a box have to move. */
+  snapped(box, shares, isFree) {
+    this.#snapping ??= new Snapping(this.page, this.hand.items.map(({ name }) => name))
+    if (!isFree) return this.#snapping.snap(box, shares)
+    this.#snapping.end()
+    return [0, 0]
+  }
+
+  end(isWhole) {
+    this.#snapping?.end()
+    super.end(isWhole)
   }
 }
 
-/** Drags the corner of a shape. With Shift the size is regular. */
-export class Resize extends VersionDrag {
-  show(x, y, { shiftKey }) {
-    this.hand.show((shape) => resizeAttributes(shape, x, y, shiftKey))
+export class Move extends SnappingDrag {
+  show(x, y, { altKey }) {
+    const { box } = this
+    const [byX, byY] = this.snapped({ ...box, x: box.x + x, y: box.y + y }, undefined, altKey)
+    this.hand.move(x + byX, y + byY)
+  }
+}
+
+/** Drags the corner of a shape. With Shift the size is regular, and does not snap. */
+export class Resize extends SnappingDrag {
+  show(x, y, { altKey, shiftKey }) {
+    const { box } = this
+    const larger = { ...box, width: box.width + x, height: box.height + y }
+    const [byX, byY] = this.snapped(larger, LAST_EDGE, altKey || shiftKey)
+    this.hand.show((shape) => resizeAttributes(shape, x + byX, y + byY, shiftKey))
   }
 }
 

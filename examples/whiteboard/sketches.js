@@ -5,24 +5,28 @@ import { boundsOf } from "./boxes.js"
 import { CLICK_PIXELS, shapeUnder } from "./drags.js"
 import { boxOf } from "./pen.js"
 import { LEAST, NEW_SHAPES, attributesOf, regularSize } from "./shapes.js"
+import { FIRST_EDGE, Snapping } from "./snapping.js"
 
 /**
  * Draws a new shape from one corner to the opposite one. With Shift it is regular. A click draws one of a usual size,
- * around the pointer.
+ * around the pointer. The corners of a shape snap to others, but not with Alt or Shift; the ends of a line stick.
  */
 export class Sketch {
   #size = [0, 0]
   // The objects to which the ends of a line stick, or null.
   #from = null
   #to = null
+  #snapping
 
   constructor(page, tool, event) {
-    Object.assign(this, { page, ...NEW_SHAPES[tool], start: page.camera.placeOf(event) })
+    Object.assign(this, { page, ...NEW_SHAPES[tool], pressed: page.camera.placeOf(event) })
+    this.#snapping = this.kind === "line" ? null : new Snapping(page, [])
+    this.start = this.#cornerAt(event)
     if (this.kind === "line") this.#from = shapeUnder(page, event)
   }
 
   move(event) {
-    const size = this.page.camera.placeOf(event).map((place, side) => place - this.start[side])
+    const size = this.#cornerAt(event).map((place, side) => place - this.start[side])
     this.#size = event.shiftKey ? regularSize(this.kind, size) : size
     if (this.kind === "line") this.#to = shapeUnder(this.page, event)
     this.page.view.sheet.sketch(bodyOf(this.#sketched(), "body sketch"))
@@ -31,6 +35,7 @@ export class Sketch {
   end(isWhole) {
     const { changes, view } = this.page
     view.sheet.sketch(null)
+    this.#snapping?.end()
     if (!isWhole) return
     if (this.#isClick) return changes.draw(this.kind, attributesOf(this.#usual()))
     changes.step(() => {
@@ -51,13 +56,22 @@ export class Sketch {
     return connections.ended({ ...this.#shape(this.start, this.#size), from, to })
   }
 
+  /** Where the pointer is, or the lines near it to which a corner snaps. */
+  #cornerAt(event) {
+    const [x, y] = this.page.camera.placeOf(event)
+    this.#snapping?.end()
+    if (this.#snapping === null || event.altKey || event.shiftKey) return [x, y]
+    const [byX, byY] = this.#snapping.snap({ x, y, width: 0, height: 0 }, FIRST_EDGE)
+    return [x + byX, y + byY]
+  }
+
   get #isClick() {
     const length = Math.max(...this.#size.map(Math.abs))
     return length < LEAST || length * this.page.camera.scale < CLICK_PIXELS
   }
 
   #usual() {
-    return this.#shape(this.start.map((place, side) => place - this.usualSize[side] / 2), this.usualSize)
+    return this.#shape(this.pressed.map((place, side) => place - this.usualSize[side] / 2), this.usualSize)
   }
 
   #shape([x, y], [width, height]) {

@@ -26,6 +26,7 @@ import { saving } from "./saving.mjs"
 import { several } from "./several.mjs"
 import { sharing } from "./sharing.mjs"
 import { sketching } from "./sketching.mjs"
+import { snapping } from "./snapping.mjs"
 import { styles } from "./styles.mjs"
 import { takingAlong } from "./taking_along.mjs"
 import { texts } from "./texts.mjs"
@@ -111,7 +112,7 @@ async function servers(browser) {
 const PARTS = {
   together: oneRoom, plan, undoing, choosing, tools, lines, styles, texts, several, sketching, looking, presence, makers,
   opening, full, keepingWork, saving, sharing, renewing, renewedInUse, takingAlong,
-  phone, servers,
+  phone, snapping, servers,
 }
 
 /** Runs all parts, or those whose names are arguments. */

@@ -10,13 +10,13 @@ import { pictureOf, svgText } from "./picture.js"
 const ENTRIES_TYPE = "text/plain"
 
 /**
- * Says that the room was reset, or that the drawing went on without the user's last changes, and offers the old drawing.
+ * Says that the room was reset, or that the drawing went on without the user's last changes. Offers the old drawing.
  * @param {string} roomName
  * @param {{ words: string, text: string }} news of the room: `text` has the old entries, one a line
  */
 export function showOldDrawing(roomName, { words, text }) {
   const links = [...drawingLinks(roomName, text),
-    linkOf("Save its entries", `${roomName}.record`, new Blob([text], { type: ENTRIES_TYPE }))]
+    linkOf("Save its entries", `${roomName}.record`, ENTRIES_TYPE, text)]
   const notice = html("section", { className: "notice" }, html("p", { textContent: words }))
   const close = () => {
     notice.remove()
@@ -31,12 +31,13 @@ function drawingLinks(roomName, text) {
   const board = boardOf(text, roomName)
   if (board.objects().length === 0) return []
   return [
-    linkOf("Save the old drawing", `${roomName}-old.json`, new Blob([textOf(objectsOf(board))], { type: DRAWING_TYPE })),
-    linkOf("Save it as SVG", `${roomName}-old.svg`, new Blob([svgText(pictureOf(board))], { type: SVG_TYPE })),
+    linkOf("Save the old drawing", `${roomName}-old.json`, DRAWING_TYPE, textOf(objectsOf(board))),
+    linkOf("Save it as SVG", `${roomName}-old.svg`, SVG_TYPE, svgText(pictureOf(board))),
   ]
 }
 
-const linkOf = (textContent, download, blob) => html("a", { href: URL.createObjectURL(blob), download, textContent })
+const linkOf = (textContent, download, type, text) =>
+  html("a", { href: URL.createObjectURL(new Blob([text], { type })), download, textContent })
 
 /** A board that shows what entries draw. */
 function boardOf(text, roomName) {

@@ -62,8 +62,8 @@ function elementsOf(board, { name, place, isAlone }) {
   const shapes = board.shapes(name)
   const stripe = isAlone ? null : stripeOf(shapes, place)
   const bodies = bodiesOf(shapes[place], stripe, `picture-${keyOf(name)}-${letterOf(place)}`)
-  const text = shapes[place].text === "" ? [] : [textOf(stripe === null ? shapes[place] : { ...shapes[place], ...stripe })]
-  return [...bodies, ...text].filter((element) => !element.matches(".grip, .unseen-body"))
+  const all = shapes[place].text === "" ? bodies : [...bodies, textOf({ ...shapes[place], ...stripe })]
+  return all.filter((element) => !element.matches(".grip, .unseen-body"))
 }
 
 /** The box of what a layer draws. It has to be in the page for that. */

@@ -17,7 +17,7 @@ export const FIRST_EDGE = [0]
 const SAME = 0.01
 const AXES = [["x", "width", "y", "height"], ["y", "height", "x", "width"]]
 
-/** @typedef {{ at: number, from: number, to: number }} Line where it is, and where its shape begins and ends along it */
+/** @typedef {{ at: number, from: number, to: number }} Line its place, and where its shape begins and ends along it */
 
 export class Snapping {
   // For each axis the lines of the shapes, sorted by place.

@@ -10,6 +10,7 @@ import { Chromium } from "./chromium.mjs"
 import { choosing } from "./choosing.mjs"
 import * as connections from "./connections.mjs"
 import * as deleting from "./deleting.mjs"
+import { embedding } from "./embedding.mjs"
 import { full } from "./full.mjs"
 import { keepingWork } from "./keeping_work.mjs"
 import { lines } from "./lines.mjs"
@@ -110,9 +111,9 @@ async function servers(browser) {
 
 // Each has a whiteboard of its own.
 const PARTS = {
-  together: oneRoom, plan, undoing, choosing, tools, lines, styles, texts, several, sketching, looking, presence, makers,
-  opening, full, keepingWork, saving, sharing, renewing, renewedInUse, takingAlong,
-  phone, snapping, servers,
+  together: oneRoom, plan, undoing, choosing, tools, lines, styles, texts, several, sketching, looking, presence,
+  makers, opening, full, keepingWork, saving, sharing, renewing, renewedInUse, takingAlong,
+  phone, snapping, embedding, servers,
 }
 
 /** Runs all parts, or those whose names are arguments. */

@@ -241,8 +241,8 @@ async function pastedText(room) {
   const box = `document.querySelector(".version .body").getBoundingClientRect()`
   const middle = `document.getElementById("board").getBoundingClientRect()`
   expect("where it is", await page.look(`(() => {
-    const [one, all] = [${box}, ${middle}]
-    return Math.hypot(one.x + one.width / 2 - all.x - all.width / 2, one.y + one.height / 2 - all.y - all.height / 2) < 2
+    const [one, all] = [${box}, ${middle}].map(({ x, y, width, height }) => [x + width / 2, y + height / 2])
+    return Math.hypot(one[0] - all[0], one[1] - all[1]) < 2
   })()`))
   const cut = "The text is too long, and was cut after 4,000 bytes."
   // Each letter has three bytes.

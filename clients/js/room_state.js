@@ -30,6 +30,9 @@ const OTHER_ROOM = "The room was started again, and your old drawing is not in i
 export const GOES_ON = "This drawing goes on in another room."
 const LEFT_BEHIND = "This drawing went on in another room without your last changes. You can save a copy of them."
 
+// So long after a reply the storage may have changes that the record has already. A reload finds them there.
+const SAVED_AFTER_MILLISECONDS = 100
+
 export class RoomState {
   // How many entries the server has at least.
   length = 0
@@ -62,6 +65,8 @@ export class RoomState {
   // The running `transaction`: what marks its changes, and those that it has made. Or null.
   #transaction = null
   #isRestoring = false
+  // Will save that changes are in the record, or null.
+  #saving = null
 
   /**
    * @param {SavedState} saved
@@ -245,16 +250,16 @@ export class RoomState {
     this.#held.add(change)
     this.#draw(change, operation)
     this.#pending.push(change)
-    this.#saveChanges()
-    this.#report.changed()
     if (this.#transaction === null) this.#finishTransaction([change])
     else this.#transaction.changes.push(change)
     return change
   }
 
-  /** Reports changes that were made together. */
+  /** Saves, sends and reports changes that were made together. */
   #finishTransaction(changes) {
     if (changes.length === 0) return
+    this.#saveChanges()
+    this.#report.changed()
     this.#emitChange(changes.map(({ object }) => codeOf(object)))
     this.#report.emit("transaction", { changes })
   }
@@ -300,7 +305,7 @@ export class RoomState {
     if (isIt(this.#pending[0])) this.#settleFirst()
     else if (isIt(this.#acceptedUnpulled[0])) {
       this.#acceptedUnpulled.shift()
-      this.#saveChanges()
+      this.#saveChangesSoon()
     }
   }
 
@@ -316,7 +321,7 @@ export class RoomState {
   /** Settles the oldest pending change: the server has accepted it. */
   #settleFirst() {
     const first = this.#pending.shift()
-    this.#saveChanges()
+    this.#saveChangesSoon()
     first.resolve()
     this.#report.answered()
   }
@@ -474,6 +479,8 @@ export class RoomState {
   /** Discards all state of the room, saved state included. Returns the codes of the objects that were shown. */
   #reset() {
     const gone = this.#drawing.names().map(codeOf)
+    clearTimeout(this.#saving)
+    this.#saving = null
     this.#passage = null
     this.#held.clear()
     this.#site = null
@@ -504,6 +511,8 @@ export class RoomState {
 
   /** Removes what is saved. */
   clearSaved() {
+    clearTimeout(this.#saving)
+    this.#saving = null
     this.#saved.clear()
   }
 
@@ -556,7 +565,14 @@ export class RoomState {
   }
 
   #saveChanges() {
+    clearTimeout(this.#saving)
+    this.#saving = null
     this.#saved.saveChanges(this.#unrecordedEntries())
+  }
+
+  /** Saves once after many replies: to save all that is pending after each of them would take long. */
+  #saveChangesSoon() {
+    this.#saving ??= setTimeout(() => this.#saveChanges(), SAVED_AFTER_MILLISECONDS)
   }
 
   /** The entries of this client's changes that the pulled part of the record lacks. */
@@ -587,6 +603,7 @@ export class RoomState {
    * @returns {Change[]} the changes that are pending still
    */
   close() {
+    if (this.#saving !== null) this.#saveChanges()
     this.isClosed = true
     this.#release()
     return this.#pending.splice(0)

@@ -22,8 +22,10 @@ export class Board {
   #objects = null
   // By the room's list of an object's versions, which stays the same until the object changes.
   #drawn = new WeakMap()
-  // The last result of `drawn`, with the objects and the drag that it is of.
-  #list = { objects: null, previews: null, drawn: [] }
+  // What `drawn` gives without a drag, with the objects that it is of, and the place of each object by key.
+  #still = { objects: null, drawn: [], places: new Map() }
+  // The last result of `drawn`, with the drag that it is of.
+  #list = { still: null, previews: null, drawn: [] }
 
   /** @param {import("../../clients/js/grace.js").Room} room */
   constructor(room) {
@@ -70,11 +72,35 @@ export class Board {
    * the next event or the next step of a drag.
    */
   drawn() {
-    const [objects, { previews }] = [this.objects(), this]
-    if (this.#list.objects !== objects || this.#list.previews !== previews) {
-      this.#list = { objects, previews, drawn: objects.map((name) => ({ name, shapes: this.shapes(name) })) }
+    const [still, { previews }] = [this.#drawnStill(), this]
+    if (this.#list.still !== still || this.#list.previews !== previews) {
+      const drawn = previews === NO_PREVIEWS ? still.drawn : this.#withPreviews(still)
+      this.#list = { still, previews, drawn }
     }
     return this.#list.drawn
+  }
+
+  /** The list without a drag. */
+  #drawnStill() {
+    const objects = this.objects()
+    if (this.#still.objects === objects) return this.#still
+    const previews = this.previews
+    this.previews = NO_PREVIEWS
+    const drawn = objects.map((name) => ({ name, shapes: this.shapes(name) }))
+    this.previews = previews
+    this.#still = { objects, drawn, places: new Map(objects.map((name, place) => [keyOf(name), place])) }
+    return this.#still
+  }
+
+  /** The list with what is dragged, and the lines that stick to it. A drag has no time to go over all objects. */
+  #withPreviews({ drawn, places }) {
+    const list = [...drawn]
+    const dragged = [...this.previews.values()].flatMap(({ name }) => [name, ...this.connections.linesAt(name)])
+    for (const name of dragged) {
+      const place = places.get(keyOf(name))
+      if (place !== undefined) list[place] = { name, shapes: this.shapes(name) }
+    }
+    return list
   }
 
   /** The version that edits apply to: the only one, or the picked one. Null if the user must pick one first. */

@@ -98,7 +98,8 @@ export class Changes {
   /** Creates objects in one step and selects them, or none if they do not all fit. */
   drawAll(forms) {
     if (forms.length > 1 && !this.space.takesAll(forms)) return this.page.say(NOT_ALL_FIT)
-    const all = this.step(() => forms.map(({ kind, attributes }) => this.create(kind, attributes)))
+    const createAll = () => forms.map(({ kind, attributes }) => this.create(kind, attributes))
+    const all = this.step(() => this.#together(createAll))
     const made = all.filter((change) => change !== null).map(({ object }) => object)
     if (made.length > 0) this.page.tools.use("select")
     this.#show(made)
@@ -108,7 +109,7 @@ export class Changes {
   drawMost(forms) {
     const fitting = forms.slice(0, this.space.fitting(forms))
     const createAll = () => fitting.map(({ kind, attributes }) => this.#act(() => this.#create(kind, attributes), null))
-    const acts = this.step(() => this.page.room.transaction(createAll)).filter((act) => act !== null)
+    const acts = this.step(() => this.#together(createAll)).filter((act) => act !== null)
     this.#show(acts.map(({ change }) => change.object))
     return acts.length
   }
@@ -142,7 +143,8 @@ export class Changes {
   /** Deletes versions of objects in the same way. */
   dropAll(chosen) {
     const drop = ({ name, version }) => this.#act(() => this.#drop(name, version), null) !== null
-    this.#deleting(chosen.map(({ version }) => version), () => this.step(() => chosen.every(drop)))
+    const dropAll = () => this.#together(() => chosen.every(drop))
+    this.#deleting(chosen.map(({ version }) => version), () => this.step(dropAll))
   }
 
   /** Sets attributes of the picked versions of what is selected, where they differ from the present ones. */
@@ -191,12 +193,12 @@ export class Changes {
       // The user may have done more before the answer.
       if (last() !== step) return
       const [restored, shown] = [[], []]
-      turn((act) => {
+      this.#together(() => turn((act) => {
         const reverse = this.#reverse(act, step, word)
         if (act.word === "drop" && reverse?.word === "create") restored.push(act)
         if (reverse?.word === "create" || reverse?.word === "put") shown.push(reverse.change.object)
         return reverse
-      })
+      }))
       this.#show(shown)
       this.#tellOfSeparate(restored)
       this.page.view.change([])
@@ -261,13 +263,19 @@ export class Changes {
 
   /** Makes a change. @throws {Refused | RangeError} */
   #make(call) {
+    const isActing = this.isActing
     this.isActing = true
     try {
       return call()
     } finally {
-      this.isActing = false
+      this.isActing = isActing
       this.#sites.add(this.page.room.site)
     }
+  }
+
+  /** Makes many changes that the room saves, sends and reports together. */
+  #together(call) {
+    return this.#make(() => this.page.room.transaction(call))
   }
 
   /** The server refused a change that the page had shown. */

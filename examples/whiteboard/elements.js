@@ -19,6 +19,11 @@ export function html(word, properties = {}, ...children) {
   return element
 }
 
+/** Sets an attribute if it has another value: the browser would lay out all that is inside. */
+export function setAttribute(element, key, value) {
+  if (element.getAttribute(key) !== value) element.setAttribute(key, value)
+}
+
 /** The element of the page with this id. */
 export const part = (id) => document.getElementById(id)
 

@@ -4,7 +4,7 @@
  */
 
 import { bodyOf, textOf } from "./bodies.js"
-import { svg } from "./elements.js"
+import { setAttribute, svg } from "./elements.js"
 import { Glide } from "./glide.js"
 import { countOf } from "./own_note.js"
 
@@ -40,7 +40,7 @@ export class Ghosts {
     const { scale, x, y } = this.view.camera
     this.#end(now)
     const shown = [...this.#drags].filter(([site, drag]) => this.#isShown(site, drag)).map(([, drag]) => drag)
-    this.layer.setAttribute("transform", `translate(${x} ${y}) scale(${scale})`)
+    setAttribute(this.layer, "transform", `translate(${x} ${y}) scale(${scale})`)
     this.layer.replaceChildren(...shown.map((drag) => this.#ghostOf(drag, now)))
     this.#makePale(shown)
   }

@@ -24,6 +24,9 @@ const FEW = 6
 const MANY_SELECTED = 100
 
 export class Marks {
+  // The scale that the style sheet knows.
+  #scale = null
+
   /**
    * @param {{ board: import("./board.js").Board, camera: import("./camera.js").Camera, sheet:
    *   import("./sheet.js").Sheet, pending: import("./pending_changes.js").PendingChanges }} parts
@@ -66,7 +69,8 @@ export class Marks {
     const handles = selected.length === 1 ? this.#handles(selected[0]) : []
     this.links.replaceChildren(...several.flatMap(linksOf))
     this.layer.replaceChildren(...rings, ...this.#ringOfMany(), ...pendingMarks, ...this.#tags(several), ...handles)
-    this.layer.parentNode.style.setProperty("--scale", camera.scale)
+    if (camera.scale !== this.#scale) this.layer.parentNode.style.setProperty("--scale", camera.scale)
+    this.#scale = camera.scale
   }
 
   /** The objects that have marks: those with several versions, and the others that are selected, focused or pending. */

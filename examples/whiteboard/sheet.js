@@ -34,21 +34,45 @@ export class Sheet {
   }
 
   /**
-   * Draws these objects again and sorts all of them.
+   * Draws these objects again, and sorts all of them if there are others than before.
    * @param {Iterable<any>} names
    */
   draw(names) {
     this.isDrawing = true
     const focused = this.#drawn.get(document.activeElement)
-    for (const name of names) {
-      const key = keyOf(name)
-      for (const { element } of this.#entries.get(key) ?? []) element.remove()
-      if (this.board.shown(name).length > 0) this.#entries.set(key, this.#entriesOf(name))
-      else this.#entries.delete(key)
-    }
-    this.#order()
+    let isSorted = true
+    for (const name of names) if (!this.#refresh(name)) isSorted = this.#replace(name) && isSorted
+    if (!isSorted) this.#order()
     if (focused !== undefined && !document.activeElement?.closest(".version")) this.#focus(focused)
     this.isDrawing = false
+  }
+
+  /** Draws an object anew. Returns whether there is nothing to sort. */
+  #replace(name) {
+    const key = keyOf(name)
+    const old = this.#entries.get(key) ?? []
+    for (const { element } of old) element.remove()
+    const isShown = this.board.shown(name).length > 0
+    if (isShown) this.#entries.set(key, this.#entriesOf(name))
+    else this.#entries.delete(key)
+    return !isShown
+  }
+
+  /**
+   * Draws an object in the element that it has, if it has only one version, before and now, at the same place in the
+   * order. So a drag sorts nothing, and the element keeps the focus. Returns whether it was so.
+   */
+  #refresh(name) {
+    const [entry, ...others] = this.#entries.get(keyOf(name)) ?? []
+    const [version, ...more] = this.board.shown(name)
+    if (entry === undefined || version === undefined || others.length + more.length > 0) return false
+    const shapes = this.board.shapes(name)
+    const before = this.#drawn.get(entry.element).version
+    const isSame = before === version || this.board.successors(name, before)[0] === version
+    if (!isSame || shapes[0].z !== entry.z) return false
+    this.#fill(entry.element, name, shapes, 0, this.board.isSelected(name))
+    this.#drawn.set(entry.element, { name, version })
+    return true
   }
 
   /**
@@ -130,15 +154,22 @@ export class Sheet {
   }
 
   #version(name, shapes, place, isMarked) {
+    return this.#fill(svg("g", { tabindex: 0, role: "button", "aria-keyshortcuts": "Delete F2" }),
+      name, shapes, place, isMarked)
+  }
+
+  /** Gives the element of a version what it draws, and what it says. */
+  #fill(element, name, shapes, place, isMarked) {
     const shape = shapes[place]
     const letter = letterOf(place)
     const words = wordsOf(shape) + (shapes.length > 1 ? `, version ${letter} of ${shapes.length}` : "")
-    const element = svg("g", {
-      class: isMarked ? "version picked" : "version", tabindex: 0, role: "button", "aria-label": words,
-      "aria-pressed": isMarked, "aria-keyshortcuts": "Delete F2", "data-object": keyOf(name), "data-letter": letter,
-    })
+    const own = {
+      class: isMarked ? "version picked" : "version", "aria-label": words, "aria-pressed": isMarked,
+      "data-object": keyOf(name), "data-letter": letter,
+    }
+    for (const [key, value] of Object.entries(own)) element.setAttribute(key, value)
     const stripe = stripeOf(shapes, place)
-    element.append(...bodiesOf(shape, stripe, `${keyOf(name)}-${letter}`))
+    element.replaceChildren(...bodiesOf(shape, stripe, `${keyOf(name)}-${letter}`))
     if (shape.text !== "") element.append(textOf(stripe === null ? shape : { ...shape, ...stripe }))
     return element
   }

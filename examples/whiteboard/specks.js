@@ -2,7 +2,7 @@
 
 import { keyOf } from "./board.js"
 import { boundsOf, middleOf } from "./boxes.js"
-import { svg } from "./elements.js"
+import { setAttribute, svg } from "./elements.js"
 import { letterOf } from "./words.js"
 
 const SPECK = 7
@@ -24,7 +24,7 @@ export class Specks {
 
   draw() {
     const { x, y, scale } = this.camera
-    this.layer.setAttribute("transform", `translate(${x} ${y})`)
+    setAttribute(this.layer, "transform", `translate(${x} ${y})`)
     const drawn = this.board.drawn()
     if (drawn === this.#drawn && scale === this.#scale) return
     if (scale !== this.#scale) this.#forget()

@@ -4,7 +4,7 @@ import { keyOf } from "./board.js"
 import { boundsOfAll } from "./boxes.js"
 import { Camera, PAGE } from "./camera.js"
 import { Edges } from "./edges.js"
-import { part } from "./elements.js"
+import { part, setAttribute } from "./elements.js"
 import { Frames } from "./frames.js"
 import { Marks } from "./marks.js"
 import { PendingChanges } from "./pending_changes.js"
@@ -107,7 +107,7 @@ export class View {
     const names = [...this.#changed.values()]
     this.#changed.clear()
     if (names.length > 0) this.sheet.draw(names)
-    this.layer.setAttribute("transform", `translate(${x} ${y}) scale(${scale})`)
+    setAttribute(this.layer, "transform", `translate(${x} ${y}) scale(${scale})`)
     this.specks.draw()
     this.marks.draw()
     this.edges.draw()

@@ -37,6 +37,8 @@ export class Board {
      * @type {Map<string, { name: any, version: any, attributes: Record<string, any> }>}
      */
     this.previews = NO_PREVIEWS
+    /** What the user draws at the moment: a shape, or the `points` of a stroke; or null. @type {any} */
+    this.sketch = null
   }
 
   /** The name of the selected object; null if there is none, or several. */

@@ -9,8 +9,10 @@ const [LEFT, MIDDLE] = [0, 1]
 const ZOOM_PER_PIXEL = 0.002
 const LINE_PIXELS = 16
 // Two presses within this time and distance are a double click. The pressed elements are replaced in between, so the
-// browser's own `dblclick` never fires.
+// browser's own `dblclick` never fires. Where the browser counts the presses of a mouse, its count holds too: it has
+// the time that the user has set, and the presses themselves, however late the page hears of them.
 const DOUBLE_MILLISECONDS = 500
+const TWICE = 2
 const DOUBLE_PIXELS = 5
 
 export class Gestures {
@@ -26,8 +28,7 @@ export class Gestures {
     this.page = page
     const { element } = page.view.sheet
     element.addEventListener("pointerdown", (event) => this.#press(event))
-    // The pressed version already has the focus. By default the browser would focus the whole drawing.
-    element.addEventListener("mousedown", (event) => this.#drag !== null && event.preventDefault())
+    element.addEventListener("mousedown", (event) => this.#count(event))
     element.addEventListener("pointermove", (event) => this.#move(event))
     for (const name of ["pointerup", "pointercancel"]) {
       element.addEventListener(name, (event) => this.#lift(event, name === "pointerup"))
@@ -65,6 +66,14 @@ export class Gestures {
     this.#isDouble = this.#isPressedAgain(event)
     this.#drag = this.#dragOf(event)
     this.page.view.sheet.element.setPointerCapture(event.pointerId)
+  }
+
+  /** The browser's count of presses. It comes behind a press of the mouse, and before its release. */
+  #count(event) {
+    if (this.#drag === null) return
+    // The pressed version already has the focus. By default the browser would focus the whole drawing.
+    event.preventDefault()
+    if (event.detail === TWICE) this.#isDouble = true
   }
 
   #dragOf(event) {

@@ -8,13 +8,17 @@ import { heldWords } from "./words.js"
 const GAP = 4
 // The outlines of several people around one object.
 const STEP = 4
+// A name is so far below its outline, whose edge the style sheet makes so wide, and so high.
+const LABEL_GAP = 1
+const LABEL_HEIGHT = 17
+const EDGE_WIDTH = 2
 const WORDS_MILLISECONDS = 4000
 const WORDS_GAP = 10
 const WORDS_HEIGHT = 40
 const EDGE = 90
 
 export class Holds {
-  // By site: the element of an outline.
+  // By site: the element of an outline, and the width of its name.
   #shown = new Map()
   // The object about which it was said who holds it, or null.
   #told = null
@@ -49,8 +53,9 @@ export class Holds {
     const counts = new Map()
     const seen = this.people.others.flatMap((person) => this.#outlineOf(person, counts))
     const sites = new Set(seen.map(({ person }) => person.site))
-    for (const [site, element] of this.#shown) if (!sites.has(site)) this.#remove(site, element)
-    for (const outline of seen) this.#draw(outline)
+    for (const [site, { element }] of this.#shown) if (!sites.has(site)) this.#remove(site, element)
+    const labels = []
+    for (const outline of seen) labels.push(this.#draw(outline, labels))
     if (this.#told !== null) this.#placeWords()
   }
 
@@ -63,7 +68,7 @@ export class Holds {
     const rank = counts.get(keyOf(held.object)) ?? 0
     counts.set(keyOf(held.object), rank + 1)
     const inWindow = grown(this.camera.boxOf(boundsOf(box)), GAP + rank * STEP)
-    return meet(inWindow, this.camera.window) ? [{ person, rank, box: inWindow }] : []
+    return meet(inWindow, this.camera.window) ? [{ person, box: inWindow }] : []
   }
 
   #boxOf({ object, place }) {
@@ -71,21 +76,30 @@ export class Holds {
     return shapes[place] ?? shapes[0] ?? null
   }
 
-  #draw({ person, rank, box: { x, y, width, height } }) {
-    const element = this.#shown.get(person.site) ?? this.#add(person.site)
-    element.firstChild.textContent = person.name
+  /** Draws an outline with its name, below all names that it would cover. Returns the box of the name. */
+  #draw({ person, box: { x, y, width, height } }, labels) {
+    const shown = this.#shown.get(person.site) ?? this.#add(person.site)
+    const { element } = shown
+    const [name] = element.children
+    if (name.textContent !== person.name) {
+      name.textContent = person.name
+      shown.width = name.offsetWidth
+    }
+    const label = freeLabel({ x, y: y + height + LABEL_GAP, width: shown.width, height: LABEL_HEIGHT }, labels)
     Object.assign(element.style, {
       transform: `translate(${x}px, ${y}px)`, width: `${width}px`, height: `${height}px`,
     })
     element.style.setProperty("--colour", person.colour)
-    element.style.setProperty("--rank", rank)
+    name.style.top = `${label.y - y - EDGE_WIDTH}px`
+    return label
   }
 
   #add(site) {
     const element = html("div", { className: "hold", dataset: { site } }, html("span"))
     this.layer.append(element)
-    this.#shown.set(site, element)
-    return element
+    const shown = { element, width: 0 }
+    this.#shown.set(site, shown)
+    return shown
   }
 
   #remove(site, element) {
@@ -102,6 +116,13 @@ export class Holds {
     const bottom = between(WORDS_HEIGHT, y - WORDS_GAP, this.camera.height - WORDS_HEIGHT)
     Object.assign(part("held").style, { left: `${middle}px`, top: `${bottom}px` })
   }
+}
+
+/** Moves the box of a name down until it covers none of the others. */
+function freeLabel(label, others) {
+  const covered = others.find((other) => meet(label, grown(other, -1)))
+  if (covered === undefined) return label
+  return freeLabel({ ...label, y: covered.y + covered.height }, others)
 }
 
 const holds = (held, name) => held !== null && keyOf(held.object) === keyOf(name)

@@ -1,9 +1,10 @@
-/** What the page shows of the others on the drawing: pointers, outlines of what they hold, and what they drag. */
+/** What the page shows of the others on the drawing: pointers, outlines of what they hold, what they drag and draw. */
 
 import { part } from "./elements.js"
 import { Frames } from "./frames.js"
 import { Ghosts } from "./ghosts.js"
 import { Holds } from "./holds.js"
+import { LiveSketches } from "./live_sketches.js"
 import { Pointers } from "./pointers.js"
 
 export class Others {
@@ -17,6 +18,7 @@ export class Others {
     Object.assign(this, { people, sheet: view.sheet })
     this.pointers = new Pointers(people, view.camera, part("others"))
     this.ghosts = new Ghosts(people, view, part("ghosts"))
+    this.sketches = new LiveSketches(people, view, part("live"))
     this.holds = new Holds(people, view, this.ghosts, part("others"))
     people.onChange(() => this.#frames.ask())
     view.sheet.element.addEventListener("focusin", ({ target }) => this.#focus(target))
@@ -36,9 +38,8 @@ export class Others {
 
   /** Draws again in the next frame while something moves. */
   #draw() {
-    this.ghosts.draw()
-    this.holds.draw()
-    this.pointers.draw()
-    if (this.ghosts.isChanging || this.pointers.isMoving) this.#frames.ask()
+    const parts = [this.ghosts, this.sketches, this.holds, this.pointers]
+    for (const one of parts) one.draw()
+    if (parts.some(({ isChanging }) => isChanging)) this.#frames.ask()
   }
 }

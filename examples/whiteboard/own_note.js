@@ -1,6 +1,6 @@
 /**
- * The note of this page. Alone in the room, or while the page is hidden, it has no pointer and no drag: nobody would
- * see them, and a phone's radio can rest.
+ * The note of this page. Alone in the room, or while the page is hidden, it has no pointer, no drag and no sketch:
+ * nobody would see them, and a phone's radio can rest.
  */
 
 import { keyOf } from "./board.js"
@@ -16,6 +16,8 @@ export class OwnNote {
   pointer = null
   // The last drag. It stays in the note until the room has taken its change, so that the others see no step back.
   #drag = null
+  // The last sketch, in the same way.
+  #sketch = null
   #isAwaiting = false
   #colour = null
 
@@ -39,10 +41,10 @@ export class OwnNote {
     const { room } = this.board
     if (room.site === null || room.state === "closed") return
     const isSeen = this.isSeen()
-    const drag = this.#dragNow()
+    const [drag, sketch] = [this.#dragNow(), this.#sketchNow()]
     const note = writeNote({
       name: this.name, colour: this.colour, selected: this.#selected(),
-      pointer: isSeen ? this.pointer : null, drag: isSeen ? drag : null,
+      pointer: isSeen ? this.pointer : null, drag: isSeen ? drag : null, sketch: isSeen ? sketch : null,
     })
     if (note !== room.note) room.note = note
   }
@@ -62,24 +64,39 @@ export class OwnNote {
     return this.#drag
   }
 
+  /** What is drawn, or what was drawn and is pending. @returns {any} */
+  #sketchNow() {
+    const { room, sketch } = this.board
+    if (sketch !== null) this.#sketch = { ...sketch, made: this.#madeBefore() }
+    else if (this.#sketch !== null && !this.#awaitsAny(room.pending)) this.#sketch = null
+    return this.#sketch
+  }
+
+  #madeBefore() {
+    const { room } = this.board
+    return countOf(room.seen, room.site)
+  }
+
   #dragOf({ name, version }) {
     const place = this.board.shown(name).indexOf(version)
     if (place < 0) return null
-    const { room } = this.board
-    return { object: name, place, box: this.board.shapes(name)[place], made: countOf(room.seen, room.site) }
+    return { object: name, place, box: this.board.shapes(name)[place], made: this.#madeBefore() }
   }
 
-  /** Whether the change of a drag is still pending. If so, the note is written again after its end. */
+  /** Whether the change of a drag is still pending. */
   #awaits({ object }) {
-    const { room } = this.board
-    const isPending = room.pending.some((change) => keyOf(change.object) === keyOf(object))
-    if (isPending && !this.#isAwaiting) {
+    return this.#awaitsAny(this.board.room.pending.filter((change) => keyOf(change.object) === keyOf(object)))
+  }
+
+  /** Whether some of these changes are pending. If so, the note is written again after their end. */
+  #awaitsAny(pending) {
+    if (pending.length > 0 && !this.#isAwaiting) {
       this.#isAwaiting = true
-      room.settled().then(() => {
+      this.board.room.settled().then(() => {
         this.#isAwaiting = false
         this.write()
       })
     }
-    return isPending
+    return pending.length > 0
   }
 }

@@ -27,7 +27,7 @@ export class Pointers {
   }
 
   /** Whether some pointer has not reached its place. */
-  get isMoving() {
+  get isChanging() {
     const now = performance.now()
     return [...this.#shown.values()].some(({ glide }) => glide.isMoving(now))
   }
@@ -64,6 +64,8 @@ export class Pointers {
     const isMoved = shown.person === null || String(shown.glide.end) !== String(person.pointer)
     shown.person = person
     shown.name.textContent = person.name
+    // Whoever drags has the name at the outline of what is dragged.
+    shown.name.hidden = person.drag !== null
     shown.element.style.setProperty("--colour", person.colour)
     if (!isMoved) return
     shown.glide.go(person.pointer, now)

@@ -3,9 +3,13 @@
 import { bodyOf } from "./bodies.js"
 import { boundsOf } from "./boxes.js"
 import { CLICK_PIXELS, shapeUnder } from "./drags.js"
-import { boxOf } from "./pen.js"
+import { boxOf, simplify } from "./pen.js"
 import { LEAST, NEW_SHAPES, attributesOf, regularSize } from "./shapes.js"
 import { FIRST_EDGE, Snapping } from "./snapping.js"
+
+// A stroke is told to the others in a simpler form, which gets simpler still when it has so many points.
+const TOLD_POINTS = 100
+const TOLD_DISTANCE = 1
 
 /**
  * Draws a new shape from one corner to the opposite one. With Shift it is regular. A click draws one of a usual size,
@@ -29,15 +33,21 @@ export class Sketch {
     const size = this.#cornerAt(event).map((place, side) => place - this.start[side])
     this.#size = event.shiftKey ? regularSize(this.kind, size) : size
     if (this.kind === "line") this.#to = shapeUnder(this.page, event)
-    this.page.view.sheet.sketch(bodyOf(this.#sketched(), "body sketch"))
+    const sketched = this.#sketched()
+    show(this.page, sketched, bodyOf(sketched, "body sketch"))
   }
 
   end(isWhole) {
-    const { changes, view } = this.page
-    view.sheet.sketch(null)
+    const { changes } = this.page
+    show(this.page, null, null)
     this.#snapping?.end()
-    if (!isWhole) return
-    if (this.#isClick) return changes.draw(this.kind, attributesOf(this.#usual()))
+    if (isWhole && this.#isClick) changes.draw(this.kind, attributesOf(this.#usual()))
+    else if (isWhole) this.#draw()
+    this.page.people.write()
+  }
+
+  #draw() {
+    const { changes } = this.page
     changes.step(() => {
       changes.draw(this.kind, attributesOf(this.#sketched()))
       for (const name of this.#ends) if (name !== null) changes.mark(name)
@@ -104,20 +114,32 @@ export class Stroke {
     this.page = page
     this.began = performance.now()
     this.points = [page.camera.placeOf(event)]
+    this.told = [...this.points]
   }
 
   move(event) {
-    const { camera, view, tools } = this.page
+    const { camera, tools } = this.page
     const events = event.getCoalescedEvents?.() ?? []
-    this.points.push(...(events.length > 0 ? events : [event]).map((one) => camera.placeOf(one)))
-    view.sheet.sketch(bodyOf(unfinishedStroke(this.points, tools.colour), "body sketch"))
+    const more = (events.length > 0 ? events : [event]).map((one) => camera.placeOf(one))
+    this.points.push(...more)
+    this.told.push(...more)
+    if (this.told.length > TOLD_POINTS) this.told = simplify(this.told, TOLD_DISTANCE)
+    const body = bodyOf(unfinishedStroke(this.points, tools.colour), "body sketch")
+    show(this.page, { kind: "pen", fill: tools.colour, points: this.told }, body)
   }
 
   end(isWhole) {
-    const { handwriting, view } = this.page
-    view.sheet.sketch(null)
-    if (isWhole) handwriting.draw(this.points, this.began)
+    show(this.page, null, null)
+    if (isWhole) this.page.handwriting.draw(this.points, this.began)
+    this.page.people.write()
   }
+}
+
+/** Shows what is drawn, here and to the others; null ends it. */
+function show({ board, people, view }, sketch, body) {
+  board.sketch = sketch
+  view.sheet.sketch(body)
+  if (sketch !== null) people.write()
 }
 
 /** The shape of an unfinished stroke. */

@@ -1,4 +1,9 @@
-/** The steps that can be undone, and those that can be redone. A step is a list of actions, each with its change. */
+/**
+ * The steps that can be undone, and those that can be redone. A step is a list of actions, each with its change. The
+ * library's `UndoManager` records each transaction as a step. The page needs more: a step that the room refuses to
+ * reverse can be skipped, a deletion that cannot be undone is asked about before, some changes are no step, and an
+ * object that comes back carries other names of its makers, and is made only if all of it fits.
+ */
 
 /** What reversing an action gives if the room refuses it: the action stays. */
 export const REFUSED = Symbol("refused")

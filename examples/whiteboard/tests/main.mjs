@@ -14,6 +14,7 @@ import { embedding } from "./embedding.mjs"
 import { full } from "./full.mjs"
 import { keepingWork } from "./keeping_work.mjs"
 import { lines } from "./lines.mjs"
+import { live } from "./live.mjs"
 import { looking } from "./looking.mjs"
 import { makers } from "./makers.mjs"
 import { opening } from "./opening.mjs"
@@ -113,7 +114,7 @@ async function servers(browser) {
 const PARTS = {
   together: oneRoom, plan, undoing, choosing, tools, lines, styles, texts, several, sketching, looking, presence,
   makers, opening, full, keepingWork, saving, sharing, renewing, renewedInUse, takingAlong,
-  phone, snapping, embedding, servers,
+  phone, snapping, embedding, live, servers,
 }
 
 /** Runs all parts, or those whose names are arguments. */

@@ -58,9 +58,9 @@ const FAR = 100000
 const HELD = { object: [256, 16384], place: 31 }
 const FULL = {
   name: "Anna", colour: PALETTE.length - 1, pointer: [-FAR, -FAR], selected: HELD,
-  drag: { ...HELD, box: { x: -FAR, y: -FAR, width: -FAR, height: -FAR }, made: 16384 },
+  drag: { ...HELD, box: { x: -FAR, y: -FAR, width: -FAR, height: -FAR }, made: 16384 }, sketch: null,
 }
-const NOTHING = { name: "", colour: null, pointer: null, selected: null, drag: null }
+const NOTHING = { name: "", colour: null, pointer: null, selected: null, drag: null, sketch: null }
 
 function form() {
   expectEqual("a note that was written", readNote(writeNote(FULL)), FULL)

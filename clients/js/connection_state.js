@@ -16,6 +16,7 @@ const REPEAT_MILLISECONDS = 1000
 const CONNECTING = "Connecting."
 const SAVING = "Your last changes are not saved yet."
 const SILENT = "The server is not answering. All its places may be taken. Please wait."
+const OFFLINE = "This device has no network. It goes on when there is one again."
 
 /** The connection state, and a timer that reports it again while changes are pending. */
 export class ConnectionState {
@@ -91,7 +92,7 @@ export class ConnectionState {
     const left = SILENT_MILLISECONDS - this.#silentTime()
     // Wake up when the silence becomes long enough for the other sentence.
     this.#wakeIn(left > 0 ? Math.min(left, REPEAT_MILLISECONDS) : REPEAT_MILLISECONDS)
-    this.#set("saving", left > 0 ? SAVING : SILENT, waited)
+    this.#set("saving", left > 0 ? SAVING : silentWords(), waited)
   }
 
   #stop() {
@@ -120,6 +121,10 @@ export class ConnectionState {
     const left = SILENT_MILLISECONDS - this.#silentTime()
     const isSilent = left <= 0
     this.#wakeIn(isSilent ? REPEAT_MILLISECONDS : left)
-    if (isSilent !== (this.words === SILENT)) this.#set("connecting", isSilent ? SILENT : CONNECTING)
+    if (isSilent && this.words !== silentWords()) this.#set("connecting", silentWords())
+    else if (!isSilent && [SILENT, OFFLINE].includes(this.words)) this.#set("connecting", CONNECTING)
   }
 }
+
+/** Why the server does not answer, as far as the platform knows. */
+const silentWords = () => (globalThis.navigator?.onLine === false ? OFFLINE : SILENT)

@@ -15,12 +15,17 @@ export function boundsOfAll(shapes) {
   return { x, y, width: right - x, height: bottom - y }
 }
 
-/** The points that resize a shape, by name: the ends of a line, or the lower right corner. */
+/** The points that resize a shape, by name: the ends of a line, the corners of a box, or the last one of a text. */
 export function handlesOf(shape) {
   const { x, y, width, height } = shape.kind === "line" ? shape : boundsOf(shape)
   const end = { end: [x + width, y + height] }
-  return shape.kind === "line" ? { start: [x, y], ...end } : end
+  if (shape.kind === "line") return { start: [x, y], ...end }
+  if (shape.kind === "text") return end
+  return { ...end, "top-left": [x, y], "top-right": [x + width, y], "bottom-left": [x, y + height] }
 }
+
+/** Whether a corner is at the left, and whether it is at the top. */
+export const sidesOf = (corner) => [corner.endsWith("left"), corner.startsWith("top")]
 
 export const middleOf = ({ x, y, width, height }) => [x + width / 2, y + height / 2]
 

@@ -85,6 +85,11 @@ export class Camera {
     this.#centre(box, between(LEAST, Math.min(wide, high), most))
   }
 
+  /** Shows this point of the drawing in the centre, at this scale. */
+  look({ scale, middle: [x, y] }) {
+    this.#centre({ x, y, width: 0, height: 0 }, between(LEAST, scale, MOST))
+  }
+
   /** Centres a box of the drawing. Zooms out only if the box does not fit. */
   reach(box) {
     const { width, height } = this.boxOf(box)

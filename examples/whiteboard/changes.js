@@ -101,7 +101,7 @@ export class Changes {
     const createAll = () => forms.map(({ kind, attributes }) => this.create(kind, attributes))
     const all = this.step(() => this.#together(createAll))
     const made = all.filter((change) => change !== null).map(({ object }) => object)
-    if (made.length > 0) this.page.tools.use("select")
+    if (made.length > 0) this.page.tools.end()
     this.#show(made)
   }
 

@@ -1,12 +1,12 @@
 /** What the pointer does to the view and to objects, between press and release. Each drag is one step, at its end. */
 
-import { boundsOf, boundsOfAll, isInside } from "./boxes.js"
+import { boundsOf, boundsOfAll, isInside, sidesOf } from "./boxes.js"
 import { canHold } from "./connections.js"
 import { svg } from "./elements.js"
 import { withGroups } from "./groups.js"
 import { Hand } from "./hand.js"
 import { lineEndAttributes, resizeAttributes } from "./shapes.js"
-import { LAST_EDGE, Snapping } from "./snapping.js"
+import { Snapping, edgesAt } from "./snapping.js"
 
 /** A movement of fewer pixels counts as a click. */
 export const CLICK_PIXELS = 2
@@ -155,13 +155,21 @@ export class Move extends SnappingDrag {
   }
 }
 
-/** Drags the corner of a shape. With Shift the size is regular, and does not snap. */
+/** Drags a corner of a shape. With Shift the size is regular, and does not snap. */
 export class Resize extends SnappingDrag {
+  constructor(page, under, event, corner) {
+    super(page, under, event)
+    this.corner = corner
+  }
+
   show(x, y, { altKey, shiftKey }) {
-    const { box } = this
-    const larger = { ...box, width: box.width + x, height: box.height + y }
-    const [byX, byY] = this.snapped(larger, LAST_EDGE, altKey || shiftKey)
-    this.hand.show((shape) => resizeAttributes(shape, x + byX, y + byY, shiftKey))
+    const { box, corner } = this
+    const [isLeft, isTop] = sidesOf(corner)
+    const width = box.width + (isLeft ? -x : x)
+    const height = box.height + (isTop ? -y : y)
+    const dragged = { x: isLeft ? box.x + x : box.x, y: isTop ? box.y + y : box.y, width, height }
+    const [byX, byY] = this.snapped(dragged, edgesAt(corner), altKey || shiftKey)
+    this.hand.show((shape) => resizeAttributes(shape, x + byX, y + byY, shiftKey, corner))
   }
 }
 

@@ -90,8 +90,8 @@ export class Gestures {
       return event.pointerType === "touch" ? new Pan(page, event) : new BoxSelection(page, event)
     }
     if (!target.classList.contains("handle")) return this.#moveOf(under, event)
-    const isLine = page.room.kind(under.name) === "line"
-    return isLine ? new LineEndDrag(page, under, event, target.dataset.end) : new Resize(page, under, event)
+    const HandleDrag = page.room.kind(under.name) === "line" ? LineEndDrag : Resize
+    return new HandleDrag(page, under, event, target.dataset.end)
   }
 
   /** Selects what is pressed, with its group, and moves it. With Shift it is added, or taken out. */

@@ -1,10 +1,10 @@
 /**
- * The layer above all objects, in pixels of the window: rings, tags, the resize handle and pending marks.
+ * The layer above all objects, in pixels of the window: rings, tags, handles that resize, and pending marks.
  */
 
 import { isSameId } from "../../clients/js/grace.js"
 import { keyOf, nameOf } from "./board.js"
-import { boundsOf, boundsOfAll, grown, handlesOf, meet, middleOf } from "./boxes.js"
+import { boundsOf, boundsOfAll, grown, handlesOf, meet, middleOf, sidesOf } from "./boxes.js"
 import { svg } from "./elements.js"
 import { FINGER, isCoarse } from "./preferences.js"
 import { atOnePlace, stripeOf } from "./sheet.js"
@@ -14,6 +14,9 @@ import { letterOf } from "./words.js"
 const GAP = 5
 const STRIPE_GAP = -1
 const HANDLE = 14
+const LAST_HANDLE = "end"
+// A shape of fewer pixels has one handle alone.
+const LEAST_WITH_HANDLES = 4 * HANDLE
 const TAG_RADIUS = 13
 // With more tags than these, each unselected object has a single tag with its number of versions.
 const MANY_TAGS = 80
@@ -126,15 +129,15 @@ export class Marks {
   }
 
   /** The handles that resize the picked version. A finger hits them also beside their shape. */
-  #handles({ name, shapes, picked }) {
+  #handles({ name, shapes, boxes, picked }) {
     const isLine = shapes[picked].kind === "line"
-    return Object.entries(handlesOf(shapes[picked])).flatMap(([end, [x, y]]) => {
+    const isShown = (end) => isLine || end === LAST_HANDLE || hasSpaceFor(end, boxes[picked], shapes.length)
+    const ends = Object.entries(handlesOf(shapes[picked])).filter(([end]) => isShown(end))
+    return ends.flatMap(([end, [x, y]]) => {
       const corner = this.camera.boxOf({ x, y, width: 0, height: 0 })
       const own = { "data-object": keyOf(name), "data-letter": letterOf(picked), "data-end": end }
       const handle = handleAt("handle", corner, HANDLE, own)
-      if (!isCoarse()) return [handle]
-      const beside = isLine ? 0 : HANDLE
-      return [handleAt("handle reach", { x: corner.x + beside, y: corner.y + beside }, FINGER, own), handle]
+      return isCoarse() ? [handleAt("handle reach", besideCorner(corner, end, isLine), FINGER, own), handle] : [handle]
     })
   }
 
@@ -147,6 +150,17 @@ export class Marks {
     const places = freePlaces(seen.map(({ wanted }) => wanted), this.camera.window)
     return seen.flatMap((tag, place) => (places[place] === null ? [] : [tagOf(tag, places[place])]))
   }
+}
+
+/** Whether a corner can have a handle: a small shape would be all handles, and the first corner may have a tag. */
+const hasSpaceFor = (end, { width, height }, versions) =>
+  Math.min(width, height) >= LEAST_WITH_HANDLES && (versions === 1 || end !== "top-left")
+
+/** The middle of what a finger hits of a handle: outside the shape, which it could not take otherwise. */
+function besideCorner({ x, y }, end, isLine) {
+  if (isLine) return { x, y }
+  const [isLeft, isTop] = sidesOf(end)
+  return { x: x + (isLeft ? -HANDLE : HANDLE), y: y + (isTop ? -HANDLE : HANDLE) }
 }
 
 const handleAt = (name, { x, y }, side, own) =>

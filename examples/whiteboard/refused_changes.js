@@ -10,8 +10,8 @@ import { button, html, part } from "./elements.js"
 import { refusedWords } from "./words.js"
 
 // After these refusals there is nothing to keep: the change stays saved, the old drawing is offered as a file, or the
-// page is not in the room yet.
-const NOTHING_LOST = ["closed", "another-room", "not-joined"]
+// page is not in the room.
+const NOTHING_LOST = ["closed", "another-room", "not-joined", "read-only"]
 
 export class RefusedChanges {
   // The changes that others keep when they are refused.

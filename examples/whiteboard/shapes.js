@@ -8,7 +8,7 @@
  * broken, if the user has chosen that.
  */
 
-import { boundsOf } from "./boxes.js"
+import { boundsOf, sidesOf } from "./boxes.js"
 import { TEXT_SIZES, USUAL_SIZE, sizeOfText } from "./lettering.js"
 import { strokesIn } from "./pen.js"
 import { textIn } from "./texts.js"
@@ -131,12 +131,12 @@ export function moveLineAttributes(line, x, y, moved) {
 }
 
 /**
- * The attributes that a resize sets: always both width and height, and the position if it changes. It can be regular,
- * as with Shift.
+ * The attributes that a resize by a corner sets: always both width and height, and the position if it changes. It can
+ * be regular, as with Shift.
  */
-export function resizeAttributes(shape, x, y, isRegular = false) {
+export function resizeAttributes(shape, x, y, isRegular = false, corner = "end") {
   if (shape.kind === "text") return { width: Math.max(LEAST, Math.round(shape.width + x)) }
-  const newShape = resized(shape, x, y, isRegular)
+  const newShape = resized(shape, [x, y], isRegular, corner)
   // A line that sticks to a shape is elsewhere than its attributes say.
   const isMoved = newShape.x !== shape.x || newShape.y !== shape.y || Boolean(shape.from || shape.to)
   return { ...(isMoved ? placeOf(newShape) : {}), ...sizeOf(newShape) }
@@ -151,11 +151,16 @@ export function lineEndAttributes(line, end, [x, y], isRegular = false) {
   return { ...placeOf(moved), ...sizeOf(moved) }
 }
 
-/** The resized shape. Only a line may have a negative width or height. */
-function resized(shape, x, y, isRegular) {
+/** The resized shape: the opposite corner stays. Only a line may have a negative width or height. */
+function resized(shape, [x, y], isRegular, corner) {
   const box = shape.kind === "line" ? shape : boundsOf(shape)
-  const size = [box.width + x, box.height + y]
-  const [width, height] = isRegular ? regularSize(shape.kind, size) : size
-  if (shape.kind === "line") return { ...shape, width, height }
-  return { ...shape, ...box, width: Math.max(LEAST, width), height: Math.max(LEAST, height) }
+  const [isLeft, isTop] = sidesOf(corner)
+  const size = [box.width + (isLeft ? -x : x), box.height + (isTop ? -y : y)]
+  const wanted = isRegular ? regularSize(shape.kind, size) : size
+  if (shape.kind === "line") return { ...shape, width: wanted[0], height: wanted[1] }
+  const [width, height] = wanted.map((length) => Math.max(LEAST, Math.round(length)))
+  const place = {
+    x: isLeft ? box.x + box.width - width : box.x, y: isTop ? box.y + box.height - height : box.y,
+  }
+  return { ...shape, ...place, width, height }
 }

@@ -5,7 +5,7 @@ import { boundsOf } from "./boxes.js"
 import { CLICK_PIXELS, shapeUnder } from "./drags.js"
 import { boxOf, simplify } from "./pen.js"
 import { LEAST, NEW_SHAPES, attributesOf, regularSize } from "./shapes.js"
-import { FIRST_EDGE, Snapping } from "./snapping.js"
+import { FIRST_EDGES, Snapping } from "./snapping.js"
 
 // A stroke is told to the others in a simpler form, which gets simpler still when it has so many points.
 const TOLD_POINTS = 100
@@ -71,7 +71,7 @@ export class Sketch {
     const [x, y] = this.page.camera.placeOf(event)
     this.#snapping?.end()
     if (this.#snapping === null || event.altKey || event.shiftKey) return [x, y]
-    const [byX, byY] = this.#snapping.snap({ x, y, width: 0, height: 0 }, FIRST_EDGE)
+    const [byX, byY] = this.#snapping.snap({ x, y, width: 0, height: 0 }, FIRST_EDGES)
     return [x + byX, y + byY]
   }
 

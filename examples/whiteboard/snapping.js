@@ -4,15 +4,19 @@
  */
 
 import { keyOf } from "./board.js"
-import { boundsOf } from "./boxes.js"
+import { boundsOf, sidesOf } from "./boxes.js"
 import { canHold } from "./connections.js"
 import { part, svg } from "./elements.js"
 
 const PIXELS = 6
-// Which lines a box has on a side: its edges and its middle, as shares of its length.
-export const ALL_LINES = [0, 0.5, 1]
-export const LAST_EDGE = [1]
-export const FIRST_EDGE = [0]
+// Which lines a box has on each axis: its edges and its middle, as shares of its length.
+const FIRST = [0]
+const LAST = [1]
+const ALL = [0, 0.5, 1]
+export const ALL_LINES = [ALL, ALL]
+export const FIRST_EDGES = [FIRST, FIRST]
+/** The lines of the edges that meet at a corner. */
+export const edgesAt = (corner) => sidesOf(corner).map((isFirst) => (isFirst ? FIRST : LAST))
 // Lines that are nearer than this are the same.
 const SAME = 0.01
 const AXES = [["x", "width", "y", "height"], ["y", "height", "x", "width"]]
@@ -34,20 +38,20 @@ export class Snapping {
     const boxes = board.drawn().filter(isOther).flatMap(({ shapes }) => shapes.map(boundsOf))
     const seen = boxes.filter((box) => camera.shows(box))
     this.#camera = camera
-    this.#lines = AXES.map((axis) => seen.flatMap((box) => linesOf(box, axis, ALL_LINES)).sort(byPlace))
+    this.#lines = AXES.map((axis) => seen.flatMap((box) => linesOf(box, axis, ALL)).sort(byPlace))
   }
 
   /**
    * How far a box has to move on each axis so that one of its own lines snaps. Shows the guides then.
    * @param {import("./boxes.js").Box} box
-   * @param {number[]} shares which of its lines can snap
+   * @param {number[][]} shares which of its lines can snap
    * @returns {[number, number]}
    */
   snap(box, shares = ALL_LINES) {
     const reach = PIXELS / this.#camera.scale
-    const steps = AXES.map((axis, side) => stepOf(linesOf(box, axis, shares), this.#lines[side], reach))
+    const steps = AXES.map((axis, side) => stepOf(linesOf(box, axis, shares[side]), this.#lines[side], reach))
     const moved = { ...box, x: box.x + steps[0], y: box.y + steps[1] }
-    this.#show(AXES.map((axis, side) => guidesOf(linesOf(moved, axis, shares), this.#lines[side])))
+    this.#show(AXES.map((axis, side) => guidesOf(linesOf(moved, axis, shares[side]), this.#lines[side])))
     return steps
   }
 

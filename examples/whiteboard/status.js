@@ -2,9 +2,11 @@
 
 import { LIMITS } from "../../clients/js/grace.js"
 import { button, html, part } from "./elements.js"
+import { linkTo, uniqueText } from "./links.js"
 import { countOf, numberOf } from "./words.js"
 
 const NO_SUCH_ROOM = "There is no drawing under this link, and this server begins no new ones."
+const LOOKING = "This drawing takes nobody new. You can look at it, but not change it."
 const MAKE_SPACE = "Delete what is not needed, or begin a new drawing."
 
 const WORDS_MILLISECONDS = 10000
@@ -53,6 +55,14 @@ function loadingWords(room) {
   return `Loading the drawing: ${numberOf(have)} of ${numberOf(of)}.`
 }
 
+/** Says why the page's address leads to no drawing, and leads to a new one. */
+export function showNoDrawing(words) {
+  Object.assign(part("state").dataset, { state: "closed" })
+  part("state").textContent = words
+  part("loading").replaceChildren(html("p", {}, `There is no drawing at this address: ${words}. `,
+    html("a", { href: linkTo(uniqueText()), textContent: "Begin a new drawing" })))
+}
+
 /** The connection state, and a summary of the drawing. */
 export class StateLine {
   #milliseconds = 0
@@ -80,6 +90,7 @@ export class StateLine {
   #words() {
     const { room } = this.board
     const waiting = room.pending.length
+    if (room.isReadOnly) return LOOKING
     const words = [room.state === "open" ? "Connected." : room.words]
     const changes = countOf(waiting, "change")
     if (room.state === "saving") words.push(`Saving ${changes} for ${Math.round(this.#milliseconds / 1000)} s.`)

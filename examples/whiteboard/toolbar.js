@@ -13,12 +13,15 @@ const HINTS = {
   pen: "Drag on the paper to draw by hand. Press Escape to stop.",
   text: "Click where the text is to begin. Ctrl+Enter, or a click elsewhere, ends it.",
 }
+const KEPT_HINT = "The tool stays until Escape."
 // By key: the tool that it takes.
 const TOOL_KEYS = { v: "select", r: "rect", o: "ellipse", l: "line", a: "arrow", p: "pen", t: "text" }
 
 export class Toolbar {
   /** The current tool. */
   tool = "select"
+  /** Whether it stays after it has drawn something. */
+  isKept = false
   /** The colour of the next shape. */
   colour = [...COLOURS.keys()][3]
 
@@ -29,7 +32,7 @@ export class Toolbar {
     this.#tellKeys()
     part("tools").addEventListener("click", ({ target }) => {
       const { tool } = target.closest("button")?.dataset ?? {}
-      if (tool !== undefined) this.use(tool)
+      if (tool !== undefined) this.#take(tool)
     })
     const { camera, changes, clipboard, view } = page
     const acts = {
@@ -43,14 +46,30 @@ export class Toolbar {
     this.#useColour(this.colour)
   }
 
+  /** Takes a tool that the user chose. The one that the user has already is kept, or kept no more. */
+  #take(tool) {
+    const isKept = tool === this.tool && tool !== "select" && !this.isKept
+    this.use(tool)
+    this.isKept = isKept
+    document.querySelector(`button[data-tool="${tool}"]`).classList.toggle("kept", isKept)
+    if (isKept) part("hint").textContent = `${HINTS[tool]} ${KEPT_HINT}`
+  }
+
+  /** Another tool after something was drawn, unless the tool is kept. */
+  end() {
+    if (!this.isKept) this.use("select")
+  }
+
   /** Switches to another tool. A drawing tool clears the selection. */
   use(tool) {
+    this.isKept = false
     if (tool !== "select" && this.page.board.selection.size > 0) this.page.selectAll([])
     this.tool = tool
     part("board").dataset.tool = tool
     part("hint").textContent = HINTS[tool]
     for (const one of document.querySelectorAll("button[data-tool]")) {
       one.setAttribute("aria-pressed", one.dataset.tool === tool)
+      one.classList.remove("kept")
     }
   }
 
@@ -58,7 +77,7 @@ export class Toolbar {
   useKey(key) {
     const letter = key.toLowerCase()
     if (!Object.hasOwn(TOOL_KEYS, letter)) return false
-    this.use(TOOL_KEYS[letter])
+    this.#take(TOOL_KEYS[letter])
     return true
   }
 

@@ -11,8 +11,11 @@ import { PendingChanges } from "./pending_changes.js"
 import { Sheet } from "./sheet.js"
 import { Specks } from "./specks.js"
 
+const KEY = "whiteboard view "
+
 export class View {
   #changed = new Map()
+  #hasBegun = false
   #isPanelOld = true
   #frames = new Frames(() => this.#draw())
   #panel = null
@@ -86,11 +89,24 @@ export class View {
     else this.camera.fit(boundsOfAll(shapes))
   }
 
-  /** Shows the page, or all objects if some are outside it. */
-  begin() {
+  /** Shows what the page showed before a reload; otherwise the drawing's first page, or all if some is outside it. */
+  begin(roomName) {
+    const before = this.#hasBegun ? null : savedView(roomName)
+    this.#hasBegun = true
+    if (before !== null) return this.camera.look(before)
     const shapes = this.board.objects().flatMap((name) => this.board.shapes(name))
     const { x, y, width, height } = boundsOfAll([PAGE, ...shapes])
     if (x < PAGE.x || y < PAGE.y || width > PAGE.width || height > PAGE.height) this.fitAll()
+  }
+
+  /** Saves what is shown, for a reload of this tab. */
+  save(roomName) {
+    const { scale, middle } = this.camera
+    try {
+      sessionStorage.setItem(KEY + roomName, JSON.stringify([scale, ...middle]))
+    } catch {
+      // The browser stores nothing, so a reload begins anew.
+    }
   }
 
   /** Shows a version of an object, or all its versions, unless one is visible already. */
@@ -116,5 +132,16 @@ export class View {
     if (!this.#isPanelOld) return
     this.#isPanelOld = false
     this.#panel?.draw()
+  }
+}
+
+/** What this tab showed of a room before, or null. */
+function savedView(roomName) {
+  try {
+    const saved = JSON.parse(sessionStorage.getItem(KEY + roomName))
+    const isView = Array.isArray(saved) && saved.length === 3 && saved.every(Number.isFinite)
+    return isView ? { scale: saved[0], middle: saved.slice(1) } : null
+  } catch {
+    return null
   }
 }

@@ -2,8 +2,9 @@
  * A shared whiteboard on a GRACE room. The page's address names the server and the room:
  * `?server=ws://localhost:7000/&room=drawing`. Without `server` the page uses its own host: with TLS at the page's
  * port, as behind a proxy, otherwise at port 7000. So `?room=drawing` alone is a link to a drawing. The path of the
- * connection ends with the room's name, so a proxy and a server with `--by-path` can tell rooms apart. A reloaded page
- * continues as the same site. When the room is renewed, the page goes on in the new one under the same address.
+ * connection ends with the room's name, so a proxy and a server with `--by-path` can tell rooms apart. A page that is
+ * opened again continues as a site that the person's browser had, where the browser lets it. A room that takes nobody
+ * new is shown. When the room is renewed, the page goes on in the new one under the same address.
  */
 
 import { Room } from "../../clients/js/grace.js"
@@ -30,7 +31,7 @@ import { People } from "./people.js"
 import { PeopleList } from "./people_list.js"
 import { RefusedChanges } from "./refused_changes.js"
 import { Sharing } from "./sharing.js"
-import { StateLine, say, showProgress } from "./status.js"
+import { StateLine, say, showNoDrawing, showProgress } from "./status.js"
 import { TextField } from "./text_field.js"
 import { Toolbar } from "./toolbar.js"
 import { View } from "./view.js"
@@ -40,9 +41,11 @@ import { renewedWords } from "./words.js"
 export class Page {
   say = say
   #progress = new Frames(() => showProgress(this.room))
+  #roomName
 
   constructor(address, roomName) {
-    this.room = new Room(address, roomName, { storage: true, roomInPath: true })
+    this.#roomName = roomName
+    this.room = new Room(address, roomName, { storage: "person", roomInPath: true, lookIfFull: true })
     this.board = new Board(this.room)
     this.view = new View(this.board)
     this.camera = this.view.camera
@@ -70,6 +73,7 @@ export class Page {
     this.view.panel = this
     this.view.overlay = this.others
     part("room").textContent = roomName
+    document.title = `${roomName} – Whiteboard`
     this.#listen(roomName)
   }
 
@@ -127,7 +131,10 @@ export class Page {
     room.on("progress", () => this.#load())
     const isUnsaved = () => room.pending.length > 0 || this.refusedChanges.isKeeping
     addEventListener("beforeunload", (event) => isUnsaved() && event.preventDefault())
-    addEventListener("pagehide", () => room.close())
+    addEventListener("pagehide", () => {
+      view.save(roomName)
+      room.close()
+    })
     showProgress(room)
   }
 
@@ -157,7 +164,7 @@ export class Page {
   #load() {
     this.#progress.ask()
     if (!this.room.isLoaded) return
-    this.view.begin()
+    this.view.begin(this.#roomName)
     this.view.change([])
   }
 }
@@ -166,6 +173,6 @@ try {
   const { roomName, server } = placeOfPage()
   new Page(server, roomName)
 } catch (fault) {
-  say(fault.message)
+  showNoDrawing(fault.message)
   throw fault
 }

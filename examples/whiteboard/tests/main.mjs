@@ -35,6 +35,7 @@ import { texts } from "./texts.mjs"
 import * as together from "./together.mjs"
 import { tools } from "./tools.mjs"
 import { undoing } from "./undoing.mjs"
+import { visits } from "./visits.mjs"
 
 const keep = (page, word) => page.picture(join(PICTURES, `${word}.png`))
 
@@ -114,7 +115,7 @@ async function servers(browser) {
 const PARTS = {
   together: oneRoom, plan, undoing, choosing, tools, lines, styles, texts, several, sketching, looking, presence,
   makers, opening, full, keepingWork, saving, sharing, renewing, renewedInUse, takingAlong,
-  phone, snapping, embedding, live, servers,
+  phone, snapping, embedding, live, visits, servers,
 }
 
 /** Runs all parts, or those whose names are arguments. */

@@ -23,6 +23,12 @@ class OwnRoom {
     return page
   }
 
+  /** Closes a page, as a person closes a tab. */
+  async close(page) {
+    this.#pages.splice(this.#pages.indexOf(page), 1)
+    await page.close()
+  }
+
   /** The link to another room beside this one. */
   get otherLink() {
     const link = new URL(this.link)

@@ -9,6 +9,7 @@ import { inOwnRooms } from "./rooms.mjs"
 export const snapping = (browser) => inOwnRooms(browser, {
   "a shape that is moved snaps": moved,
   "a shape snaps while it is resized": resized,
+  "each corner resizes": corners,
   "a new shape snaps": drawn,
   "strokes and lines hold nothing": thin,
 })
@@ -100,6 +101,23 @@ async function drawn(room) {
     const free = Object.fromEntries(entries[0][1])
     expectEqual("with Alt", [free.x, free.y, free.width, free.height], [503, 396, 137, 58])
   })
+}
+
+/** Each corner of a shape resizes it. The opposite corner stays. */
+async function corners(room) {
+  const { page, client } = await begin(room)
+  const at = await onScreen(page, [450, 250])
+  await page.press(at)
+  await page.release(at)
+  const [, topLeft] = await dragging(page, client, [400, 200], [350, 180])
+  expectEqual("the first corner", topLeft, [["put", { x: 350, y: 180, width: 150, height: 120 }]])
+  const [, topRight] = await dragging(page, client, [500, 180], [540, 210])
+  expectEqual("the second one", topRight, [["put", { x: 350, y: 210, width: 190, height: 90 }]])
+  await page.withKeys(SHIFT, async () => {
+    const [, bottomLeft] = await dragging(page, client, [350, 300], [400, 310])
+    expectEqual("the third one, regular", bottomLeft, [["put", { x: 400, y: 210, width: 140, height: 140 }]])
+  })
+  await page.picture(join(PICTURES, "handles.png"))
 }
 
 /** A page with handwriting would hold a shape everywhere. */

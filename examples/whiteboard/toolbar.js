@@ -52,7 +52,7 @@ export class Toolbar {
     this.use(tool)
     this.isKept = isKept
     document.querySelector(`button[data-tool="${tool}"]`).classList.toggle("kept", isKept)
-    if (isKept) part("hint").textContent = `${HINTS[tool]} ${KEPT_HINT}`
+    if (isKept) part("hint").textContent = `${KEPT_HINT} ${HINTS[tool]}`
   }
 
   /** Another tool after something was drawn, unless the tool is kept. */

@@ -8,7 +8,7 @@ import { mkdtemp, readFile, rm } from "node:fs/promises"
 import { tmpdir } from "node:os"
 import { join } from "node:path"
 import { expect, expectEqual, waitUntil } from "../../../clients/js/tests/checks.js"
-import { Chromium } from "./chromium.mjs"
+import { ALT, Chromium } from "./chromium.mjs"
 import { counts, draw, endAll, faults, isOpen, onScreen, serve, step, watch } from "./people.mjs"
 
 const MINUTES = Number(process.argv[2] ?? 60)
@@ -53,7 +53,8 @@ class Person {
   async create() {
     const left = CELL.margin + this.shapes.length * CELL.width
     const top = CELL.margin + this.row * CELL.height
-    await draw(this.page, "rect", [left, top], [left + CELL.size, top + CELL.size])
+    // With Alt nothing snaps to other shapes.
+    await this.page.withKeys(ALT, () => draw(this.page, "rect", [left, top], [left + CELL.size, top + CELL.size]))
     await this.page.key("Escape")
     this.shapes.push({ left, top, x: left, y: top })
     this.made += 1
@@ -73,11 +74,13 @@ class Person {
     if (to.x === shape.x && to.y === shape.y) to.x += 1
     const middle = ({ x, y }) => onScreen(this.page, [x + CELL.size / 2, y + CELL.size / 2])
     const [start, end] = [await middle(shape), await middle(to)]
-    await this.page.press(start)
-    await this.page.moveTo([(start[0] + end[0]) / 2, (start[1] + end[1]) / 2])
-    await this.page.moveTo(end)
-    await meanwhile(to)
-    await this.page.release(end)
+    await this.page.withKeys(ALT, async () => {
+      await this.page.press(start)
+      await this.page.moveTo([(start[0] + end[0]) / 2, (start[1] + end[1]) / 2])
+      await this.page.moveTo(end)
+      await meanwhile(to)
+      await this.page.release(end)
+    })
     await this.page.key("Escape")
     Object.assign(shape, to)
     this.moved += 1

@@ -119,7 +119,8 @@ async function leftBehind(first, server) {
   await isOpen(first)
   await first.picture(join(PICTURES, "left-behind.png"))
   expectEqual("what is shown", await first.look(COUNT), shown)
-  const text = await first.look(`fetch(document.querySelector("#reset a").href).then((it) => it.text())`)
+  const record = `document.querySelector('#reset a[download$=".record"]').href`
+  const text = await first.look(`fetch(${record}).then((it) => it.text())`)
   const words = text.split("\n").slice(-3).map((line) => line.slice(0, 6))
   expectEqual("the last lines of the file", words, ['["new"', '["put"', ""])
   await first.click("#kept .notice [data-focus='make-kept']")

@@ -13,6 +13,8 @@ const MOST_BYTES = 2 ** 27
 const REVOKED_AFTER_MILLISECONDS = 60000
 
 export class Files {
+  isMenuOpen = false
+
   /** @param {import("./whiteboard.js").Page} page @param {string} roomName */
   constructor(page, roomName) {
     Object.assign(this, { page, roomName })
@@ -24,7 +26,7 @@ export class Files {
     }
     for (const [id, act] of Object.entries(acts)) part(id).addEventListener("click", () => this.#do(id, act))
     part("file").addEventListener("change", ({ target }) => this.#choose(target))
-    part("files").addEventListener("beforetoggle", ({ newState }) => newState === "open" && placeMenu())
+    part("files").addEventListener("beforetoggle", ({ newState }) => this.#turnMenu(newState === "open"))
     addEventListener("beforeprint", () => this.#preparePrint())
     addEventListener("afterprint", () => part("paper").replaceChildren())
   }
@@ -41,6 +43,11 @@ export class Files {
       if (!(fault instanceof NoDrawing || fault instanceof DOMException)) throw fault
       say(notOpenedWords(name, fault instanceof NoDrawing ? fault.message : "The browser cannot read it."))
     }
+  }
+
+  #turnMenu(isOpen) {
+    this.isMenuOpen = isOpen
+    if (isOpen) placeMenu()
   }
 
   #do(id, act) {

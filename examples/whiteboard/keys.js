@@ -42,8 +42,8 @@ export class Keys {
 
   #key(event) {
     const { page } = this
-    // The browser closes an open menu.
-    if (document.querySelector(":popover-open") !== null) return false
+    // The browser closes the menu.
+    if (page.files.isMenuOpen) return false
     if (event.key === "Escape") return this.#escape()
     const { element } = page.view.sheet
     if (page.gestures.isBusy) return false

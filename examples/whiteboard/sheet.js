@@ -1,7 +1,7 @@
 /** The objects on the page: an element for each shown version, sorted from back to front. */
 
 import { isSameId } from "../../clients/js/grace.js"
-import { bodyOf, isThin, outlineOf, textOf } from "./bodies.js"
+import { bodyOf, isThin, textOf } from "./bodies.js"
 import { keyOf, nameOf } from "./board.js"
 import { boundsOf } from "./boxes.js"
 import { svg } from "./elements.js"
@@ -178,11 +178,18 @@ export class Sheet {
 /** The elements of a shape without its text: cut to a stripe if there is one, whose clip path has this identifier. */
 export function bodiesOf(shape, stripe, id) {
   const body = bodyOf(shape)
-  // A thin line gets an invisible wider outline that is easier to hit.
-  if (isThin(shape)) return [outlineOf(shape, "grip"), body]
+  if (isThin(shape)) return [gripOf(body), body]
   if (stripe === null) return [body]
   body.setAttribute("clip-path", `url(#stripe-${id})`)
   return [svg("clipPath", { id: `stripe-${id}` }, svg("rect", stripe)), body]
+}
+
+/** The invisible wider outline of a thin line, which is easier to hit. */
+function gripOf(body) {
+  const grip = body.cloneNode()
+  grip.setAttribute("class", "grip")
+  grip.removeAttribute("style")
+  return grip
 }
 
 /** The indexes of the versions that have the same position and size as this one. */

@@ -42,14 +42,23 @@ export class Keys {
 
   #key(event) {
     const { page } = this
-    // The browser closes the menu.
+    // The browser closes an open menu of files.
     if (page.files.isMenuOpen) return false
+    if (page.menu.isOpen) return this.#inMenu(event.key)
     if (event.key === "Escape") return this.#escape()
     const { element } = page.view.sheet
     if (page.gestures.isBusy) return false
     if (this.#zoom(event) || (!event.altKey && page.tools.useKey(event.key))) return true
     const isOnDrawing = event.target === document.body || element.contains(event.target)
     return this.#change(event) || (isOnDrawing && (this.#open(event) || this.#pan(event)))
+  }
+
+  /** While the menu of what is selected is open, Escape closes it, and other keys are the menu's. */
+  #inMenu(key) {
+    if (key !== "Escape") return false
+    this.page.menu.close()
+    this.page.view.sheet.element.focus({ preventScroll: true })
+    return true
   }
 
   /** Handles the keys that zoom. */

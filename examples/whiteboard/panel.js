@@ -6,6 +6,7 @@ import { choicesOf } from "./choices.js"
 import { combinationsOf } from "./combinations.js"
 import { button, html } from "./elements.js"
 import { shapeOfForm } from "./deleted_objects.js"
+import { ordersOf } from "./stacking.js"
 import { textArea } from "./text_area.js"
 import { TextEdit } from "./text_edit.js"
 import { textIn, truncate } from "./texts.js"
@@ -173,7 +174,7 @@ export class Panel {
     const several = versions.length > 1 ? this.#versions(name, versions, picked) : []
     if (picked === null) return [...parts, ...several]
     const help = versions.length > 1 ? [] : [html("p", { textContent: HELP })]
-    return [...parts, this.#order(name, picked), ...several, ...this.#choices([shape]), ...help,
+    return [...parts, this.#order(name), ...several, ...this.#choices([shape]), ...help,
       html("div", { className: "actions" }, this.#end(name, versions, picked))]
   }
 
@@ -197,17 +198,13 @@ export class Panel {
       html("div", { className: "actions" }, keep, drop))]
   }
 
-  /** The buttons that move an object to the front or to the back. */
-  #order(name, picked) {
-    const others = this.board.drawn().filter((other) => keyOf(other.name) !== keyOf(name))
-    const places = others.flatMap(({ shapes }) => shapes).map(({ z }) => z)
-    const most = places.reduce((one, z) => Math.max(one, z), 0)
-    const least = places.reduce((one, z) => Math.min(one, z), 0)
-    const { z: own } = this.board.shapes(name)[this.board.shown(name).indexOf(picked)]
+  /** The buttons that move an object to the front or to the back, and copy it. */
+  #order(name) {
     const { changes, clipboard } = this.page
+    const { front, back } = ordersOf(this.board, name)
     return html("div", { className: "actions" },
-      button("To front", "front", () => changes.change({ z: own > most ? own : most + 1 })),
-      button("To back", "back", () => changes.change({ z: own < least ? own : least - 1 })),
+      button("To front", "front", () => changes.change({ z: front })),
+      button("To back", "back", () => changes.change({ z: back })),
       button("Copy", "copy", () => clipboard.copy()),
       button("Duplicate", "duplicate", () => clipboard.duplicate()))
   }

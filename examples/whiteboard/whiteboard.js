@@ -11,6 +11,7 @@ import { Room } from "../../clients/js/grace.js"
 import { Board } from "./board.js"
 import { Changes } from "./changes.js"
 import { Clipboard } from "./clipboard.js"
+import { ContextMenu } from "./context_menu.js"
 import { DeletedObjects } from "./deleted_objects.js"
 import { DeletionMessages } from "./deletion_messages.js"
 import { part } from "./elements.js"
@@ -66,6 +67,7 @@ export class Page {
     this.keys = new Keys(this)
     this.files = new Files(this, roomName)
     this.incoming = new Incoming(this)
+    this.menu = new ContextMenu(this)
     this.sharing = new Sharing(roomName)
     this.state = new StateLine(this.board)
     this.panel = new Panel(this, part("panel"))

@@ -17,6 +17,7 @@ import { lines } from "./lines.mjs"
 import { live } from "./live.mjs"
 import { looking } from "./looking.mjs"
 import { makers } from "./makers.mjs"
+import { menus } from "./menus.mjs"
 import { opening } from "./opening.mjs"
 import { COUNT, PICTURES, counts, faults, isOpen, serve, step, watch } from "./people.mjs"
 import { phone } from "./phone.mjs"
@@ -115,7 +116,7 @@ async function servers(browser) {
 const PARTS = {
   together: oneRoom, plan, undoing, choosing, tools, lines, styles, texts, several, sketching, looking, presence,
   makers, opening, full, keepingWork, saving, sharing, renewing, renewedInUse, takingAlong,
-  phone, snapping, embedding, live, visits, servers,
+  phone, snapping, embedding, live, visits, menus, servers,
 }
 
 /** Runs all parts, or those whose names are arguments. */

@@ -126,6 +126,7 @@ async function versionsInFile(room, folder) {
   const other = await room.open(1240, 720, false, room.otherLink)
   await open(other, path)
   await says(other, "1 object had several versions. Each version is now an object.")
+  await other.waitUntil("both", `${COUNT} === 2`)
   expectEqual("the objects", new Set((await other.look(VERSIONS)).map(([object]) => object)).size, 2)
 }
 

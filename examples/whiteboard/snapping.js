@@ -13,7 +13,7 @@ const PIXELS = 6
 const FIRST = [0]
 const LAST = [1]
 const ALL = [0, 0.5, 1]
-export const ALL_LINES = [ALL, ALL]
+const ALL_LINES = [ALL, ALL]
 export const FIRST_EDGES = [FIRST, FIRST]
 /** The lines of the edges that meet at a corner. */
 export const edgesAt = (corner) => sidesOf(corner).map((isFirst) => (isFirst ? FIRST : LAST))

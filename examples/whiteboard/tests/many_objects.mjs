@@ -59,7 +59,8 @@ async function framesOf(page, act) {
   return page.look("frames")
 }
 
-async function measure(address) {
+/** Each run drags another stroke, as the room goes on. */
+async function measure(address, run) {
   const browser = await Chromium.start()
   try {
     const page = await browser.open("about:blank", 1240, 720)
@@ -68,9 +69,8 @@ async function measure(address) {
     await page.waitUntil("all strokes", "window.drawn !== undefined")
     const drawn = await page.look("drawn")
     await new Promise((resolve) => setTimeout(resolve, 1000))
-    const [x, y] = await onScreen(page, [50.5 * WIDE, 25.5 * HIGH])
-    const under = await page.look(`document.elementFromPoint(${x}, ${y}).closest(".version") !== null`)
-    if (!under) throw new Error("no stroke to drag")
+    const [x, y] = await onScreen(page, [(50.5 + 2 * run) * WIDE, 25.5 * HIGH])
+    await page.waitUntil("a stroke to drag", `document.elementFromPoint(${x}, ${y}).closest(".version") !== null`)
     await page.press([x, y])
     const drag = await framesOf(page, (step) => page.mouse("mouseMoved", [x + step, y + step / 3]))
     await page.release([x + DRAG_STEPS, y + DRAG_STEPS / 3])
@@ -91,7 +91,7 @@ function tell(word, frames) {
 
 await withRecord(strokes(), async (address) => {
   const runs = []
-  for (let run = 0; run < RUNS; run++) runs.push(await measure(address))
+  for (let run = 0; run < RUNS; run++) runs.push(await measure(address, run))
   console.log(`${STROKES} strokes of ${POINTS} points, ${RUNS} runs`)
   const times = runs.map(({ drawn }) => Math.round(drawn))
   console.log(`all are drawn after ${median(times)} ms in the median (${times.join(", ")})`)

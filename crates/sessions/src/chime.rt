@@ -97,8 +97,10 @@ where
         let Ok(Stroke::Ring(first)) = strokes.recv(host.rt) else {
             return;
         };
+        // A room that is struck again while these are rung has its next ring after the sleep.
+        let waiting = strokes.len();
         ring(host, first);
-        for stroke in strokes.try_iter(host.rt) {
+        for stroke in strokes.try_iter(host.rt).take(waiting) {
             match stroke {
                 Stroke::Ring(place) => ring(host, place),
                 Stroke::End => return,

@@ -1,4 +1,5 @@
-"""Limits and statuses: the tables of docs/PROTOCOL.md, the server's source and the clients agree."""
+"""Limits and statuses: the tables of docs/PROTOCOL.md and docs/OPERATIONS.md, the server's source and the clients
+agree."""
 
 import re
 import sys
@@ -7,7 +8,7 @@ import unittest
 from lib.pages import source_with, table_of
 from lib.serving import ROOT
 
-PROTOCOL = ROOT / "docs/PROTOCOL.md"
+PROTOCOL, OPERATIONS = ROOT / "docs/PROTOCOL.md", ROOT / "docs/OPERATIONS.md"
 # A constant of the sources, a word in its row of the table, and a word that is not in it.
 CONSTANTS = [
     ("MAX_JOINS", "join", "page"),
@@ -89,14 +90,17 @@ class TestLimits(unittest.TestCase):
 # ---- the program's lines and statuses
 
 
+def status_of(line, cell):
+    """Returns the status that the page gives a line of this cell: what stands above the table."""
+    if line == "no memory":
+        return 4
+    return 2 if "`clap`" in cell else 3
+
+
 def lines_of_page():
-    """Returns the lines of the table of messages on standard error, with their statuses."""
-    rows = table_of(PROTOCOL, "Line on standard error", "Status")
-    return {line: int(status) for cell, status in rows for line in re.findall(r"`grace: ([^`]*)`", cell)}
-
-
-# The starts of messages of other commands than `grace serve`.
-LINES_OF_OTHER_COMMANDS = "input failed", "session failed", "cannot connect"
+    """Returns the last lines on standard error in the table of docs/OPERATIONS.md, with their statuses."""
+    cells = [cell for cell, _ in table_of(OPERATIONS, "Line", "What it means and asks for")]
+    return {line: status_of(line, cell) for cell in cells for line in re.findall(r"`grace: ([^`]*)`", cell)}
 
 
 class TestStatuses(unittest.TestCase):
@@ -111,23 +115,16 @@ class TestStatuses(unittest.TestCase):
         return {texts[name]: status for name, status in codes.items()}
 
     def test_statuses(self):
-        """The page has the messages on standard error and their statuses: those of all commands, and those of `grace
-        serve` alone, which are 3."""
+        """docs/OPERATIONS.md has the messages on standard error that end the program, with their statuses: those of all
+        commands, and those of `grace serve` alone, which are 3. Two dots stand for what follows the first half of a
+        message."""
         sources = source_with("kept by another: {0}"), source_with("room not kept")
         own = [text for source in sources for text in re.findall(r'#\[error\("(.*?)"\)\]', source)]
         expected = {text: 3 for text in own if text != "{0}"} | self.statuses_of_commands()
-        documented = lines_of_page()
         filled = {"path": "DIR/ROOM.record", "line": "N"}
         fill = lambda text: re.sub(r"\{(\w+)\}", lambda it: filled.get(it[1], "{0}"), text)
         shorten = lambda line: re.sub(r"^((?:cannot|kept) [a-z ]+): [A-Z]+$", r"\1: {0}", line)
         self.assertEqual(
-            sorted({(shorten(line), status) for line, status in documented.items()}),
-            sorted((fill(text), status) for text, status in expected.items()),
+            sorted({(shorten(line), status) for line, status in lines_of_page().items()}),
+            sorted((re.sub("; .*", "; ..", fill(text)), status) for text, status in expected.items()),
         )
-
-    def test_operations_has_each_line(self):
-        """The table of docs/OPERATIONS.md has each message that ends `grace serve`."""
-        listed = " ".join(line for line, *_ in table_of(ROOT / "docs/OPERATIONS.md", "Line", "Means", "What to do"))
-        for line in lines_of_page():
-            if not line.startswith(LINES_OF_OTHER_COMMANDS):
-                self.assertIn(f"grace: {line.partition(' line N;')[0]}", listed)

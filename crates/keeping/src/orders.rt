@@ -62,8 +62,8 @@ impl Queue {
     }
 }
 
-/// How often a thread looks for the next order before it sleeps: about a tenth of a millisecond.
-const LOOKS: u32 = 40;
+/// How often a thread looks for the next order before it sleeps: about a third of a millisecond.
+const LOOKS: u32 = 120;
 
 /// What is to be done next, which threads share.
 #[derive(Drop)]

@@ -75,8 +75,7 @@ impl<P: RoomHistories, J: Journal + Drop, F: RoomFiles<J> + Drop> Keeping<P, J, 
         } = on_demand;
         let first = files.len();
         let places = places_of(rt, alloc, rooms, files)?;
-        let movers = (places.len().min(MAX_THREADS) / 2).max(1);
-        let orders = Orders::new(alloc, places.len(), movers)?;
+        let orders = Orders::new(alloc, places.len(), places.len().min(MAX_THREADS))?;
         let chains = chains_of(alloc, rooms)?;
         Ok(Keeping {
             places,

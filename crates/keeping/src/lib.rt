@@ -12,6 +12,7 @@ pub mod laws;
 mod moving;
 mod orders;
 mod recent;
+mod sleepers;
 
 pub use file::{Clean, Kept, RoomFile};
 pub use files::{FileFound, RoomFiles};

@@ -1,11 +1,12 @@
 //! What threads are to do next.
 
+use crate::sleepers::Sleepers;
 use base_types::{NoMemory, RoomName};
 use crossbeam_utils::Backoff;
 use std::alloc::Global;
 use std::collections::VecDeque;
 use std::sync::atomic::{AtomicBool, AtomicUsize, Ordering};
-use std::sync::{Condvar, Mutex, Wait};
+use std::sync::{Condvar, Mutex, MutexGuard, Wait};
 
 /// What a thread is to do next.
 #[derive(Drop)]
@@ -27,6 +28,8 @@ struct Queue {
     moves: VecDeque<Order>,
     /// How many threads may open and close rooms now.
     spare: usize,
+    /// The threads that wait for orders.
+    sleepers: Sleepers,
     /// No more will come but from who takes them out.
     is_over: bool,
 }
@@ -59,14 +62,15 @@ impl Queue {
     }
 }
 
-/// How often a thread looks for the next order before it sleeps: about a tenth of a millisecond.
-const LOOKS: u32 = 40;
+/// How often a thread looks for the next order before it sleeps: about a third of a millisecond.
+const LOOKS: u32 = 120;
 
 /// What is to be done next, which threads share.
 #[derive(Drop)]
 pub(crate) struct Orders {
     queue: Mutex<Queue>,
-    came: Condvar,
+    /// What wakes the thread in each slot of the sleepers.
+    alarms: Vec<Condvar>,
     /// The number of orders in the queue.
     count: AtomicUsize,
     /// A thread looks for the next order.
@@ -74,18 +78,23 @@ pub(crate) struct Orders {
 }
 
 impl Orders {
-    /// No orders, with space to keep the rooms at so many places: an order to keep one, of which there
-    /// is at most one for each place, is never lost. At most `movers` threads open and close rooms at a
-    /// time. `NoMemory` if an allocation failed.
-    pub(crate) fn new(alloc: Global, places: usize, movers: usize) -> Result<Orders, NoMemory> {
+    /// No orders for so many threads, with space to keep the rooms at so many places: an order to keep
+    /// one, of which there is at most one for each place, is never lost. At most half of the threads
+    /// open and close rooms at a time. `NoMemory` if an allocation failed.
+    pub(crate) fn new(alloc: Global, places: usize, threads: usize) -> Result<Orders, NoMemory> {
+        let mut alarms = Vec::with_capacity(alloc, threads)?;
+        for _ in 0..threads {
+            alarms.push(Condvar::new())?;
+        }
         Ok(Orders {
             queue: Mutex::new(Queue {
                 keeps: VecDeque::with_capacity(alloc, places)?,
                 moves: VecDeque::new(alloc),
-                spare: movers,
+                spare: (threads / 2).max(1),
+                sleepers: Sleepers::none(alloc, threads)?,
                 is_over: false,
             }),
-            came: Condvar::new(),
+            alarms,
             count: AtomicUsize::new(0),
             is_looking: AtomicBool::new(false),
         })
@@ -96,11 +105,21 @@ impl Orders {
         let mut queue = self.queue.lock(rt);
         let is_added = queue.push(order);
         self.count.store(queue.len(), Ordering::SeqCst);
-        drop(queue);
         if !self.is_looking.load(Ordering::SeqCst) {
-            self.came.notify_one();
+            self.wake_one(queue);
         }
         is_added
+    }
+
+    /// Gives the queue back, and wakes a thread that sleeps, if there is one.
+    fn wake_one(&self, mut queue: MutexGuard<'_, Queue>) {
+        let woken = queue.sleepers.wake_first();
+        drop(queue);
+        if let Some(slot) = woken
+            && let Some(alarm) = self.alarms.get(slot)
+        {
+            alarm.notify_one();
+        }
     }
 
     /// Looks for the next order for a while, unless another thread does. A thread that sleeps is woken
@@ -120,7 +139,7 @@ impl Orders {
     }
 
     /// Waits for the next order, and takes it out. If more are left, wakes another thread. `None` once
-    /// all is over and no order is left for this thread.
+    /// all is over and no order is left for this thread, or if more threads wait than were announced.
     pub(crate) fn next(&self, rt: &impl Wait) -> Option<Order> {
         self.look();
         let mut queue = self.queue.lock(rt);
@@ -128,16 +147,17 @@ impl Orders {
             if let Some(order) = queue.pop() {
                 let left = queue.len();
                 self.count.store(left, Ordering::SeqCst);
-                drop(queue);
                 if left > 0 {
-                    self.came.notify_one();
+                    self.wake_one(queue);
                 }
                 return Some(order);
             }
             if queue.is_over {
                 return None;
             }
-            queue = self.came.wait(rt, queue);
+            let slot = queue.sleepers.fall_asleep()?;
+            queue = self.alarms.get(slot)?.wait(rt, queue);
+            queue.sleepers.leave(slot);
         }
         unreachable!()
     }
@@ -146,10 +166,8 @@ impl Orders {
     pub(crate) fn end_move(&self, rt: &impl Wait) {
         let mut queue = self.queue.lock(rt);
         queue.spare = queue.spare.saturating_add(1);
-        let is_wanted = !queue.moves.is_empty();
-        drop(queue);
-        if is_wanted {
-            self.came.notify_one();
+        if !queue.moves.is_empty() {
+            self.wake_one(queue);
         }
     }
 
@@ -159,6 +177,8 @@ impl Orders {
         queue.is_over = true;
         queue.moves.clear();
         drop(queue);
-        self.came.notify_all();
+        for alarm in &self.alarms {
+            alarm.notify_all();
+        }
     }
 }

@@ -51,8 +51,13 @@ impl<K: Eq + Hash + Drop, V: Drop> Recent<K, V> {
         self.new.len()
     }
 
-    /// A tick.
+    /// A tick. What is added next takes the memory of what is forgotten, if there is any.
     pub(crate) fn tick(&mut self) {
-        self.old = std::mem::replace(&mut self.new, IndexMap::new(self.alloc));
+        std::mem::swap(&mut self.old, &mut self.new);
+        if self.new.is_empty() {
+            self.new = IndexMap::new(self.alloc);
+        } else {
+            self.new.clear();
+        }
     }
 }

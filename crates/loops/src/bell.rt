@@ -137,6 +137,13 @@ impl Bell {
         }
     }
 
+    /// The loop of this number holds nothing back in the room at this place.
+    pub(crate) fn unwatch(&self, number: usize, place: usize) {
+        if let Some(watchers) = self.watchers.get(place) {
+            watchers.fetch_and(!bit_of(number), Ordering::SeqCst);
+        }
+    }
+
     /// Hands an arrival to the loop of this number.
     ///
     /// # Errors

@@ -16,8 +16,8 @@ use mio::{Events, Poll};
 use std::sync::Wait;
 use std::time::{Clock, Duration, Instant};
 
-/// How many polls may not wait once a line waits for a disk: one or two tenths of a millisecond.
-const EAGER_POLLS: u32 = 256;
+/// How many polls may not wait once a line waits for a disk: about half a millisecond.
+const EAGER_POLLS: u32 = 1_024;
 
 /// A loop over many lines. It cannot be dropped: `end` ends its lines.
 pub(crate) struct EventLoop<S, D, C: Drop> {
@@ -338,6 +338,9 @@ impl<S, D: Drop, C: Drop> EventLoop<S, D, C> {
             let next = line.look(shared, &mut self.bench.scratch, true, self.now);
             self.follow(shared, key, next);
             self.park(shared, key, before, Some(place));
+        }
+        if self.parked.is_empty(place) {
+            shared.bell.unwatch(self.number, place);
         }
     }
 }

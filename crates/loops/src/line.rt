@@ -15,6 +15,10 @@ use std::io::{ErrorKind, Read};
 use std::net::Shutdown;
 use std::sync::Wait;
 
+/// Where what a line holds has changed by fewer bytes, the burden of all lines does not count it anew:
+/// all loops share that.
+const WEIGHED_LEN: usize = 4_096;
+
 /// A socket, and what is served on it. It cannot be dropped: `end` gives its session back.
 pub(crate) struct Line<S, D> {
     pub(crate) stream: TcpStream,
@@ -27,7 +31,7 @@ pub(crate) struct Line<S, D> {
     pub(crate) parked_at: Option<usize>,
     /// It has its next turn without a report of the system.
     pub(crate) is_queued: bool,
-    /// How many bytes of it all lines' burden counts.
+    /// How many bytes of it the burden of all lines counts.
     counted: usize,
     /// Whether the burden counts it as waiting for something to be kept.
     is_waiting: bool,
@@ -310,11 +314,13 @@ impl<S, D: Drop> Line<S, D> {
         }
     }
 
-    /// Has the burden of all lines count what it holds.
+    /// Has the burden of all lines count what it holds, to within `WEIGHED_LEN`.
     fn weigh<R, V: Service<Session = S, Told = D>>(&mut self, shared: &Shared<'_, R, V>) {
         let weight = self.weight();
-        shared.burden.change(self.counted, weight);
-        self.counted = weight;
+        if weight.abs_diff(self.counted) >= WEIGHED_LEN {
+            shared.burden.change(self.counted, weight);
+            self.counted = weight;
+        }
         let is_waiting = self.has_waiting();
         if is_waiting != self.is_waiting {
             shared.burden.change_waiting(is_waiting);

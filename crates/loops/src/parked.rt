@@ -1,7 +1,7 @@
 //! The lines that wait for news in rooms.
 
-ghost use Rattle.std.specs.Prelude.{◌≡◌, ◌<◌, ◌≤◌, ◌==◌, [], ◌∷◌, ◌++◌, IfOk, IsFalse, IsTrue};
-ghost use Rattle.std.specs.Prelude.{Some, not, slice_get, vec_len};
+ghost use Rattle.std.specs.Prelude.{◌≡◌, ◌<◌, ◌≤◌, ◌==◌, ◌↔◌, [], ◌∷◌, ◌++◌, IfOk, IfSome};
+ghost use Rattle.std.specs.Prelude.{IsFalse, IsTrue, Some, not, slice_get, true, vec_len};
 ghost use Rattle.loops.specs.steps.Places.{GoesTo};
 ghost use Rattle.std.specs.List.{filter};
 
@@ -53,6 +53,18 @@ impl Parked {
         let mut keys = self.take(place);
         remove_key(&mut keys, key);
         self.places[place] = keys;
+    }
+
+    /// Returns whether no line waits for news at the place.
+    pub(crate) fn is_empty(&self, place: usize) -> bool
+        ensures some { IfSome (slice_get self.now.places.items place) (λ keys.
+            (result ≡ true) ↔ (keys.items ≡ [])) }
+        ensures none { vec_len self.now.places ≤ place → result ≡ true }
+    {
+        match self.places.get(place) {
+            Some(keys) => keys.is_empty(),
+            None => true,
+        }
     }
 
     /// Takes the lines that wait for news at the place. None waits there any more.

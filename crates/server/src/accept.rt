@@ -38,6 +38,24 @@ pub(crate) struct Accepted<'a, 'f, R> {
     pub(crate) failed: &'f AtomicBool,
 }
 
+impl<'a, 'f, R> Accepted<'a, 'f, R> {
+    /// The connections of a listener. None was accepted yet, and the server does not go away.
+    pub(crate) fn new(
+        listener: &'a TcpListener,
+        observer: &'a ServerObserver<'a, R>,
+        failed: &'f AtomicBool,
+    ) -> Accepted<'a, 'f, R> {
+        Accepted {
+            listener,
+            observer,
+            left: u64::MAX,
+            door: None,
+            is_told: false,
+            failed,
+        }
+    }
+}
+
 impl<R: Wait + Clock + Log> Iterator for Accepted<'_, '_, R> {
     type Item = Arrival;
 

@@ -138,7 +138,9 @@ impl<R: Platform, W: Write> Service<'_, '_, R, W> {
             ends_with_input: self.ends_with_input,
             report: self.report,
         };
-        serve_listening(options, rooms, &listener, &observer, keeper, self.output)
+        let failed = AtomicBool::new(false);
+        let streams = Accepted::new(&listener, &observer, &failed);
+        serve_listening(options, rooms, streams, keeper, self.output)
     }
 
     /// Listens on the address.
@@ -194,13 +196,12 @@ fn open_loops(
     Ok(Bell::new(rt, options.alloc, options.loops, places)?)
 }
 
-/// Serves what the listener accepts.
-fn serve_listening<'a, P, R, K, W>(
+/// Serves these connections.
+fn serve_listening<P, R, K, W>(
     options: Options,
     rooms: Rooms<P>,
-    listener: &'a TcpListener,
-    observer: &'a ServerObserver<'a, R>,
-    keeper: &'a K,
+    streams: Accepted<'_, '_, R>,
+    keeper: &K,
     output: &mut W,
 ) -> Result<(), Fault>
 where
@@ -211,16 +212,8 @@ where
     K::Permit: Send,
     W: Write,
 {
+    let (observer, failed) = (streams.observer, streams.failed);
     let (rt, alloc) = (observer.runtime(), options.alloc);
-    let failed = AtomicBool::new(false);
-    let streams = Accepted {
-        listener,
-        observer,
-        left: u64::MAX,
-        door: None,
-        is_told: false,
-        failed: &failed,
-    };
     let places = rooms
         .count_places()
         .saturating_add(keeper.count_waiting_places());

@@ -54,7 +54,7 @@ export class Page {
     this.peopleList = new PeopleList(this.people)
     this.others = new Others(this.people, this.view)
     this.refusedChanges = new RefusedChanges(this)
-    this.changes = new Changes(this)
+    this.changes = new Changes(this, roomName)
     this.deletedObjects = new DeletedObjects(this)
     this.deletionMessages = new DeletionMessages(this)
     this.clipboard = new Clipboard(this)
@@ -133,11 +133,17 @@ export class Page {
     room.on("progress", () => this.#load())
     const isUnsaved = () => room.pending.length > 0 || this.refusedChanges.isKeeping
     addEventListener("beforeunload", (event) => isUnsaved() && event.preventDefault())
-    addEventListener("pagehide", () => {
-      view.save(roomName)
-      room.close()
-    })
+    addEventListener("pagehide", () => this.#leave())
     showProgress(room)
+  }
+
+  /** The page is closed or loaded again. What the user writes, or moves by keys, is kept. */
+  #leave() {
+    if (document.activeElement instanceof HTMLElement) document.activeElement.blur()
+    this.nudges.end()
+    this.changes.save()
+    this.view.save(this.#roomName)
+    this.room.close()
   }
 
   #showState(state) {
@@ -167,6 +173,7 @@ export class Page {
     this.#progress.ask()
     if (!this.room.isLoaded) return
     this.view.begin(this.#roomName)
+    this.changes.begin()
     this.view.change([])
   }
 }

@@ -243,7 +243,8 @@ async function refusedStroke() {
   }
   const room = { has: () => true, versions: () => [changes.last.version] }
   const tools = { colour: "#3a86c8" }
-  const handwriting = new Handwriting({ changes, room, camera: { scale: 1 }, tools })
+  const style = { shapeOf: () => ({ fill: tools.colour, thickness: "medium" }) }
+  const handwriting = new Handwriting({ changes, room, camera: { scale: 1 }, style })
   for (const x of [100, 110]) handwriting.draw([[x, 100], [x, 140]], performance.now())
   tools.colour = "#e4572e"
   await new Promise((resolve) => setTimeout(resolve))

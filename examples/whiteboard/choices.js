@@ -9,6 +9,8 @@ const capital = (word) => `${word[0].toUpperCase()}${word.slice(1)}`
 const wordsOf = (values) => new Map(Object.keys(values).map((value) => [value, capital(value)]))
 const SIZE_WORDS = wordsOf(TEXT_SIZES)
 const THICKNESS_WORDS = wordsOf(THICKNESSES)
+// As it looks on the paper, also in dark mode.
+const USUAL_OUTLINE = "linear-gradient(rgb(0 0 0 / 0.45) 0 0), #fff"
 const OUTLINES = new Map([["", "usual"], ...COLOURS])
 
 const isLine = ({ kind }) => kind === "line"
@@ -56,7 +58,7 @@ function outlineRow({ outline }, change) {
     const one = button("", `outline-${value}`, () => change({ outline: value }))
     Object.assign(one, { className: "colour", title: word })
     one.setAttribute("aria-label", `${word} outline`)
-    one.style.background = value || "rgb(0 0 0 / 0.45)"
+    one.style.background = value || USUAL_OUTLINE
     return choice(one, value === outline)
   })
   return group("Outline", buttons)

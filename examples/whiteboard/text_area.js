@@ -32,7 +32,8 @@ export function textArea({ text, label, end, write = () => {} }) {
   field.addEventListener("keydown", (event) => {
     const isEnd = event.key === "Enter" && (event.ctrlKey || event.metaKey)
     if (isEnd) event.preventDefault()
-    if (isEnd || event.key === "Escape") end()
+    if (isEnd) end()
+    if (event.key === "Escape") field.blur()
   })
   tell()
   return { field, left }

@@ -204,6 +204,7 @@ async function textField(first, room) {
 
 /** Three shapes and a group of two: each alignment is one step, and the group keeps its form. */
 async function aligned(first, second, room) {
+  await first.key("Escape")
   await first.key("a", CONTROL)
   await first.key("Delete")
   await first.waitUntil("nothing", `document.querySelectorAll(".version").length === 0`)

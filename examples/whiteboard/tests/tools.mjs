@@ -95,7 +95,12 @@ async function newest(first, room) {
   expectEqual("an arrow key moves the copy", room.versions(room.objects().at(-1))[0].attributes.get("x"), 330)
   expectEqual("and not the first", room.versions(name)[0].attributes.get("x"), 300)
   await draw(first, "ellipse", [500, 650], [580, 710])
-  const [object] = [room.objects().at(-1)]
+  const object = room.objects().at(-1)
   await added(room, 1, () => first.key("Delete"))
   expectEqual("Delete takes the newest", room.versions(object)[0].isGone, true)
+  const place = await onScreen(first, [340, 660])
+  await first.press(place)
+  await first.release(place)
+  await first.key("Escape")
+  expectEqual("after Escape it takes nothing", await added(room, 0, () => first.key("Delete")), [])
 }

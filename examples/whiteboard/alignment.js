@@ -46,7 +46,11 @@ export class Alignment {
     const used = units.reduce((sum, { box }) => sum + box[length], 0)
     const gap = (all[length] - used) / (units.length - 1)
     let place = all[axis]
-    const places = new Map(units.map((unit) => [unit, (place += unit.box[length] + gap) - unit.box[length] - gap]))
+    const places = new Map()
+    for (const unit of units) {
+      places.set(unit, place)
+      place += unit.box[length] + gap
+    }
     this.#move(units, axis, (unit) => places.get(unit) - unit.box[axis])
   }
 

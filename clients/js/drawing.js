@@ -147,6 +147,12 @@ class DrawnObject {
     return this.#versions
   }
 
+  /** The version that contains a change, as it was directly after it. For the object's creation, its first version. */
+  versionAfter(name) {
+    const index = this.#indexes.get(codeOf(name))
+    return this.#versionOf(index === undefined ? new BitSet() : this.#basesWithSelf[index])
+  }
+
   /** Splits the changes into those that a state vector counts and the others, as indexes. */
   #known(seen) {
     const counts = new Map(seen)
@@ -343,6 +349,16 @@ export class Drawing {
    */
   versions(name) {
     return this.#find(name).versions()
+  }
+
+  /**
+   * The version that contains an operation, as it was directly after it.
+   * @param {Operation} operation one that was added
+   * @returns {Version}
+   * @throws {Refused} `no-such-object`
+   */
+  versionAfter({ name, object }) {
+    return this.#find(object).versionAfter(name)
   }
 
   /**

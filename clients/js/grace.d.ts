@@ -165,6 +165,11 @@ export class Drawing {
   /** @throws {Refused} `no-such-object` */
   versions(name: Name): Version[]
   /**
+   * The version that contains an operation that was added, as it was directly after it.
+   * @throws {Refused} `no-such-object`
+   */
+  versionAfter(operation: Operation): Version
+  /**
    * How many changes an object has, and which keys they use.
    * @throws {Refused} `no-such-object`
    */
@@ -335,6 +340,12 @@ export class Room {
   versions(object: Name): Version[]
   /** The current versions that contain all changes of an earlier version. */
   successors(object: Name, version: Version): Version[]
+  /**
+   * The changes of this client that have these names, also those that its site made before the page was reloaded. Of
+   * those `base` is null and `made` is 0. Null stands for a change that this client does not show.
+   * @throws {TypeError} a name is invalid
+   */
+  changesNamed(names: Name[]): (Change | null)[]
   /**
    * Adds a listener. The function that it returns removes the listener.
    * @throws {TypeError} there is no such event

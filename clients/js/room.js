@@ -233,6 +233,17 @@ export class Room {
   }
 
   /**
+   * The changes of this client that have these names, also those that its site made before the page was reloaded. Of
+   * those `base` is null and `made` is 0, and the `version` counts only what their author had seen.
+   * @param {Name[]} names of operations
+   * @returns {(Change | null)[]} null where this client shows no such change
+   * @throws {TypeError} a name is invalid
+   */
+  changesNamed(names) {
+    return this.#state.changesNamed(names)
+  }
+
+  /**
    * Adds a listener.
    * @param {"change" | "state" | "progress" | "refusal" | "reset" | "renewed" | "transaction" | "notes"} event
    * @param {(news: any) => void} listener

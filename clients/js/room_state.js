@@ -144,6 +144,33 @@ export class RoomState {
     return this.#drawing.versions(object).filter((later) => members.every((name) => later.has(name)))
   }
 
+  /**
+   * The changes of this client that have these names, also those that it made before it was restored.
+   * @param {Name[]} names
+   * @returns {(Change | null)[]} null where this client shows no such change
+   */
+  changesNamed(names) {
+    const found = new Map()
+    for (const change of [...this.#acceptedUnpulled, ...this.#pending]) found.set(codeOf(change.name), change)
+    const wanted = new Set(names.map((name) => codeOf(asName(name))))
+    const isWanted = ([, name]) => name[0] === this.#site && wanted.has(codeOf(name))
+    for (const operation of this.#record.slice(0, this.#shownCount).filter(isWanted).map(operationOf)) {
+      const code = codeOf(operation.name)
+      if (!found.has(code)) found.set(code, this.#recordedChange(operation))
+    }
+    return names.map((name) => found.get(codeOf(name)) ?? null)
+  }
+
+  /** A change of this client that is in the record. When it was made is not known. */
+  #recordedChange(operation) {
+    const change = new Change(operation, this.#drawing.kind(operation.object), 0)
+    change.become(operation, this.#drawing.versionAfter(operation))
+    change.isSent = true
+    change.resolve()
+    this.#held.add(change)
+    return change
+  }
+
   /** What a version of the room before has become. */
   #continuations(version) {
     return this.#passage?.continuations(version) ?? []

@@ -7,6 +7,10 @@ import { pathOf } from "./pen.js"
 import { NO_FILL, THICKNESSES, USUAL_THICKNESS } from "./shapes.js"
 
 const LEAST_WIDTH = 90
+// A text on a line is never broken within this width, and the line is interrupted around its letters.
+const LEAST_ON_LINE = 180
+const LINE_GAP = 10
+const LINES = ["line", "pen"]
 const LINE_WIDTH = 4
 const EDGE_WIDTH = 2
 // An arrow's lines, in units of the drawing, and their angle to the line, in radians.
@@ -50,7 +54,7 @@ export function bodyOf(shape, name = "body") {
 
 /** The colour and the width of a line, or of a shape's edge, where they are not those of the style sheet. */
 function styleOf({ kind, fill, outline = "", thickness = USUAL_THICKNESS }) {
-  const isLine = kind === "line" || kind === "pen"
+  const isLine = LINES.includes(kind)
   const colour = isLine ? fill : outline
   const width = (isLine ? LINE_WIDTH : EDGE_WIDTH) * THICKNESSES[thickness]
   return `${colour && `stroke: ${colour};`} ${thickness === USUAL_THICKNESS ? "" : `stroke-width: ${width}`}`.trim()
@@ -64,7 +68,7 @@ export function outlineOf(shape, name) {
 }
 
 /** Whether a shape is only a line or an edge, which is hard to hit with the pointer. */
-export const isThin = ({ kind, fill }) => kind === "line" || kind === "pen" || fill === NO_FILL
+export const isThin = ({ kind, fill }) => LINES.includes(kind) || fill === NO_FILL
 
 /** The path of a line with its arrows. */
 function pathOfArrow({ x, y, width, height, arrow }) {
@@ -95,8 +99,7 @@ export function textOf(shape) {
   const box = boundsOf(shape)
   const isAlone = shape.kind === "text"
   const [middle, centre] = middleOf(box)
-  const { size, lines } = isAlone ? letteringAlone(shape)
-    : lettering(shape.text, Math.max(LEAST_WIDTH, box.width - 14), box.height, shape.size)
+  const { size, lines } = isAlone ? letteringAlone(shape) : letteringOn(shape, box)
   const x = isAlone ? box.x : middle
   const top = isAlone ? box.y + (size * LINE) / 2 : centre - ((lines.length - 1) * size * LINE) / 2
   const spans = lines.map((line, place) => {
@@ -106,8 +109,15 @@ export function textOf(shape) {
   })
   const [ink, ground] = inksOf(shape)
   const anchor = isAlone ? "start" : "middle"
-  const style = `fill: ${ink}; stroke: ${ground}; text-anchor: ${anchor}`
+  const gap = LINES.includes(shape.kind) ? `; stroke-width: ${LINE_GAP}px` : ""
+  const style = `fill: ${ink}; stroke: ${ground}; text-anchor: ${anchor}${gap}`
   return svg("text", { class: "name", "font-size": size, style }, ...spans)
+}
+
+/** On a line or a stroke the letters have the size that the user chose. On a shape they fit it. */
+function letteringOn({ kind, text, size }, { width, height }) {
+  const isLine = LINES.includes(kind)
+  return lettering(text, Math.max(isLine ? LEAST_ON_LINE : LEAST_WIDTH, width - 14), isLine ? Infinity : height, size)
 }
 
 function letteringAlone({ text, width, size }) {

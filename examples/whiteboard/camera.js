@@ -1,14 +1,14 @@
 /** Which part of the drawing the window shows: the scale, and the position of the drawing's origin in the window. */
 
-import { between, meet, middleOf } from "./boxes.js"
+import { between, isInside, meet, middleOf } from "./boxes.js"
 
 // Small enough to show two objects at the far ends of the drawing in a small window.
 const LEAST = 0.0005
 const MOST = 16
 const EDGE = 52
 
-/** The part of the drawing that is shown at first. */
-export const PAGE = { x: 0, y: 0, width: 1200, height: 800 }
+// The part of an empty drawing that is shown at first, or its middle.
+const PAGE = { x: 0, y: 0, width: 1200, height: 800 }
 
 export class Camera {
   /** Pixels of the window for one unit of the drawing. */
@@ -54,6 +54,11 @@ export class Camera {
   /** The window as a box, in pixels. */
   get window() {
     return { x: 0, y: 0, width: this.width, height: this.height }
+  }
+
+  /** Whether a box of the drawing is in the window as a whole. */
+  showsAll(box) {
+    return isInside(this.boxOf(box), this.window)
   }
 
   /** Whether a box of the drawing is at least partly in the window. */
@@ -118,8 +123,8 @@ export class Camera {
     else this.pan(x, y)
   }
 
-  /** Shows the page, scaled down if the window is smaller. */
+  /** Shows the middle of the page, in its actual size. */
   home() {
-    this.#centre(PAGE, between(LEAST, Math.min(this.width / PAGE.width, this.height / PAGE.height), 1))
+    this.#centre(PAGE, 1)
   }
 }

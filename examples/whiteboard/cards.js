@@ -4,7 +4,7 @@ import { bodyOf, outlineOf, textOf } from "./bodies.js"
 import { boundsOfAll } from "./boxes.js"
 import { button, html, svg } from "./elements.js"
 import { isColour } from "./shapes.js"
-import { differingKeys, keysOf, letterOf, linesOf } from "./words.js"
+import { differingKeys, keepWords, keysOf, letterOf, linesOf } from "./words.js"
 
 // More versions than these are shown as rows.
 const CARDS = 6
@@ -42,7 +42,7 @@ function buttonsOf({ versions, picked, pick, keep }, version, isMany) {
   choose.setAttribute("aria-pressed", isPicked)
   choose.setAttribute("aria-label", `Work on version ${letter}`)
   const only = button("Keep only this", `keep-${letter}`, () => keep(version))
-  Object.assign(only, { className: "keep-only", title: `Keep version ${letter} and delete the others` })
+  Object.assign(only, { className: "keep-only", title: keepWords(letter, versions.length - 1) })
   return html("div", { className: "actions" }, choose, only)
 }
 

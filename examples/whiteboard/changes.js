@@ -10,15 +10,12 @@ import { keyOf } from "./board.js"
 import { Entries } from "./entries.js"
 import { withoutMakers } from "./maker_keys.js"
 import { Makers } from "./makers.js"
+import { Irreversible, Outcomes } from "./outcomes.js"
+import { SavedSteps } from "./saved_steps.js"
 import { USUAL } from "./shapes.js"
 import { Space, entriesOfNew } from "./space.js"
 import { REFUSED, Undo } from "./undo.js"
 import { FINAL_DELETION, NOT_ALL_FIT, separateWords } from "./words.js"
-
-const NOT_IN_THIS_ROOM = "the drawing went on in another room without it."
-
-/** A step that cannot be undone or redone, with the reason. */
-class Irreversible extends Error {}
 
 export class Changes {
   /** Whether the room's current change comes from this page. */
@@ -29,21 +26,20 @@ export class Changes {
   #sites = new Set()
   // The deletions that the user made.
   #drops = []
-  // By deleted object: the creation that brought it back.
-  #restored = new Map()
   // By a change that reverses an action: "undone" or "redone".
   #reversals = new WeakMap()
-  // The actions in a room that was renewed since, and those of them that did not come along.
-  #earlier = new WeakSet()
-  #leftBehind = new WeakSet()
+  #outcomes
+  #saved
 
-  /** @param {import("./whiteboard.js").Page} page */
-  constructor(page) {
+  /** @param {import("./whiteboard.js").Page} page @param {string} roomName the first room's name */
+  constructor(page, roomName) {
     this.page = page
+    this.#saved = new SavedSteps(page.room, roomName)
     this.entries = new Entries(page.room)
+    this.#outcomes = new Outcomes(page.board, this.entries, (name) => this.isOwn(name))
     this.makers = new Makers(page, this.entries)
     this.space = new Space(page.board)
-    page.room.on("reset", () => this.#undo.clear())
+    page.room.on("reset", () => this.#reset())
     page.room.on("renewed", () => this.#goOn())
     page.room.on("refusal", ({ refusal, change }) => this.#refused(refusal, change))
   }
@@ -205,6 +201,24 @@ export class Changes {
     })
   }
 
+  /** Takes up the steps that this tab saved before a reload. */
+  begin() {
+    const { done, undone, restored } = this.#saved.take()
+    this.#undo.begin(done, undone)
+    for (const [key, act] of restored) this.#outcomes.restore(key, act)
+  }
+
+  /** Saves the steps for a reload of this tab, but none that was made in an earlier room. */
+  save() {
+    const steps = this.#undo.stepsOf((act) => this.#outcomes.isOfThisRoom(act))
+    this.#saved.save({ ...steps, restored: this.#outcomes.restored })
+  }
+
+  #reset() {
+    this.#undo.clear()
+    this.#saved.forget()
+  }
+
   /** Says that versions came back as objects of their own, while their object has other versions. */
   #tellOfSeparate(restored) {
     const { board, say } = this.page
@@ -214,19 +228,11 @@ export class Changes {
     say(separateWords(separate.length, shape))
   }
 
-  /**
-   * The drawing goes on in another room, where operations have other names. What the user did before can be undone
-   * there as long as its values are the same.
-   */
+  /** The drawing goes on in another room, where operations have other names. */
   #goOn() {
-    const { board, room } = this.page
     this.#sites.clear()
-    this.#drops = this.#drops.filter((change) => room.pending.includes(change))
-    for (const act of [...this.#undo.acts, ...this.#restored.values()]) {
-      this.#earlier.add(act)
-      const { object, version } = act.change
-      if (board.successors(object, version).length === 0) this.#leftBehind.add(act)
-    }
+    this.#drops = this.#drops.filter((change) => this.page.room.pending.includes(change))
+    this.#outcomes.goOn(this.#undo.acts)
   }
 
   /** Does what deletes these versions, at once or after a question. */
@@ -351,48 +357,14 @@ export class Changes {
 
   #restore({ change, kind, attributes }) {
     const act = this.#create(kind, [...attributes])
-    this.#restored.set(keyOf(change.object), act)
+    this.#outcomes.restore(keyOf(change.object), act)
     return act
   }
 
   #reversePut(act) {
-    const { name, version } = this.#latestVersion(act)
+    const { name, version } = this.#outcomes.latestOf(act)
     return act.word === "create" ? this.#drop(name, version) : this.#put(name, version, act.before)
   }
-
-  /**
-   * The version that an action made, if nobody else has built on it. For an object that came back, the new object's
-   * version.
-   */
-  #latestVersion(act) {
-    const { change } = act
-    const found = this.page.board.successors(change.object, change.version)
-    if (found.length === 0) {
-      const again = this.#restored.get(keyOf(change.object))
-      if (again !== undefined) return this.#latestVersion(again)
-      throw new Irreversible(this.#leftBehind.has(act) ? NOT_IN_THIS_ROOM : "somebody deleted it.")
-    }
-    if (found.length > 1) throw new Irreversible("others changed it at the same time, so it has several versions.")
-    const [version] = found
-    const isChanged = this.#earlier.has(act) ? !hasValuesOf(version, act) : this.#isBuiltOn(version, change.name)
-    if (isChanged) throw new Irreversible("somebody has changed it since.")
-    return { name: change.object, version }
-  }
-
-  /** Whether somebody else has seen a change and then changed the same version. */
-  #isBuiltOn(version, name) {
-    const others = version.members.filter((member) => !this.isOwn(member))
-    return others.some((other) => {
-      const operation = this.entries.find(other)
-      return operation !== null && this.entries.hadSeen(operation, name)
-    })
-  }
-}
-
-/** Whether a version still has the values of an action. One that was created has no others. */
-function hasValuesOf({ attributes }, { word, after }) {
-  const keys = word === "create" ? withoutMakers(attributes).map(([key]) => key) : [...after.keys()]
-  return keys.every((key) => attributes.get(key) === (after.get(key) ?? USUAL[key] ?? ""))
 }
 
 /** Whether the room, or its library, refused a change. */

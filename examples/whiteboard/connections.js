@@ -9,6 +9,7 @@
 import { keyOf } from "./board.js"
 import { boundsOf, middleOf } from "./boxes.js"
 import { roomNumberOf } from "./maker_keys.js"
+import { NO_FILL } from "./shapes.js"
 
 const END_KEYS = ["from", "to"]
 const SIDES = ["x", "y", "width", "height"]
@@ -16,6 +17,16 @@ const THIN = ["line", "pen"]
 
 /** Whether a line can stick to an object of this kind. */
 export const canHold = (kind) => !THIN.includes(kind)
+
+/**
+ * Whether an end of a line sticks to a shape. It does not if the other end is within the shape: the line would leave it
+ * on another side. A line without an arrow does not stick to an outline, as it may be a part of it.
+ * @param {any} shape
+ * @param {any} line with its arrow
+ * @param {[number, number]} other where its other end is
+ */
+export const isHeld = (shape, line, other) =>
+  canHold(shape.kind) && (line.arrow || shape.fill !== NO_FILL) && acrossOf(shape, other) >= 1
 
 export class Connections {
   // By text: the shape that has it.
@@ -108,11 +119,17 @@ const isStuck = ({ from, to }) => from !== "" || to !== ""
 
 /** The point of a shape's edge on the way from its middle to another point, in whole units. */
 function edgeOf(shape, [x, y]) {
+  const [middleX, middleY] = middleOf(boundsOf(shape))
+  const across = acrossOf(shape, [x, y]) || Infinity
+  return [middleX + (x - middleX) / across, middleY + (y - middleY) / across].map(Math.round)
+}
+
+/** How far a point is from the middle of a shape: 0 in the middle, 1 on the edge. */
+function acrossOf(shape, [x, y]) {
   const box = boundsOf(shape)
   const [middleX, middleY] = middleOf(box)
-  const [wide, high] = [x - middleX, y - middleY]
-  const [acrossX, acrossY] = [Math.abs(wide) / (box.width / 2 || 1), Math.abs(high) / (box.height / 2 || 1)]
-  const across = shape.kind === "ellipse" ? Math.hypot(acrossX, acrossY) : Math.max(acrossX, acrossY)
-  if (across === 0) return [middleX, middleY].map(Math.round)
-  return [middleX + wide / across, middleY + high / across].map(Math.round)
+  const [acrossX, acrossY] = [
+    Math.abs(x - middleX) / (box.width / 2 || 1), Math.abs(y - middleY) / (box.height / 2 || 1),
+  ]
+  return shape.kind === "ellipse" ? Math.hypot(acrossX, acrossY) : Math.max(acrossX, acrossY)
 }

@@ -1,7 +1,7 @@
 /** What the pointer does to the view and to objects, between press and release. Each drag is one step, at its end. */
 
 import { boundsOf, boundsOfAll, isInside, sidesOf } from "./boxes.js"
-import { canHold } from "./connections.js"
+import { isHeld } from "./connections.js"
 import { svg } from "./elements.js"
 import { withGroups } from "./groups.js"
 import { Hand } from "./hand.js"
@@ -173,7 +173,7 @@ export class Resize extends SnappingDrag {
   }
 }
 
-/** Drags an end of a line, which sticks to a shape that it is on. With Alt it does not. */
+/** Drags an end of a line, which sticks to a shape that it is on. With Alt or Shift it does not. */
 export class LineEndDrag extends VersionDrag {
   #shape = null
 
@@ -185,7 +185,8 @@ export class LineEndDrag extends VersionDrag {
 
   show(x, y, event) {
     const { board } = this.page
-    this.#shape = shapeUnder(this.page, event)
+    const [{ shape: dragged }] = this.hand.items
+    this.#shape = shapeUnder(this.page, event, dragged, otherEnd(dragged, this.side))
     const text = this.#shape === null ? "" : board.connections.textOf(this.#shape)
     this.hand.show((line) => {
       const attributes = lineEndAttributes(line, this.side, [x, y], event.shiftKey)
@@ -201,10 +202,20 @@ export class LineEndDrag extends VersionDrag {
   }
 }
 
-/** The object at the pointer to which a line can stick, or null. */
-export function shapeUnder({ board, room, view }, { clientX, clientY, altKey }) {
-  if (altKey) return null
+/** Where the end of a line is that is not dragged. */
+const otherEnd = ({ x, y, width, height }, side) => (side === "start" ? [x + width, y + height] : [x, y])
+
+/**
+ * The object at the pointer to which an end of a line sticks, or null.
+ * @param {any} line with its arrow
+ * @param {[number, number]} other where its other end is
+ */
+export function shapeUnder({ board, view }, { clientX, clientY, altKey, shiftKey }, line, other) {
+  if (altKey || shiftKey) return null
   const found = document.elementsFromPoint(clientX, clientY).map((element) => view.sheet.under(element))
-  const isShape = (under) => under !== null && canHold(room.kind(under.name)) && board.picked(under.name) !== null
-  return found.find(isShape)?.name ?? null
+  const isHolding = (under) => {
+    const place = under === null ? -1 : board.shown(under.name).indexOf(board.picked(under.name))
+    return place >= 0 && isHeld(board.shapes(under.name)[place], line, other)
+  }
+  return found.find(isHolding)?.name ?? null
 }

@@ -30,3 +30,9 @@ export const part = (id) => document.getElementById(id)
 /** Creates a button. The word `focus` identifies it, so that it keeps the focus when it is drawn again. */
 export const button = (textContent, focus, onclick) =>
   html("button", { type: "button", textContent, onclick, dataset: { focus } })
+
+/** Takes the focus from what has it. */
+export function leaveFocus() {
+  const { activeElement } = document
+  if (activeElement instanceof HTMLElement || activeElement instanceof SVGElement) activeElement.blur()
+}

@@ -1,6 +1,7 @@
 /** Pointer input on the drawing: mouse, pen or fingers. */
 
 import { BoxSelection, LineEndDrag, Move, Pan, Pinch, Resize } from "./drags.js"
+import { leaveFocus } from "./elements.js"
 import { withGroups } from "./groups.js"
 import { Sketch, Stroke, TextPress } from "./sketches.js"
 
@@ -33,10 +34,18 @@ export class Gestures {
     for (const name of ["pointerup", "pointercancel"]) {
       element.addEventListener(name, (event) => this.#lift(event, name === "pointerup"))
     }
-    addEventListener("keydown", ({ key, target }) => key === " " && this.#space(!isInTextField(target)))
+    addEventListener("keydown", ({ key, target }) => {
+      if (key === "Tab") element.classList.remove("pressed")
+      if (key === " ") this.#space(!isInTextField(target))
+    })
     addEventListener("keyup", ({ key }) => key === " " && this.#space(false))
     addEventListener("blur", () => this.#space(false))
     element.addEventListener("wheel", (event) => this.#wheel(event), { passive: false })
+  }
+
+  /** Whether the user has used the pointer since the tab key. */
+  get isByPointer() {
+    return this.page.view.sheet.element.classList.contains("pressed")
   }
 
   /** Whether a drag is in progress. */
@@ -60,8 +69,10 @@ export class Gestures {
     }
     if (this.#drag !== null || (event.button !== LEFT && event.button !== MIDDLE)) return
     this.page.nudges.end()
-    // Commits an open text field first.
-    if (document.activeElement instanceof HTMLElement) document.activeElement.blur()
+    // Until the tab key is pressed, the focus needs no mark.
+    this.page.view.sheet.element.classList.add("pressed")
+    // Commits an open text field first. Keys no longer apply to an object that had the focus.
+    leaveFocus()
     this.page.view.now()
     this.#isDouble = this.#isPressedAgain(event)
     this.#drag = this.#dragOf(event)

@@ -2,6 +2,7 @@
 
 import { boundsOf, grown, meet } from "./boxes.js"
 import { boxOf, partsOf, simplify, withStroke } from "./pen.js"
+import { shapeOf, styleAttributes } from "./shapes.js"
 
 // A stroke that begins within this time after the end of the one before can go into the same object.
 const SOON_MILLISECONDS = 2000
@@ -26,14 +27,15 @@ export class Handwriting {
    */
   draw(points, began) {
     const stroke = simplify(points, SIMPLIFY_PIXELS / this.page.camera.scale)
-    const change = this.#continue(stroke, began) ?? this.#begin(stroke, this.page.tools.colour)
+    const change = this.#continue(stroke, began) ?? this.#begin(stroke, this.page.style.shapeOf("pen"))
     this.#last = change && { change, ended: performance.now() }
   }
 
   /** Makes new objects. Returns the change that made the last one, or null. */
-  #begin(stroke, fill) {
+  #begin(stroke, style) {
     const { changes } = this.page
-    const create = ({ texts, ...box }) => changes.create("pen", { ...box, fill, ...texts })
+    const look = { fill: style.fill, ...styleAttributes(style) }
+    const create = ({ texts, ...box }) => changes.create("pen", { ...box, ...look, ...texts })
     return changes.step(() => partsOf(stroke).map(create)).at(-1)
   }
 
@@ -45,19 +47,19 @@ export class Handwriting {
     if (attributes === null) return null
     const change = this.page.changes.put(this.#last.change.object, version, attributes, { isKept: true })
     // The user may have chosen another colour before the refusal.
-    const { colour } = this.page.tools
-    change?.done.catch((refusal) => this.#keep(stroke, colour, refusal))
+    const style = this.page.style.shapeOf("pen")
+    change?.done.catch((refusal) => this.#keep(stroke, style, refusal))
     return change
   }
 
   /** The version that the last stroke made, if that was soon before and nobody has changed the object since. */
   #lastVersion(began) {
     if (this.#last === null || began - this.#last.ended > SOON_MILLISECONDS) return null
-    const { room, tools } = this.page
+    const { room, style } = this.page
     const { object, version } = this.#last.change
     const versions = room.has(object) ? room.versions(object) : []
     const isSame = versions.length === 1 && versions[0] === version
-    return isSame && version.attributes.get("fill") === tools.colour ? version : null
+    return isSame && looksLike(shapeOf("pen", version.attributes), style.shapeOf("pen")) ? version : null
   }
 
   #isNear(version, stroke) {
@@ -67,7 +69,9 @@ export class Handwriting {
   }
 
   /** A stroke that the room refused as a part of an object becomes an object of its own. */
-  #keep(stroke, colour, { word }) {
-    if (word !== "closed" && word !== "another-room") this.#begin(stroke, colour)
+  #keep(stroke, style, { word }) {
+    if (word !== "closed" && word !== "another-room") this.#begin(stroke, style)
   }
 }
+
+const looksLike = (one, other) => one.fill === other.fill && one.thickness === other.thickness

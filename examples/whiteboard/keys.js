@@ -1,5 +1,6 @@
 /** Keyboard input. */
 
+import { leaveFocus } from "./elements.js"
 import { isInTextField } from "./gestures.js"
 import { ARROWS } from "./nudges.js"
 import { NEW_SHAPES, attributesOf } from "./shapes.js"
@@ -50,7 +51,7 @@ export class Keys {
     if (page.gestures.isBusy) return false
     if (this.#zoom(event) || (!event.altKey && page.tools.useKey(event.key))) return true
     const isOnDrawing = event.target === document.body || element.contains(event.target)
-    return this.#change(event) || (isOnDrawing && (this.#open(event) || this.#pan(event)))
+    return this.#change(event) || this.#write(event) || (isOnDrawing && (this.#open(event) || this.#pan(event)))
   }
 
   /** While the menu of what is selected is open, Escape closes it, and other keys are the menu's. */
@@ -89,15 +90,24 @@ export class Keys {
     return true
   }
 
-  /** Handles the keys that select or write on a version, or create a shape. */
+  /** F2 writes on what is selected, wherever the focus is. */
+  #write({ key, target }) {
+    const [chosen] = key === "F2" ? this.#chosen(target) : []
+    if (chosen !== undefined) this.page.textField.open(chosen.name, chosen.version)
+    return chosen !== undefined
+  }
+
+  /** Handles the keys that create a shape, select a version, or write on the one that is selected. */
   #open({ key, target }) {
-    const { page } = this
-    if (key === "Enter" && target === page.view.sheet.element) return this.#create(page.tools.tool)
-    if (!["Enter", " ", "F2"].includes(key)) return false
+    const { board, textField, tools, view } = this.page
+    if (key !== "Enter" && key !== " ") return false
+    if (key === "Enter" && target === view.sheet.element && this.#create(tools.tool)) return true
+    const before = board.chosen
     const [chosen, ...others] = this.#chosen(target)
-    if (chosen === undefined) return false
-    if (key === "F2") page.textField.open(chosen.name, chosen.version)
-    else if (others.length === 0) page.select(chosen.name, chosen.version)
+    if (chosen === undefined || others.length > 0) return chosen !== undefined
+    const isChosen = before.length === 1 && before[0].version === chosen.version
+    if (key === "Enter" && isChosen) textField.open(chosen.name, chosen.version)
+    else this.page.select(chosen.name, chosen.version)
     return true
   }
 
@@ -120,13 +130,13 @@ export class Keys {
 
   /** Creates a shape in the centre of the window, shifted so that new shapes do not cover each other. */
   #create(tool) {
-    const { board, camera, changes, textField, tools } = this.page
+    const { board, camera, changes, style, textField } = this.page
     if (tool === "text") textField.openNew(camera.middle)
     if (!Object.hasOwn(NEW_SHAPES, tool)) return tool === "text"
-    const { kind, arrow, usualSize: [width, height] } = NEW_SHAPES[tool]
+    const { kind, usualSize: [width, height] } = NEW_SHAPES[tool]
     const shift = (board.objects().length % 10) * 24
     const [x, y] = camera.middle.map((place) => Math.round(place) + shift - 120)
-    changes.draw(kind, attributesOf({ x, y, width, height, fill: tools.colour, text: "", arrow }))
+    changes.draw(kind, attributesOf({ ...style.shapeOf(tool), x, y, width, height }))
     return true
   }
 
@@ -136,6 +146,8 @@ export class Keys {
     if (gestures.end(false)) return true
     if (tools.tool !== "select") tools.use("select")
     else this.page.selectAll([])
+    // Otherwise keys would still apply to the object that was pressed.
+    if (gestures.isByPointer) leaveFocus()
     return true
   }
 }

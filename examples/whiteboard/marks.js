@@ -66,8 +66,10 @@ export class Marks {
     const pending = this.pending.keys()
     const objects = this.#marked(pending).map((name) => this.#objectOf(name)).filter(({ isSeen }) => isSeen)
     const several = objects.filter(({ shapes }) => shapes.length > 1)
-    const rings = objects.flatMap((object) => this.#ringsOf(object))
     const selected = objects.filter(({ isSelected, picked }) => isSelected && picked >= 0)
+    // The handles of a line alone show that it is selected. A ring would hide it.
+    const isLineAlone = (object) => selected.length === 1 && object === selected[0] && isSingleLine(object)
+    const rings = objects.filter((object) => !isLineAlone(object)).flatMap((object) => this.#ringsOf(object))
     const pendingMarks = objects.filter(({ name }) => pending.has(keyOf(name))).map(pendingMarkOf)
     const handles = selected.length === 1 ? this.#handles(selected[0]) : []
     this.links.replaceChildren(...several.flatMap(linksOf))
@@ -151,6 +153,8 @@ export class Marks {
     return seen.flatMap((tag, place) => (places[place] === null ? [] : [tagOf(tag, places[place])]))
   }
 }
+
+const isSingleLine = ({ shapes }) => shapes.length === 1 && shapes[0].kind === "line"
 
 /** Whether a corner can have a handle: a small shape would be all handles, and the first corner may have a tag. */
 const hasSpaceFor = (end, { width, height }, versions) =>

@@ -2,7 +2,7 @@
 
 import { keyOf } from "./board.js"
 import { cardsOf, pictureOf } from "./cards.js"
-import { choicesOf } from "./choices.js"
+import { alignmentRows, choicesOf } from "./choices.js"
 import { combinationsOf } from "./combinations.js"
 import { button, html } from "./elements.js"
 import { shapeOfForm } from "./deleted_objects.js"
@@ -10,7 +10,7 @@ import { ordersOf } from "./stacking.js"
 import { textArea } from "./text_area.js"
 import { TextEdit } from "./text_edit.js"
 import { textIn, truncate } from "./texts.js"
-import { countOf, letterOf, numberOf, versionWords, wordsOf } from "./words.js"
+import { countOf, letterOf, nextWords, numberOf, versionWords, wordsOf } from "./words.js"
 
 const HELP =
   "Drag it to move it. Drag a handle to resize it. Double-click it to write on it. " +
@@ -84,12 +84,12 @@ export class Panel {
 
   #objects() {
     const names = this.board.objects()
-    const gone = this.#deletedObjects()
-    if (names.length > 0) return [...this.#list(names), ...gone]
+    const [next, gone] = [this.#nextShape(), this.#deletedObjects()]
+    if (names.length > 0) return [...next, ...this.#list(names), ...gone]
     const { isLoaded, state } = this.page.room
     if (!isLoaded) return [html("h2", { textContent: state === "closed" ? "No drawing" : "Loading" })]
     const help = "Choose a tool above, then drag on the paper."
-    return [html("h2", { textContent: "Nothing is drawn yet" }), html("p", { textContent: help }), ...gone]
+    return [...next, html("h2", { textContent: "Nothing is drawn yet" }), html("p", { textContent: help }), ...gone]
   }
 
   #list(names) {
@@ -151,7 +151,8 @@ export class Panel {
     drop.className = "delete"
     return [this.#heading(countOf(size, "object")), html("p", { textContent: HELP_SEVERAL + note }),
       html("div", { className: "actions" }, button("Copy", "copy", () => clipboard.copy()),
-        button("Duplicate", "duplicate", () => clipboard.duplicate()), group, drop), ...this.#choicesOfSeveral()]
+        button("Duplicate", "duplicate", () => clipboard.duplicate()), group, drop),
+      ...alignmentRows(this.page.alignment), ...this.#choicesOfSeveral()]
   }
 
   #choicesOfSeveral() {
@@ -161,7 +162,24 @@ export class Panel {
   }
 
   #choices(shapes) {
-    return choicesOf(shapes, (attributes) => this.page.changes.change(attributes))
+    const { changes, style, tools } = this.page
+    return choicesOf(shapes, tools.colour, (attributes) => {
+      style.choose(attributes, shapes)
+      changes.change(attributes)
+    })
+  }
+
+  /** How the next object will look that the tool draws. */
+  #nextShape() {
+    const { style, tools, view } = this.page
+    const shape = style.shapeOf(tools.tool)
+    if (shape === null) return []
+    const rows = choicesOf([shape], tools.colour, (attributes) => {
+      style.choose(attributes, [shape])
+      if ("arrow" in attributes) tools.use(attributes.arrow ? "arrow" : "line")
+      view.change([])
+    })
+    return [html("section", { className: "next" }, html("h2", { textContent: nextWords(shape) }), ...rows)]
   }
 
   // ---- one object
@@ -223,7 +241,7 @@ export class Panel {
     const { seen } = this.page.room
     const { field, left } = textArea({
       text: picked === null ? "" : textIn(picked.attributes), label: "Text",
-      end: (isWhole) => this.#endEdit(isWhole ? truncate(field.value) : undefined),
+      end: () => this.#endEdit(truncate(field.value)),
       write: () => (this.#edit ??= new TextEdit(this.page, name, picked, seen)),
     })
     Object.assign(field, { disabled: picked === null })
@@ -231,7 +249,7 @@ export class Panel {
     return html("label", {}, html("span", { textContent: "Text" }), field, left)
   }
 
-  /** Ends the writing with this text, or without one. */
+  /** Ends the writing with this text. */
   #endEdit(text) {
     const edit = this.#edit
     if (edit === null) return

@@ -33,7 +33,10 @@ export const USUAL_THICKNESS = "medium"
 
 /** The value of `fill` of a shape of which only the outline is drawn. */
 export const NO_FILL = "none"
-const FILLED = ["rect", "ellipse"]
+const AREAS = ["rect", "ellipse"]
+
+/** Whether a shape has a fill and an outline. */
+export const isArea = ({ kind }) => AREAS.includes(kind)
 
 /** The values of `arrow`, with their names. */
 export const ARROW_WORDS = new Map([["", "Line"], ["end", "Arrow"], ["both", "Double arrow"]])
@@ -72,7 +75,13 @@ export const sizeOf = ({ width, height }) => ({ width: Math.round(width), height
 /** All attributes of a new shape. */
 export const attributesOf = (shape) => ({
   ...placeOf(shape), ...sizeOf(shape), fill: shape.fill, name: shape.text, ...(shape.arrow && { arrow: shape.arrow }),
-  ...(shape.from && { from: shape.from }), ...(shape.to && { to: shape.to }),
+  ...(shape.from && { from: shape.from }), ...(shape.to && { to: shape.to }), ...styleAttributes(shape),
+})
+
+/** The attributes of a style that are not the usual ones. */
+export const styleAttributes = ({ outline = "", thickness = USUAL_THICKNESS, size = USUAL_SIZE }) => ({
+  ...(outline && { outline }), ...(thickness !== USUAL_THICKNESS && { thickness }),
+  ...(size !== USUAL_SIZE && { size }),
 })
 
 /** Whether a value is a colour that the page can draw. */
@@ -94,7 +103,7 @@ export function shapeOf(kind, attributes) {
   const fill = attributes.get("fill")
   const shape = {
     kind, x: whole("x"), y: whole("y"), width: whole("width"), height: whole("height"), z: whole("z"),
-    fill: isColour(fill) || (fill === NO_FILL && FILLED.includes(kind)) ? fill : PLAIN,
+    fill: isColour(fill) || (fill === NO_FILL && isArea({ kind })) ? fill : PLAIN,
     outline: isColour(attributes.get("outline")) ? attributes.get("outline") : "",
     thickness: Object.hasOwn(THICKNESSES, attributes.get("thickness")) ? attributes.get("thickness") : USUAL_THICKNESS,
     text: textIn(attributes),

@@ -116,6 +116,13 @@ export class Sheet {
     return this.#drawn.get(document.activeElement) ?? null
   }
 
+  /** Moves the focus from a version to the whole drawing if others are selected now, to which keys apply. */
+  leaveFocus() {
+    const { focused } = this
+    const isOther = focused !== null && this.board.selection.size > 0 && !this.board.isSelected(focused.name)
+    if (isOther) this.element.focus({ preventScroll: true })
+  }
+
   /** Moves the focus to the successor of a version, or to the whole drawing if the version is gone. */
   #focus({ name, version }) {
     const [next] = this.board.successors(name, version)

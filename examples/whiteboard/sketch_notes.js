@@ -4,14 +4,15 @@
  *     [WORD,COLOUR,MADE,X,Y,WIDTH,HEIGHT]     a shape: rect, ellipse, line or arrow
  *     ["pen",COLOUR,MADE,X,Y,DX,DY,DX,DY,..]  a stroke: its first point, and the steps to the next ones
  *
- * COLOUR has six hexadecimal digits. MADE is how many operations the person had made before: a page that shows more of
- * them shows the end of it. A note is short, so a stroke is simplified, and a long one is shown from its last points.
+ * COLOUR has six hexadecimal digits, or none for a shape without a fill. MADE is how many operations the person had
+ * made before: a page that shows more of them shows the end of it. A note is short, so a stroke is simplified, and a
+ * long one is shown from its last points.
  */
 
 import { LIMITS } from "../../clients/js/grace.js"
 import { between, boundsOf } from "./boxes.js"
 import { boxOf, simplify } from "./pen.js"
-import { NEW_SHAPES, isColour } from "./shapes.js"
+import { NEW_SHAPES, NO_FILL, isArea, isColour } from "./shapes.js"
 
 const FAR = 100000
 const PEN = "pen"
@@ -28,7 +29,7 @@ const SIDES = ["x", "y", "width", "height"]
  */
 export function listOfSketch(sketch, most) {
   const { kind, arrow, fill, made, points } = sketch
-  const head = [arrow ? "arrow" : kind, fill.slice(1), made]
+  const head = [arrow ? "arrow" : kind, fill === NO_FILL ? "" : fill.slice(1), made]
   if (kind !== PEN) return [...head, ...SIDES.map((side) => inRange(sketch[side]))]
   const isFitting = (some) => JSON.stringify([...head, ...stepsOf(some)]).length <= most
   return [...head, ...stepsOf(fittingPoints(points, isFitting))]
@@ -49,10 +50,10 @@ function fittingPoints(points, isFitting) {
 export function sketchIn(list) {
   if (!Array.isArray(list)) return null
   const [word, digits, made, ...numbers] = list
-  const fill = `#${digits}`
+  const fill = digits === "" && isArea({ kind: word }) ? NO_FILL : `#${digits}`
   const isWhole = Number.isInteger(made) && made >= 0 && made <= LIMITS.entries
   const isNear = (number) => Number.isInteger(number) && Math.abs(number) <= 2 * FAR
-  if (!isColour(fill) || !isWhole || !numbers.every(isNear)) return null
+  if (!(fill === NO_FILL || isColour(fill)) || !isWhole || !numbers.every(isNear)) return null
   if (word === PEN) return numbers.length >= 2 && numbers.length % 2 === 0 ? strokeOf(fill, made, numbers) : null
   if (!Object.hasOwn(NEW_SHAPES, word) || numbers.length !== SIDES.length) return null
   const { kind, arrow } = NEW_SHAPES[word]

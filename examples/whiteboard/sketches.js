@@ -13,7 +13,7 @@ const TOLD_DISTANCE = 1
 
 /**
  * Draws a new shape from one corner to the opposite one. With Shift it is regular. A click draws one of a usual size,
- * around the pointer. The corners of a shape snap to others, but not with Alt or Shift; the ends of a line stick.
+ * around the pointer. The corners of a shape snap to others, and the ends of a line stick, but not with Alt or Shift.
  */
 export class Sketch {
   #size = [0, 0]
@@ -21,18 +21,21 @@ export class Sketch {
   #from = null
   #to = null
   #snapping
+  #press
 
   constructor(page, tool, event) {
-    Object.assign(this, { page, ...NEW_SHAPES[tool], pressed: page.camera.placeOf(event) })
+    const { kind, usualSize } = NEW_SHAPES[tool]
+    const { clientX, clientY, altKey } = event
+    Object.assign(this, { page, kind, usualSize, style: page.style.shapeOf(tool), pressed: page.camera.placeOf(event) })
+    this.#press = { clientX, clientY, altKey }
     this.#snapping = this.kind === "line" ? null : new Snapping(page, [])
     this.start = this.#cornerAt(event)
-    if (this.kind === "line") this.#from = shapeUnder(page, event)
   }
 
   move(event) {
     const size = this.#cornerAt(event).map((place, side) => place - this.start[side])
     this.#size = event.shiftKey ? regularSize(this.kind, size) : size
-    if (this.kind === "line") this.#to = shapeUnder(this.page, event)
+    if (this.kind === "line") this.#stick(event)
     const sketched = this.#sketched()
     show(this.page, sketched, bodyOf(sketched, "body sketch"))
   }
@@ -52,6 +55,14 @@ export class Sketch {
       changes.draw(this.kind, attributesOf(this.#sketched()))
       for (const name of this.#ends) if (name !== null) changes.mark(name)
     })
+  }
+
+  /** Finds the objects to which the ends of the line stick. */
+  #stick(event) {
+    const end = this.start.map((place, side) => place + this.#size[side])
+    const press = { ...this.#press, shiftKey: event.shiftKey }
+    this.#from = shapeUnder(this.page, press, this.style, end)
+    this.#to = shapeUnder(this.page, event, this.style, this.start)
   }
 
   /** The objects to which the ends stick. Both ends stick to no single one. */
@@ -85,9 +96,8 @@ export class Sketch {
   }
 
   #shape([x, y], [width, height]) {
-    const { arrow, kind, page } = this
-    const shape = { kind, x, y, width, height, fill: page.tools.colour, text: "", arrow }
-    return kind === "line" ? shape : { ...shape, ...boundsOf(shape) }
+    const shape = { ...this.style, x, y, width, height }
+    return this.kind === "line" ? shape : { ...shape, ...boundsOf(shape) }
   }
 }
 
@@ -118,14 +128,14 @@ export class Stroke {
   }
 
   move(event) {
-    const { camera, tools } = this.page
+    const { camera, style } = this.page
     const events = event.getCoalescedEvents?.() ?? []
     const more = (events.length > 0 ? events : [event]).map((one) => camera.placeOf(one))
     this.points.push(...more)
     this.told.push(...more)
     if (this.told.length > TOLD_POINTS) this.told = simplify(this.told, TOLD_DISTANCE)
-    const body = bodyOf(unfinishedStroke(this.points, tools.colour), "body sketch")
-    show(this.page, { kind: "pen", fill: tools.colour, points: this.told }, body)
+    const next = style.shapeOf("pen")
+    show(this.page, { ...next, points: this.told }, bodyOf(unfinishedStroke(this.points, next), "body sketch"))
   }
 
   end(isWhole) {
@@ -143,7 +153,7 @@ function show({ board, people, view }, sketch, body) {
 }
 
 /** The shape of an unfinished stroke. */
-function unfinishedStroke(points, fill) {
+function unfinishedStroke(points, style) {
   const box = boxOf(points)
-  return { kind: "pen", ...box, fill, strokes: [points.map(([x, y]) => [x - box.x, y - box.y])] }
+  return { ...style, ...box, strokes: [points.map(([x, y]) => [x - box.x, y - box.y])] }
 }

@@ -59,6 +59,7 @@ function loadingWords(room) {
 export function showNoDrawing(words) {
   Object.assign(part("state").dataset, { state: "closed" })
   part("state").textContent = words
+  document.body.classList.add("no-drawing")
   part("loading").replaceChildren(html("p", {}, `There is no drawing at this address: ${words}. `,
     html("a", { href: linkTo(uniqueText()), textContent: "Begin a new drawing" })))
 }

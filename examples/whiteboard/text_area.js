@@ -1,4 +1,4 @@
-/** A field for a text of several lines. Enter makes a line; Ctrl+Enter ends the text, as leaving the field does. */
+/** A field for a text of several lines. Enter makes a line. Ctrl+Enter and Escape end it, as leaving the field does. */
 
 import { html } from "./elements.js"
 import { say } from "./status.js"
@@ -10,8 +10,8 @@ const TOLD_SHARE = 0.8
 const MOST_ROWS = 8
 
 /**
- * @param {{ text: string, label: string, end: (isWhole: boolean) => void, write?: () => void }} use the text at the
- *   beginning, what a screen reader says, what is called at the end, by Escape with false, and at each change
+ * @param {{ text: string, label: string, end: () => void, write?: () => void }} use the text at the beginning, what a
+ *   screen reader says, and what is called at the end and at each change
  * @returns {{ field: HTMLTextAreaElement, left: HTMLElement }} the field, and the words about what is left
  */
 export function textArea({ text, label, end, write = () => {} }) {
@@ -28,11 +28,12 @@ export function textArea({ text, label, end, write = () => {} }) {
     tell()
     write()
   })
-  field.addEventListener("blur", () => end(true))
+  field.addEventListener("blur", () => end())
   field.addEventListener("keydown", (event) => {
     const isEnd = event.key === "Enter" && (event.ctrlKey || event.metaKey)
     if (isEnd) event.preventDefault()
-    if (isEnd || event.key === "Escape") end(isEnd)
+    if (isEnd) end()
+    if (event.key === "Escape") field.blur()
   })
   tell()
   return { field, left }

@@ -5,8 +5,8 @@
 
 import { Refused } from "../../clients/js/grace.js"
 import { keyOf } from "./board.js"
-import { TEXT_SIZES, USUAL_SIZE } from "./lettering.js"
-import { placeOf } from "./shapes.js"
+import { TEXT_SIZES } from "./lettering.js"
+import { placeOf, styleAttributes } from "./shapes.js"
 import { textAttributes, textIn } from "./texts.js"
 
 export class TextEdit {
@@ -39,10 +39,10 @@ export class TextEdit {
   }
 
   /**
-   * Ends the writing with this text, or without one. Also what was deleted meanwhile gets the text. A text alone that
-   * is empty is deleted.
+   * Ends the writing with this text. Also what was deleted meanwhile gets the text. A text alone that is empty is
+   * deleted.
    */
-  end(text = this.before) {
+  end(text) {
     this.#unlisten()
     if (text === this.before) return
     const { changes, refusedChanges, room } = this.#page
@@ -70,6 +70,8 @@ export class TextEdit {
 /** A text that the user writes on empty paper. It becomes an object at its end, unless it is empty. */
 export class NewText {
   #page
+  // How the text will look, as it was when the user began.
+  #style
   name = null
   version = null
   before = ""
@@ -77,12 +79,18 @@ export class NewText {
   /** @param {import("./whiteboard.js").Page} page @param {[number, number]} place of the middle of its first line */
   constructor(page, [x, y]) {
     this.#page = page
-    this.place = { x, y: y - TEXT_SIZES[USUAL_SIZE] / 2 }
+    this.#style = page.style.shapeOf("text")
+    this.place = { x, y: y - TEXT_SIZES[this.size] / 2 }
+  }
+
+  get size() {
+    return this.#style.size
   }
 
   end(text) {
     const { changes, tools } = this.#page
+    const { fill, size } = this.#style
     if (text.trim() === "") return tools.use("select")
-    changes.draw("text", { ...placeOf(this.place), fill: tools.colour, ...textAttributes(text) })
+    changes.draw("text", { ...placeOf(this.place), fill, ...styleAttributes({ size }), ...textAttributes(text) })
   }
 }

@@ -2,14 +2,14 @@
 
 import { boundsOf, middleOf } from "./boxes.js"
 import { html, part } from "./elements.js"
-import { TEXT_SIZES, USUAL_SIZE } from "./lettering.js"
+import { TEXT_SIZES } from "./lettering.js"
 import { shapeOf } from "./shapes.js"
 import { textArea } from "./text_area.js"
 import { NewText, TextEdit } from "./text_edit.js"
 import { truncate } from "./texts.js"
+import { WRITING } from "./words.js"
 
 const LEAST_WIDTH = 180
-const NEW_SIZE = { width: 300, height: TEXT_SIZES[USUAL_SIZE] }
 
 export class TextField {
   // The open field, the element that has it, and what it edits; or null.
@@ -20,12 +20,7 @@ export class TextField {
     this.page = page
   }
 
-  /** Commits the open text field, if there is one. */
-  end() {
-    this.#close(true)
-  }
-
-  /** Opens the field on a version. Ctrl+Enter or a press elsewhere commits the text, Escape cancels. */
+  /** Opens the field on a version. */
   open(name, version) {
     this.end()
     this.page.select(name, version)
@@ -44,30 +39,33 @@ export class TextField {
     if (this.#open === null) return
     const { edit } = this.#open
     const { version } = edit
-    if (edit.name === null) this.#place({ kind: "text", ...edit.place, ...NEW_SIZE, size: USUAL_SIZE })
+    if (edit.name === null) this.#place({ kind: "text", ...edit.place, width: 0, height: 0, size: edit.size })
     else if (version !== null) this.#place(shapeOf(this.page.room.kind(edit.name), version.attributes))
   }
 
   #show(edit, label) {
     const { field, left } = textArea({
-      text: edit.before, label, end: (isWhole) => this.#close(isWhole), write: () => this.draw(),
+      text: edit.before, label, end: () => this.end(), write: () => this.draw(),
     })
     const element = html("div", { id: "writing" }, field, left)
     this.#open = { field, element, edit }
     part("window").append(element)
+    this.page.tools.tell(WRITING)
     this.draw()
     field.focus()
     field.select()
   }
 
-  #close(isWhole) {
+  /** Commits the open text field, if there is one. */
+  end() {
     if (this.#open === null) return
-    const { board, view } = this.page
+    const { board, tools, view } = this.page
     const { field, element, edit } = this.#open
     this.#open = null
     const text = truncate(field.value)
     element.remove()
-    edit.end(isWhole ? text : edit.before)
+    tools.tellHint()
+    edit.end(text)
     const name = edit.name ?? board.selected
     view.change(name === null ? [] : [name])
     view.now()

@@ -8,10 +8,10 @@ const HINTS = {
   select: "Drag an object, or a box around several. Space and a drag moves the view.",
   rect: "Drag on the paper, or click, to draw a rectangle. Shift makes it a square.",
   ellipse: "Drag on the paper, or click, to draw an ellipse. Shift makes it a circle.",
-  line: "Drag on the paper, or click, to draw a line. Shift keeps to multiples of 45°.",
-  arrow: "Drag on the paper, or click, to draw an arrow. Shift keeps to multiples of 45°.",
+  line: "Drag on the paper, or click, to draw a line. Shift: multiples of 45°. Alt: it sticks to no shape.",
+  arrow: "Drag from shape to shape, and the arrow sticks to both. Shift: multiples of 45°. Alt: it sticks to none.",
   pen: "Drag on the paper to draw by hand. Press Escape to stop.",
-  text: "Click where the text is to begin. Ctrl+Enter, or a click elsewhere, ends it.",
+  text: "Click where the text is to begin. Escape, or a click elsewhere, ends it.",
 }
 const KEPT_HINT = "The tool stays until Escape."
 // By key: the tool that it takes.
@@ -52,7 +52,17 @@ export class Toolbar {
     this.use(tool)
     this.isKept = isKept
     document.querySelector(`button[data-tool="${tool}"]`).classList.toggle("kept", isKept)
-    if (isKept) part("hint").textContent = `${KEPT_HINT} ${HINTS[tool]}`
+    this.tellHint()
+  }
+
+  /** Says how the tool is used. */
+  tellHint() {
+    this.tell(this.isKept ? `${KEPT_HINT} ${HINTS[this.tool]}` : HINTS[this.tool])
+  }
+
+  /** Says something in place of the hint, until another tool is taken. */
+  tell(words) {
+    part("hint").textContent = words
   }
 
   /** Another tool after something was drawn, unless the tool is kept. */
@@ -66,7 +76,8 @@ export class Toolbar {
     if (tool !== "select" && this.page.board.selection.size > 0) this.page.selectAll([])
     this.tool = tool
     part("board").dataset.tool = tool
-    part("hint").textContent = HINTS[tool]
+    this.tellHint()
+    this.page.view.change([])
     for (const one of document.querySelectorAll("button[data-tool]")) {
       one.setAttribute("aria-pressed", one.dataset.tool === tool)
       one.classList.remove("kept")
@@ -111,7 +122,9 @@ export class Toolbar {
   #choose(value) {
     if (!isColour(value)) return
     this.#useColour(value)
+    this.page.style.colour()
     this.page.changes.change({ fill: value })
+    this.page.view.change([])
   }
 
   #makeColours() {

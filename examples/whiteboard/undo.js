@@ -77,6 +77,18 @@ export class Undo {
     for (const steps of [this.#done, this.#undone]) keepSteps(steps, (act) => !step.includes(act))
   }
 
+  /** Of the steps that are done, and of those that are undone, the ones behind the last that has no such actions. */
+  stepsOf(isKept) {
+    const kept = (steps) => steps.slice(steps.findLastIndex((step) => !step.every(isKept)) + 1)
+    return { done: kept(this.#done), undone: kept(this.#undone) }
+  }
+
+  /** Puts steps of before in front of the present ones. After a new step nothing of before can be redone. */
+  begin(done, undone) {
+    if (this.#done.length === 0) this.#undone.unshift(...undone)
+    this.#done.unshift(...done)
+  }
+
   /** Removes all steps. */
   clear() {
     this.#done = []

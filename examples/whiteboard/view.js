@@ -2,7 +2,7 @@
 
 import { keyOf } from "./board.js"
 import { boundsOfAll } from "./boxes.js"
-import { Camera, PAGE } from "./camera.js"
+import { Camera } from "./camera.js"
 import { Edges } from "./edges.js"
 import { part, setAttribute } from "./elements.js"
 import { Frames } from "./frames.js"
@@ -89,14 +89,18 @@ export class View {
     else this.camera.fit(boundsOfAll(shapes))
   }
 
-  /** Shows what the page showed before a reload; otherwise the drawing's first page, or all if some is outside it. */
+  /**
+   * Shows what the page showed before a reload. Otherwise all objects are shown: in their actual size if the window is
+   * large enough. Returns whether they are smaller.
+   */
   begin(roomName) {
     const before = this.#hasBegun ? null : savedView(roomName)
     this.#hasBegun = true
-    if (before !== null) return this.camera.look(before)
+    if (before !== null) this.camera.look(before)
     const shapes = this.board.objects().flatMap((name) => this.board.shapes(name))
-    const { x, y, width, height } = boundsOfAll([PAGE, ...shapes])
-    if (x < PAGE.x || y < PAGE.y || width > PAGE.width || height > PAGE.height) this.fitAll()
+    if (before !== null || shapes.length === 0 || this.camera.showsAll(boundsOfAll(shapes))) return false
+    this.fitAll()
+    return this.camera.scale < 1
   }
 
   /** Saves what is shown, for a reload of this tab. */

@@ -8,13 +8,14 @@
  */
 
 import { Room } from "../../clients/js/grace.js"
+import { Alignment } from "./alignment.js"
 import { Board } from "./board.js"
 import { Changes } from "./changes.js"
 import { Clipboard } from "./clipboard.js"
 import { ContextMenu } from "./context_menu.js"
 import { DeletedObjects } from "./deleted_objects.js"
 import { DeletionMessages } from "./deletion_messages.js"
-import { part } from "./elements.js"
+import { leaveFocus, part } from "./elements.js"
 import { Files } from "./files.js"
 import { Frames } from "./frames.js"
 import { Gestures } from "./gestures.js"
@@ -32,11 +33,12 @@ import { People } from "./people.js"
 import { PeopleList } from "./people_list.js"
 import { RefusedChanges } from "./refused_changes.js"
 import { Sharing } from "./sharing.js"
+import { Style } from "./style.js"
 import { StateLine, say, showNoDrawing, showProgress } from "./status.js"
 import { TextField } from "./text_field.js"
 import { Toolbar } from "./toolbar.js"
 import { View } from "./view.js"
-import { renewedWords } from "./words.js"
+import { SMALLER_VIEW, renewedWords } from "./words.js"
 
 /** The page and its parts. */
 export class Page {
@@ -54,12 +56,14 @@ export class Page {
     this.peopleList = new PeopleList(this.people)
     this.others = new Others(this.people, this.view)
     this.refusedChanges = new RefusedChanges(this)
-    this.changes = new Changes(this)
+    this.changes = new Changes(this, roomName)
     this.deletedObjects = new DeletedObjects(this)
     this.deletionMessages = new DeletionMessages(this)
     this.clipboard = new Clipboard(this)
     this.grouping = new Grouping(this)
+    this.alignment = new Alignment(this)
     this.handwriting = new Handwriting(this)
+    this.style = new Style(this)
     this.tools = new Toolbar(this)
     this.nudges = new Nudges(this)
     this.textField = new TextField(this)
@@ -114,6 +118,7 @@ export class Page {
     const { selection } = this.board
     const before = selection.names
     act()
+    this.view.sheet.leaveFocus()
     this.others.holds.tell(selection.first)
     this.view.change([...before, ...selection.names].filter((one) => this.room.has(one)))
   }
@@ -133,11 +138,17 @@ export class Page {
     room.on("progress", () => this.#load())
     const isUnsaved = () => room.pending.length > 0 || this.refusedChanges.isKeeping
     addEventListener("beforeunload", (event) => isUnsaved() && event.preventDefault())
-    addEventListener("pagehide", () => {
-      view.save(roomName)
-      room.close()
-    })
+    addEventListener("pagehide", () => this.#leave())
     showProgress(room)
+  }
+
+  /** The page is closed or loaded again. What the user writes, or moves by keys, is kept. */
+  #leave() {
+    leaveFocus()
+    this.nudges.end()
+    this.changes.save()
+    this.view.save(this.#roomName)
+    this.room.close()
   }
 
   #showState(state) {
@@ -166,7 +177,8 @@ export class Page {
   #load() {
     this.#progress.ask()
     if (!this.room.isLoaded) return
-    this.view.begin(this.#roomName)
+    if (this.view.begin(this.#roomName)) this.tools.tell(SMALLER_VIEW)
+    this.changes.begin()
     this.view.change([])
   }
 }

@@ -35,6 +35,9 @@ export function wordsOf({ kind, text, strokes, arrow }) {
   return text === "" ? word : `${word} “${shortened(text, LONGEST)}”`
 }
 
+/** What the chosen tool draws next. */
+export const nextWords = ({ kind, arrow }) => `Next ${(arrow ? ARROW_WORDS.get(arrow) : KINDS[kind]).toLowerCase()}`
+
 /** A text in one line, of at most so many letters. */
 function shortened(text, most) {
   const letters = [...text.replace(/\s+/g, " ")]
@@ -43,6 +46,9 @@ function shortened(text, most) {
 
 /** What is left of a text's bytes. */
 export const leftWords = (bytes) => `${numberOf(bytes)} of ${numberOf(TEXT_BYTES)} bytes left`
+
+/** How one writes, and ends it. */
+export const WRITING = "Enter makes a line. Escape, or a click elsewhere, ends the text."
 
 /** That a text was cut. */
 export const CUT_TEXT = `The text is too long, and was cut after ${numberOf(TEXT_BYTES)} bytes.`
@@ -60,6 +66,9 @@ export const NOT_ALL_FIT = "Not all of this fits into the drawing, so none of it
 /** Of pasted, dropped or opened pictures. */
 export const NO_PICTURES = "Pictures are not supported, so nothing was added."
 
+/** Of the first view of a drawing that is larger than the window. */
+export const SMALLER_VIEW = "This is the whole drawing. Press 1 for its actual size, 0 for all of it again."
+
 export const NOTHING_TO_SAVE = "Nothing is drawn yet."
 export const NO_PNG = "The browser could not make this picture. SVG may work."
 export const NOT_OPEN = "The drawing is not open, so nothing can be added."
@@ -76,6 +85,11 @@ export function openedWords(made, all, withVersions) {
   }
   return words.join(" ")
 }
+
+/** What 'Keep only this' does, and its undo. */
+export const keepWords = (letter, others) =>
+  `Keep version ${letter} and delete the ${others > 1 ? "others" : "other"}. ` +
+  `Undo brings ${others > 1 ? "them back as new objects" : "it back as a new object"}.`
 
 /** That deleted versions of a shape came back, but not as its versions. */
 export const separateWords = (count, shape) =>
@@ -158,6 +172,8 @@ export function linesOf(attributes, keys) {
 
 function valueWords(key, value) {
   if (value === undefined || value === "") return "none"
+  // Those of a line may be negative.
+  if ((key === "width" || key === "height") && typeof value === "number") return String(Math.abs(value))
   if (key === "group") return "in a group"
   if (key === "arrow") return ARROW_WORDS.get(value) ?? String(value)
   return ((key === "fill" || key === "outline") && COLOURS.get(value)) || String(value)

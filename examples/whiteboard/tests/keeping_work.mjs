@@ -266,6 +266,9 @@ async function versionDeleted(first, second, room) {
   await second.waitUntil("the rectangle", `${COUNT} === 1`)
   const object = await allDrag([first, second], RECTANGLE, [[80, 40], [40, 120]])
   const keep = () => second.click('.card.picked .keep-only')
+  const title = await second.look(`document.querySelector(".card.picked .keep-only").title`)
+  expect(`what the button says before: ${title}`,
+    /^Keep version [AB] and delete the other\. Undo brings it back as a new object\.$/.test(title))
   expectEqual("what the second does", await added(room, 1, keep), [["drop"]])
   const words = "Somebody deleted your version of Rectangle. Bring it back as a new objectClose"
   await first.waitUntil("the message", says(words))

@@ -20,6 +20,11 @@ export async function lines(browser) {
     await step("a copy with its shapes", () => copied(first, room))
     await step("a shape that is deleted", () => deleted(first, second, room))
   })
+  await twoPeople(browser, async ({ first, room }) => {
+    await step("lines in a room of a plan", () => walls(first, room))
+    await step("a line within a shape that has a fill", () => within(first, room))
+    await step("a text on a line", () => textOnLine(first, room))
+  })
   await inRenewedRoom(browser)
 }
 
@@ -144,6 +149,58 @@ async function deleted(first, second, room) {
   await second.waitUntil("the arrow stays", `(${ENDS}).length === 4`)
   await added(room, 1, () => first.key("z", CONTROL))
   await second.waitUntil("it sticks to the shape that is back", endsAre([200, 150, 500, 150]))
+}
+
+/** Draws with a tool. Returns the box of the new line, and to which of its ends shapes stick. */
+async function lineOf(page, room, tool, from, to, modifiers = 0) {
+  await page.key(tool)
+  const places = [await onScreen(page, from), await onScreen(page, to)]
+  const [[, pairs]] = await added(room, 1, () => page.withKeys(modifiers, () => page.drag(...places)))
+  const values = new Map(pairs)
+  return [["x", "y", "width", "height"].map((key) => values.get(key)), ["from", "to"].filter((key) => values.has(key))]
+}
+
+/** A line that begins on an outline stays where it was drawn: it is a wall. An arrow sticks, unless it leads inside. */
+async function walls(first, room) {
+  await first.key("r")
+  await first.click('[data-focus="no-fill"]')
+  await first.drag(await onScreen(first, [100, 100]), await onScreen(first, [700, 600]))
+  const drawn = (...words) => lineOf(first, room, ...words)
+  expectEqual("from wall to wall", await drawn("l", [400, 100], [400, 600]), [[400, 100, 0, 500], []])
+  expectEqual("from a wall into the room", await drawn("l", [100, 350], [300, 350]), [[100, 350, 200, 0], []])
+  expectEqual("from a wall outwards", await drawn("l", [700, 200], [760, 140]), [[700, 200, 60, -60], []])
+  expectEqual("an arrow into the room", await drawn("a", [400, 100], [250, 250]), [[400, 100, -150, 150], []])
+  expectEqual("an arrow out of it", (await drawn("a", [700, 350], [900, 350]))[1], ["from"])
+  expectEqual("a level arrow, with Shift", await drawn("a", [700, 400], [900, 410], SHIFT), [[700, 400, 200, 0], []])
+  await first.picture(join(PICTURES, "walls.png"))
+}
+
+async function within(first, room) {
+  await first.key("r")
+  await first.click('[data-focus="filled"]')
+  await first.drag(await onScreen(first, [800, 450]), await onScreen(first, [1100, 650]))
+  await first.key("r")
+  await first.drag(await onScreen(first, [820, 470]), await onScreen(first, [860, 510]))
+  await first.key("Escape")
+  const drawn = (...words) => lineOf(first, room, ...words)
+  expectEqual("from the smaller shape into the larger", (await drawn("a", [840, 490], [1000, 600]))[1], ["from"])
+  expectEqual("from the larger into the smaller", (await drawn("a", [1000, 500], [840, 490]))[1], ["to"])
+  expectEqual("out of both", (await drawn("l", [1000, 600], [1150, 600]))[1], ["from"])
+}
+
+/** A text on a line has the size of other texts, whatever the box of the line. */
+async function textOnLine(first, room) {
+  await lineOf(first, room, "l", [100, 700], [500, 700])
+  await added(room, 1, async () => {
+    await first.key("F2")
+    await first.write("8.40 m")
+    await first.key("Enter", CONTROL)
+  })
+  const letters = `document.querySelector('.version[aria-label^="Line “8.40 m”"] text')`
+  expectEqual("the size of its letters", await first.look(`${letters}.getAttribute("font-size")`), "20")
+  expectEqual("its lines", await first.look(`${letters}.querySelectorAll("tspan").length`), 1)
+  await first.key("Escape")
+  await first.picture(join(PICTURES, "text-on-line.png"))
 }
 
 /** In the next room objects have other names, and the arrow still sticks to its shapes. */

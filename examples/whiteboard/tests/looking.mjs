@@ -107,8 +107,9 @@ async function fitAll(browser, first, address) {
   expectEqual("all is in the window", await first.look(inWindow), true)
   expectEqual("the marks", await first.look(`document.querySelectorAll(".edge:not([hidden])").length`), 0)
   const late = await browser.open(address, 1024, 700)
-  await isOpen(late)
   await late.waitUntil("all", `${COUNT} === 6 && ${inWindow}`)
+  const hint = `document.getElementById("hint").textContent`
+  await late.waitUntil("the words", `${hint}.startsWith("This is the whole drawing. Press 1 for its actual size")`)
   await late.picture(join(PICTURES, "fit-all.png"))
   await late.close()
 }

@@ -8,9 +8,11 @@ import { join } from "node:path"
 import { expect, expectEqual } from "../../../clients/js/tests/checks.js"
 import { Chromium } from "./chromium.mjs"
 import { choosing } from "./choosing.mjs"
+import { comingBack } from "./coming_back.mjs"
 import * as connections from "./connections.mjs"
 import * as deleting from "./deleting.mjs"
 import { embedding } from "./embedding.mjs"
+import { floorPlan } from "./floor_plan.mjs"
 import { full } from "./full.mjs"
 import { keepingWork } from "./keeping_work.mjs"
 import { lines } from "./lines.mjs"
@@ -116,7 +118,7 @@ async function servers(browser) {
 const PARTS = {
   together: oneRoom, plan, undoing, choosing, tools, lines, styles, texts, several, sketching, looking, presence,
   makers, opening, full, keepingWork, saving, sharing, renewing, renewedInUse, takingAlong,
-  phone, snapping, embedding, live, visits, menus, servers,
+  phone, snapping, embedding, live, visits, comingBack, menus, floorPlan, servers,
 }
 
 /** Runs all parts, or those whose names are arguments. */

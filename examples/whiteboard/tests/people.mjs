@@ -9,6 +9,7 @@ import { fileURLToPath } from "node:url"
 import { Room } from "../../../clients/js/grace.js"
 import { expectEqual, waitUntil } from "../../../clients/js/tests/checks.js"
 import { WebSocket } from "../../../clients/js/tests/websocket.js"
+import { CONTROL } from "./chromium.mjs"
 
 export const RUN = fileURLToPath(new URL("../run", import.meta.url))
 export const PICTURES = process.env.PICTURES ?? fileURLToPath(new URL("../out", import.meta.url))
@@ -87,8 +88,29 @@ export async function step(name, act) {
   }
 }
 
-export const isOpen = (page) =>
-  page.waitUntil("the page is in the room", `document.getElementById("state")?.dataset.state === "open"`)
+/** Waits until the page is in the room. The first time it then shows the part on which tests draw. */
+export async function isOpen(page) {
+  await page.waitUntil("the page is in the room", `document.getElementById("state")?.dataset.state === "open"`)
+  if (page.isSet) return
+  page.isSet = true
+  await showAll(page)
+}
+
+// The part of the drawing on which tests draw.
+const [WIDE, HIGH] = [1200, 800]
+const ZOOM_PER_PIXEL = 0.002
+
+/** Zooms and moves the view by the wheel, until all of that part is in the window. */
+async function showAll(page) {
+  const middle = await page.middleOf("#board")
+  const by = await page.look(`(() => {
+    const { clientWidth, clientHeight } = document.getElementById("board")
+    return Math.min(clientWidth / ${WIDE}, clientHeight / ${HIGH}, 1) / document.getElementById("shapes").getCTM().a
+  })()`)
+  await page.wheel(middle, 0, -Math.log(by) / ZOOM_PER_PIXEL, CONTROL)
+  const [x, y] = await onScreen(page, [WIDE / 2, HIGH / 2])
+  await page.wheel(middle, x - middle[0], y - middle[1])
+}
 
 /** Draws by the mouse from one place of the drawing to another, in its units. */
 export async function draw(page, tool, from, to) {

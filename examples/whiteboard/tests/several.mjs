@@ -23,6 +23,7 @@ export const several = (browser) => twoPeople(browser, async ({ first, second, r
   await step("groups", () => groups(first, second, room))
   await step("a group and another change at once", () => atOnce(first, second, room, server))
   await step("letters in a text field", () => textField(first, room))
+  await step("objects are aligned, and spaced evenly", () => aligned(first, second, room))
 })
 
 /** Drags a box over the paper, in units of the drawing. */
@@ -199,4 +200,30 @@ async function textField(first, room) {
     await first.key("a", CONTROL)
   }), [])
   await first.key("Escape")
+}
+
+/** Three shapes and a group of two: each alignment is one step, and the group keeps its form. */
+async function aligned(first, second, room) {
+  await first.key("Escape")
+  await first.key("a", CONTROL)
+  await first.key("Delete")
+  await first.waitUntil("nothing", `document.querySelectorAll(".version").length === 0`)
+  for (const [x, y] of [[100, 100], [300, 140], [420, 180], [700, 220], [760, 300]]) {
+    await draw(first, "rect", [x, y], [x + 40, y + 40])
+  }
+  await first.key("Escape")
+  await first.drag(await onScreen(first, [680, 200]), await onScreen(first, [820, 360]))
+  await first.key("g", CONTROL)
+  await first.key("a", CONTROL)
+  await first.picture(join(PICTURES, "align.png"))
+  const places = (entries) => entries.map(([, pairs]) => pairs.map(([, value]) => value))
+  expectEqual("aligned at the top", places(await added(room, 4, () => first.click('[data-focus="align-top"]'))),
+    [[300, 100], [420, 100], [700, 100], [760, 180]])
+  // From 100 to 800 there are 480 units free between four boxes of 40, 40, 40 and 100, so 160 between each two.
+  const across = () => first.click('[data-focus="align-across"]')
+  expectEqual("even gaps", places(await added(room, 1, across)), [[500, 100]])
+  await second.waitUntil("what the other sees", `JSON.stringify(Object.values(${BODIES}).map(([, x, y]) => [x, y])) ===
+    "[[100,100],[300,100],[500,100],[700,100],[760,180]]"`)
+  await added(room, 1, () => first.key("z", CONTROL))
+  expectEqual("all of it back", (await added(room, 4, () => first.key("z", CONTROL))).length, 4)
 }

@@ -243,7 +243,8 @@ async function refusedStroke() {
   }
   const room = { has: () => true, versions: () => [changes.last.version] }
   const tools = { colour: "#3a86c8" }
-  const handwriting = new Handwriting({ changes, room, camera: { scale: 1 }, tools })
+  const style = { shapeOf: () => ({ fill: tools.colour, thickness: "medium" }) }
+  const handwriting = new Handwriting({ changes, room, camera: { scale: 1 }, style })
   for (const x of [100, 110]) handwriting.draw([[x, 100], [x, 140]], performance.now())
   tools.colour = "#e4572e"
   await new Promise((resolve) => setTimeout(resolve))
@@ -264,9 +265,12 @@ async function textOnShape(first, second, room) {
   await second.waitUntil("the text", `${shown}.length > 0`)
   expectEqual("what the other shows", await second.look(shown), ["Harbour master"])
   await first.key("F2")
-  await first.write("Nothing")
-  await first.key("Escape")
-  expectEqual("what is broken off", await first.look(shown), ["Harbour master"])
+  const end = () => first.key("Escape")
+  expectEqual("nothing written, and ended by Escape", await added(room, 0, end), [])
+  await first.key("F2")
+  await first.write("Pier")
+  expectEqual("a text that Escape ends", await added(room, 1, end), [["put", [["name", "Pier"]]]])
+  await added(room, 1, () => first.key("z", CONTROL))
   await first.key("F2")
   const long = "Ä".repeat(300)
   // A value has 256 bytes, and this letter takes two.

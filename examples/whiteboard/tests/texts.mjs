@@ -78,8 +78,12 @@ async function byDoubleClick(first, room) {
   }
   expectEqual("a text that a click elsewhere ends", (await added(room, 1, write))[0][1].at(-1), ["name", "Quay"])
   await first.doubleClick(await onScreen(first, [500, 300]))
-  await first.write("Nothing")
-  expectEqual("what Escape breaks off", await added(room, 0, () => first.key("Escape")), [])
+  await first.write("Pier")
+  const hint = await first.look(`document.getElementById("hint").textContent`)
+  expectEqual("what the page says", hint, "Enter makes a line. Escape, or a click elsewhere, ends the text.")
+  const [[, pairs]] = await added(room, 1, () => first.key("Escape"))
+  expectEqual("a text that Escape ends", pairs.at(-1), ["name", "Pier"])
+  await added(room, 1, () => first.key("Delete"))
   await first.doubleClick(await onScreen(first, [500, 300]))
   expectEqual("an empty text", await added(room, 0, () => end(first)), [])
 }

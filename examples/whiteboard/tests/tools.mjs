@@ -11,6 +11,7 @@ export const tools = (browser) => twoPeople(browser, async ({ first, room }) => 
   await step("a click draws a shape", () => clicks(first, room))
   await step("regular shapes", () => regular(first, room))
   await step("undo leaves the tool", () => undone(first, room))
+  await step("keys apply to what was drawn last", () => newest(first, room))
 })
 
 async function keys(first, room) {
@@ -71,4 +72,35 @@ async function undone(first, room) {
   })
   expectEqual("one stroke back", (await added(room, 1, () => first.key("z", CONTROL))).map(([word]) => word), ["put"])
   expectEqual("the tool", await first.look(TOOL), "pen")
+}
+
+/** Also where a shape that one wrote on before has the focus, and behind a click on a button. */
+async function newest(first, room) {
+  await first.key("Escape")
+  await draw(first, "rect", [100, 650], [180, 710])
+  await first.key("F2")
+  await first.write("Old")
+  await first.key("Escape")
+  await draw(first, "rect", [300, 650], [380, 710])
+  const name = room.objects().at(-1)
+  await first.click('[data-focus="thickness-thick"]')
+  await first.key("F2")
+  await first.write("New")
+  await first.key("Escape")
+  await first.key("Enter")
+  await first.write("Newer")
+  expectEqual("Enter writes on it", await added(room, 1, () => first.key("Escape")), [["put", [["name", "Newer"]]]])
+  await added(room, 1, () => first.key("d", CONTROL))
+  await added(room, 1, () => first.key("ArrowRight"))
+  expectEqual("an arrow key moves the copy", room.versions(room.objects().at(-1))[0].attributes.get("x"), 330)
+  expectEqual("and not the first", room.versions(name)[0].attributes.get("x"), 300)
+  await draw(first, "ellipse", [500, 650], [580, 710])
+  const object = room.objects().at(-1)
+  await added(room, 1, () => first.key("Delete"))
+  expectEqual("Delete takes the newest", room.versions(object)[0].isGone, true)
+  const place = await onScreen(first, [340, 660])
+  await first.press(place)
+  await first.release(place)
+  await first.key("Escape")
+  expectEqual("after Escape it takes nothing", await added(room, 0, () => first.key("Delete")), [])
 }

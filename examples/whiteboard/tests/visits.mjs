@@ -12,6 +12,7 @@ import { inOwnRooms } from "./rooms.mjs"
 export async function visits(browser) {
   await inOwnRooms(browser, {
     "a person who comes back is the same site": sameSite,
+    "the first view": firstView,
     "the view after a reload": viewAfterReload,
     "a link that names no room": badName,
     "a tool that stays": keptTool,
@@ -38,6 +39,36 @@ async function sameSite(room) {
   const other = await room.open()
   await other.waitUntil("both", `${COUNT} === 2`)
   await waitUntil("one more join", () => joins() === 3)
+}
+
+/** The first view is in actual size if the drawing fits into the window. Otherwise the page says how to get there. */
+async function firstView(room) {
+  const client = await room.watch()
+  const drawn = async (words, x, y) => {
+    if (x !== undefined) client.create("rect", { x, y, width: 200, height: 120, fill: "#f2b134", name: "" })
+    await client.settled()
+    const page = await room.browser.open(room.link, 1240, 720)
+    try {
+      const count = client.objects().length
+      const isThere = `document.getElementById("state")?.dataset.state === "open" && ${COUNT} === ${count}`
+      await page.waitUntil("the drawing", isThere)
+      const scale = await page.look(`document.getElementById("scale").textContent`)
+      const isShown = await page.look(`document.querySelectorAll(".edge:not([hidden])").length === 0`)
+      await page.picture(join(PICTURES, `first-view-${count}.png`))
+      expectEqual(words, [scale === "100 %", isShown], [count < 3, true])
+      const hint = await page.look(`document.getElementById("hint").textContent`)
+      expectEqual(`what it says: ${hint}`, hint.startsWith("This is the whole drawing. Press 1"), count === 3)
+      if (count < 3) return
+      await page.key("1")
+      expectEqual("after 1", await page.look(`document.getElementById("scale").textContent`), "100 %")
+    } finally {
+      await page.close()
+    }
+  }
+  await drawn("an empty drawing")
+  await drawn("one object far away", 5000, 4000)
+  await drawn("two that fit", 5400, 4300)
+  await drawn("one more, beyond the window", 7000, 4000)
 }
 
 async function viewAfterReload(room) {

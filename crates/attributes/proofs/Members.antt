@@ -7,7 +7,7 @@ use Rattle.std.proofs.lemmas.Bool.{cases_Bool}
 use Rattle.std.proofs.lemmas.List.{map_more, reverse-append}
 use Rattle.base_types.specs.Names.{Name}
 use Rattle.rules.specs.declared.history.Op.{Op}
-use Rattle.rules.specs.Bodies.{pairs_in}
+use Rattle.rules.specs.Bodies.{pairs_of_body}
 use Rattle.rules.specs.Operations.{IsCausallyOrdered, before, is_change_on}
 use Rattle.rules.proofs.Lists.{In, In-from_Contains, Contains-from_In, In-filter_back, In-map_back, In-range_back}
 use Rattle.rules.proofs.Relation.{not_before_self}
@@ -55,8 +55,8 @@ not_before_itself {object} {k} w x m =
 
 -- what the changes at the first places give, the last one first, with one place more
 pub given_more : (k : List Op) (members : List ℕ) (i place : ℕ) → i < length members → place ≡ slice_index_or members i place
-    → given_backwards (map (at k) (take (i + 1) members)) ≡ pairs_in (at k place).body ++ given_backwards (map (at k) (take i members))
+    → given_backwards (map (at k) (take (i + 1) members)) ≡ pairs_of_body (at k place).body ++ given_backwards (map (at k) (take i members))
 given_more k members i place l e =
     ap given_backwards (map_more (at k) members i place l)
-    ∙ ap (flat_map (λ (op : Op). pairs_in op.body)) (reverse-append (map (at k) (take i members)) (at k (slice_index_or members i place) ∷ []))
-    ∙ ap (λ p. pairs_in (at k p).body ++ given_backwards (map (at k) (take i members))) (sym e)
+    ∙ ap (flat_map (λ (op : Op). pairs_of_body op.body)) (reverse-append (map (at k) (take i members)) (at k (slice_index_or members i place) ∷ []))
+    ∙ ap (λ p. pairs_of_body (at k p).body ++ given_backwards (map (at k) (take i members))) (sym e)

@@ -11,7 +11,7 @@ use Rattle.base_types.specs.Texts.{Bytes}
 use Rattle.base_types.specs.declared.value.Value.{Value}
 use Rattle.rules.specs.declared.history.Op.{Op}
 use Rattle.rules.specs.AttrLists.{Attr}
-use Rattle.rules.specs.Bodies.{pairs_in, value_in}
+use Rattle.rules.specs.Bodies.{pairs_of_body, value_of_body}
 use Rattle.rules.specs.Lists.{each_once}
 use Rattle.rules.specs.Groups.{is_compatible}
 use Rattle.rules.specs.Conflicts.{conflict}
@@ -81,7 +81,7 @@ key_listed initial g key v e = go (find (decides key g) g) refl e
     go None f t = In-append_left key (map (λ (attr : Attr). attr.0) initial) (keys_of g) (key_there key initial (ap is_some t))
     go (Some a) f t =
         let c = find_is (decides key g) a g f in
-        In-append_right key (map (λ (attr : Attr). attr.0) initial) (keys_of g) (in_keys g a key c.0 (key_there key (pairs_in a.body) (ap is_some t)))
+        In-append_right key (map (λ (attr : Attr). attr.0) initial) (keys_of g) (in_keys g a key c.0 (key_there key (pairs_of_body a.body) (ap is_some t)))
 
 -- a rising list that has a key with a value exactly where that is the key's value are the attributes
 are_attributes : (initial : List Attr) (g : List Op) (pairs : List Attr) → Rises key_cmp key_cmp_total pairs → ((z : Attr) → In z pairs → value_of_key initial g z.0 ≡ Some z.1) → ((z : Attr) → value_of_key initial g z.0 ≡ Some z.1 → In z pairs) → pairs ≡ attributes initial g
@@ -97,20 +97,20 @@ are_attributes initial g pairs rises back to =
 -- ---- what is kept of what the changes give and of the initial attributes
 
 abbrev given : List Op → List Attr
-given ops = flat_map (λ (op : Op). pairs_in op.body) ops
+given ops = flat_map (λ (op : Op). pairs_of_body op.body) ops
 
 -- the value of a key there is what the first change that gives it gives, or else the initial one
 first_given : (initial : List Attr) (key : Bytes) (ops : List Op) → option_map (λ (attr : Attr). attr.1) (option_or (attr_of key (given ops)) (attr_of key initial)) ≡ value_by key initial (find (gives key) ops)
 first_given initial key [] = refl
-first_given initial key (op ∷ ops) = go (attr_of key (pairs_in op.body)) refl (first_given initial key ops)
+first_given initial key (op ∷ ops) = go (attr_of key (pairs_of_body op.body)) refl (first_given initial key ops)
   where
-    split : attr_of key (pairs_in op.body ++ given ops) ≡ option_or (attr_of key (pairs_in op.body)) (attr_of key (given ops))
-    split = find-append (λ (attr : Attr). bytes_eq attr.0 key) (pairs_in op.body) (given ops)
+    split : attr_of key (pairs_of_body op.body ++ given ops) ≡ option_or (attr_of key (pairs_of_body op.body)) (attr_of key (given ops))
+    split = find-append (λ (attr : Attr). bytes_eq attr.0 key) (pairs_of_body op.body) (given ops)
 
     -- within a put the first pair of the key decides
-    go : (r : Option Attr) → attr_of key (pairs_in op.body) ≡ r
+    go : (r : Option Attr) → attr_of key (pairs_of_body op.body) ≡ r
         → option_map (λ (attr : Attr). attr.1) (option_or (attr_of key (given ops)) (attr_of key initial)) ≡ value_by key initial (find (gives key) ops)
-        → option_map (λ (attr : Attr). attr.1) (option_or (attr_of key (pairs_in op.body ++ given ops)) (attr_of key initial)) ≡ value_by key initial (cond (is_some (value_in key op.body)) (Some op) (find (gives key) ops))
+        → option_map (λ (attr : Attr). attr.1) (option_or (attr_of key (pairs_of_body op.body ++ given ops)) (attr_of key initial)) ≡ value_by key initial (cond (is_some (value_of_body key op.body)) (Some op) (find (gives key) ops))
     go None e h = rw (split, e) h
     go (Some attr) e h = rw (split, e) (sym (ap (option_map (λ (a : Attr). a.1)) e))
 

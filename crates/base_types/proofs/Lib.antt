@@ -1,5 +1,6 @@
 pub mod Choices
 pub mod Labels
+pub mod Lists
 pub mod RoomNames
 pub mod Repeats
 pub mod Vectors

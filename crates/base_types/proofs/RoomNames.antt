@@ -129,10 +129,6 @@ later_digits name none some = elim (or_cases _ _ (name_is name none).number) [
   | inr ok ↦ ok
 ]
 
-pub none_of : {X : Type 0} (o : Option X) → is_none o ≡ true → o ≡ None
-none_of None none = refl
-none_of (Some x) none = absurd cc
-
 -- ---- the name of the next room
 
 pub no_successor : (name : Bytes) → (ltb (room_number name) 999999 ≡ false) ⊎ (leb (length (numbered (first_name name) (room_number name + 1))) 64 ≡ false) → None ≡ successor name

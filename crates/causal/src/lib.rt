@@ -7,7 +7,7 @@ ghost use Rattle.base_types.specs.Names.{is_site, same_name};
 ghost use Rattle.base_types.specs.Vectors.{count_of, counts};
 ghost use Rattle.rules.specs.Operations.{IsHistory, operation};
 ghost use Rattle.rules.specs.Admission.{count_at_site, is_ahead, is_not_closed, causal_refusal};
-ghost use Rattle.causal.specs.steps.Index.{at_number, places_of, has_fewer, lacks, lacks_beyond};
+ghost use Rattle.causal.specs.steps.Index.{at_number, places_of_site, has_fewer, lacks, lacks_beyond};
 
 use base_types::{MAX_SITE, NoMemory, OpName, StateVector};
 use rules::{Op, Refusal, SharedOp};
@@ -34,9 +34,9 @@ pub enum NotAdmitted {
 
 impl From<NotAdmitted> for Refusal {
     ghost use Rattle.std.specs.Prelude.{◌≡◌};
-    ghost use Rattle.causal.specs.steps.NotAdmitted.{refusal_of};
+    ghost use Rattle.causal.specs.steps.NotAdmitted.{refusal_of_cause};
 
-    ghost from_gives = { λ fault refusal. refusal ≡ refusal_of fault };
+    ghost from_gives = { λ fault refusal. refusal ≡ refusal_of_cause fault };
 
     fn from(fault: NotAdmitted) -> Refusal {
         match fault {
@@ -85,8 +85,8 @@ fn at_number<T>(elements: &[T], number: u32) -> Option<&T>
 }
 
 /// The places of a site's operations, by their numbers.
-fn places_of(lists: &[Vec<usize>], site: u32) -> &[usize]
-    ensures { result.now ≡ places_of (map (λ list. list.items) lists.now) site }
+fn places_of_site(lists: &[Vec<usize>], site: u32) -> &[usize]
+    ensures { result.now ≡ places_of_site (map (λ list. list.items) lists.now) site }
 {
     match at_number(lists, site) {
         Some(places) => places,
@@ -117,7 +117,7 @@ fn knows(op: Option<&Op>, pair: (u32, u32)) -> bool
 }
 
 impl Past {
-    ghost use Rattle.causal.specs.steps.NotAdmitted.{refusal_of};
+    ghost use Rattle.causal.specs.steps.NotAdmitted.{refusal_of_cause};
 
     /// An empty history, without an allocation. Always `Ok`.
     pub fn new(alloc: Global) -> Result<Past, NoMemory>
@@ -136,14 +136,14 @@ impl Past {
         ensures count { result ≡ count_at_site self.now.history site }
         ensures history { IsHistory self.now.history }
     {
-        places_of(&self.places, site).len() as u32
+        places_of_site(&self.places, site).len() as u32
     }
 
     /// The place of the operation of a site and a number.
     fn place(&self, site: u32, seq: u32) -> Option<usize>
         ensures { result ≡ position (λ op. same_name op.name (site, seq)) self.now.history }
     {
-        at_number(places_of(&self.places, site), seq).copied()
+        at_number(places_of_site(&self.places, site), seq).copied()
     }
 
     /// The operation of a site and a number.
@@ -257,7 +257,7 @@ impl Past {
     pub fn admit(&self, name: OpName, seen: &StateVector) -> Result<(), NotAdmitted>
         ensures admitted { OnOk result (causal_refusal self.now.history name seen.now ≡ None) }
         ensures refusal { IfErr result
-            (λ fault. causal_refusal self.now.history name seen.now ≡ Some (refusal_of fault)) }
+            (λ fault. causal_refusal self.now.history name seen.now ≡ Some (refusal_of_cause fault)) }
     {
         let earlier = name.seq() - 1;
         if self.count(name.site()) != earlier {

@@ -16,7 +16,7 @@ use Rattle.rules.proofs.Relation.{same_answer}
 use Rattle.rules.proofs.Reordered.{same_key_is, same_key_itself}
 use Rattle.places.specs.steps.PlaceSet.{has, with_place, with_places, places}
 use Rattle.places.specs.steps.Changes.{at, nothing}
-use Rattle.changes_by_key.specs.steps.Indexes.{OfKey, KeyIndex, AreByKey, IsUnder, key_at, gives, of_key, is_drop_at, with_drop}
+use Rattle.changes_by_key.specs.steps.Indexes.{OfKey, KeyIndex, AreByKey, IsUnder, key_at, body_gives, of_key, is_drop_at, with_drop}
 use Rattle.places.specs.steps.PlaceSet.{AreBelow}
 use Rattle.places.proofs.Places.{In-places, in_if_has, has_if_in, has-filter, below, left_next, put_next}
 use Rattle.places.proofs.WordPlaces.{has-with_place, has-with_all}
@@ -34,8 +34,8 @@ by_key_push k o index w =
     let longer = length-append k (o ∷ []) in
     record {
       within = omega arith;
-      all = λ c p l t. w.all c p l (ap (λ (x : Op). gives c x.body) (sym (at_push k o p (omega arith))) ∙ t);
-      only = λ c p u. let h = w.only c p u in let b : p < length k = h.0 in (omega arith, ap (λ (x : Op). gives c x.body) (at_push k o p b) ∙ h.1);
+      all = λ c p l t. w.all c p l (ap (λ (x : Op). body_gives c x.body) (sym (at_push k o p (omega arith))) ∙ t);
+      only = λ c p u. let h = w.only c p u in let b : p < length k = h.0 in (omega arith, ap (λ (x : Op). body_gives c x.body) (at_push k o p b) ∙ h.1);
       some = w.some;
       apart = w.apart;
       drops = w.drops ∙ filter_agree (is_drop_at k) (is_drop_at (k ++ o ∷ [])) (places index.len) (λ p m. let b = below index.len p m in ap (λ (x : Op). is_drop_body x.body) (sym (at_push k o p (omega arith))));
@@ -223,11 +223,11 @@ module _ (k : List Op) (index : KeyIndex) (w : AreByKey k index) (few : index.le
   -- a drop and a creation give no key a value
   pub by_key_drop : (object : Name) (version : List Name) → (at k n).body ≡ DropVersion object version → AreByKey k (with_drop index)
   by_key_drop object version e =
-      next (λ c t. absurd (true≢false (sym t ∙ ap (gives c) e))) (with_place n index.drops)
+      next (λ c t. absurd (true≢false (sym t ∙ ap (body_gives c) e))) (with_place n index.drops)
       (put_next (is_drop_at k) n index.drops (with_place n index.drops) w.drops (ap is_drop_body e) refl)
 
   pub by_key_new : (kind : Bytes) (attrs : List Attr) → (at k n).body ≡ New kind attrs → AreByKey k (record { len = n + 1; keys = keys; drops = index.drops })
-  by_key_new kind attrs e = by_key_put (ap is_drop_body e) (λ c t. absurd (true≢false (sym t ∙ ap (gives c) e)))
+  by_key_new kind attrs e = by_key_put (ap is_drop_body e) (λ c t. absurd (true≢false (sym t ∙ ap (body_gives c) e)))
 
 -- ---- a loop over the keys of the next change
 
@@ -240,7 +240,7 @@ drop_next pairs i pair l e =
     let one : suc i ≡ i + 1 = omega arith in
     drop-cons pairs i pair l ∙ (λ t. sym e t ∷ drop (one t) pairs)
 
--- each of the pairs gives its key
+-- each of the pairs body_gives its key
 pub given_at : (pairs : List Attr) (i : ℕ) (pair : Attr) → i < length pairs → pair ≡ get_or pairs i pair → list_any (bytes_eq pair.0) (map (λ pair. pair.0) pairs) ≡ true
 given_at pairs i pair l e =
     sym (any_key pair.0 pairs)
@@ -261,29 +261,29 @@ one_key_more pairs i pair old new n l e kept there key h = elim h [
 
 module _ (k : List Op) (index : KeyIndex) (w : AreByKey k index) where
   module _ (key : Bytes) where
-    -- a key that it has, some change gives a value
-    pub key_given : (i : ℕ) → i < length index.keys → (key_at index.keys i).key ≡ key → list_any (λ (op : Op). gives key op.body) k ≡ true
+    -- a key that it has, some change body_gives a value
+    pub key_given : (i : ℕ) → i < length index.keys → (key_at index.keys i).key ≡ key → list_any (λ (op : Op). body_gives key op.body) k ≡ true
     key_given i l e =
         let s = w.some i l in
         let h = w.only key s.0 (record { entry = i; within = l; of_it = e; placed = s.1 }) in
-        any_from (λ (op : Op). gives key op.body) (at k s.0) k (at_in k s.0 h.0) h.1
+        any_from (λ (op : Op). body_gives key op.body) (at k s.0) k (at_in k s.0 h.0) h.1
 
     -- of the others only the changes after it can
     key_after : ((i : ℕ) → i < length index.keys → (key_at index.keys i).key ≡ key → ⊥) → ((p : ℕ) → index.len ≤ p → p < length k → of_key k key p ≡ false)
-        → list_any (λ (op : Op). gives key op.body) k ≡ false
-    key_after none after = false_from_ne_true (list_any (λ (op : Op). gives key op.body) k) (λ t.
-        let c = any_back (λ (op : Op). gives key op.body) k t in
+        → list_any (λ (op : Op). body_gives key op.body) k ≡ false
+    key_after none after = false_from_ne_true (list_any (λ (op : Op). body_gives key op.body) k) (λ t.
+        let c = any_back (λ (op : Op). body_gives key op.body) k t in
         let p = place_of c.0 k c.1 in
-        let here : of_key k key p.place ≡ true = ap (λ (op : Op). gives key op.body) p.is ∙ c.2 in
+        let here : of_key k key p.place ≡ true = ap (λ (op : Op). body_gives key op.body) p.is ∙ c.2 in
         elim (cases_lt p.place index.len) [
           | inl b ↦ (let u = w.all key p.place b here in none u.entry u.within u.of_it)
           | inr g ↦ true≢false (sym here ∙ after p.place g p.within)
         ])
 
     pub key_by_last : ((i : ℕ) → i < length index.keys → (key_at index.keys i).key ≡ key → ⊥) → (r : Bool)
-        → MatchBool r ((p : ℕ) × (p < length k) × (gives key (at k p).body ≡ true)) ((p : ℕ) → index.len ≤ p → p < length k → gives key (at k p).body ≡ false)
-        → r ≡ list_any (λ (op : Op). gives key op.body) k
-    key_by_last none true m = sym (any_from (λ (op : Op). gives key op.body) (at k m.0) k (at_in k m.0 m.1) m.2)
+        → MatchBool r ((p : ℕ) × (p < length k) × (body_gives key (at k p).body ≡ true)) ((p : ℕ) → index.len ≤ p → p < length k → body_gives key (at k p).body ≡ false)
+        → r ≡ list_any (λ (op : Op). body_gives key op.body) k
+    key_by_last none true m = sym (any_from (λ (op : Op). body_gives key op.body) (at k m.0) k (at_in k m.0 m.1) m.2)
     key_by_last none false m = sym (key_after none m)
 
     -- the places of a key, where it has the key

@@ -4,10 +4,10 @@ ghost use Rattle.std.specs.Prelude.{◌≡◌, ℕ, ◌+◌, ◌<◌, ◌≤◌,
 ghost use Rattle.std.specs.List.{list_any};
 ghost use Rattle.base_types.specs.Texts.{Bytes};
 ghost use Rattle.rules.specs.declared.history.Op.{Op};
-ghost use Rattle.rules.specs.Bodies.{pairs_in};
+ghost use Rattle.rules.specs.Bodies.{pairs_of_body};
 ghost use Rattle.places.specs.steps.PlaceSet.{has, with_place};
 ghost use Rattle.places.specs.steps.Changes.{at};
-ghost use Rattle.changes_by_key.specs.steps.Indexes.{gives, is_drop_at, is_drop_or_gives, key_at, of_key, with_drop, with_key_at, with_new_key, AreByKey, IsUnder};
+ghost use Rattle.changes_by_key.specs.steps.Indexes.{body_gives, is_drop_at, is_drop_or_gives, key_at, of_key, with_drop, with_key_at, with_new_key, AreByKey, IsUnder};
 ghost use Rattle.places.specs.steps.PlaceSet.{AreBelow};
 ghost use Rattle.places.specs.steps.Lookups.{IsPlaceOf};
 
@@ -53,8 +53,8 @@ impl KeyPuts {
 }
 
 /// Does an operation give the key a value?
-fn gives(body: &Body, key: &Key) -> bool
-    ensures { result ≡ gives key.now body.now }
+fn body_gives(body: &Body, key: &Key) -> bool
+    ensures { result ≡ body_gives key.now body.now }
 {
     has_key(body.pairs(), key)
 }
@@ -142,7 +142,7 @@ impl ByKey {
         pairs: &[(Key, Value)],
     ) -> Result<(), NoMemory>
         requires more { self.old.len < length ops.now }
-        requires pairs { pairs.now ≡ pairs_in (at ops.now self.old.len).body }
+        requires pairs { pairs.now ≡ pairs_of_body (at ops.now self.old.len).body }
         requires keys { AreByKey ops.now self.old }
         ensures keys { AreByKey ops.now self.new }
         ensures len { self.new.len ≡ self.old.len }
@@ -166,7 +166,7 @@ impl ByKey {
         // What is put in.
         requires more { self.old.len < length ops.now }
         requires few { length ops.now < 2 ^ 32 }
-        requires pairs { pairs.now ≡ pairs_in (at ops.now self.old.len).body }
+        requires pairs { pairs.now ≡ pairs_of_body (at ops.now self.old.len).body }
         requires no_drop { is_drop_at ops.now self.old.len ≡ false }
         requires keys { AreByKey ops.now self.old }
         // What is in then.
@@ -230,7 +230,7 @@ impl ByKey {
     }
 
     /// Does a change that is not in the index yet give the key a value?
-    fn is_key_of_last(&self, ops: &[SharedOp], key: &Key) -> bool
+    fn is_key_of_unindexed(&self, ops: &[SharedOp], key: &Key) -> bool
         requires few { length ops.now < 2 ^ 32 }
         ensures { MatchBool result
             ((place : ℕ) × (place < length ops.now) × (of_key ops.now key.now place ≡ true))
@@ -238,7 +238,7 @@ impl ByKey {
             → of_key ops.now key.now place ≡ false) }
     {
         for place in self.len..ops.len() as u32 {
-            if gives(&ops[place as usize].body, key) {
+            if body_gives(&ops[place as usize].body, key) {
                 return true;
             }
         }
@@ -249,13 +249,13 @@ impl ByKey {
     pub fn has(&self, ops: &[SharedOp], key: &Key) -> bool
         requires few { length ops.now < 2 ^ 32 }
         requires keys { AreByKey ops.now self.now }
-        ensures { result ≡ list_any (λ op. gives key.now op.body) ops.now }
+        ensures { result ≡ list_any (λ op. body_gives key.now op.body) ops.now }
     {
-        self.find(key).is_some() || self.is_key_of_last(ops, key)
+        self.find(key).is_some() || self.is_key_of_unindexed(ops, key)
     }
 
     /// Is a change that is not in the index yet a drop at one of these places?
-    fn is_last_drop_at(&self, ops: &[SharedOp], members: &PlaceSet) -> bool
+    fn is_unindexed_drop_at(&self, ops: &[SharedOp], members: &PlaceSet) -> bool
         requires few { length ops.now < 2 ^ 32 }
         ensures { MatchBool result
             ((place : ℕ) × (is_drop_at ops.now place ≡ true) × (has members.now place ≡ true))
@@ -277,7 +277,7 @@ impl ByKey {
         requires keys { AreByKey ops.now self.now }
         ensures { result ≡ list_any (is_drop_at ops.now) members.now }
     {
-        self.drops.intersects(members) || self.is_last_drop_at(ops, members)
+        self.drops.intersects(members) || self.is_unindexed_drop_at(ops, members)
     }
 
     /// Adds the places under the key to a set: the indexed changes that give the key a value, and
@@ -311,7 +311,7 @@ impl ByKey {
     }
 
     /// Adds the places of the changes that are not in the index yet, of `count` in all.
-    fn insert_last(&self, count: u32, members: &mut PlaceSet) -> Result<(), NoMemory>
+    fn insert_unindexed(&self, count: u32, members: &mut PlaceSet) -> Result<(), NoMemory>
         ensures kept { OnOk result ((place : ℕ) → has members.old place ≡ true
             → has members.new place ≡ true) }
         ensures last { OnOk result ((place : ℕ) → self.now.len ≤ place → place < count
@@ -339,7 +339,7 @@ impl ByKey {
             → length ops ≡ count → AreBelow count found) }
     {
         let mut found = self.drops_and_puts(alloc, pairs)?;
-        self.insert_last(count, &mut found)?;
+        self.insert_unindexed(count, &mut found)?;
         Ok(found)
     }
 }

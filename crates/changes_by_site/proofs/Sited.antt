@@ -13,7 +13,7 @@ use Rattle.rules.proofs.Lists.{In, In-from_Contains, Contains-from_In, In-filter
 use Rattle.rules.proofs.Relation.{same_answer}
 use Rattle.places.specs.steps.PlaceSet.{has, with_place, places, with_places}
 use Rattle.places.specs.steps.Changes.{AreChangesOf, at}
-use Rattle.changes_by_site.specs.steps.Indexes.{IsIndex, OfSite, SiteIndex, AreBySite, AreInOrder, IsRising, site_at, of_site, numbered, with_change, counted_of, with_counted}
+use Rattle.changes_by_site.specs.steps.Indexes.{IsIndex, OfSite, SiteIndex, AreBySite, AreInOrder, IsRising, changes_of_site_at, of_site, numbered_place, with_change_of_site, counted_of, with_counted}
 use Rattle.places.proofs.Places.{In-places, below, has_if_in, in_if_has, kept_next, put_next}
 use Rattle.places.proofs.ChangesAt.{at_in, at_push}
 use Rattle.places.proofs.WordPlaces.{Up, same_set, up_range, up_filter, up_with_all, has-with_all, kept_rises, or_turned, or_grouped}
@@ -45,12 +45,12 @@ by_site_push k o index w =
     let stays : (p : ℕ) → p < index.len → at (k ++ o ∷ []) p ≡ at k p = λ p l. at_push k o p (omega arith) in
     record {
       within = (let h = length-append k (o ∷ []) in omega arith);
-      entries = index_agrees (of_site k) (of_site (k ++ o ∷ [])) index.len (length index.sites) (λ i. (site_at index.sites i).site) (λ i. (site_at index.sites i).places)
+      entries = index_agrees (of_site k) (of_site (k ++ o ∷ [])) index.len (length index.sites) (λ i. (changes_of_site_at index.sites i).site) (λ i. (changes_of_site_at index.sites i).places)
           (λ s p l. ap (λ (x : Op). eqb x.name.0 s) (sym (stays p l))) w.entries;
-      numbers = λ i l. w.numbers i l ∙ renumbered (site_at index.sites i).places (λ p m. stays p (below index.len p (In-filter_back (of_site k (site_at index.sites i).site) p (places index.len) (subst (λ (ps : List ℕ). In p ps) (w.entries.each i l) m)).0));
+      numbers = λ i l. w.numbers i l ∙ renumbered (changes_of_site_at index.sites i).places (λ p m. stays p (below index.len p (In-filter_back (of_site k (changes_of_site_at index.sites i).site) p (places index.len) (subst (λ (ps : List ℕ). In p ps) (w.entries.each i l) m)).0));
     }
   where
-    renumbered : (ps : List ℕ) → ((p : ℕ) → In p ps → at (k ++ o ∷ []) p ≡ at k p) → map (numbered k) ps ≡ map (numbered (k ++ o ∷ [])) ps
+    renumbered : (ps : List ℕ) → ((p : ℕ) → In p ps → at (k ++ o ∷ []) p ≡ at k p) → map (numbered_place k) ps ≡ map (numbered_place (k ++ o ∷ [])) ps
     renumbered [] f = refl
     renumbered (p ∷ ps) f = λ i. ((sym (f p (inl refl)) i).name.1, p) ∷ renumbered ps (λ q m. f q (inr m)) i
 
@@ -68,51 +68,51 @@ module _ (k : List Op) (index : SiteIndex) (w : AreBySite k index) (few : index.
   pushed : (s : ℕ) (old new : List ℕ) → of_site k s n ≡ true → old ≡ filter (of_site k s) (places n) → new ≡ filter (of_site k s) (places (n + 1)) → new ≡ old ++ n ∷ []
   pushed s old new t e f = f ∙ kept_next (of_site k s) n t ∙ ap (λ (l : List ℕ). l ++ n ∷ []) (sym e)
 
-  pub by_site_grown : (i number : ℕ) → i < size → (site_at sites i).site ≡ (at k n).name.0 → number ≡ (at k n).name.1
-      → AreBySite k (record { len = n + 1; sites = set sites i (with_change number n (site_at sites i)) })
+  pub by_site_grown : (i number : ℕ) → i < size → (changes_of_site_at sites i).site ≡ (at k n).name.0 → number ≡ (at k n).name.1
+      → AreBySite k (record { len = n + 1; sites = set sites i (with_change_of_site number n (changes_of_site_at sites i)) })
   by_site_grown i number l here is = record {
     within = omega arith;
-    entries = subst (λ z. IsIndex (of_site k) (n + 1) z (λ j. (site_at grown j).site) (λ j. (site_at grown j).places)) (sym (length-set sites i (with_change number n (site_at sites i)))) entries;
-    numbers = λ j m. (let b : j < size = (let h = length-set sites i (with_change number n (site_at sites i)) in omega arith) in elim (cases_eq j i) [
-      | inl f ↦ ap (λ j. (site_at grown j).changes) f ∙ ap (λ (of : OfSite). of.changes) same
-          ∙ (λ t. w.numbers i l t ++ (is t, n) ∷ []) ∙ sym (map_push (numbered k) (site_at sites i).places n)
-          ∙ ap (map (numbered k)) (sym (pushed (site_at sites i).site (site_at sites i).places (with_place n (site_at sites i).places) there (w.entries.each i l) (put_next (of_site k (site_at sites i).site) n (site_at sites i).places (with_place n (site_at sites i).places) (w.entries.each i l) there refl)))
-          ∙ ap (λ (of : OfSite). map (numbered k) of.places) (sym same)
-          ∙ ap (λ j. map (numbered k) (site_at grown j).places) (sym f)
-      | inr d ↦ ap (λ (of : OfSite). of.changes) (other j d) ∙ w.numbers j b ∙ ap (λ (of : OfSite). map (numbered k) of.places) (sym (other j d))
+    entries = subst (λ z. IsIndex (of_site k) (n + 1) z (λ j. (changes_of_site_at grown j).site) (λ j. (changes_of_site_at grown j).places)) (sym (length-set sites i (with_change_of_site number n (changes_of_site_at sites i)))) entries;
+    numbers = λ j m. (let b : j < size = (let h = length-set sites i (with_change_of_site number n (changes_of_site_at sites i)) in omega arith) in elim (cases_eq j i) [
+      | inl f ↦ ap (λ j. (changes_of_site_at grown j).changes) f ∙ ap (λ (of : OfSite). of.changes) same
+          ∙ (λ t. w.numbers i l t ++ (is t, n) ∷ []) ∙ sym (map_push (numbered_place k) (changes_of_site_at sites i).places n)
+          ∙ ap (map (numbered_place k)) (sym (pushed (changes_of_site_at sites i).site (changes_of_site_at sites i).places (with_place n (changes_of_site_at sites i).places) there (w.entries.each i l) (put_next (of_site k (changes_of_site_at sites i).site) n (changes_of_site_at sites i).places (with_place n (changes_of_site_at sites i).places) (w.entries.each i l) there refl)))
+          ∙ ap (λ (of : OfSite). map (numbered_place k) of.places) (sym same)
+          ∙ ap (λ j. map (numbered_place k) (changes_of_site_at grown j).places) (sym f)
+      | inr d ↦ ap (λ (of : OfSite). of.changes) (other j d) ∙ w.numbers j b ∙ ap (λ (of : OfSite). map (numbered_place k) of.places) (sym (other j d))
     ]);
   }
     where
       grown : List OfSite
-      grown = set sites i (with_change number n (site_at sites i))
+      grown = set sites i (with_change_of_site number n (changes_of_site_at sites i))
 
-      there : of_site k (site_at sites i).site n ≡ true
-      there = eq-eqb (at k n).name.0 (site_at sites i).site (sym here)
+      there : of_site k (changes_of_site_at sites i).site n ≡ true
+      there = eq-eqb (at k n).name.0 (changes_of_site_at sites i).site (sym here)
 
-      same : site_at grown i ≡ with_change number n (site_at sites i)
-      same = get_or-set_same sites i (with_change number n (site_at sites i)) (site_at [] 0) l
+      same : changes_of_site_at grown i ≡ with_change_of_site number n (changes_of_site_at sites i)
+      same = get_or-set_same sites i (with_change_of_site number n (changes_of_site_at sites i)) (changes_of_site_at [] 0) l
 
-      other : (j : ℕ) → (j ≡ i → ⊥) → site_at grown j ≡ site_at sites j
-      other j d = get_or-set_other sites i j (with_change number n (site_at sites i)) (site_at [] 0) d
+      other : (j : ℕ) → (j ≡ i → ⊥) → changes_of_site_at grown j ≡ changes_of_site_at sites j
+      other j d = get_or-set_other sites i j (with_change_of_site number n (changes_of_site_at sites i)) (changes_of_site_at [] 0) d
 
-      entries : IsIndex (of_site k) (n + 1) size (λ j. (site_at grown j).site) (λ j. (site_at grown j).places)
-      entries = index_grown (of_site k) (one_site k) n size (λ j. (site_at sites j).site) (λ j. (site_at sites j).places) w.entries
-          (λ j. (site_at grown j).site) (λ j. (site_at grown j).places)
+      entries : IsIndex (of_site k) (n + 1) size (λ j. (changes_of_site_at grown j).site) (λ j. (changes_of_site_at grown j).places)
+      entries = index_grown (of_site k) (one_site k) n size (λ j. (changes_of_site_at sites j).site) (λ j. (changes_of_site_at sites j).places) w.entries
+          (λ j. (changes_of_site_at grown j).site) (λ j. (changes_of_site_at grown j).places)
           (λ j m. elim (cases_eq j i) [
-            | inl f ↦ ap (λ j. (site_at grown j).site) f ∙ ap (λ (of : OfSite). of.site) same ∙ ap (λ j. (site_at sites j).site) (sym f)
+            | inl f ↦ ap (λ j. (changes_of_site_at grown j).site) f ∙ ap (λ (of : OfSite). of.site) same ∙ ap (λ j. (changes_of_site_at sites j).site) (sym f)
             | inr d ↦ ap (λ (of : OfSite). of.site) (other j d)
           ])
           i l there (ap (λ (of : OfSite). of.places) same) (λ j m d. ap (λ (of : OfSite). of.places) (other j d))
 
-  pub by_site_begun : (site number : ℕ) → site ≡ (at k n).name.0 → number ≡ (at k n).name.1 → ((i : ℕ) → i < size → (site_at sites i).site ≡ site → ⊥)
+  pub by_site_begun : (site number : ℕ) → site ≡ (at k n).name.0 → number ≡ (at k n).name.1 → ((i : ℕ) → i < size → (changes_of_site_at sites i).site ≡ site → ⊥)
       → AreBySite k (record { len = n + 1; sites = sites ++ record { site = site; changes = (number, n) ∷ []; places = n ∷ [] } ∷ [] })
   by_site_begun site number here is new = record {
     within = omega arith;
-    entries = subst (λ z. IsIndex (of_site k) (n + 1) z (λ j. (site_at with_addition j).site) (λ j. (site_at with_addition j).places)) (sym (length-append sites (entry ∷ []))) entries;
+    entries = subst (λ z. IsIndex (of_site k) (n + 1) z (λ j. (changes_of_site_at with_addition j).site) (λ j. (changes_of_site_at with_addition j).places)) (sym (length-append sites (entry ∷ []))) entries;
     numbers = λ j m. (let h = length-append sites (entry ∷ []) in elim (cases_lt j size) [
-      | inl b ↦ ap (λ (of : OfSite). of.changes) (old j b) ∙ w.numbers j b ∙ ap (λ (of : OfSite). map (numbered k) of.places) (sym (old j b))
+      | inl b ↦ ap (λ (of : OfSite). of.changes) (old j b) ∙ w.numbers j b ∙ ap (λ (of : OfSite). map (numbered_place k) of.places) (sym (old j b))
       | inr g ↦ (let f : j ≡ size = omega arith in
-          ap (λ j. (site_at with_addition j).changes) f ∙ ap (λ (of : OfSite). of.changes) last ∙ (λ t. (is t, n) ∷ []) ∙ ap (λ (of : OfSite). map (numbered k) of.places) (sym last) ∙ ap (λ j. map (numbered k) (site_at with_addition j).places) (sym f))
+          ap (λ j. (changes_of_site_at with_addition j).changes) f ∙ ap (λ (of : OfSite). of.changes) last ∙ (λ t. (is t, n) ∷ []) ∙ ap (λ (of : OfSite). map (numbered_place k) of.places) (sym last) ∙ ap (λ j. map (numbered_place k) (changes_of_site_at with_addition j).places) (sym f))
     ]);
   }
     where
@@ -122,20 +122,20 @@ module _ (k : List Op) (index : SiteIndex) (w : AreBySite k index) (few : index.
       with_addition : List OfSite
       with_addition = sites ++ entry ∷ []
 
-      last : site_at with_addition size ≡ entry
-      last = get_or_at sites entry [] (site_at [] 0) size refl
+      last : changes_of_site_at with_addition size ≡ entry
+      last = get_or_at sites entry [] (changes_of_site_at [] 0) size refl
 
-      old : (j : ℕ) → j < size → site_at with_addition j ≡ site_at sites j
-      old j b = get_or_append_left sites (entry ∷ []) (site_at [] 0) j b
+      old : (j : ℕ) → j < size → changes_of_site_at with_addition j ≡ changes_of_site_at sites j
+      old j b = get_or_append_left sites (entry ∷ []) (changes_of_site_at [] 0) j b
 
-      entries : IsIndex (of_site k) (n + 1) (size + 1) (λ j. (site_at with_addition j).site) (λ j. (site_at with_addition j).places)
-      entries = index_begun (of_site k) (one_site k) n size (λ j. (site_at sites j).site) (λ j. (site_at sites j).places) w.entries
-          (λ j. (site_at with_addition j).site) (λ j. (site_at with_addition j).places) (λ j m. ap (λ (of : OfSite). of.site) (old j m))
+      entries : IsIndex (of_site k) (n + 1) (size + 1) (λ j. (changes_of_site_at with_addition j).site) (λ j. (changes_of_site_at with_addition j).places)
+      entries = index_begun (of_site k) (one_site k) n size (λ j. (changes_of_site_at sites j).site) (λ j. (changes_of_site_at sites j).places) w.entries
+          (λ j. (changes_of_site_at with_addition j).site) (λ j. (changes_of_site_at with_addition j).places) (λ j m. ap (λ (of : OfSite). of.site) (old j m))
           site (eq-eqb (at k n).name.0 site (sym here)) new (ap (λ (of : OfSite). of.site) last) (ap (λ (of : OfSite). of.places) last) (λ j m. ap (λ (of : OfSite). of.places) (old j m))
 
 -- ---- what a vector counts of it
 
-unnumbered : (k : List Op) (ps : List ℕ) → map (λ (change : ℕ × ℕ). change.1) (map (numbered k) ps) ≡ ps
+unnumbered : (k : List Op) (ps : List ℕ) → map (λ (change : ℕ × ℕ). change.1) (map (numbered_place k) ps) ≡ ps
 unnumbered k [] = refl
 unnumbered k (p ∷ ps) = ap (λ (l : List ℕ). p ∷ l) (unnumbered k ps)
 
@@ -152,21 +152,21 @@ module _ (k : List Op) (order : AreInOrder k) (site n : ℕ) (within : n ≤ len
   low : (i : ℕ) → i < length ps → get_or ps i 0 < n
   low i l = below n (get_or ps i 0) (In-filter_back (of_site k site) (get_or ps i 0) (places n) (place_in i l)).0
 
-  pub rising_places : (i j : ℕ) (d : ℕ × ℕ) → i < j → j < length (map (numbered k) ps) → (get_or (map (numbered k) ps) i d).1 < (get_or (map (numbered k) ps) j d).1
+  pub rising_places : (i j : ℕ) (d : ℕ × ℕ) → i < j → j < length (map (numbered_place k) ps) → (get_or (map (numbered_place k) ps) i d).1 < (get_or (map (numbered_place k) ps) j d).1
   rising_places i j d l m =
-      let size = length-map ps (numbered k) in
-      let a = get_or-map (numbered k) ps i 0 d (omega arith) in
-      let b = get_or-map (numbered k) ps j 0 d (omega arith) in
+      let size = length-map ps (numbered_place k) in
+      let a = get_or-map (numbered_place k) ps i 0 d (omega arith) in
+      let b = get_or-map (numbered_place k) ps j 0 d (omega arith) in
       let r : get_or ps i 0 < get_or ps j 0 = AllPairs-from_increasing ps rise i j 0 l (omega arith) in
       omega (arith, ap (λ (s : ℕ × ℕ). s.1) a, ap (λ (s : ℕ × ℕ). s.1) b, r)
 
-  pub rising_numbers : IsNonDecreasingBy (λ (change : ℕ × ℕ). change.0) (map (numbered k) ps)
+  pub rising_numbers : IsNonDecreasingBy (λ (change : ℕ × ℕ). change.0) (map (numbered_place k) ps)
   rising_numbers i j d l m =
-      let size = length-map ps (numbered k) in
-      let a = get_or-map (numbered k) ps i 0 d (omega arith) in
-      let b = get_or-map (numbered k) ps j 0 d (omega arith) in
+      let size = length-map ps (numbered_place k) in
+      let a = get_or-map (numbered_place k) ps i 0 d (omega arith) in
+      let b = get_or-map (numbered_place k) ps j 0 d (omega arith) in
       elim (cases_eq i j) [
-        | inl e ↦ (let f : (get_or (map (numbered k) ps) i d).0 ≡ (get_or (map (numbered k) ps) j d).0 = ap (λ z. (get_or (map (numbered k) ps) z d).0) e in omega arith)
+        | inl e ↦ (let f : (get_or (map (numbered_place k) ps) i d).0 ≡ (get_or (map (numbered_place k) ps) j d).0 = ap (λ z. (get_or (map (numbered_place k) ps) z d).0) e in omega arith)
         | inr e ↦
             (let r : get_or ps i 0 < get_or ps j 0 = AllPairs-from_increasing ps rise i j 0 (omega arith) (omega arith) in
             let h = low j (omega arith) in
@@ -174,10 +174,10 @@ module _ (k : List Op) (order : AreInOrder k) (site n : ℕ) (within : n ≤ len
             omega (arith, ap (λ (s : ℕ × ℕ). s.0) a, ap (λ (s : ℕ × ℕ). s.0) b, o))
       ]
 
-pub rising : (k : List Op) (index : SiteIndex) → AreBySite k index → AreInOrder k → (i : ℕ) → i < length index.sites → IsRising (site_at index.sites i)
+pub rising : (k : List Op) (index : SiteIndex) → AreBySite k index → AreInOrder k → (i : ℕ) → i < length index.sites → IsRising (changes_of_site_at index.sites i)
 rising k index w order i l =
-    let of = site_at index.sites i in
-    let e : of.changes ≡ map (numbered k) of.places = w.numbers i l in
+    let of = changes_of_site_at index.sites i in
+    let e : of.changes ≡ map (numbered_place k) of.places = w.numbers i l in
     record {
       same = sym (ap (map (λ (change : ℕ × ℕ). change.1)) e ∙ unnumbered k of.places);
       numbers = subst (IsNonDecreasingBy (λ (change : ℕ × ℕ). change.0)) (sym e) (rising_numbers k order of.site index.len w.within of.places (w.entries.each i l));
@@ -241,7 +241,7 @@ module _ (seen : Vector) where
       ∙ ap (λ b. b || list_any (λ (of : OfSite). has (counted_of seen of) x) sites) (has-with_all known (counted_of seen of) x)
       ∙ sym (or_grouped (has known x) (has (counted_of seen of) x) (list_any (λ (of : OfSite). has (counted_of seen of) x) sites))
 
-picked : (k : List Op) (number : ℕ) (ps : List ℕ) → map (λ (change : ℕ × ℕ). change.1) (filter (λ (change : ℕ × ℕ). nat_le change.0 number) (map (numbered k) ps)) ≡ filter (λ p. nat_le (at k p).name.1 number) ps
+picked : (k : List Op) (number : ℕ) (ps : List ℕ) → map (λ (change : ℕ × ℕ). change.1) (filter (λ (change : ℕ × ℕ). nat_le change.0 number) (map (numbered_place k) ps)) ≡ filter (λ p. nat_le (at k p).name.1 number) ps
 picked k number [] = refl
 picked k number (p ∷ ps) = elim (cases_Bool (nat_le (at k p).name.1 number)) [ inl t ↦ rw t (ap (λ (l : List ℕ). p ∷ l) (picked k number ps)) | inr t ↦ rw t (picked k number ps) ]
 
@@ -255,19 +255,19 @@ module _ (k : List Op) (index : SiteIndex) (w : AreBySite k index) (seen : Vecto
   abbrev up_to : ℕ → ℕ → Bool
   up_to site p = nat_le (at k p).name.1 (count_of seen site)
 
-  counted_is : (i : ℕ) → i < length listed → counted_of seen (site_at listed i) ≡ filter (up_to (site_at listed i).site) (filter (of_site k (site_at listed i).site) (places index.len))
+  counted_is : (i : ℕ) → i < length listed → counted_of seen (changes_of_site_at listed i) ≡ filter (up_to (changes_of_site_at listed i).site) (filter (of_site k (changes_of_site_at listed i).site) (places index.len))
   counted_is i l =
-      ap (λ (s : List (ℕ × ℕ)). map (λ (change : ℕ × ℕ). change.1) (filter (λ (change : ℕ × ℕ). nat_le change.0 (count_of seen (site_at listed i).site)) s)) (w.numbers i l)
-      ∙ picked k (count_of seen (site_at listed i).site) (site_at listed i).places
-      ∙ ap (filter (up_to (site_at listed i).site)) (w.entries.each i l)
+      ap (λ (s : List (ℕ × ℕ)). map (λ (change : ℕ × ℕ). change.1) (filter (λ (change : ℕ × ℕ). nat_le change.0 (count_of seen (changes_of_site_at listed i).site)) s)) (w.numbers i l)
+      ∙ picked k (count_of seen (changes_of_site_at listed i).site) (changes_of_site_at listed i).places
+      ∙ ap (filter (up_to (changes_of_site_at listed i).site)) (w.entries.each i l)
 
   there : (x : ℕ) (of : OfSite) → In of listed → has (counted_of seen of) x ≡ true → has (filter counted (places index.len)) x ≡ true
   there x of m t =
       let c = Contains-from_In of listed m in
       let i : ℕ = c.0 in
-      let here : site_at listed i ≡ of = get_or_default listed i (site_at [] 0) of c.1 ∙ c.2 in
-      let s : ℕ = (site_at listed i).site in
-      let member = in_if_has (counted_of seen (site_at listed i)) x (ap (λ (o : OfSite). has (counted_of seen o) x) here ∙ t) in
+      let here : changes_of_site_at listed i ≡ of = get_or_default listed i (changes_of_site_at [] 0) of c.1 ∙ c.2 in
+      let s : ℕ = (changes_of_site_at listed i).site in
+      let member = in_if_has (counted_of seen (changes_of_site_at listed i)) x (ap (λ (o : OfSite). has (counted_of seen o) x) here ∙ t) in
       let a = In-filter_back (up_to s) x (filter (of_site k s) (places index.len)) (subst (λ (l : List ℕ). In x l) (counted_is i c.1) member) in
       let b = In-filter_back (of_site k s) x (places index.len) a.0 in
       has_if_in (filter counted (places index.len)) x (In-filter counted x (places index.len) b.0 (ap (λ z. nat_le (at k x).name.1 (count_of seen z)) (eqb-true (at k x).name.0 s b.1) ∙ a.1))
@@ -278,12 +278,12 @@ module _ (k : List Op) (index : SiteIndex) (w : AreBySite k index) (seen : Vecto
       let own : of_site k (at k x).name.0 x ≡ true = eq-eqb (at k x).name.0 (at k x).name.0 refl in
       let c = w.entries.all (at k x).name.0 x (below index.len x a.0) own in
       let i : ℕ = c.0 in
-      let s : ℕ = (site_at listed i).site in
+      let s : ℕ = (changes_of_site_at listed i).site in
       let kept : In x (filter (of_site k s) (places index.len)) = In-filter (of_site k s) x (places index.len) a.0 (ap (λ z. of_site k z x) c.2 ∙ own) in
       let member : In x (filter (up_to s) (filter (of_site k s) (places index.len))) = In-filter (up_to s) x (filter (of_site k s) (places index.len)) kept (ap (λ z. nat_le (at k x).name.1 (count_of seen z)) c.2 ∙ a.1) in
-      any_from (λ (of : OfSite). has (counted_of seen of) x) (site_at listed i) listed
-      (In-from_Contains (site_at listed i) listed (i, c.1, get_or_default listed i (site_at listed i) (site_at [] 0) c.1))
-      (has_if_in (counted_of seen (site_at listed i)) x (subst (λ (l : List ℕ). In x l) (sym (counted_is i c.1)) member))
+      any_from (λ (of : OfSite). has (counted_of seen of) x) (changes_of_site_at listed i) listed
+      (In-from_Contains (changes_of_site_at listed i) listed (i, c.1, get_or_default listed i (changes_of_site_at listed i) (changes_of_site_at [] 0) c.1))
+      (has_if_in (counted_of seen (changes_of_site_at listed i)) x (subst (λ (l : List ℕ). In x l) (sym (counted_is i c.1)) member))
 
   pub all_counted : with_counted seen [] listed ≡ filter counted (places index.len)
   all_counted = same_set (with_counted seen [] listed) (filter counted (places index.len))

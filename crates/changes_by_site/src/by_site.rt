@@ -3,7 +3,7 @@
 ghost use Rattle.std.specs.Prelude.{◌≡◌, ℕ, ◌+◌, ◌<◌, ◌^◌, [], ◌∷◌, length, IfOk, OnOk, OnErr};
 ghost use Rattle.places.specs.steps.PlaceSet.{with_places};
 ghost use Rattle.places.specs.steps.Changes.{places_counted};
-ghost use Rattle.changes_by_site.specs.steps.Indexes.{counted_of, site_at, with_counted, with_new_site, with_change, with_change_at, AreBySite, AreInOrder, IsRising};
+ghost use Rattle.changes_by_site.specs.steps.Indexes.{counted_of, changes_of_site_at, with_counted, with_new_site, with_change_of_site, with_change_at, AreBySite, AreInOrder, IsRising};
 ghost use Rattle.places.specs.steps.Lookups.{IsPlaceOf};
 
 use base_types::{NoMemory, OpName, StateVector};
@@ -51,7 +51,7 @@ impl SiteChanges {
 
     /// Adds the next change. `NoMemory` leaves all as it is.
     fn add(&mut self, number: u32, place: u32) -> Result<(), NoMemory>
-        ensures ok { OnOk result (self.new ≡ with_change number place self.old) }
+        ensures ok { OnOk result (self.new ≡ with_change_of_site number place self.old) }
         ensures err { OnErr result (self.new ≡ self.old) }
     {
         self.changes.reserve(1)?;
@@ -106,7 +106,7 @@ impl BySite {
     /// The place of the site in the index, if it is there.
     fn find(&self, site: u32) -> Option<usize>
         ensures { let count = length self.now.sites
-            in IsPlaceOf (λ i. (site_at self.now.sites i).site) count site result }
+            in IsPlaceOf (λ i. (changes_of_site_at self.now.sites i).site) count site result }
     {
         self.sites.iter().position(|changes| changes.site == site)
     }
@@ -164,7 +164,8 @@ impl BySite {
 
     /// The places of the indexed changes that a vector counts. One look-up a site.
     fn counted_places(&self, alloc: Global, seen: &StateVector) -> Result<PlaceSet, NoMemory>
-        requires { (i : ℕ) → i < length self.now.sites → IsRising (site_at self.now.sites i) }
+        requires { (i : ℕ) → i < length self.now.sites →
+            IsRising (changes_of_site_at self.now.sites i) }
         ensures { IfOk result (λ counted. counted ≡ with_counted seen.now [] self.now.sites) }
     {
         let mut counted = PlaceSet::empty(alloc);

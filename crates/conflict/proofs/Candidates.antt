@@ -11,25 +11,25 @@ use Rattle.base_types.specs.Texts.{Bytes}
 use Rattle.rules.specs.declared.history.Body.{Body}
 use Rattle.rules.specs.declared.history.Body.TheVariants.{New, Put, DropVersion}
 use Rattle.rules.specs.AttrLists.{Attr}
-use Rattle.rules.specs.Bodies.{are_at_odds, differ_on_a_key, is_drop_body, is_one_a_drop, keys_in, pairs_in}
+use Rattle.rules.specs.Bodies.{are_at_odds, differ_on_a_key, is_drop_body, is_one_a_drop, keys_of_body, pairs_of_body}
 use Rattle.rules.proofs.Bodies.{differ_is, key_there}
 use Rattle.rules.proofs.Lists.{In-from_Contains, In-filter_back, In-map_back, any_from, filter_inner}
 use Rattle.rules.proofs.Reordered.{same_key_itself}
 use Rattle.places.specs.steps.PlaceSet.{has, places}
-use Rattle.changes_by_key.specs.steps.Indexes.{gives}
+use Rattle.changes_by_key.specs.steps.Indexes.{body_gives}
 use Rattle.places.specs.steps.PlaceSet.{AreBelow}
 use Rattle.places.proofs.Places.{has_if_in, below}
 use Rattle.conflict_rows.specs.steps.Rows.{places_outside}
 
--- what is at odds with a put is a drop, or gives one of its keys a value
-pub at_odds_found : (object : Name) (version : List Name) (pairs : List Attr) (body : Body) → are_at_odds (Put object version pairs) body ≡ true → (is_drop_body body || list_any (λ pair. gives pair.0 body) pairs) ≡ true
+-- what is at odds with a put is a drop, or body_gives one of its keys a value
+pub at_odds_found : (object : Name) (version : List Name) (pairs : List Attr) (body : Body) → are_at_odds (Put object version pairs) body ≡ true → (is_drop_body body || list_any (λ pair. body_gives pair.0 body) pairs) ≡ true
 at_odds_found object version pairs body e = elim (or_cases (differ_on_a_key (Put object version pairs) body) (is_one_a_drop (Put object version pairs) body) e) [
   | inl d ↦
       (let f = (differ_is (Put object version pairs) body).0 d in
       let pair = In-map_back (λ (attr : Attr). attr.0) f.0 pairs (key_there f.0 pairs (ap is_some f.3)) in
-      let given : gives f.0 body ≡ true = any_from (bytes_eq f.0) f.0 (keys_in body) (key_there f.0 (pairs_in body) (ap is_some f.4)) (same_key_itself f.0) in
-      or_right (is_drop_body body) (list_any (λ (attr : Attr). gives attr.0 body) pairs) (any_from (λ (attr : Attr). gives attr.0 body) pair.0 pairs pair.1 (ap (λ c. gives c body) (sym pair.2) ∙ given)))
-  | inr d ↦ or_left (is_drop_body body) (list_any (λ (attr : Attr). gives attr.0 body) pairs) (one_is object version pairs body d)
+      let given : body_gives f.0 body ≡ true = any_from (bytes_eq f.0) f.0 (keys_of_body body) (key_there f.0 (pairs_of_body body) (ap is_some f.4)) (same_key_itself f.0) in
+      or_right (is_drop_body body) (list_any (λ (attr : Attr). body_gives attr.0 body) pairs) (any_from (λ (attr : Attr). body_gives attr.0 body) pair.0 pairs pair.1 (ap (λ c. body_gives c body) (sym pair.2) ∙ given)))
+  | inr d ↦ or_left (is_drop_body body) (list_any (λ (attr : Attr). body_gives attr.0 body) pairs) (one_is object version pairs body d)
 ]
   where
     one_is : (object : Name) (version : List Name) (pairs : List Attr) (body : Body) → is_one_a_drop (Put object version pairs) body ≡ true → is_drop_body body ≡ true

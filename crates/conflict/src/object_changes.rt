@@ -2,7 +2,7 @@
 
 ghost use Rattle.std.specs.Prelude.{◌≡◌, ℕ, true, ◌<◌, [], ◌∷◌, ◌++◌, length, filter, bytes_eq, All, IsOk, IfOk, OnOk};
 ghost use Rattle.std.specs.List.{list_any};
-ghost use Rattle.rules.specs.Bodies.{is_drop_body, keys_in};
+ghost use Rattle.rules.specs.Bodies.{is_drop_body, keys_of_body};
 ghost use Rattle.places.specs.steps.PlaceSet.{has, AreBelow};
 ghost use Rattle.conflict_rows.specs.steps.Rows.{at_odds_at, places_outside, places_unknown};
 ghost use Rattle.places.specs.steps.Changes.{at, base_places, places_counted, AreChangesOn, IsAddition};
@@ -142,7 +142,7 @@ impl ObjectChanges {
     /// last `plan`.
     pub fn has_key(&self, key: &Key) -> bool
         ensures { result
-            ≡ list_any (λ op. list_any (bytes_eq key.now) (keys_in op.body)) self.now.ops }
+            ≡ list_any (λ op. list_any (bytes_eq key.now) (keys_of_body op.body)) self.now.ops }
     {
         self.keys.has(self.rows.ops(), key)
     }

@@ -21,31 +21,31 @@ module _ {S D : Type 0} (turn : Turn S D) (waits : Wait S) (fails : Fault S) whe
   nothing_held role (Some m) before mid same f = f.5
 
   -- the answer of a message is sent
-  pub heard : {X E : Type 0} (r : Result X E) (protocol protocol' : Connection) (message words : List ℕ) (told : Option D) (before mid opened after : Standing S D) (session : S)
+  pub heard : {X E : Type 0} (r : Result X E) (protocol protocol' : Connection) (message words : List ℕ) (reported : Option D) (before mid opened after : Standing S D) (session : S)
       → (Freed turn protocol.role before.held before mid ⊎ ((false ≡ true) × StaysHeld waits before.held before mid))
-      → opened ≡ mid → protocol' ≡ protocol → turn opened.session session message words told
-      → OnOk r ((frame : List ℕ) × Sends protocol'.role (Some (sent_text words)) [] frame × (after ≡ queue (record opened { session = session }) (record { bytes = frame; told = told } ∷ [])))
+      → opened ≡ mid → protocol' ≡ protocol → turn opened.session session message words reported
+      → OnOk r ((frame : List ℕ) × Sends protocol'.role (Some (sent_text words)) [] frame × (after ≡ queue (record opened { session = session }) (record { bytes = frame; reported = reported } ∷ [])))
       → OnOk r (Heard turn waits protocol.role message before after)
-  heard (Err e) protocol protocol' message words told before mid opened after session f same kept t sent = tt
-  heard (Ok x) protocol protocol' message words told before mid opened after session f same kept t sent = (
+  heard (Err e) protocol protocol' message words reported before mid opened after session f same kept t sent = tt
+  heard (Ok x) protocol protocol' message words reported before mid opened after session f same kept t sent = (
     mid,
     freed protocol.role before.held before mid f,
-    inl (words, told, sent.0, rw (← same, sent.2) t, rw (← kept) sent.1, rw (← same, sent.2) refl, rw (← same, sent.2) refl),
+    inl (words, reported, sent.0, rw (← same, sent.2) t, rw (← kept) sent.1, rw (← same, sent.2) refl, rw (← same, sent.2) refl),
   )
 
   -- the answer of a message cannot be sent
-  pub unsent : {X : Type 0} (r : Result X End) (protocol protocol' : Connection) (message words : List ℕ) (told : Option D) (before mid opened after : Standing S D) (session : S)
+  pub unsent : {X : Type 0} (r : Result X End) (protocol protocol' : Connection) (message words : List ℕ) (reported : Option D) (before mid opened after : Standing S D) (session : S)
       → (Freed turn protocol.role before.held before mid ⊎ ((false ≡ true) × StaysHeld waits before.held before mid))
-      → opened ≡ mid → protocol' ≡ protocol → turn opened.session session message words told
+      → opened ≡ mid → protocol' ≡ protocol → turn opened.session session message words reported
       → OnErr r (after ≡ record opened { session = session }) → IfErr r (CannotSend protocol' words)
       → IfErr r (λ why. FailsHearing turn fails protocol message why before after)
-  unsent (Ok x) protocol protocol' message words told before mid opened after session f same kept t stays why = tt
-  unsent (Err e) protocol protocol' message words told before mid opened after session f same kept t stays why =
+  unsent (Ok x) protocol protocol' message words reported before mid opened after session f same kept t stays why = tt
+  unsent (Err e) protocol protocol' message words reported before mid opened after session f same kept t stays why =
       let is_freed = freed protocol.role before.held before mid f in
       inr (
         mid,
         is_freed,
-        (rw (stays, same) (nothing_held protocol.role before.held before mid refl is_freed), rw (stays, same) refl, inr (inl (words, told, rw (← same, stays) t, rw (← kept) why))),
+        (rw (stays, same) (nothing_held protocol.role before.held before mid refl is_freed), rw (stays, same) refl, inr (inl (words, reported, rw (← same, stays) t, rw (← kept) why))),
       )
 
   -- a message is held

@@ -76,12 +76,12 @@ module _ {S D : Type 0} (turn : Turn S D) (waits : Wait S) where
       → AnsweredInOrder turn (message ∷ []) a b
   answered role message a b none h =
       record {
-        exchanges = record { message = message; words = h.0; told = h.1 } ∷ [];
-        frames = record { bytes = h.2; told = h.1 } ∷ [];
+        exchanges = record { message = message; words = h.0; reported = h.1 } ∷ [];
+        frames = record { bytes = h.2; reported = h.1 } ∷ [];
         turns = (b.session, h.3, refl);
         order = rw (h.5, none) refl;
         queued = h.6;
-        carried = inr (record { message = message; words = h.0; told = h.1 }, [], refl, (role, h.4), refl, refl);
+        carried = inr (record { message = message; words = h.0; reported = h.1 }, [], refl, (role, h.4), refl, refl);
       }
 
   -- the held message is answered
@@ -90,12 +90,12 @@ module _ {S D : Type 0} (turn : Turn S D) (waits : Wait S) where
   freed role None a b same h = (nothing turn a b h, ap (λ (x : Standing S D). x.held) h ∙ sym same)
   freed role (Some message) a b same h = (
     record {
-      exchanges = record { message = message; words = h.0; told = h.1 } ∷ [];
-      frames = record { bytes = h.2; told = h.1 } ∷ [];
+      exchanges = record { message = message; words = h.0; reported = h.1 } ∷ [];
+      frames = record { bytes = h.2; reported = h.1 } ∷ [];
       turns = (b.session, h.3, refl);
       order = rw (h.5, ← same) refl;
       queued = h.6;
-      carried = inr (record { message = message; words = h.0; told = h.1 }, [], refl, (role, h.4), refl, refl);
+      carried = inr (record { message = message; words = h.0; reported = h.1 }, [], refl, (role, h.4), refl, refl);
     },
     h.5,
   )

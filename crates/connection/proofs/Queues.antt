@@ -23,7 +23,7 @@ module _ {S D : Type 0} (turn : Turn S D) where
   answered_adds : (role : Role) (message : List ℕ) (a b : Standing S D) → Answered turn role message a b
       → length b.waiting ≡ length a.waiting + 1
   answered_adds role message a b h =
-      ap length h.6 ∙ length-append a.waiting (record { bytes = h.2; told = h.1 } ∷ [])
+      ap length h.6 ∙ length-append a.waiting (record { bytes = h.2; reported = h.1 } ∷ [])
 
   freed_adds : (role : Role) (held : Option (List ℕ)) (a b : Standing S D) → Freed turn role held a b
       → length b.waiting ≤ length a.waiting + 1

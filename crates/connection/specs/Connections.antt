@@ -41,16 +41,16 @@ abbrev pub stopped : {S D : Type 0} → ConnectionState S D → End → Connecti
 stopped before why = record before { input = []; ended = Some why; is_behind = false }
 
 -- the code of a close frame that says why
-abbrev pub code_of : Closing → CloseCode
-code_of closing.Away = code.Away
-code_of closing.Fault = code.Error
+abbrev pub close_code_of : Closing → CloseCode
+close_code_of closing.Away = code.Away
+close_code_of closing.Fault = code.Error
 
 -- A close frame with the code that says why stands behind the frames that wait, unless a close was
 -- sent or read, and the connection serves no more.
 abbrev pub Closes : {S D : Type 0} → Closing → ConnectionState S D → ConnectionState S D → Type 0
 Closes why before after =
     (frame : List ℕ)
-    × Leaves (close_step before.protocol (Some (code_of why, []))) after.protocol [] frame
+    × Leaves (close_step before.protocol (Some (close_code_of why, []))) after.protocol [] frame
     × (after ≡ record (stopped before (unwrap_or before.ended end.Closed)) {
       protocol = after.protocol;
       standing = queue before.standing (queued_reply frame);

@@ -35,14 +35,14 @@ abbrev pub AsksNoUpgrade : RequestHead → Type 0
 AsksNoUpgrade head = (accept_key : List ℕ) → ¬ (AsksUpgrade head accept_key)
 
 -- the start of a request for a page
-abbrev pub line_of : Page → List ℕ
-line_of Health = codes "GET /health HTTP/1."
-line_of Metrics = codes "GET /metrics HTTP/1."
+abbrev pub request_line_of : Page → List ℕ
+request_line_of Health = codes "GET /health HTTP/1."
+request_line_of Metrics = codes "GET /metrics HTTP/1."
 
 -- the bytes of a head with these fields ask for this page
 abbrev pub IsPageAsked : List ℕ → Fields → Page → Type 0
 IsPageAsked bytes fields page =
-    IsTrue (starts_with nat_eq bytes (line_of page))
+    IsTrue (starts_with nat_eq bytes (request_line_of page))
     × (header_value fields (codes "Upgrade") ≡ None)
 
 -- The bytes, which begin with this head, are the probe of a monitor.

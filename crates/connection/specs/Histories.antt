@@ -13,7 +13,7 @@ use Rattle.connection.specs.Talks.{Turn}
 pub record Exchange (D : Type 0) : Type 0 where
   pub message : List ℕ
   pub words : List ℕ
-  pub told : Option D
+  pub reported : Option D
 
 -- the text or binary message of a frame, if it gave one
 abbrev pub data_of : Option Content → List (List ℕ)
@@ -39,10 +39,10 @@ HasNoClose (p ∷ ps) = IfSome p.1.message (λ content. IsFalse (is_close conten
 abbrev pub Carries : {D : Type 0} → List (QueuedFrame D) → List (Exchange D) → Type 0
 Carries [] exchanges = exchanges ≡ []
 Carries {D} (frame ∷ frames) exchanges =
-    ((frame.told ≡ None) × Carries frames exchanges)
+    ((frame.reported ≡ None) × Carries frames exchanges)
     ⊎ ((one : Exchange D) × (others : List (Exchange D)) × (exchanges ≡ one ∷ others)
     × ((role : Role) × Sends role (Some (sent_text one.words)) [] frame.bytes)
-    × (frame.told ≡ one.told)
+    × (frame.reported ≡ one.reported)
     × Carries frames others)
 
 module _ {S D : Type 0} (turn : Turn S D) where
@@ -50,7 +50,7 @@ module _ {S D : Type 0} (turn : Turn S D) where
   abbrev pub Turns : S → List (Exchange D) → S → Type 0
   Turns before [] after = after ≡ before
   Turns before (one ∷ others) after =
-      (mid : S) × turn before mid one.message one.words one.told × Turns mid others after
+      (mid : S) × turn before mid one.message one.words one.reported × Turns mid others after
 
   -- The message that was held and those that came are those that were answered, by one turn each and
   -- in order, and at most one that is held now. The frames of the answers are in this order behind

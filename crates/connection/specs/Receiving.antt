@@ -6,7 +6,7 @@ use Rattle.websocket.specs.declared.protocol.frame.codec.FrameStatus.TheVariants
 use Rattle.connection.specs.declared.end.End.{End}
 use Rattle.connection.specs.declared.end.End.TheVariants as end
 use Rattle.connection.specs.Standing.{Standing}
-use Rattle.connection.specs.Serving.{Does, FailsDoing, IsPaused, MayServe, end_of}
+use Rattle.connection.specs.Serving.{Does, FailsDoing, IsPaused, MayServe, end_of_error}
 use Rattle.connection.specs.Talks.{Block, Fault, Turn, Wait}
 
 -- the frames of a run, each with the number of its bytes
@@ -28,7 +28,7 @@ Waits protocol input = (needed : ℕ) × (read_step protocol input ≡ Ok (Parti
 abbrev pub Refuses : Connection → List ℕ → End → Type 0
 Refuses protocol input why =
     (why ≡ end.NoMemory)
-    ⊎ ((e : Error) × (read_step protocol input ≡ Err e) × (why ≡ end_of e))
+    ⊎ ((e : Error) × (read_step protocol input ≡ Err e) × (why ≡ end_of_error e))
 
 -- Why no more frames were served: too much waits or a held message blocks, or what is left is no
 -- whole frame.

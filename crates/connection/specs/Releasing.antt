@@ -11,14 +11,14 @@ module _ {S D R : Type 0} (shows : R → D → Type 0) where
       (item : QueuedFrame D)
       × (before ≡ record after { waiting = item ∷ after.waiting })
       × (output' ≡ output ++ item.bytes)
-      × IfSome item.told (λ told. (receipt : R) × shows receipt told)
+      × IfSome item.reported (λ reported. (receipt : R) × shows receipt reported)
 
 -- no frame waits, or the first one reports something
-abbrev pub IsFirstUntold : {D : Type 0} → List (QueuedFrame D) → Type 0
-IsFirstUntold [] = Unit {0}
-IsFirstUntold (item ∷ rest) = IsSome item.told
+abbrev pub ReportsFirst : {D : Type 0} → List (QueuedFrame D) → Type 0
+ReportsFirst [] = Unit {0}
+ReportsFirst (item ∷ rest) = IsSome item.reported
 
 -- what the first frame reports will not be kept
 abbrev pub IsFirstLost : {D : Type 0} → (D → End → Type 0) → List (QueuedFrame D) → End → Type 0
 IsFirstLost lacks [] why = ⊥
-IsFirstLost lacks (item ∷ rest) why = IsSomeAnd item.told (λ told. lacks told why)
+IsFirstLost lacks (item ∷ rest) why = IsSomeAnd item.reported (λ reported. lacks reported why)

@@ -15,13 +15,13 @@ use Rattle.connection.specs.Standing.{QueuedFrame, Standing, waiting_len}
 use Rattle.connection.specs.Talks.{Block, Fault, Turn, Wait}
 
 -- why the connection ends at this error of the protocol
-abbrev pub end_of : Error → End
-end_of fault.ConnectionClosed = end.Closed
-end_of fault.OutOfMemory = end.NoMemory
-end_of fault.AlreadyClosed = end.Fault
-end_of (fault.Capacity _) = end.Fault
-end_of (fault.Protocol _) = end.Fault
-end_of fault.Utf8 = end.Fault
+abbrev pub end_of_error : Error → End
+end_of_error fault.ConnectionClosed = end.Closed
+end_of_error fault.OutOfMemory = end.NoMemory
+end_of_error fault.AlreadyClosed = end.Fault
+end_of_error (fault.Capacity _) = end.Fault
+end_of_error (fault.Protocol _) = end.Fault
+end_of_error fault.Utf8 = end.Fault
 
 -- ---- frames that wait
 
@@ -32,7 +32,7 @@ sent_text words = record { opcode = Op.Data Data.Text; payload = words }
 -- a reply of the protocol as it waits: it reports nothing
 abbrev pub queued_reply : {D : Type 0} → List ℕ → List (QueuedFrame D)
 queued_reply [] = []
-queued_reply (b ∷ bs) = record { bytes = b ∷ bs; told = None } ∷ []
+queued_reply (b ∷ bs) = record { bytes = b ∷ bs; reported = None } ∷ []
 
 -- more frames stand behind those that wait
 abbrev pub queue : {S D : Type 0} → Standing S D → List (QueuedFrame D) → Standing S D
@@ -66,7 +66,7 @@ MayServe blocks standing = HasRoom standing.waiting × ¬ IsBlocked blocks stand
 abbrev pub CannotSend : Connection → List ℕ → End → Type 0
 CannotSend protocol words why =
     (why ≡ end.NoMemory)
-    ⊎ ((e : Error) × (write_step protocol (text words) ≡ Err e) × (why ≡ end_of e))
+    ⊎ ((e : Error) × (write_step protocol (text words) ≡ Err e) × (why ≡ end_of_error e))
 
 -- ---- messages
 
@@ -86,11 +86,11 @@ module _ {S D : Type 0} (turn : Turn S D) where
   -- that waited.
   abbrev pub Answered : Role → List ℕ → Standing S D → Standing S D → Type 0
   Answered role message before after =
-      (words : List ℕ) × (told : Option D) × (frame : List ℕ)
-      × turn before.session after.session message words told
+      (words : List ℕ) × (reported : Option D) × (frame : List ℕ)
+      × turn before.session after.session message words reported
       × Sends role (Some (sent_text words)) [] frame
       × (after.held ≡ before.held)
-      × (after.waiting ≡ before.waiting ++ record { bytes = frame; told = told } ∷ [])
+      × (after.waiting ≡ before.waiting ++ record { bytes = frame; reported = reported } ∷ [])
 
   -- the message that was held, if there was one, was answered
   abbrev pub Freed : Role → Option (List ℕ) → Standing S D → Standing S D → Type 0
@@ -132,7 +132,7 @@ module _ {S D : Type 0} (turn : Turn S D) (fails : Fault S) where
   FailsAt protocol message why before after =
       (after.held ≡ None) × (after.waiting ≡ before.waiting)
       × (fails before.session after.session message why
-      ⊎ (((words : List ℕ) × (told : Option D) × turn before.session after.session message words told
+      ⊎ (((words : List ℕ) × (reported : Option D) × turn before.session after.session message words reported
       × CannotSend protocol words why)
       ⊎ ((why ≡ end.NoMemory) × (after.session ≡ before.session))))
 

@@ -6,7 +6,7 @@ use Rattle.connection.specs.declared.end.End.{End}
 -- a frame that waits to be sent: its bytes, and what it reports
 pub record QueuedFrame (D : Type 0) : Type 0 where
   pub bytes : List ℕ
-  pub told : Option D
+  pub reported : Option D
 
 -- the session of a client, the message that is held, and the frames that wait, in order
 pub record Standing (S D : Type 0) : Type 0 where

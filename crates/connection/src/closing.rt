@@ -1,7 +1,7 @@
 //! Why a server closes a connection.
 
 ghost use Rattle.std.specs.Prelude.{◌≡◌};
-ghost use Rattle.connection.specs.Connections.{code_of};
+ghost use Rattle.connection.specs.Connections.{close_code_of};
 
 use websocket::protocol::CloseCode;
 
@@ -15,8 +15,8 @@ pub enum Closing {
 }
 
 /// The code of the close frame.
-pub(crate) fn code_of(closing: Closing) -> CloseCode
-    ensures { result ≡ code_of closing }
+pub(crate) fn close_code_of(closing: Closing) -> CloseCode
+    ensures { result ≡ close_code_of closing }
 {
     match closing {
         Closing::Away => CloseCode::Away,

@@ -7,11 +7,11 @@ ghost use Rattle.connection.specs.declared.item.TheConstants.{MAX_LOAD};
 ghost use Rattle.connection.specs.Serving.{IsBlocked};
 ghost use Rattle.connection.specs.Connections.{AnswersHeld, Closes, FailsAnsweringHeld, Receives};
 ghost use Rattle.connection.specs.Connections.{StopsReceiving, opened, stopped};
-ghost use Rattle.connection.specs.Releasing.{IsFirstLost, IsFirstUntold, Released};
+ghost use Rattle.connection.specs.Releasing.{IsFirstLost, ReportsFirst, Released};
 ghost use Rattle.connection.specs.declared.end.End.{End};
 ghost use Rattle.connection.specs.declared.end.End.TheVariants as end;
 
-use crate::closing::{Closing, code_of};
+use crate::closing::{Closing, close_code_of};
 use crate::dialogue::Dialogue;
 use crate::end::End;
 use crate::input::Input;
@@ -85,7 +85,7 @@ impl<S, D: Drop> Connection<S, D> {
     }
 
     /// Returns whether a message is held that blocks: no later frame is served before it is answered.
-    pub fn is_blocked<T: Talk<Session = S, Told = D>>(&self, talk: &T) -> bool
+    pub fn is_blocked<T: Talk<Session = S, Reported = D>>(&self, talk: &T) -> bool
         ensures { IsTrue result ↔ IsBlocked (T.blocks talk.now) self.now.standing }
     {
         self.dialogue.is_blocked(talk)
@@ -130,7 +130,7 @@ impl<S, D: Drop> Connection<S, D> {
     /// # Errors
     /// Why the connection ends. What was answered before waits still. The connection then serves no
     /// more, and gives the same error again.
-    pub fn receive<T: Talk<Session = S, Told = D>>(
+    pub fn receive<T: Talk<Session = S, Reported = D>>(
         &mut self,
         talk: &T,
         scratch: &mut T::Scratch,
@@ -172,7 +172,7 @@ impl<S, D: Drop> Connection<S, D> {
     ///
     /// # Errors
     /// Why the connection ends. It then serves no more, and gives the same error again.
-    pub fn answer_held<T: Talk<Session = S, Told = D>>(
+    pub fn answer_held<T: Talk<Session = S, Reported = D>>(
         &mut self,
         talk: &T,
         scratch: &mut T::Scratch,
@@ -215,7 +215,7 @@ impl<S, D: Drop> Connection<S, D> {
     /// # Errors
     /// `NoMemory` if an allocation failed, and else why what it reports will not be kept. The frame
     /// waits still.
-    pub fn release_first<T: Talk<Session = S, Told = D>>(
+    pub fn release_first<T: Talk<Session = S, Reported = D>>(
         &mut self,
         talk: &T,
         output: &mut Vec<u8>,
@@ -224,7 +224,7 @@ impl<S, D: Drop> Connection<S, D> {
             output.old.items output.new.items }
         ensures stays { result ≢ Ok true → (self.new.standing ≡ self.old.standing)
             × (output.new.items ≡ output.old.items) }
-        ensures waits { result ≡ Ok false → IsFirstUntold self.old.standing.waiting }
+        ensures waits { result ≡ Ok false → ReportsFirst self.old.standing.waiting }
         ensures err { IfErr result (λ why. (why ≡ end.NoMemory)
             ⊎ IsFirstLost T.lacks self.old.standing.waiting why) }
         ensures others { self.new ≡ record self.old { standing = self.new.standing } }
@@ -247,7 +247,7 @@ impl<S, D: Drop> Connection<S, D> {
         self.stop(self.ended.unwrap_or(End::Closed));
         let mut frame = Vec::new(self.alloc);
         let close = CloseFrame {
-            code: code_of(closing),
+            code: close_code_of(closing),
             reason: "",
         };
         match self.context.close(Some(close), &mut frame, &mut NoMask) {

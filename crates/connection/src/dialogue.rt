@@ -8,7 +8,7 @@ ghost use Rattle.websocket.specs.declared.protocol.frame.codec.FrameStatus.TheVa
 ghost use Rattle.websocket.specs.Content.{HasValidText, IsReceivedInside, message_content};
 ghost use Rattle.websocket.specs.Content.{received_content};
 ghost use Rattle.connection.specs.Receiving.{EndsAt, Received, Stopped, Waits};
-ghost use Rattle.connection.specs.Releasing.{IsFirstLost, IsFirstUntold, Released};
+ghost use Rattle.connection.specs.Releasing.{IsFirstLost, ReportsFirst, Released};
 ghost use Rattle.connection.specs.Standing.{waiting_len};
 ghost use Rattle.connection.specs.declared.item.TheConstants.{MAX_LOAD, MAX_WAITING_LEN};
 ghost use Rattle.connection.specs.Serving.{CannotSend, Does, FailsAtHeld, FailsHearing};
@@ -16,7 +16,7 @@ ghost use Rattle.connection.specs.Serving.{FailsTaking, Freed, HasRoom, Heard, I
 ghost use Rattle.connection.specs.Serving.{IsBlocked, IsPaused, MayServe, Takes, queue, queued_reply, sent_text, unheld};
 ghost use Rattle.connection.specs.declared.end.End.TheVariants as end;
 
-use crate::end::{End, end_of};
+use crate::end::{End, end_of_error};
 use crate::input::Input;
 use crate::item::{Item, MAX_WAITING, MAX_WAITING_LEN};
 use crate::talk::{Answer, MAX_HELD_LEN, Talk};
@@ -93,13 +93,13 @@ impl<S, D: Drop> Dialogue<S, D> {
     ///
     /// # Errors
     /// `NoMemory` if an allocation failed. Nothing has changed.
-    fn push(&mut self, frame: Vec<u8>, told: Option<D>) -> Result<(), End>
+    fn push(&mut self, frame: Vec<u8>, reported: Option<D>) -> Result<(), End>
         ensures ok { OnOk result (self.new
-            ≡ queue self.old (record { bytes = frame.items; told = told } ∷ [])) }
+            ≡ queue self.old (record { bytes = frame.items; reported = reported } ∷ [])) }
         ensures err { OnErr result (self.new ≡ self.old) }
         ensures why { IfErr result (λ why. why ≡ end.NoMemory) }
     {
-        match self.waiting.push_back(Item { frame, told }) {
+        match self.waiting.push_back(Item { frame, reported }) {
             Ok(()) => Ok(()),
             Err(_) => Err(End::NoMemory),
         }
@@ -127,14 +127,14 @@ impl<S, D: Drop> Dialogue<S, D> {
     fn send(&mut self, context: &mut WebSocketContext, answer: Answer<D>) -> Result<(), End>
         ensures ok { OnOk result ((frame : List ℕ)
             × Sends context.old.role (Some (sent_text (string_bytes answer.text))) [] frame
-            × (self.new ≡ queue self.old (record { bytes = frame; told = answer.told } ∷ []))) }
+            × (self.new ≡ queue self.old (record { bytes = frame; reported = answer.reported } ∷ []))) }
         ensures context { context.new ≡ context.old }
         ensures err { OnErr result (self.new ≡ self.old) }
         ensures why { IfErr result (CannotSend context.old (string_bytes answer.text)) }
     {
-        let Answer { text, told } = answer;
+        let Answer { text, reported } = answer;
         let frame = frame_of(self.alloc, context, &text)?;
-        self.push(frame, told)
+        self.push(frame, reported)
     }
 
     /// Has the held message heard again, if there is one. With `may_hold` it may stay held;
@@ -142,7 +142,7 @@ impl<S, D: Drop> Dialogue<S, D> {
     ///
     /// # Errors
     /// Why the connection ends.
-    pub(crate) fn answer_held<T: Talk<Session = S, Told = D>>(
+    pub(crate) fn answer_held<T: Talk<Session = S, Reported = D>>(
         &mut self,
         context: &mut WebSocketContext,
         talk: &T,
@@ -190,7 +190,7 @@ impl<S, D: Drop> Dialogue<S, D> {
     ///
     /// # Errors
     /// Why the connection ends.
-    fn hear<T: Talk<Session = S, Told = D>>(
+    fn hear<T: Talk<Session = S, Reported = D>>(
         &mut self,
         context: &mut WebSocketContext,
         talk: &T,
@@ -216,7 +216,7 @@ impl<S, D: Drop> Dialogue<S, D> {
     ///
     /// # Errors
     /// Why the connection ends.
-    fn take<T: Talk<Session = S, Told = D>>(
+    fn take<T: Talk<Session = S, Reported = D>>(
         &mut self,
         context: &mut WebSocketContext,
         talk: &T,
@@ -244,7 +244,7 @@ impl<S, D: Drop> Dialogue<S, D> {
     ///
     /// # Errors
     /// Why the connection ends.
-    fn take_given<T: Talk<Session = S, Told = D>>(
+    fn take_given<T: Talk<Session = S, Reported = D>>(
         &mut self,
         context: &mut WebSocketContext,
         talk: &T,
@@ -272,7 +272,7 @@ impl<S, D: Drop> Dialogue<S, D> {
     ///
     /// # Errors
     /// Why the connection ends.
-    pub(crate) fn serve_frame<T: Talk<Session = S, Told = D>>(
+    pub(crate) fn serve_frame<T: Talk<Session = S, Reported = D>>(
         &mut self,
         context: &mut WebSocketContext,
         talk: &T,
@@ -292,7 +292,7 @@ impl<S, D: Drop> Dialogue<S, D> {
         let step = match input.read(context, &mut reply) {
             Ok(FrameStatus::Complete(step)) => step,
             Ok(FrameStatus::Partial(_)) => return Ok(false),
-            Err(fault) => return Err(end_of(&fault)),
+            Err(fault) => return Err(end_of_error(&fault)),
         };
         let taken = step.consumed;
         let given = Given {
@@ -310,7 +310,7 @@ impl<S, D: Drop> Dialogue<S, D> {
     ///
     /// # Errors
     /// Why the connection ends.
-    pub(crate) fn serve<T: Talk<Session = S, Told = D>>(
+    pub(crate) fn serve<T: Talk<Session = S, Reported = D>>(
         &mut self,
         context: &mut WebSocketContext,
         talk: &T,
@@ -337,7 +337,7 @@ impl<S, D: Drop> Dialogue<S, D> {
     ///
     /// # Errors
     /// Why the connection ends. Nothing has changed.
-    pub(crate) fn release_first<T: Talk<Session = S, Told = D>>(
+    pub(crate) fn release_first<T: Talk<Session = S, Reported = D>>(
         &mut self,
         talk: &T,
         output: &mut Vec<u8>,
@@ -346,7 +346,7 @@ impl<S, D: Drop> Dialogue<S, D> {
             output.new.items }
         ensures stays { result ≢ Ok true → (self.new ≡ self.old)
             × (output.new.items ≡ output.old.items) }
-        ensures waits { result ≡ Ok false → IsFirstUntold self.old.waiting }
+        ensures waits { result ≡ Ok false → ReportsFirst self.old.waiting }
         ensures err { IfErr result (λ why. (why ≡ end.NoMemory)
             ⊎ IsFirstLost T.lacks self.old.waiting why) }
     {
@@ -391,14 +391,14 @@ impl<S, D: Drop> Dialogue<S, D> {
     }
 
     /// Returns whether a message is held that blocks: no later frame is served before it is answered.
-    pub(crate) fn is_blocked<T: Talk<Session = S, Told = D>>(&self, talk: &T) -> bool
+    pub(crate) fn is_blocked<T: Talk<Session = S, Reported = D>>(&self, talk: &T) -> bool
         ensures { IsTrue result ↔ IsBlocked (T.blocks talk.now) self.now }
     {
         self.held.is_some() && talk.is_blocked(&self.session)
     }
 
     /// Returns whether no frame is served for now: too much waits, or the held message blocks.
-    fn is_paused<T: Talk<Session = S, Told = D>>(&self, talk: &T) -> bool
+    fn is_paused<T: Talk<Session = S, Reported = D>>(&self, talk: &T) -> bool
         ensures paused { result ≡ true → IsPaused (T.blocks talk.now) self.now }
         ensures serves { result ≡ false → MayServe (T.blocks talk.now) self.now }
     {
@@ -435,16 +435,17 @@ fn waiting_len<D>(waiting: &VecDeque<Item<D>>, most: usize) -> usize
 ///
 /// # Errors
 /// Why it will not be kept.
-fn is_kept<T: Talk>(talk: &T, item: &Item<T::Told>) -> Result<bool, End>
-    ensures yes { result ≡ Ok true → IfSome item.now.told (λ told. (receipt : T.Receipt)
-        × T.shows receipt told) }
-    ensures no { result ≡ Ok false → item.now.told ≢ None }
-    ensures err { IfErr result (λ why. IsSomeAnd item.now.told (λ told. T.lacks told why)) }
+fn is_kept<T: Talk>(talk: &T, item: &Item<T::Reported>) -> Result<bool, End>
+    ensures yes { result ≡ Ok true → IfSome item.now.reported (λ reported. (receipt : T.Receipt)
+        × T.shows receipt reported) }
+    ensures no { result ≡ Ok false → item.now.reported ≢ None }
+    ensures err { IfErr result (λ why.
+        IsSomeAnd item.now.reported (λ reported. T.lacks reported why)) }
 {
-    let Some(told) = &item.told else {
+    let Some(reported) = &item.reported else {
         return Ok(true);
     };
-    match talk.receipt(told) {
+    match talk.receipt(reported) {
         Ok(Some(_receipt)) => Ok(true),
         Ok(None) => Ok(false),
         Err(end) => Err(end),
@@ -462,6 +463,6 @@ fn frame_of(alloc: Global, context: &mut WebSocketContext, text: &str) -> Result
     let mut frame = Vec::new(alloc);
     match context.write(Message::Text(text), &mut frame, &mut NoMask) {
         Ok(()) => Ok(frame),
-        Err(fault) => Err(end_of(&fault)),
+        Err(fault) => Err(end_of_error(&fault)),
     }
 }

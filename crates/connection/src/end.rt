@@ -1,7 +1,7 @@
 //! Why a connection ends.
 
 ghost use Rattle.std.specs.Prelude.{◌≡◌};
-ghost use Rattle.connection.specs.Serving.{end_of};
+ghost use Rattle.connection.specs.Serving.{end_of_error};
 
 use thiserror::Error;
 use websocket::error::Error as ProtocolFault;
@@ -27,8 +27,8 @@ pub enum End {
 }
 
 /// Why the connection ends at an error of the protocol.
-pub(crate) fn end_of(fault: &ProtocolFault) -> End
-    ensures { result ≡ end_of fault.now }
+pub(crate) fn end_of_error(fault: &ProtocolFault) -> End
+    ensures { result ≡ end_of_error fault.now }
 {
     match fault {
         ProtocolFault::ConnectionClosed => End::Closed,

@@ -5,7 +5,7 @@ ghost use Rattle.std.specs.Prelude.{is_some, length, option_map, string_bytes, t
 ghost use Rattle.httparse.specs.Spans.{IsHeaderWithin, IsRequestOf, IsRequestWithin};
 ghost use Rattle.websocket.specs.Handshake.{response_bytes};
 ghost use Rattle.websocket.specs.Headers.{eq_ignore_case, fields_of, header_value};
-ghost use Rattle.connection.specs.Heads.{Asks, IsPageAsked, health_answer, line_of};
+ghost use Rattle.connection.specs.Heads.{Asks, IsPageAsked, health_answer, request_line_of};
 ghost use Rattle.connection.specs.Heads.{metrics_answer, page_response};
 ghost use Rattle.connection.specs.declared.head.Page.{Page};
 ghost use Rattle.connection.specs.declared.head.TheConstants.{MAX_HEAD_LEN};
@@ -37,7 +37,7 @@ pub enum Page {
 impl Page {
     /// The start of a request for the page.
     fn line(self) -> &'static str
-        ensures { result.now ≡ line_of self }
+        ensures { result.now ≡ request_line_of self }
     {
         match self {
             Page::Health => "GET /health HTTP/1.",

@@ -68,13 +68,16 @@ impl Input {
         context: &mut WebSocketContext,
         reply: &mut Vec<u8>,
     ) -> Result<FrameStatus<Step>, Error>
+        // The protocol's step, and what it leaves:
         ensures returns { IfOk result (Returns (read_step context.old self.old) self.new) }
         ensures leaves { OnOk result (ReadLeaves (read_step context.old self.old) context.old
             context.new reply.old.items reply.new.items) }
+        // Of the bytes here:
         ensures len { length self.new ≡ length self.old }
         ensures keeps_rest { IfOk result (λ status. KeepsRest status self.old self.new) }
         ensures inside { IfOk result (λ status. IfMessage status (IsReceivedInside self.new)) }
         ensures valid_text { IfReceived result self.new HasValidText }
+        // When it fails:
         ensures err { IfErr result (GivesError (read_step context.old self.old)) }
         ensures err_state { OnErr result (context.new ≡ failed_connection context.old) }
     {

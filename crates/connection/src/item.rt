@@ -19,7 +19,7 @@ pub(crate) struct Item<D> {
     /// The bytes of the frame.
     pub(crate) frame: Vec<u8>,
     /// What it reports.
-    pub(crate) told: Option<D>,
+    pub(crate) reported: Option<D>,
 }
 
 impl<D> Model for Item<D> {
@@ -27,7 +27,7 @@ impl<D> Model for Item<D> {
 
     ghost Value = { QueuedFrame D };
 
-    ghost view = { λ i. record { bytes = i.frame.items; told = i.told } };
+    ghost view = { λ i. record { bytes = i.frame.items; reported = i.reported } };
 }
 
 impl<D> Item<D> {

@@ -13,7 +13,7 @@ use crate::talk::Talk;
 /// once.
 #[tactic(auto, using(crate::proofs::Pieces::both))]
 pub fn bytes_come_in_any_pieces<T: Talk>()
-    ensures { (talk : T) (before mid after : ConnectionState T.Session T.Told)
+    ensures { (talk : T) (before mid after : ConnectionState T.Session T.Reported)
         (first second : List ℕ) →
         Receives (T.turn talk) (T.waits talk) (T.blocks talk) before first mid →
         Receives (T.turn talk) (T.waits talk) (T.blocks talk) mid second after →
@@ -24,7 +24,7 @@ pub fn bytes_come_in_any_pieces<T: Talk>()
 /// the messages are those that were answered, by one turn of the session each, and at most one that
 /// is held.
 pub fn messages_are_answered_in_order<T: Talk>()
-    ensures { (talk : T) (before after : ConnectionState T.Session T.Told) (bytes : List ℕ)
+    ensures { (talk : T) (before after : ConnectionState T.Session T.Reported) (bytes : List ℕ)
         (r : Receives (T.turn talk) (T.waits talk) (T.blocks talk) before bytes after) →
         HasNoClose r.received.frames →
         AnsweredInOrder (T.turn talk) (messages r.received.frames) before.standing after.standing }
@@ -32,7 +32,7 @@ pub fn messages_are_answered_in_order<T: Talk>()
 
 /// While a message is held that blocks, nothing is served: the bytes that come are kept for later.
 pub fn blocked_session_is_not_served<T: Talk>()
-    ensures { (talk : T) (before after : ConnectionState T.Session T.Told) (bytes : List ℕ) →
+    ensures { (talk : T) (before after : ConnectionState T.Session T.Reported) (bytes : List ℕ) →
         Receives (T.turn talk) (T.waits talk) (T.blocks talk) before bytes after →
         IsBlocked (T.blocks talk) before.standing →
         (after.standing ≡ before.standing) × (after.input ≡ before.input ++ bytes) }
@@ -41,7 +41,7 @@ pub fn blocked_session_is_not_served<T: Talk>()
 /// No more than `MAX_WAITING + 2` frames wait, whatever comes: the last frame that is served can add
 /// the answer of a held message, that of its own, and a reply of the protocol.
 pub fn few_frames_wait<T: Talk>()
-    ensures { (talk : T) (before after : ConnectionState T.Session T.Told) (bytes : List ℕ) →
+    ensures { (talk : T) (before after : ConnectionState T.Session T.Reported) (bytes : List ℕ) →
         Receives (T.turn talk) (T.waits talk) (T.blocks talk) before bytes after →
         length before.standing.waiting ≤ MAX_WAITING + 2 →
         length after.standing.waiting ≤ MAX_WAITING + 2 }

@@ -13,7 +13,7 @@ pub struct Answer<D> {
     /// The text.
     pub text: String,
     /// What the text reports. The text may be sent once that is kept.
-    pub told: Option<D>,
+    pub reported: Option<D>,
 }
 
 /// Answers the messages of sessions. One value serves all connections; it is only read.
@@ -25,7 +25,7 @@ pub trait Talk {
     type Session;
 
     /// What an answer reports.
-    type Told: Drop;
+    type Reported: Drop;
 
     /// The proof at run time that something is kept.
     type Receipt: Drop;
@@ -35,7 +35,7 @@ pub trait Talk {
 
     /// One message is answered: the session before and after it, its bytes, the bytes of the
     /// answer's text, and what the text reports.
-    ghost turn: { Self → Self.Session → Self.Session → List ℕ → List ℕ → Option Self.Told → Type 0 };
+    ghost turn: { Self → Self.Session → Self.Session → List ℕ → List ℕ → Option Self.Reported → Type 0 };
 
     /// This message of the session may be held.
     ghost waits: { Self → Self.Session → List ℕ → Type 0 };
@@ -47,10 +47,10 @@ pub trait Talk {
     ghost fails: { Self → Self.Session → Self.Session → List ℕ → End → Type 0 };
 
     /// The receipt shows that this is kept.
-    ghost shows: { Self.Receipt → Self.Told → Type 0 };
+    ghost shows: { Self.Receipt → Self.Reported → Type 0 };
 
     /// This may be why something is not kept.
-    ghost lacks: { Self.Told → End → Type 0 };
+    ghost lacks: { Self.Reported → End → Type 0 };
 
     /// Answers a message. `Ok(None)` if it may wait, which is never without `may_hold`; then
     /// nothing has changed.
@@ -63,9 +63,9 @@ pub trait Talk {
         scratch: &mut Self::Scratch,
         bytes: &[u8],
         may_hold: bool,
-    ) -> Result<Option<Answer<Self::Told>>, End>
+    ) -> Result<Option<Answer<Self::Reported>>, End>
         ensures answered { IfOk result (λ found. IfSome found (λ answer. Self.turn self.now
-            session.old session.new bytes.now (string_bytes answer.text) answer.told)) }
+            session.old session.new bytes.now (string_bytes answer.text) answer.reported)) }
         ensures held { result ≡ Ok None → (may_hold ≡ true) × (session.new ≡ session.old)
             × Self.waits self.now session.old bytes.now }
         ensures failed { IfErr result (λ end. Self.fails self.now session.old session.new
@@ -79,7 +79,8 @@ pub trait Talk {
     ///
     /// # Errors
     /// Why it will not be kept.
-    fn receipt(&self, told: &Self::Told) -> Result<Option<Self::Receipt>, End>
-        ensures found { IfOk result (λ found. IfSome found (λ receipt. Self.shows receipt told.now)) }
-        ensures failed { IfErr result (λ end. Self.lacks told.now end) };
+    fn receipt(&self, reported: &Self::Reported) -> Result<Option<Self::Receipt>, End>
+        ensures found { IfOk result (λ found. IfSome found (λ receipt.
+            Self.shows receipt reported.now)) }
+        ensures failed { IfErr result (λ end. Self.lacks reported.now end) };
 }

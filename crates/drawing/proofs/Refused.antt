@@ -16,12 +16,12 @@ use Rattle.rules.specs.Records.{operations, objects, creation_conditions, change
 use Rattle.shape.specs.steps.Objects.{IsNextChange, Stored, change_refusal, shown_ids, with_change}
 use Rattle.shape.specs.declared.fault.ChangeFault.{ChangeFault}
 use Rattle.shape.specs.declared.fault.ChangeFault.TheVariants as change_fault
-use Rattle.shape.specs.steps.Faults.{IsRefusal as IsChangeRefusal}
+use Rattle.shape.specs.steps.Faults.{IsChangeRefusal}
 use Rattle.shape.proofs.Refusals.{passed}
 use Rattle.drawing.specs.steps.Additions.{IsNext, body_refusal}
 use Rattle.drawing.specs.Shown.{ids_with}
 use Rattle.drawing.specs.steps.Drawing.{IsReplay}
-use Rattle.drawing.specs.steps.Faults.{IsRefusal, of_change}
+use Rattle.drawing.specs.steps.Faults.{IsAddRefusal, of_change}
 use Rattle.drawing.specs.Room.{Room}
 use Rattle.drawing.proofs.AtObject.{ids_with_change, may_be_planned, refused_by_object}
 use Rattle.drawing.proofs.Lookup.{has_object_by_name, has_shape}
@@ -73,7 +73,7 @@ module _ (room : Room) (o : Op) where
           ids_are = ids_with_change room.limits room.entries shapes replay.shapes_are o change d there replay.sound.history replay.sound.ordered next.ready next.vector
 
 -- a refusal of an object is that refusal of the drawing
-pub refused_alike : (refusal : Option Refusal) (fault : ChangeFault) → IsChangeRefusal refusal fault → IsRefusal refusal (of_change fault)
+pub refused_alike : (refusal : Option Refusal) (fault : ChangeFault) → IsChangeRefusal refusal fault → IsAddRefusal refusal (of_change fault)
 refused_alike refusal change_fault.NoSuchVersion is n = is (λ e. cc)
 refused_alike refusal change_fault.Gone is n = is (λ e. cc)
 refused_alike refusal change_fault.ObjectFull is n = is (λ e. cc)

@@ -2,7 +2,7 @@
 use Rattle.std.specs.Prelude.{List, [], ◌∷◌, ◌++◌, Option, Some, None, map}
 use Rattle.base_types.specs.Names.{Name}
 use Rattle.base_types.specs.Texts.{Bytes}
-use Rattle.rules.specs.Bodies.{kind_in}
+use Rattle.rules.specs.Bodies.{kind_of_body}
 use Rattle.rules.specs.Records.{objects}
 use Rattle.rules.specs.declared.limits.LimitValues.{LimitValues}
 use Rattle.rules.specs.Limits.{full_limits}
@@ -32,4 +32,4 @@ full_room entries = record { limits = full_limits; entries = entries }
 
 -- the objects of a record with their kinds, in order of creation
 abbrev pub all_objects : List Entry → List (Name × Bytes)
-all_objects r = map (λ op. (op.name, kind_in op.body)) (objects r)
+all_objects r = map (λ op. (op.name, kind_of_body op.body)) (objects r)

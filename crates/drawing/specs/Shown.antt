@@ -4,7 +4,7 @@ use Rattle.base_types.specs.Names.{Name}
 use Rattle.rules.specs.declared.history.Entry.{Entry}
 use Rattle.rules.specs.declared.history.Op.{Op}
 use Rattle.rules.specs.declared.refusal.Refusal.TheVariants.{NoSuchObject}
-use Rattle.rules.specs.Bodies.{kind_in}
+use Rattle.rules.specs.Bodies.{kind_of_body}
 use Rattle.rules.specs.Operations.{creation_of, object_of}
 use Rattle.rules.specs.Records.{operations}
 use Rattle.rules.specs.Versions.{versions}
@@ -16,7 +16,7 @@ use Rattle.drawing.specs.Room.{Room}
 abbrev pub shown_by : List Entry → Name → Option Op → Reply
 shown_by r name None = No (length r) NoSuchObject
 shown_by r name (Some op) =
-    Versions (length r) name (kind_in op.body) (versions (operations r) name)
+    Versions (length r) name (kind_of_body op.body) (versions (operations r) name)
 
 -- the versions of the object of a name
 abbrev pub shown : List Entry → Name → Reply

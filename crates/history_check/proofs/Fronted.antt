@@ -15,7 +15,7 @@ use Rattle.transcript.specs.steps.OrderedParts.{OrderedPartView, EndsBefore, IsO
 use Rattle.history_check.specs.declared.findings.Fault.{Fault}
 use Rattle.history_check.specs.declared.findings.Fault.TheVariants.{NotJoined, WrongReply}
 use Rattle.history_check.specs.steps.Findings.{IsFinding, IsFirstFault}
-use Rattle.history_check.specs.Transcripts.{room_at, may_ask, IsAnswered, IsTrueTranscript}
+use Rattle.history_check.specs.Transcripts.{room_at_line, may_ask, IsAnswered, IsTrueTranscript}
 use Rattle.history_check.specs.Verdicts.{AreTranscript, FailsAt, IsBadLine, IsWrongLine}
 use Rattle.restore.proofs.Lengths.{same_length}
 use Rattle.history_check.proofs.Parts.{split_lines, IsLineSplit}
@@ -111,7 +111,7 @@ module _ (r : List Entry) (file : List (List ℕ)) (front : OrderedPartView) (f 
     pub not_joined : IsFinding r line (Some NotJoined) → FailsAt r file (place + 1) (IsBadLine r)
     not_joined finding = fails_there (IsBadLine r) (λ bytes read other read_so follows.
         let same : line ≡ other = same_Some line other (sym read ∙ read_so) in
-        true≢false (sym follows.joined ∙ ap (λ (l : TranscriptLine). may_ask (room_at r l) l) (sym same) ∙ finding))
+        true≢false (sym follows.joined ∙ ap (λ (l : TranscriptLine). may_ask (room_at_line r l) l) (sym same) ∙ finding))
 
     pub wrong_reply : IsFinding r line (Some WrongReply) → FailsAt r file (place + 1) (IsWrongLine r)
     wrong_reply finding = fails_there (IsWrongLine r) (λ bytes read. record {

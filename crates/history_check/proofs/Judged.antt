@@ -15,7 +15,7 @@ use Rattle.wire.specs.Replies.{at_of}
 use Rattle.history_check.specs.declared.findings.Fault.{Fault}
 use Rattle.history_check.specs.steps.Findings.{IsFinding, AreFindings}
 use Rattle.history_check.specs.steps.Replays.{AreByTime, IsRoomOfPrefix, timed_from}
-use Rattle.history_check.specs.Transcripts.{room_at}
+use Rattle.history_check.specs.Transcripts.{room_at_line}
 use Rattle.history_check.proofs.Timed.{in_time}
 
 -- what was found of the line in this place
@@ -60,7 +60,7 @@ set_judged r lines findings place other line found size at is old l there = elim
 -- the next line is judged in the room as it was
 pub judged_more : (r : List Entry) (lines : List TranscriptLine) (order : List (ℕ × ℕ)) (k : ℕ) (findings : List (Option Fault)) (old new : Room) (line : TranscriptLine) (found : Option Fault)
     → HasJudged r lines order k findings old → AreByTime lines order → k < length order
-    → slice_get lines (get_or order k (0, 0)).1 ≡ Some line → at_of line.reply ≤ length r → new ≡ room_at r line → IsFinding r line found
+    → slice_get lines (get_or order k (0, 0)).1 ≡ Some line → at_of line.reply ≤ length r → new ≡ room_at_line r line → IsFinding r line found
     → HasJudged r lines order (k + 1) (slice_set findings (get_or order k (0, 0)).1 found) new
 unfolding IsJudged
 judged_more r lines order k findings old new line found h time inside at within room is =

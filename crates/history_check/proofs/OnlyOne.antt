@@ -12,7 +12,7 @@ use Rattle.rules.proofs.Records.{admitted_at}
 use Rattle.wire.specs.Lines.{lines_of}
 use Rattle.wire_reader.specs.steps.Reads.{entry_read}
 use Rattle.transcript.specs.declared.line.TranscriptLine.{TranscriptLine}
-use Rattle.transcript.specs.Lines.{is_join}
+use Rattle.transcript.specs.Lines.{is_join_request}
 use Rattle.transcript.specs.steps.Reads.{line_read}
 use Rattle.transcript.specs.Order.{IsInOrder}
 use Rattle.history_check.specs.declared.verdict.Verdict.{Verdict}
@@ -89,7 +89,7 @@ module _ (r : List Entry) where
       let this : IsTrueLine r line = all_at (IsTrueLine r) before line later h.each in (
         record {
           next = record { within = this.within; order = all_before IsInOrder before line later h.order };
-          joined = asker_may (is_join line.request) _ _ this.answered.asker;
+          joined = asker_may (is_join_request line.request) _ _ this.answered.asker;
         },
         this.answered,
       )

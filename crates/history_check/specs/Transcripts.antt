@@ -9,13 +9,13 @@ use Rattle.room_core.specs.Answers.{Outcome, answer, back_reply, join_answer, ha
 use Rattle.wire.specs.declared.request.Request.{Request}
 use Rattle.wire.specs.declared.request.Request.TheVariants.{Join, Back}
 use Rattle.transcript.specs.declared.line.TranscriptLine.{TranscriptLine}
-use Rattle.transcript.specs.Lines.{is_join}
+use Rattle.transcript.specs.Lines.{is_join_request}
 use Rattle.wire.specs.Replies.{at_of, adds}
 use Rattle.transcript.specs.Order.{IsInOrder, IsNext}
 
 -- the room as it was at a line: the first entries of the record
-abbrev pub room_at : List Entry → TranscriptLine → Room
-room_at r line = full_room (take (at_of line.reply) r)
+abbrev pub room_at_line : List Entry → TranscriptLine → Room
+room_at_line r line = full_room (take (at_of line.reply) r)
 
 -- The answer of the rules to a site's request, and the entry that it adds, if any. No session is in
 -- as a site that comes back.
@@ -31,11 +31,11 @@ due room line = due_to room line.site line.request
 -- a join is made by the next site, any other request by a site that has joined
 abbrev pub has_asker : Room → TranscriptLine → Bool
 has_asker room line =
-    if is_join line.request then line.site == sites room.entries + 1 else has_site room line.site
+    if is_join_request line.request then line.site == sites room.entries + 1 else has_site room line.site
 
 -- the line is a join, or its site has joined
 abbrev pub may_ask : Room → TranscriptLine → Bool
-may_ask room line = if is_join line.request then true else has_site room line.site
+may_ask room line = if is_join_request line.request then true else has_site room line.site
 
 -- The line's reply is that of this outcome. If it reports an entry, the record has the entry at the
 -- line's AT.
@@ -45,8 +45,8 @@ pub record IsGiven (r : List Entry) (outcome : Outcome) (line : TranscriptLine) 
 
 -- the right site asks, and is answered as the rules say
 pub record IsAnswered (r : List Entry) (line : TranscriptLine) : Type 0 where
-  pub asker : has_asker (room_at r line) line ≡ true
-  pub given : IsGiven r (due (room_at r line) line) line
+  pub asker : has_asker (room_at_line r line) line ≡ true
+  pub given : IsGiven r (due (room_at_line r line) line) line
 
 -- the line's AT is within the record, and the line is answered so
 pub record IsTrueLine (r : List Entry) (line : TranscriptLine) : Type 0 where
@@ -62,4 +62,4 @@ pub record IsTrueTranscript (r : List Entry) (lines : List TranscriptLine) : Typ
 pub record MayFollow
     (r : List Entry) (before : List TranscriptLine) (line : TranscriptLine) : Type 0 where
   pub next : IsNext (length r) before line
-  pub joined : may_ask (room_at r line) line ≡ true
+  pub joined : may_ask (room_at_line r line) line ≡ true

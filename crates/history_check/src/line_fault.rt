@@ -5,7 +5,7 @@ ghost use Rattle.std.specs.Arc.{arc_value};
 ghost use Rattle.room_core.specs.steps.Plans.{Plans, outcome};
 ghost use Rattle.wire.specs.Replies.{adds, at_of};
 ghost use Rattle.history_check.specs.steps.Findings.{IsFinding};
-ghost use Rattle.history_check.specs.Transcripts.{IsGiven, due, has_asker, may_ask, room_at};
+ghost use Rattle.history_check.specs.Transcripts.{IsGiven, due, has_asker, may_ask, room_at_line};
 
 use crate::findings::Fault;
 use base_types::NoMemory;
@@ -13,21 +13,21 @@ use room_core::{Planned, RoomState};
 use rules::Entry;
 use std::alloc::Global;
 use std::sync::Arc;
-use transcript::{TranscriptLine, is_join};
+use transcript::{TranscriptLine, is_join_request};
 use wire::Request;
 
 /// Returns whether the line is a join, or its site has joined.
 fn may_ask(room: &RoomState, line: &TranscriptLine) -> bool
     ensures { result ≡ may_ask room.now.room line.now }
 {
-    is_join(&line.request) || (line.site >= 1 && line.site <= room.sites())
+    is_join_request(&line.request) || (line.site >= 1 && line.site <= room.sites())
 }
 
 /// Returns whether a join names the next site, and any other request a site that has joined.
 fn has_asker(room: &RoomState, line: &TranscriptLine) -> bool
     ensures { result ≡ has_asker room.now.room line.now }
 {
-    if is_join(&line.request) {
+    if is_join_request(&line.request) {
         line.site == room.sites() + 1
     } else {
         line.site >= 1 && line.site <= room.sites()
@@ -82,7 +82,7 @@ pub(crate) fn fault_of(
     entries: &[Arc<Entry>],
     line: &TranscriptLine,
 ) -> Result<Option<Fault>, NoMemory>
-    requires { room.old.room ≡ room_at (map arc_value entries.now) line.now }
+    requires { room.old.room ≡ room_at_line (map arc_value entries.now) line.now }
     ensures finding { IfOk result (IsFinding (map arc_value entries.now) line.now) }
     ensures room { room.new.room ≡ room.old.room }
 {

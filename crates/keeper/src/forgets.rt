@@ -24,15 +24,15 @@ impl<P: RoomHistories> Keeper<P> for Forgets {
 
     type Permit = ();
 
-    ghost shows = { λ _ told. Unit {0} };
+    ghost shows = { λ _ reported. Unit {0} };
 
     ghost permits = { λ _ number. Unit {0} };
 
-    ghost fails = { λ _ told. ⊥ };
+    ghost fails = { λ _ reported. ⊥ };
 
     ghost denies = { λ number. ⊥ };
 
-    fn receipt(&self, _rt: &impl Wait, _told: &Prefix<P>) -> Result<Option<()>, KeepFault> {
+    fn receipt(&self, _rt: &impl Wait, _reported: &Prefix<P>) -> Result<Option<()>, KeepFault> {
         Ok(Some(()))
     }
 

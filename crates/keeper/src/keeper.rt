@@ -67,9 +67,13 @@ pub trait Keeper<P: RoomHistories> {
     /// # Errors
     /// `NotKept` if the prefix is not kept, and the last attempt to keep the room's record failed.
     /// `NoMemory` if that attempt failed for want of memory.
-    fn receipt(&self, rt: &impl Wait, told: &Prefix<P>) -> Result<Option<Self::Receipt>, KeepFault>
-        ensures kept { IfOk result (λ found. IfSome found (λ receipt. shows receipt told.now)) }
-        ensures fault { IfErr result (λ fault. fails fault told.now) };
+    fn receipt(
+        &self,
+        rt: &impl Wait,
+        reported: &Prefix<P>,
+    ) -> Result<Option<Self::Receipt>, KeepFault>
+        ensures kept { IfOk result (λ found. IfSome found (λ receipt. shows receipt reported.now)) }
+        ensures fault { IfErr result (λ fault. fails fault reported.now) };
 
     /// Opens the room of this name on demand, or gives its opening if it is open by now. Never
     /// waits for a disk: where the room has a file, a thread of the keeper opens it. Who asks again

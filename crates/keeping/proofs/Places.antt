@@ -6,7 +6,7 @@ use Rattle.base_types.specs.Texts.{Bytes}
 use Rattle.rules.specs.declared.history.Entry.{Entry}
 use Rattle.restore.specs.steps.Files.{FileView}
 use Rattle.room_lock.specs.Passes.{PrefixView}
-use Rattle.room_lock.specs.InOrder.{name_of, openings_of}
+use Rattle.room_lock.specs.InOrder.{opening_name, openings_of}
 
 abbrev pub entries_in : PrefixView → List Entry
 entries_in begun = begun.entries
@@ -14,14 +14,14 @@ entries_in begun = begun.entries
 -- these files stand before this one, whose room begins so
 pub record IsNext (yielded : List FileView) (file : FileView) (begun : List PrefixView) : Type 0 where
   pub within : length yielded < length begun
-  pub name : (d : PrefixView) → name_of (get_or begun (length yielded) d).opening ≡ file.name
+  pub name : (d : PrefixView) → opening_name (get_or begun (length yielded) d).opening ≡ file.name
   pub entries : (d : PrefixView) → (get_or begun (length yielded) d).entries ≡ file.entries
 
 pub length-files : (files : List FileView) (begun : List PrefixView) → map entries_in begun ≡ map (λ (f : FileView). f.entries) files → length begun ≡ length files
 length-files files begun begins = sym (length-map begun entries_in) ∙ ap length begins ∙ length-map files (λ (f : FileView). f.entries)
 
 pub next_file : (files yielded rest : List FileView) (file : FileView) (begun : List PrefixView)
-    → map name_of (openings_of begun) ≡ map (λ (f : FileView). f.name) files → map entries_in begun ≡ map (λ (f : FileView). f.entries) files
+    → map opening_name (openings_of begun) ≡ map (λ (f : FileView). f.name) files → map entries_in begun ≡ map (λ (f : FileView). f.entries) files
     → yielded ++ file ∷ rest ≡ files → IsNext yielded file begun
 next_file files yielded rest file begun named begins whole =
     let n = length yielded in
@@ -33,8 +33,8 @@ next_file files yielded rest file begun named begins whole =
     record {
       within = within;
       name = λ d.
-          ap name_of (sym (get_or-map (λ (p : PrefixView). p.opening) begun n d d.opening within))
-          ∙ sym (get_or-map name_of (openings_of begun) n d.opening file.name opened)
+          ap opening_name (sym (get_or-map (λ (p : PrefixView). p.opening) begun n d d.opening within))
+          ∙ sym (get_or-map opening_name (openings_of begun) n d.opening file.name opened)
           ∙ ap (λ (l : List Bytes). get_or l n file.name) named
           ∙ get_or-map (λ (f : FileView). f.name) files n file file.name among ∙ ap (λ (f : FileView). f.name) here;
       entries = λ d.

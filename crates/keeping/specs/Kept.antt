@@ -11,6 +11,6 @@ IsInFile held kept entries clean =
     IfSome kept (λ bytes. AreLines bytes entries) × (clean ≡ true → held ≡ kept)
 
 -- what was reported of the room's record is a prefix of what is kept of it
-pub record IsKeptIn (kept told : PrefixView) : Type 0 where
-  pub opening_is : told.opening ≡ kept.opening
-  pub begins : IsPrefix told.entries kept.entries
+pub record IsKeptIn (kept reported : PrefixView) : Type 0 where
+  pub opening_is : reported.opening ≡ kept.opening
+  pub begins : IsPrefix reported.entries kept.entries

@@ -26,7 +26,7 @@ tail_after Full = Scraps
 tail_after Failed = Broken
 
 -- the fault of keeping for a fault of the file
-abbrev pub fault_of : JournalFault → KeepFault
-fault_of NoMemory = keep_fault.NoMemory
-fault_of Full = keep_fault.NotKept
-fault_of Failed = keep_fault.NotKept
+abbrev pub keep_fault_of : JournalFault → KeepFault
+keep_fault_of NoMemory = keep_fault.NoMemory
+keep_fault_of Full = keep_fault.NotKept
+keep_fault_of Failed = keep_fault.NotKept

@@ -150,29 +150,29 @@ impl<P: RoomHistories, J: Journal + Drop> Place<P, J> {
     pub(crate) fn standing(
         &self,
         rt: &impl Wait,
-        told: &Prefix<P>,
+        reported: &Prefix<P>,
     ) -> Result<Standing<P>, KeepFault>
-        ensures { IfOk result (IfKept (λ kept. IsKeptIn kept told.now)) }
+        ensures { IfOk result (IfKept (λ kept. IsKeptIn kept reported.now)) }
     {
         let mut place = self.desk.lock(rt);
         let Some(desk) = &mut *place else {
             return Ok(Standing::Absent);
         };
-        if desk.kept.covers(told) {
+        if desk.kept.covers(reported) {
             desk.idle = 0;
             return Ok(Standing::Kept(desk.kept.copy()));
         }
-        if !desk.opening().is_same(told.opening()) {
+        if !desk.opening().is_same(reported.opening()) {
             return Ok(Standing::Absent);
         }
         desk.idle = 0;
         if let Err(fault) = &desk.state {
             return Err(*fault);
         }
-        if told.len() <= desk.asked {
+        if reported.len() <= desk.asked {
             return Ok(Standing::Ordered);
         }
-        desk.asked = told.len();
+        desk.asked = reported.len();
         let is_new = !desk.is_ordered && desk.file.is_some();
         desk.is_ordered = true;
         if is_new {

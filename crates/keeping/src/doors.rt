@@ -119,11 +119,11 @@ impl<P: RoomHistories> Doors<P> {
 
     /// The receipt for this prefix of the record of a room that was closed a short time ago, if it is
     /// kept.
-    pub(crate) fn receipt(&self, told: &Prefix<P>) -> Option<Kept<P>>
-        ensures { IfSome result (λ kept. IsKeptIn kept told.now) }
+    pub(crate) fn receipt(&self, reported: &Prefix<P>) -> Option<Kept<P>>
+        ensures { IfSome result (λ kept. IsKeptIn kept reported.now) }
     {
-        let kept = self.closed.get(&told.opening().number())?;
-        if kept.covers(told) {
+        let kept = self.closed.get(&reported.opening().number())?;
+        if kept.covers(reported) {
             Some(kept.copy())
         } else {
             None

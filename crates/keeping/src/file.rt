@@ -4,9 +4,9 @@ ghost use Rattle.std.specs.Prelude.{◌≡◌, ◌↔◌, ◌++◌, Err, IfErr, 
 ghost use Rattle.std.specs.Prelude.{length, map, option_map, true};
 ghost use Rattle.std.specs.Arc.{arc_value};
 ghost use Rattle.record_file.specs.RecordText.{AreLines, record_text};
-ghost use Rattle.room_lock.specs.InOrder.{name_of, openings_of};
+ghost use Rattle.room_lock.specs.InOrder.{opening_name, openings_of};
 ghost use Rattle.keeping.specs.declared.file.Tail.TheVariants.{Nothing, Broken};
-ghost use Rattle.keeping.specs.Tails.{fault_of, is_clean, tail_after};
+ghost use Rattle.keeping.specs.Tails.{keep_fault_of, is_clean, tail_after};
 
 mod clean;
 mod kept;
@@ -149,7 +149,8 @@ impl<P: RoomHistories, J: Journal + Drop> RoomFile<P, J> {
     ) -> Result<Vec<RoomFile<P, J>>, NoMemory>
         // There is a file for each room in order, with the room's name, and the room begins with the
         // file's record:
-        requires names { map name_of (openings_of begun.now) ≡ map (λ file. file.name) files.items }
+        requires names { map opening_name (openings_of begun.now)
+            ≡ map (λ file. file.name) files.items }
         requires begun { map (λ begun. begun.entries) begun.now
             ≡ map (λ file. file.entries) files.items }
         ensures { IfOk result (λ opened. map (λ file. file.kept) opened.items ≡ begun.now) }
@@ -211,7 +212,7 @@ fn tail_after(fault: JournalFault) -> Tail
 
 /// The fault of keeping for a fault of the file.
 pub(crate) fn keep_fault(fault: JournalFault) -> KeepFault
-    ensures { result ≡ fault_of fault }
+    ensures { result ≡ keep_fault_of fault }
 {
     match fault {
         JournalFault::NoMemory => KeepFault::NoMemory,

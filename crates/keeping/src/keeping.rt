@@ -167,16 +167,16 @@ impl<P: RoomHistories, J: Journal + Drop, F: RoomFiles<J> + Drop> Keeping<P, J, 
     fn receipt_elsewhere(
         &self,
         rt: &impl Wait,
-        told: &Prefix<P>,
+        reported: &Prefix<P>,
     ) -> Result<Option<Kept<P>>, KeepFault>
-        ensures { IfOk result (λ found. IfSome found (λ kept. IsKeptIn kept told.now)) }
+        ensures { IfOk result (λ found. IfSome found (λ kept. IsKeptIn kept reported.now)) }
     {
         let doors = self.doors.lock(rt);
-        if let Some(kept) = doors.receipt(told) {
+        if let Some(kept) = doors.receipt(reported) {
             return Ok(Some(kept));
         }
-        match self.places.get(told.place()) {
-            Some(place) => self.take_standing(rt, told, place.standing(rt, told)?),
+        match self.places.get(reported.place()) {
+            Some(place) => self.take_standing(rt, reported, place.standing(rt, reported)?),
             None => Err(KeepFault::NotKept),
         }
     }
@@ -185,17 +185,17 @@ impl<P: RoomHistories, J: Journal + Drop, F: RoomFiles<J> + Drop> Keeping<P, J, 
     fn take_standing(
         &self,
         rt: &impl Wait,
-        told: &Prefix<P>,
+        reported: &Prefix<P>,
         standing: Standing<P>,
     ) -> Result<Option<Kept<P>>, KeepFault>
-        requires { IfKept (λ kept. IsKeptIn kept told.now) standing }
-        ensures { IfOk result (λ found. IfSome found (λ kept. IsKeptIn kept told.now)) }
+        requires { IfKept (λ kept. IsKeptIn kept reported.now) standing }
+        ensures { IfOk result (λ found. IfSome found (λ kept. IsKeptIn kept reported.now)) }
     {
         match standing {
             Standing::Kept(kept) => Ok(Some(kept)),
             Standing::Ordered => Ok(None),
             Standing::New => {
-                self.orders.add(rt, Order::Keep(told.place()));
+                self.orders.add(rt, Order::Keep(reported.place()));
                 Ok(None)
             }
             Standing::Absent => Err(KeepFault::NotKept),
@@ -254,21 +254,21 @@ impl<P: RoomHistories, J: Journal + Drop, F: RoomFiles<J> + Drop> Keeper<P> for 
 
     type Permit = Clean;
 
-    ghost shows = { λ kept told. IsKeptIn kept told };
+    ghost shows = { λ kept reported. IsKeptIn kept reported };
 
     ghost permits = { λ clean number. clean ≡ number };
 
-    ghost fails = { λ _ told. Unit {0} };
+    ghost fails = { λ _ reported. Unit {0} };
 
     ghost denies = { λ number. Unit {0} };
 
-    fn receipt(&self, rt: &impl Wait, told: &Prefix<P>) -> Result<Option<Kept<P>>, KeepFault> {
-        let Some(place) = self.places.get(told.place()) else {
+    fn receipt(&self, rt: &impl Wait, reported: &Prefix<P>) -> Result<Option<Kept<P>>, KeepFault> {
+        let Some(place) = self.places.get(reported.place()) else {
             return Err(KeepFault::NotKept);
         };
-        match place.standing(rt, told)? {
-            Standing::Absent => self.receipt_elsewhere(rt, told),
-            standing => self.take_standing(rt, told, standing),
+        match place.standing(rt, reported)? {
+            Standing::Absent => self.receipt_elsewhere(rt, reported),
+            standing => self.take_standing(rt, reported, standing),
         }
     }
 

@@ -1,7 +1,7 @@
 //! Opening and closing rooms on demand, with their files.
 
 ghost use Rattle.std.specs.Prelude.{◌≡◌, IfOk};
-ghost use Rattle.room_lock.specs.InOrder.{name_of};
+ghost use Rattle.room_lock.specs.InOrder.{opening_name};
 ghost use Rattle.room_lock.specs.Lookups.{IfNew};
 
 use crate::desk::{Closing, Left, text_of};
@@ -319,7 +319,7 @@ fn open_as<P: RoomHistories>(
     state: RoomState,
 ) -> Result<Opened<P>, NoMemory>
     requires limits { state.room.limits ≡ P.limits }
-    ensures new { IfOk result (IfNew (λ begun. (name_of begun.opening ≡ name.now)
+    ensures new { IfOk result (IfNew (λ begun. (opening_name begun.opening ≡ name.now)
         × (begun.entries ≡ state.room.entries))) }
 {
     match rooms.opening_of(rt, name) {

@@ -69,7 +69,7 @@ const LOOKS: u32 = 120;
 #[derive(Drop)]
 pub(crate) struct Orders {
     queue: Mutex<Queue>,
-    /// What wakes the thread in each slot of the sleepers.
+    /// What wakes the thread in each bed of the sleepers.
     alarms: Vec<Condvar>,
     /// The number of orders in the queue.
     count: AtomicUsize,
@@ -115,8 +115,8 @@ impl Orders {
     fn wake_one(&self, mut queue: MutexGuard<'_, Queue>) {
         let woken = queue.sleepers.wake_first();
         drop(queue);
-        if let Some(slot) = woken
-            && let Some(alarm) = self.alarms.get(slot)
+        if let Some(bed) = woken
+            && let Some(alarm) = self.alarms.get(bed)
         {
             alarm.notify_one();
         }
@@ -155,9 +155,9 @@ impl Orders {
             if queue.is_over {
                 return None;
             }
-            let slot = queue.sleepers.fall_asleep()?;
-            queue = self.alarms.get(slot)?.wait(rt, queue);
-            queue.sleepers.leave(slot);
+            let bed = queue.sleepers.fall_asleep()?;
+            queue = self.alarms.get(bed)?.wait(rt, queue);
+            queue.sleepers.leave(bed);
         }
         unreachable!()
     }

@@ -3,9 +3,9 @@
 use base_types::NoMemory;
 use std::alloc::Global;
 
-/// Whether a thread sleeps in a slot.
+/// Whether a thread sleeps in a bed.
 #[derive(Clone, Copy, PartialEq, Eq)]
-enum Slot {
+enum Bed {
     /// No thread has it.
     Free,
     /// A thread sleeps in it.
@@ -14,49 +14,49 @@ enum Slot {
     Woken,
 }
 
-/// The slots in which threads sleep, one in each. A thread takes the first free one, and the first
+/// The beds in which threads sleep, one in each. A thread takes the first free one, and the first
 /// that sleeps is woken. So where there is little to do, the same few threads do it: the allocator
 /// keeps memory for each thread that opens and closes rooms.
 #[derive(Drop)]
 pub(crate) struct Sleepers {
-    slots: Vec<Slot>,
+    beds: Vec<Bed>,
 }
 
 impl Sleepers {
-    /// So many free slots.
+    /// So many free beds.
     ///
     /// # Errors
     /// `NoMemory` if an allocation failed.
-    pub(crate) fn none(alloc: Global, slots: usize) -> Result<Sleepers, NoMemory> {
-        let mut free = Vec::with_capacity(alloc, slots)?;
-        for _ in 0..slots {
-            free.push(Slot::Free)?;
+    pub(crate) fn none(alloc: Global, beds: usize) -> Result<Sleepers, NoMemory> {
+        let mut free = Vec::with_capacity(alloc, beds)?;
+        for _ in 0..beds {
+            free.push(Bed::Free)?;
         }
-        Ok(Sleepers { slots: free })
+        Ok(Sleepers { beds: free })
     }
 
-    /// Takes a slot for a thread that falls asleep. `None` if no slot is free.
+    /// Takes a bed for a thread that falls asleep. `None` if no bed is free.
     pub(crate) fn fall_asleep(&mut self) -> Option<usize> {
-        self.turn_first(Slot::Free, Slot::Asleep)
+        self.turn_first(Bed::Free, Bed::Asleep)
     }
 
-    /// The slot of the thread that is to be woken next. `None` if no thread sleeps.
+    /// The bed of the thread that is to be woken next. `None` if no thread sleeps.
     pub(crate) fn wake_first(&mut self) -> Option<usize> {
-        self.turn_first(Slot::Asleep, Slot::Woken)
+        self.turn_first(Bed::Asleep, Bed::Woken)
     }
 
-    /// The thread in this slot is awake.
-    pub(crate) fn leave(&mut self, slot: usize) {
-        if let Some(left) = self.slots.get_mut(slot) {
-            *left = Slot::Free;
+    /// The thread in this bed is awake.
+    pub(crate) fn leave(&mut self, bed: usize) {
+        if let Some(left) = self.beds.get_mut(bed) {
+            *left = Bed::Free;
         }
     }
 
-    /// Has the first slot that is `from` become `to`. Gives its number.
-    fn turn_first(&mut self, from: Slot, to: Slot) -> Option<usize> {
-        let found = self.slots.iter().position(|slot| *slot == from)?;
-        if let Some(slot) = self.slots.get_mut(found) {
-            *slot = to;
+    /// Has the first bed that is `from` become `to`. Gives its number.
+    fn turn_first(&mut self, from: Bed, to: Bed) -> Option<usize> {
+        let found = self.beds.iter().position(|bed| *bed == from)?;
+        if let Some(bed) = self.beds.get_mut(found) {
+            *bed = to;
         }
         Some(found)
     }

@@ -15,7 +15,7 @@ use Rattle.rules.specs.declared.history.Entry.{Entry}
 use Rattle.rules.specs.declared.history.Entry.TheVariants.{Join, Next, Operation}
 use Rattle.rules.specs.declared.refusal.Refusal.TheVariants.{RoomFull, RecordFull, OwnCount, NotClosed, NoSuchObject, NoSuchVersion, Gone, ObjectFull, TooManyKeys, TooManyVersions, TooManyObjects}
 use Rattle.rules.specs.declared.limits.LimitValues.{LimitValues}
-use Rattle.rules.specs.Bodies.{is_change_body, is_put_body, kind_in}
+use Rattle.rules.specs.Bodies.{is_change_body, is_put_body, kind_of_body}
 use Rattle.rules.specs.Limits.{full_limits}
 use Rattle.rules.specs.Operations.{IsHistory, IsPartOf, AreSame, before, creation_of, holds_drop, is_creation_of, is_on, is_change_on, object_of, operation, changes_on}
 use Rattle.rules.specs.Admission.{Condition, first_that_applies, names_counted, count_at_site, has_wrong_seq, has_wrong_own_count, is_ahead, is_not_closed}
@@ -479,4 +479,4 @@ same_shown b r t object legal c =
   where
     go : (q : Option Op) → shown_by t object q ≡ shown_by r object q
     go None = ap (λ n. No n NoSuchObject) (length_permutation r t c.same)
-    go (Some op) = λ i. Versions (length_permutation r t c.same i) object (kind_in op.body) (same_versions b r t object legal c i)
+    go (Some op) = λ i. Versions (length_permutation r t c.same i) object (kind_of_body op.body) (same_versions b r t object legal c i)

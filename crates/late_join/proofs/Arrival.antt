@@ -21,7 +21,7 @@ use Rattle.rules.proofs.Lists.{any_back, any_from}
 use Rattle.rules.proofs.Relation.{same_answer}
 use Rattle.shape.proofs.Refusals.{first_of_front, front_passed}
 use Rattle.drawing.specs.steps.Additions.{IsNext, body_refusal}
-use Rattle.drawing.specs.steps.Faults.{IsRefusal}
+use Rattle.drawing.specs.steps.Faults.{IsAddRefusal}
 use Rattle.drawing.specs.declared.fault.AddFault.{AddFault}
 use Rattle.drawing.specs.declared.fault.AddFault.TheVariants as add_fault
 use Rattle.late_join.specs.declared.fault.TakeFault.{TakeFault}
@@ -149,7 +149,7 @@ module _ (b : LimitValues) (t : List Entry) (o : Op) where
     }
 
     -- and is refused where that refuses what it does
-    pub refused_so : (fault : AddFault) → IsRefusal (body_refusal (record { limits = b; entries = t }) o) fault → of_adding fault ≢ NoMemory → take_fault b t (Operation o) ≡ Some (of_adding fault)
+    pub refused_so : (fault : AddFault) → IsAddRefusal (body_refusal (record { limits = b; entries = t }) o) fault → of_adding fault ≢ NoMemory → take_fault b t (Operation o) ≡ Some (of_adding fault)
     refused_so (add_fault.Refused why) is n = fault_is ∙ ap (option_map Refused) (is (λ e. cc))
     refused_so add_fault.NoMemory is n = absurd (n refl)
 

@@ -12,7 +12,7 @@ use Rattle.rules.specs.declared.refusal.Refusal.TheVariants.{NoSuchObject, NoSuc
 use Rattle.rules.specs.declared.limits.LimitValues.{LimitValues}
 use Rattle.rules.specs.declared.history.Body.{Body}
 use Rattle.rules.specs.declared.history.Body.TheVariants.{New, Put, DropVersion}
-use Rattle.rules.specs.Bodies.{is_change_body, is_put_body, keys_in}
+use Rattle.rules.specs.Bodies.{is_change_body, is_put_body, keys_of_body}
 use Rattle.rules.specs.Lists.{sort_by}
 use Rattle.rules.specs.Operations.{by_name, holds_drop, is_on, is_change_on, object_of, changes_on}
 use Rattle.rules.specs.Admission.{Condition, first_that_applies}
@@ -33,7 +33,7 @@ use Rattle.rules.proofs.Histories.{follows_if}
 use Rattle.shape.proofs.Next.{numbered_if}
 
 -- what is no put gives no key
-no_keys : (body : Body) → is_put_body body ≡ false → keys_in body ≡ []
+no_keys : (body : Body) → is_put_body body ≡ false → keys_of_body body ≡ []
 no_keys (New kind attrs) f = refl
 no_keys (Put object version pairs) f = absurd (true≢false f)
 no_keys (DropVersion object version) f = refl

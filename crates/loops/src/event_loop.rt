@@ -9,7 +9,7 @@ use crate::parked::Parked;
 use crate::parts::Parts;
 use crate::service::Service;
 use crate::shared::{Bench, Shared};
-use crate::slots::Slots;
+use crate::slab::Slab;
 use crate::times::{AWAY_MILLIS, SWEEP_MILLIS, has_passed, millis_since};
 use mio::event::Event;
 use mio::{Events, Poll};
@@ -23,7 +23,7 @@ const EAGER_POLLS: u32 = 1_024;
 pub(crate) struct EventLoop<S, D, C: Drop> {
     pub(crate) number: usize,
     pub(crate) poll: Poll,
-    pub(crate) lines: Slots<Line<S, D>>,
+    pub(crate) lines: Slab<Line<S, D>>,
     pub(crate) parked: Parked,
     /// The lines with more to do.
     pub(crate) queue: Vec<usize>,
@@ -71,10 +71,10 @@ where
         parked,
         openings,
     } = parts;
-    let mut served: EventLoop<V::Session, V::Told, V::Scratch> = EventLoop {
+    let mut served: EventLoop<V::Session, V::Reported, V::Scratch> = EventLoop {
         number,
         poll,
-        lines: Slots::new(shared.alloc),
+        lines: Slab::new(shared.alloc),
         parked,
         queue: Vec::new(shared.alloc),
         turned: Vec::new(shared.alloc),
@@ -134,7 +134,7 @@ impl<S, D: Drop, C: Drop> EventLoop<S, D, C> {
     /// One round: the lines that are reported, those that had more to do and those that arrived, then
     /// the answers of all of these, the news of rooms, and once a second all lines. So what has to be
     /// kept for the answers is asked for once they are made.
-    fn round<R: Wait, V: Service<Session = S, Told = D, Scratch = C>>(
+    fn round<R: Wait, V: Service<Session = S, Reported = D, Scratch = C>>(
         &mut self,
         shared: &Shared<'_, R, V>,
         events: &Events,
@@ -159,7 +159,7 @@ impl<S, D: Drop, C: Drop> EventLoop<S, D, C> {
     }
 
     /// The system reports a line.
-    fn report<R: Wait, V: Service<Session = S, Told = D, Scratch = C>>(
+    fn report<R: Wait, V: Service<Session = S, Reported = D, Scratch = C>>(
         &mut self,
         shared: &Shared<'_, R, V>,
         event: &Event,
@@ -178,7 +178,7 @@ impl<S, D: Drop, C: Drop> EventLoop<S, D, C> {
     }
 
     /// A line has its turn.
-    pub(crate) fn give_turn<R: Wait, V: Service<Session = S, Told = D, Scratch = C>>(
+    pub(crate) fn give_turn<R: Wait, V: Service<Session = S, Reported = D, Scratch = C>>(
         &mut self,
         shared: &Shared<'_, R, V>,
         key: usize,
@@ -197,7 +197,7 @@ impl<S, D: Drop, C: Drop> EventLoop<S, D, C> {
     }
 
     /// The answers of the lines that had a turn leave.
-    fn deliver_all<R: Wait, V: Service<Session = S, Told = D, Scratch = C>>(
+    fn deliver_all<R: Wait, V: Service<Session = S, Reported = D, Scratch = C>>(
         &mut self,
         shared: &Shared<'_, R, V>,
     ) {
@@ -209,7 +209,7 @@ impl<S, D: Drop, C: Drop> EventLoop<S, D, C> {
 
     /// The answers of a line leave, and it waits for news if it has to. Its session was at the place
     /// `before` its turn.
-    pub(crate) fn deliver<R: Wait, V: Service<Session = S, Told = D, Scratch = C>>(
+    pub(crate) fn deliver<R: Wait, V: Service<Session = S, Reported = D, Scratch = C>>(
         &mut self,
         shared: &Shared<'_, R, V>,
         key: usize,
@@ -224,7 +224,7 @@ impl<S, D: Drop, C: Drop> EventLoop<S, D, C> {
     }
 
     /// Does what becomes of a line after its turn.
-    pub(crate) fn follow<R: Wait, V: Service<Session = S, Told = D, Scratch = C>>(
+    pub(crate) fn follow<R: Wait, V: Service<Session = S, Reported = D, Scratch = C>>(
         &mut self,
         shared: &Shared<'_, R, V>,
         key: usize,
@@ -255,7 +255,7 @@ impl<S, D: Drop, C: Drop> EventLoop<S, D, C> {
     }
 
     /// Ends a line.
-    pub(crate) fn end_line<R: Wait, V: Service<Session = S, Told = D, Scratch = C>>(
+    pub(crate) fn end_line<R: Wait, V: Service<Session = S, Reported = D, Scratch = C>>(
         &mut self,
         shared: &Shared<'_, R, V>,
         key: usize,
@@ -272,7 +272,7 @@ impl<S, D: Drop, C: Drop> EventLoop<S, D, C> {
     /// Has the line wait for news, if it has to. The loop first says that it wants to hear of them,
     /// and then the line looks once more: either it sees what is new, or the loop hears of it. The
     /// loop has said so already at the place `watched`.
-    pub(crate) fn park<R: Wait, V: Service<Session = S, Told = D, Scratch = C>>(
+    pub(crate) fn park<R: Wait, V: Service<Session = S, Reported = D, Scratch = C>>(
         &mut self,
         shared: &Shared<'_, R, V>,
         key: usize,
@@ -319,7 +319,7 @@ impl<S, D: Drop, C: Drop> EventLoop<S, D, C> {
     }
 
     /// There is news in the room at this place: each line that waits for it looks.
-    pub(crate) fn hear_news<R: Wait, V: Service<Session = S, Told = D, Scratch = C>>(
+    pub(crate) fn hear_news<R: Wait, V: Service<Session = S, Reported = D, Scratch = C>>(
         &mut self,
         shared: &Shared<'_, R, V>,
         place: usize,

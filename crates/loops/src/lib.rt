@@ -22,7 +22,7 @@ mod run;
 mod seats;
 mod service;
 mod shared;
-mod slots;
+mod slab;
 mod stage;
 mod times;
 

@@ -66,7 +66,7 @@ impl<S, D: Drop> Line<S, D> {
     }
 
     /// What can be done. `is_full` says that nothing more is taken from clients.
-    fn load<V: Service<Session = S, Told = D>>(&self, service: &V, is_full: bool) -> Load {
+    fn load<V: Service<Session = S, Reported = D>>(&self, service: &V, is_full: bool) -> Load {
         let mut load = Load {
             output_len: self.output.len(),
             is_behind: false,
@@ -102,13 +102,16 @@ impl<S, D: Drop> Line<S, D> {
     }
 
     /// What the line does next.
-    fn next_step<R, V: Service<Session = S, Told = D>>(&self, shared: &Shared<'_, R, V>) -> Step {
+    fn next_step<R, V: Service<Session = S, Reported = D>>(
+        &self,
+        shared: &Shared<'_, R, V>,
+    ) -> Step {
         let load = self.load(shared.service, shared.burden.is_full());
         next_step(load, self.readiness.is_readable)
     }
 
     /// Returns whether it can go on.
-    pub(crate) fn has_more<R, V: Service<Session = S, Told = D>>(
+    pub(crate) fn has_more<R, V: Service<Session = S, Reported = D>>(
         &self,
         shared: &Shared<'_, R, V>,
     ) -> bool {
@@ -174,7 +177,7 @@ impl<S, D: Drop> Line<S, D> {
     }
 
     /// The place at which there is news for the session.
-    fn place<V: Service<Session = S, Told = D>>(&self, service: &V) -> Option<usize> {
+    fn place<V: Service<Session = S, Reported = D>>(&self, service: &V) -> Option<usize> {
         match &self.stage {
             Stage::Open(served) => service.place(served.connection.session()),
             Stage::Opening(_) | Stage::Leaving { .. } => None,
@@ -183,7 +186,7 @@ impl<S, D: Drop> Line<S, D> {
 
     /// Returns whether it waits for a room that its session is not in: before it is let in, or with a
     /// held message that blocks.
-    pub(crate) fn awaits_room<V: Service<Session = S, Told = D>>(&self, service: &V) -> bool {
+    pub(crate) fn awaits_room<V: Service<Session = S, Reported = D>>(&self, service: &V) -> bool {
         match &self.stage {
             Stage::Opening(_) => true,
             Stage::Open(served) => served.connection.is_blocked(service),
@@ -192,7 +195,7 @@ impl<S, D: Drop> Line<S, D> {
     }
 
     /// The place of the room that the session is in. `None` while it waits for another.
-    pub(crate) fn room_place<V: Service<Session = S, Told = D>>(
+    pub(crate) fn room_place<V: Service<Session = S, Reported = D>>(
         &self,
         service: &V,
     ) -> Option<usize> {
@@ -204,7 +207,7 @@ impl<S, D: Drop> Line<S, D> {
     }
 
     /// The place at which it is parked, if that is of a room that its session was in.
-    pub(crate) fn room_parked_at<V: Service<Session = S, Told = D>>(
+    pub(crate) fn room_parked_at<V: Service<Session = S, Reported = D>>(
         &self,
         service: &V,
     ) -> Option<usize> {
@@ -217,7 +220,7 @@ impl<S, D: Drop> Line<S, D> {
 
     /// The place at which the line waits. The session was at the place `before` when its first
     /// frame that waits was made.
-    pub(crate) fn place_to_wait<V: Service<Session = S, Told = D>>(
+    pub(crate) fn place_to_wait<V: Service<Session = S, Reported = D>>(
         &self,
         service: &V,
         before: Option<usize>,
@@ -233,7 +236,7 @@ impl<S, D: Drop> Line<S, D> {
     /// A turn: sends what waits, and reads once or serves more of what was read. The burden counts what
     /// it holds then, before the next line has its turn. Returns false if the stream has failed, or has
     /// ended and nothing is left to do.
-    pub(crate) fn turn<R: Wait, V: Service<Session = S, Told = D>>(
+    pub(crate) fn turn<R: Wait, V: Service<Session = S, Reported = D>>(
         &mut self,
         shared: &Shared<'_, R, V>,
         bench: &mut Bench<V::Scratch>,
@@ -249,7 +252,7 @@ impl<S, D: Drop> Line<S, D> {
 
     /// Reads once, or serves more of what was read. Returns false if the stream has failed, or has
     /// ended and nothing is left to do.
-    fn go_on<R: Wait, V: Service<Session = S, Told = D>>(
+    fn go_on<R: Wait, V: Service<Session = S, Reported = D>>(
         &mut self,
         shared: &Shared<'_, R, V>,
         bench: &mut Bench<V::Scratch>,
@@ -270,7 +273,7 @@ impl<S, D: Drop> Line<S, D> {
 
     /// Hears the held message again. Without `may_hold` it is answered. Or asks again whether the
     /// client is let in. Sends what is kept.
-    pub(crate) fn look<R: Wait, V: Service<Session = S, Told = D>>(
+    pub(crate) fn look<R: Wait, V: Service<Session = S, Reported = D>>(
         &mut self,
         shared: &Shared<'_, R, V>,
         scratch: &mut V::Scratch,
@@ -292,7 +295,7 @@ impl<S, D: Drop> Line<S, D> {
     }
 
     /// Sends what is kept, and says what becomes of the line.
-    pub(crate) fn deliver<R: Wait, V: Service<Session = S, Told = D>>(
+    pub(crate) fn deliver<R: Wait, V: Service<Session = S, Reported = D>>(
         &mut self,
         shared: &Shared<'_, R, V>,
         now: u64,
@@ -315,7 +318,7 @@ impl<S, D: Drop> Line<S, D> {
     }
 
     /// Has the burden of all lines count what it holds, to within `WEIGHED_LEN`.
-    fn weigh<R, V: Service<Session = S, Told = D>>(&mut self, shared: &Shared<'_, R, V>) {
+    fn weigh<R, V: Service<Session = S, Reported = D>>(&mut self, shared: &Shared<'_, R, V>) {
         let weight = self.weight();
         if weight.abs_diff(self.counted) >= WEIGHED_LEN {
             shared.burden.change(self.counted, weight);
@@ -350,7 +353,7 @@ impl<S, D: Drop> Line<S, D> {
 
     /// Reads once, and hears what came. Returns false if the stream has failed, or has ended and
     /// nothing is left to do.
-    fn read<R: Wait, V: Service<Session = S, Told = D>>(
+    fn read<R: Wait, V: Service<Session = S, Reported = D>>(
         &mut self,
         shared: &Shared<'_, R, V>,
         bench: &mut Bench<V::Scratch>,
@@ -392,7 +395,7 @@ impl<S, D: Drop> Line<S, D> {
     }
 
     /// Serves bytes that came.
-    fn hear<R: Wait, V: Service<Session = S, Told = D>>(
+    fn hear<R: Wait, V: Service<Session = S, Reported = D>>(
         &mut self,
         shared: &Shared<'_, R, V>,
         scratch: &mut V::Scratch,
@@ -413,7 +416,7 @@ impl<S, D: Drop> Line<S, D> {
     }
 
     /// Serves messages that came.
-    pub(crate) fn receive<R, V: Service<Session = S, Told = D>>(
+    pub(crate) fn receive<R, V: Service<Session = S, Reported = D>>(
         &mut self,
         shared: &Shared<'_, R, V>,
         scratch: &mut V::Scratch,
@@ -430,7 +433,7 @@ impl<S, D: Drop> Line<S, D> {
     }
 
     /// Goes over to another stage. The session of an open one ends, and is given back.
-    pub(crate) fn enter<R: Wait, V: Service<Session = S, Told = D>>(
+    pub(crate) fn enter<R: Wait, V: Service<Session = S, Reported = D>>(
         &mut self,
         shared: &Shared<'_, R, V>,
         stage: Stage<S, D>,
@@ -444,7 +447,7 @@ impl<S, D: Drop> Line<S, D> {
     }
 
     /// The session ends. What waits in the output is sent still.
-    pub(crate) fn finish<R: Wait, V: Service<Session = S, Told = D>>(
+    pub(crate) fn finish<R: Wait, V: Service<Session = S, Reported = D>>(
         &mut self,
         shared: &Shared<'_, R, V>,
         ending: Ending,
@@ -484,7 +487,7 @@ impl<S, D: Drop> Line<S, D> {
     }
 
     /// Ends the line. If its session has not ended, it ends so.
-    pub(crate) fn end<R: Wait, V: Service<Session = S, Told = D>>(
+    pub(crate) fn end<R: Wait, V: Service<Session = S, Reported = D>>(
         self,
         shared: &Shared<'_, R, V>,
         ending: Ending,

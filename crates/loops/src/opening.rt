@@ -17,7 +17,7 @@ use std::sync::Wait;
 
 impl<S, D: Drop> Line<S, D> {
     /// Answers the head of the request, if it is whole. If the client is let in later, the head is kept.
-    pub(crate) fn open<R: Wait, V: Service<Session = S, Told = D>>(
+    pub(crate) fn open<R: Wait, V: Service<Session = S, Reported = D>>(
         &mut self,
         shared: &Shared<'_, R, V>,
         scratch: &mut V::Scratch,
@@ -71,7 +71,7 @@ impl<S, D: Drop> Line<S, D> {
     }
 
     /// Answers a probe.
-    fn answer_probe<R: Wait, V: Service<Session = S, Told = D>>(
+    fn answer_probe<R: Wait, V: Service<Session = S, Reported = D>>(
         &mut self,
         shared: &Shared<'_, R, V>,
         page: Page,
@@ -91,7 +91,7 @@ impl<S, D: Drop> Line<S, D> {
 
     /// Begins the session of a request for this target, if a seat is free. Else the client is turned
     /// away. Returns whether the session has begun.
-    fn admit<R: Wait, V: Service<Session = S, Told = D>>(
+    fn admit<R: Wait, V: Service<Session = S, Reported = D>>(
         &mut self,
         shared: &Shared<'_, R, V>,
         target: &[u8],
@@ -119,7 +119,10 @@ impl<S, D: Drop> Line<S, D> {
     }
 
     /// The client is answered by 503.
-    fn turn_away<R: Wait, V: Service<Session = S, Told = D>>(&mut self, shared: &Shared<'_, R, V>) {
+    fn turn_away<R: Wait, V: Service<Session = S, Reported = D>>(
+        &mut self,
+        shared: &Shared<'_, R, V>,
+    ) {
         let _ = self.output.append(UNAVAILABLE.as_bytes());
         self.enter(
             shared,

@@ -89,7 +89,7 @@ impl Output {
     ///
     /// # Errors
     /// Why the connection ends. Then nothing has changed.
-    pub(crate) fn release<S, D: Drop, T: Talk<Session = S, Told = D>>(
+    pub(crate) fn release<S, D: Drop, T: Talk<Session = S, Reported = D>>(
         &mut self,
         connection: &mut Connection<S, D>,
         talk: &T,

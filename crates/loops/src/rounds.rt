@@ -8,7 +8,7 @@ use crate::mail::{Handed, Outlook};
 use crate::openings::Begun;
 use crate::service::Service;
 use crate::shared::Shared;
-use crate::slots::Slots;
+use crate::slab::Slab;
 use crate::times::Patience;
 use connection::End;
 use mio::net::TcpStream;
@@ -17,7 +17,7 @@ use std::sync::Wait;
 
 impl<S, D: Drop, C: Drop> EventLoop<S, D, C> {
     /// Takes what came, and begins the lines that arrived. Closes all lines once the server goes away.
-    pub(crate) fn take_mail<R: Wait, V: Service<Session = S, Told = D, Scratch = C>>(
+    pub(crate) fn take_mail<R: Wait, V: Service<Session = S, Reported = D, Scratch = C>>(
         &mut self,
         shared: &Shared<'_, R, V>,
     ) {
@@ -33,7 +33,7 @@ impl<S, D: Drop, C: Drop> EventLoop<S, D, C> {
     }
 
     /// The server goes away: ends the lines that have not opened, and closes the others.
-    fn go_away<R: Wait, V: Service<Session = S, Told = D, Scratch = C>>(
+    fn go_away<R: Wait, V: Service<Session = S, Reported = D, Scratch = C>>(
         &mut self,
         shared: &Shared<'_, R, V>,
     ) {
@@ -54,7 +54,7 @@ impl<S, D: Drop, C: Drop> EventLoop<S, D, C> {
     }
 
     /// Has the lines look that wait for the news that came.
-    pub(crate) fn hear_mail<R: Wait, V: Service<Session = S, Told = D, Scratch = C>>(
+    pub(crate) fn hear_mail<R: Wait, V: Service<Session = S, Reported = D, Scratch = C>>(
         &mut self,
         shared: &Shared<'_, R, V>,
     ) {
@@ -67,7 +67,7 @@ impl<S, D: Drop, C: Drop> EventLoop<S, D, C> {
     }
 
     /// Begins a line, whose first bytes may be there.
-    fn begin<R: Wait, V: Service<Session = S, Told = D, Scratch = C>>(
+    fn begin<R: Wait, V: Service<Session = S, Reported = D, Scratch = C>>(
         &mut self,
         shared: &Shared<'_, R, V>,
         handed: Handed,
@@ -104,7 +104,7 @@ impl<S, D: Drop, C: Drop> EventLoop<S, D, C> {
     }
 
     /// Ends a line if its head has not come.
-    fn end_unopened<R: Wait, V: Service<Session = S, Told = D, Scratch = C>>(
+    fn end_unopened<R: Wait, V: Service<Session = S, Reported = D, Scratch = C>>(
         &mut self,
         shared: &Shared<'_, R, V>,
         begun: Begun,
@@ -121,7 +121,7 @@ impl<S, D: Drop, C: Drop> EventLoop<S, D, C> {
     /// Ends the lines that are overdue, answers what is held for long, asks again for clients that
     /// wait to be let in, and sends what is kept. A line that rested since all lines held too much
     /// goes on.
-    pub(crate) fn sweep<R: Wait, V: Service<Session = S, Told = D, Scratch = C>>(
+    pub(crate) fn sweep<R: Wait, V: Service<Session = S, Reported = D, Scratch = C>>(
         &mut self,
         shared: &Shared<'_, R, V>,
     ) {
@@ -145,7 +145,7 @@ impl<S, D: Drop, C: Drop> EventLoop<S, D, C> {
     }
 
     /// Ends all lines, and refuses what still arrives.
-    pub(crate) fn end<R: Wait, V: Service<Session = S, Told = D, Scratch = C>>(
+    pub(crate) fn end<R: Wait, V: Service<Session = S, Reported = D, Scratch = C>>(
         self,
         shared: &Shared<'_, R, V>,
     ) {
@@ -182,7 +182,7 @@ impl<S, D: Drop, C: Drop> EventLoop<S, D, C> {
 /// Ends these lines.
 fn end_lines<R: Wait, V: Service>(
     shared: &Shared<'_, R, V>,
-    lines: Slots<Line<V::Session, V::Told>>,
+    lines: Slab<Line<V::Session, V::Reported>>,
 ) {
     let mut values = lines.into_values();
     for _ in shared.rt.forever() {

@@ -48,6 +48,21 @@ pub struct Loops<'a, R, S> {
     pub settings: Settings,
 }
 
+impl<'a, R, S> Loops<'a, R, S> {
+    /// What the loops share.
+    fn shared(&self) -> Shared<'a, R, S> {
+        Shared {
+            rt: self.rt,
+            alloc: self.alloc,
+            service: self.service,
+            bell: self.bell,
+            seats: Seats::new(self.settings.clients),
+            burden: Burden::new(),
+            idle: self.settings.idle.map(millis_of),
+        }
+    }
+}
+
 /// Serves what arrives, by a loop for each of these polls, which came with the bell. Sessions are
 /// numbered as their arrivals, from 1. Returns once there are no more arrivals, or the server goes
 /// away, and the last connection has ended. The arrival after `Bell::go_away` ends the arrivals, and
@@ -65,7 +80,7 @@ where
     R: Threads + Wait + Clock + Sync,
     S: Service + Sync,
     S::Session: Send,
-    S::Told: Send,
+    S::Reported: Send,
     S::Receipt: Send,
     S::Scratch: Drop + Send,
     I: Iterator<Item = Arrival> + Drop,
@@ -79,15 +94,7 @@ where
         Ok(began) => began,
         Err(_) => return Err(LoopsFault::NoLoop),
     };
-    let hall = Shared {
-        rt,
-        alloc,
-        service: loops.service,
-        bell: loops.bell,
-        seats: Seats::new(loops.settings.clients),
-        burden: Burden::new(),
-        idle: loops.settings.idle.map(millis_of),
-    };
+    let hall = loops.shared();
     let shared = &hall;
     thread::scope(
         thread::scope_env(),

@@ -70,7 +70,7 @@ impl<S, D: Drop> Served<S, D> {
     }
 
     /// Serves what came.
-    pub(crate) fn receive<V: Service<Session = S, Told = D>>(
+    pub(crate) fn receive<V: Service<Session = S, Reported = D>>(
         &mut self,
         service: &V,
         scratch: &mut V::Scratch,
@@ -86,7 +86,7 @@ impl<S, D: Drop> Served<S, D> {
     }
 
     /// Answers the message that is held, or with `may_hold` if there is an answer.
-    pub(crate) fn answer_held<V: Service<Session = S, Told = D>>(
+    pub(crate) fn answer_held<V: Service<Session = S, Reported = D>>(
         &mut self,
         service: &V,
         scratch: &mut V::Scratch,
@@ -129,7 +129,7 @@ impl<S, D: Drop> Served<S, D> {
     /// Moves to the output what is kept. Returns why the connection has ended, once nothing of it
     /// waits, or something will not be kept. In the latter case a close stands in the output if the
     /// server is at fault, and what waits is not sent.
-    pub(crate) fn release<V: Service<Session = S, Told = D>>(
+    pub(crate) fn release<V: Service<Session = S, Reported = D>>(
         &mut self,
         service: &V,
         output: &mut Output,
@@ -149,7 +149,7 @@ impl<S, D: Drop> Served<S, D> {
     }
 
     /// Ends the session, and gives it and its seat back.
-    pub(crate) fn end<R: Wait, V: Service<Session = S, Told = D>>(
+    pub(crate) fn end<R: Wait, V: Service<Session = S, Reported = D>>(
         self,
         shared: &Shared<'_, R, V>,
         client: &Client,
@@ -172,7 +172,7 @@ impl<S, D: Drop> Served<S, D> {
 ///
 /// # Errors
 /// Why a frame will not be kept, or `NoMemory`.
-fn release_all<S, D: Drop, V: Service<Session = S, Told = D>>(
+fn release_all<S, D: Drop, V: Service<Session = S, Reported = D>>(
     connection: &mut Connection<S, D>,
     service: &V,
     output: &mut Output,

@@ -7,7 +7,7 @@ use prog.Atomic.{either}
 use Rattle.logbook.specs.Pages.{Cell, cell, keeps, no_nib, step, Moves, Goes}
 use Rattle.shared_history.proofs.Beginnings.{prefix_whole}
 use Rattle.openings.specs.Openings.{Opened}
-use Rattle.openings.specs.steps.Rules.{IsCounted, Enters}
+use Rattle.openings.specs.steps.Rules.{CountsOpenings, Enters}
 
 abbrev pub shown : List Opened → List Opened
 shown log = []
@@ -17,7 +17,7 @@ moved xs ys n = Unit {0}
 
 pub enters_goes : (log v : List Opened) (e : Opened) (old : ℕ) → length v ≡ old → IsPrefix v log
     → (b : Bool) → (length log == old) ≡ b
-    → Goes IsCounted shown moved 0 (v, (no_nib, None)) (λ n. either (n == old) (old + 1) n) (Enters (step 0 old (old + 1) e) (v, (no_nib, None))) ((length log, true) ∷ (0, true) ∷ []) log
+    → Goes CountsOpenings shown moved 0 (v, (no_nib, None)) (λ n. either (n == old) (old + 1) n) (Enters (step 0 old (old + 1) e) (v, (no_nib, None))) ((length log, true) ∷ (0, true) ∷ []) log
 enters_goes log v e old len pre true is =
     let here : length log ≡ old = grind (arith, nat_tests) in
     let same : v ≡ log = prefix_whole v log pre (omega arith) in
@@ -44,7 +44,7 @@ enters_goes log v e old len pre false is =
 
 -- whatever the book is, the exchange enters the room behind all that was seen, or enters nothing
 pub enters_moves : (v : List Opened) (e : Opened) (old : ℕ) → length v ≡ old
-    → Moves IsCounted shown moved 0 (v, (no_nib, None)) (λ n. either (n == old) (old + 1) n) (Enters (step 0 old (old + 1) e) (v, (no_nib, None)))
+    → Moves CountsOpenings shown moved 0 (v, (no_nib, None)) (λ n. either (n == old) (old + 1) n) (Enters (step 0 old (old + 1) e) (v, (no_nib, None)))
 enters_moves v e old len cs log counted pre away =
-    let P : List Cell → Type 0 = λ c. (0 < length c) × ((cell c 0).1 ≡ true) × Goes IsCounted shown moved 0 (v, (no_nib, None)) (λ n. either (n == old) (old + 1) n) (Enters (step 0 old (old + 1) e) (v, (no_nib, None))) c log in
+    let P : List Cell → Type 0 = λ c. (0 < length c) × ((cell c 0).1 ≡ true) × Goes CountsOpenings shown moved 0 (v, (no_nib, None)) (λ n. either (n == old) (old + 1) n) (Enters (step 0 old (old + 1) e) (v, (no_nib, None))) c log in
     subst P (sym counted) (omega arith, refl, enters_goes log v e old len pre (length log == old) refl)

@@ -15,9 +15,9 @@ pub record OpeningView : Type 0 where
   pub room : Opened
 
 -- stands for a room past the last one
-abbrev pub no_room : Opened
-no_room = record { place = 0; name = []; history = record { number = 0; log_name = 0; cells_name = 0 } }
+abbrev pub never_opened : Opened
+never_opened = record { place = 0; name = []; history = record { number = 0; log_name = 0; cells_name = 0 } }
 
 -- the room of this number
-abbrev pub room_at : List Opened → ℕ → Opened
-room_at rooms number = slice_index_or rooms number no_room
+abbrev pub opened_at : List Opened → ℕ → Opened
+opened_at rooms number = slice_index_or rooms number never_opened

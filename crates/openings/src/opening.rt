@@ -1,7 +1,7 @@
 //! An opening of a room.
 
 ghost use Rattle.std.specs.Prelude.{◌≡◌, ◌↔◌, ◌<◌, length, true};
-ghost use Rattle.openings.specs.Openings.{room_at};
+ghost use Rattle.openings.specs.Openings.{opened_at};
 
 use crate::histories::RoomHistories;
 use crate::new_opening::NewOpening;
@@ -21,14 +21,14 @@ pub struct Opening<P: RoomHistories> {
 
 impl<P: RoomHistories> Model for Opening<P> {
     ghost use Rattle.std.specs.Prelude.{◌≡◌, ◌<◌, length};
-    ghost use Rattle.openings.specs.Openings.{OpeningView, room_at};
+    ghost use Rattle.openings.specs.Openings.{OpeningView, opened_at};
 
     ghost Value = { OpeningView };
 
-    ghost view = { λ o. record { number = o.number; room = room_at o.seen.log o.number } };
+    ghost view = { λ o. record { number = o.number; room = opened_at o.seen.log o.number } };
 
     ghost invariant = { λ o. (o.number < length o.seen.log) × (o.seen.book ≡ P.register)
-        × (o.place ≡ (room_at o.seen.log o.number).place) };
+        × (o.place ≡ (opened_at o.seen.log o.number).place) };
 }
 
 impl<P: RoomHistories> Opening<P> {
@@ -36,8 +36,8 @@ impl<P: RoomHistories> Opening<P> {
     pub(crate) fn of(number: u64, place: usize, seen: &Seen<NewOpening, u64, Law>) -> Opening<P>
         requires entered { number < length seen.now.log }
         requires register { seen.now.book ≡ P.register }
-        requires place { place ≡ (room_at seen.now.log number).place }
-        ensures { result ≡ record { number = number; room = room_at seen.now.log number } }
+        requires place { place ≡ (opened_at seen.now.log number).place }
+        ensures { result ≡ record { number = number; room = opened_at seen.now.log number } }
     {
         Opening {
             number,

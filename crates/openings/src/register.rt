@@ -25,14 +25,14 @@ pub struct Blank {
 impl Model for Blank {
     ghost use Rattle.std.specs.Prelude.{◌≡◌, []};
     ghost use Rattle.logbook.specs.Pages.{Book};
-    ghost use Rattle.openings.specs.steps.Rules.{counter_of};
+    ghost use Rattle.openings.specs.steps.Rules.{opening_counter_of};
 
     ghost Value = { Book };
 
     ghost view = { λ blank. blank.seen.book };
 
     ghost invariant = { λ blank.
-        (blank.counter ≡ counter_of blank.seen.book) × (blank.seen.log ≡ []) };
+        (blank.counter ≡ opening_counter_of blank.seen.book) × (blank.seen.log ≡ []) };
 }
 
 impl Blank {
@@ -44,7 +44,7 @@ impl Blank {
     }
 
     /// The register, under the type that stands for it.
-    pub fn named<P: RoomHistories>(self) -> Register<P>
+    pub fn into_register<P: RoomHistories>(self) -> Register<P>
         requires { self ≡ P.register }
         ensures { result ≡ [] }
     {
@@ -71,13 +71,13 @@ pub struct Register<P: RoomHistories> {
 impl<P: RoomHistories> Model for Register<P> {
     ghost use Rattle.std.specs.Prelude.{◌≡◌, List, length};
     ghost use Rattle.openings.specs.Openings.{Opened};
-    ghost use Rattle.openings.specs.steps.Rules.{counter_of};
+    ghost use Rattle.openings.specs.steps.Rules.{opening_counter_of};
 
     ghost Value = { List Opened };
 
     ghost view = { λ r. r.seen.log };
 
-    ghost invariant = { λ r. (r.counter ≡ counter_of P.register) × (r.seen.book ≡ P.register)
+    ghost invariant = { λ r. (r.counter ≡ opening_counter_of P.register) × (r.seen.book ≡ P.register)
         × (r.count ≡ length r.seen.log) };
 }
 

@@ -9,9 +9,9 @@ pub struct Law;
 impl Rule<NewOpening, u64> for Law {
     ghost use Rattle.std.specs.Prelude.{[]};
     ghost use base.Fml.{ftrue};
-    ghost use Rattle.openings.specs.steps.Rules.{IsCounted};
+    ghost use Rattle.openings.specs.steps.Rules.{CountsOpenings};
 
-    ghost holds = { λ cells log. IsCounted cells log };
+    ghost holds = { λ cells log. CountsOpenings cells log };
 
     ghost first = { [] };
 

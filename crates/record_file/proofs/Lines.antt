@@ -6,7 +6,7 @@ use Rattle.wire.specs.Lines.{onto_first, lines_of}
 use Rattle.wire.specs.steps.OneLine.{IsOneLine}
 use Rattle.rules.specs.declared.history.Entry.{Entry}
 use Rattle.wire_reader.specs.steps.Reads.{entry_read}
-use Rattle.record_file.specs.RecordText.{AreLines, onto_whole, whole_part}
+use Rattle.record_file.specs.RecordText.{AreLines, onto_whole, whole_lines}
 
 tail_or : List ℕ → List ℕ
 tail_or [] = []
@@ -50,36 +50,36 @@ unfolding IsMore
 onto_append x [] ms m = absurd m
 onto_append x (l ∷ ls) ms m = refl
 
-pub whole_append : (xs ys : List ℕ) → whole_part xs ≡ xs → whole_part (xs ++ ys) ≡ xs ++ whole_part ys
+pub whole_append : (xs ys : List ℕ) → whole_lines xs ≡ xs → whole_lines (xs ++ ys) ≡ xs ++ whole_lines ys
 unfolding tail_or
 whole_append [] ys h = refl
 whole_append (x ∷ xs) ys h = elim (cases_eq x 10) [
   | inl is ↦
       let e = eq-eqb x 10 is in
-      let rest : whole_part xs ≡ xs = ap tail_or (rw e at h) in
+      let rest : whole_lines xs ≡ xs = ap tail_or (rw e at h) in
       rw e (ap (λ (l : List ℕ). x ∷ l) (whole_append xs ys rest))
   | inr not ↦
       let e = ne_eqb x 10 not in
-      let back = onto_back x (whole_part xs) xs (rw e at h) in
-      rw e (ap (onto_whole x) (whole_append xs ys back.0) ∙ onto_more x (xs ++ whole_part ys) (more_left xs (whole_part ys) back.1))
+      let back = onto_back x (whole_lines xs) xs (rw e at h) in
+      rw e (ap (onto_whole x) (whole_append xs ys back.0) ∙ onto_more x (xs ++ whole_lines ys) (more_left xs (whole_lines ys) back.1))
 ]
 
-pub lines_append : (xs ys : List ℕ) → whole_part xs ≡ xs → lines_of (xs ++ ys) ≡ lines_of xs ++ lines_of ys
+pub lines_append : (xs ys : List ℕ) → whole_lines xs ≡ xs → lines_of (xs ++ ys) ≡ lines_of xs ++ lines_of ys
 unfolding tail_or
 lines_append [] ys h = refl
 lines_append (x ∷ xs) ys h = elim (cases_eq x 10) [
   | inl is ↦
       let e = eq-eqb x 10 is in
-      let rest : whole_part xs ≡ xs = ap tail_or (rw e at h) in
+      let rest : whole_lines xs ≡ xs = ap tail_or (rw e at h) in
       rw e (ap (λ (l : List (List ℕ)). [] ∷ l) (lines_append xs ys rest))
   | inr not ↦
       let e = ne_eqb x 10 not in
-      let back = onto_back x (whole_part xs) xs (rw e at h) in
+      let back = onto_back x (whole_lines xs) xs (rw e at h) in
       rw e (ap (onto_first x) (lines_append xs ys back.0) ∙ onto_append x (lines_of xs) (lines_of ys) (lines_more xs back.1))
 ]
 
-pub stays : (bytes behind : List ℕ) → whole_part bytes ≡ bytes → lines_of (whole_part (bytes ++ behind)) ≡ lines_of bytes ++ lines_of (whole_part behind)
-stays bytes behind h = ap lines_of (whole_append bytes behind h) ∙ lines_append bytes (whole_part behind) h
+pub stays : (bytes behind : List ℕ) → whole_lines bytes ≡ bytes → lines_of (whole_lines (bytes ++ behind)) ≡ lines_of bytes ++ lines_of (whole_lines behind)
+stays bytes behind h = ap lines_of (whole_append bytes behind h) ∙ lines_append bytes (whole_lines behind) h
 
 pub goes_on : (bytes behind : List ℕ) (r more : List Entry) → AreLines bytes r → AreLines behind more → AreLines (bytes ++ behind) (r ++ more)
 goes_on bytes behind r more h k = record {
@@ -95,7 +95,7 @@ unfolding IsMore
 ends_more [] = tt
 ends_more (y ∷ l) = tt
 
-pub line_whole : (line : List ℕ) → IsOneLine line → whole_part (line ++ 10 ∷ []) ≡ line ++ 10 ∷ []
+pub line_whole : (line : List ℕ) → IsOneLine line → whole_lines (line ++ 10 ∷ []) ≡ line ++ 10 ∷ []
 line_whole [] h = refl
 line_whole (x ∷ line) h = rw (ne_eqb x 10 h.0) (ap (onto_whole x) (line_whole line h.1) ∙ onto_more x (line ++ 10 ∷ []) (ends_more line))
 
@@ -103,13 +103,9 @@ pub line_lines : (line : List ℕ) → IsOneLine line → lines_of (line ++ 10 �
 line_lines [] h = refl
 line_lines (x ∷ line) h = rw (ne_eqb x 10 h.0) (ap (onto_first x) (line_lines line h.1))
 
-pub one_line_append : (xs ys : List ℕ) → IsOneLine xs → IsOneLine ys → IsOneLine (xs ++ ys)
-one_line_append [] ys h k = k
-one_line_append (x ∷ xs) ys h k = (h.0, one_line_append xs ys h.1 k)
-
 -- ---- a byte more
 
-pub whole_push : (bytes : List ℕ) (x : ℕ) → x ≡ 10 → whole_part (bytes ++ x ∷ []) ≡ bytes ++ x ∷ []
+pub whole_push : (bytes : List ℕ) (x : ℕ) → x ≡ 10 → whole_lines (bytes ++ x ∷ []) ≡ bytes ++ x ∷ []
 unfolding IsMore
 whole_push [] x e = rw (eq-eqb x 10 e) refl
 whole_push (y ∷ bytes) x e = elim (cases_eq y 10) [
@@ -121,14 +117,14 @@ whole_push (y ∷ bytes) x e = elim (cases_eq y 10) [
     last_more [] z = tt
     last_more (y ∷ l) z = tt
 
-pub part_push : (bytes : List ℕ) (x : ℕ) → x ≢ 10 → whole_part (bytes ++ x ∷ []) ≡ whole_part bytes
+pub part_push : (bytes : List ℕ) (x : ℕ) → x ≢ 10 → whole_lines (bytes ++ x ∷ []) ≡ whole_lines bytes
 part_push [] x n = rw (ne_eqb x 10 n) refl
 part_push (y ∷ bytes) x n = ap (λ (w : List ℕ). cond (y == 10) (y ∷ w) (onto_whole y w)) (part_push bytes x n)
 
-pub part_here : (bytes : List ℕ) (place : ℕ) (x : ℕ) → place < length bytes → x ≡ get_or bytes place 0 → x ≡ 10 → take (place + 1) bytes ≡ whole_part (take (place + 1) bytes)
+pub part_here : (bytes : List ℕ) (place : ℕ) (x : ℕ) → place < length bytes → x ≡ get_or bytes place 0 → x ≡ 10 → take (place + 1) bytes ≡ whole_lines (take (place + 1) bytes)
 part_here bytes place x lt at is = let more = take_more bytes place 0 lt in
-    more ∙ sym (whole_push (take place bytes) (get_or bytes place 0) (sym at ∙ is)) ∙ ap whole_part (sym more)
+    more ∙ sym (whole_push (take place bytes) (get_or bytes place 0) (sym at ∙ is)) ∙ ap whole_lines (sym more)
 
-pub part_stays : (bytes : List ℕ) (end place : ℕ) (x : ℕ) → place < length bytes → x ≡ get_or bytes place 0 → x ≢ 10 → take end bytes ≡ whole_part (take place bytes) → take end bytes ≡ whole_part (take (place + 1) bytes)
+pub part_stays : (bytes : List ℕ) (end place : ℕ) (x : ℕ) → place < length bytes → x ≡ get_or bytes place 0 → x ≢ 10 → take end bytes ≡ whole_lines (take place bytes) → take end bytes ≡ whole_lines (take (place + 1) bytes)
 part_stays bytes end place x lt at is so_far = let more = take_more bytes place 0 lt in
-    so_far ∙ sym (part_push (take place bytes) (get_or bytes place 0) (λ e. is (at ∙ e))) ∙ ap whole_part (sym more)
+    so_far ∙ sym (part_push (take place bytes) (get_or bytes place 0) (λ e. is (at ∙ e))) ∙ ap whole_lines (sym more)

@@ -16,7 +16,8 @@ use Rattle.wire_reader.specs.steps.Reads.{entry_read}
 use Rattle.wire_reader.proofs.EntryTexts.{entries_by_form}
 use Rattle.wire.specs.steps.OneLine.{IsOneLine}
 use Rattle.record_file.specs.RecordText.{AreLines, entry_line, record_text}
-use Rattle.record_file.proofs.Lines.{goes_on, line_whole, line_lines, one_line_append}
+use Rattle.wire.proofs.OneLine.{one_line_append}
+use Rattle.record_file.proofs.Lines.{goes_on, line_whole, line_lines}
 
 -- ---- numbers
 

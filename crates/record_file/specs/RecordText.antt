@@ -20,12 +20,12 @@ onto_whole byte [] = []
 onto_whole byte (x ∷ xs) = byte ∷ x ∷ xs
 
 -- the bytes up to and including the last LF
-abbrev pub whole_part : List ℕ → List ℕ
-whole_part [] = []
-whole_part (byte ∷ bytes) =
-    if ends_line byte then byte ∷ whole_part bytes else onto_whole byte (whole_part bytes)
+abbrev pub whole_lines : List ℕ → List ℕ
+whole_lines [] = []
+whole_lines (byte ∷ bytes) =
+    if ends_line byte then byte ∷ whole_lines bytes else onto_whole byte (whole_lines bytes)
 
 -- the bytes are whole lines, each a text of the entry at its place
 pub record AreLines (bytes : List ℕ) (r : List Entry) : Type 0 where
-  pub whole : whole_part bytes ≡ bytes
+  pub whole : whole_lines bytes ≡ bytes
   pub read : map entry_read (lines_of bytes) ≡ map Some r

@@ -10,7 +10,7 @@ use Rattle.wire.specs.Lines.{lines_of}
 use Rattle.wire_reader.specs.steps.Reads.{entry_read}
 use Rattle.room_core.specs.Room.{Room, empty_room}
 use Rattle.restore.specs.Records.{AreRecord, IsBadRecord}
-use Rattle.restore.specs.steps.Readings.{Takes}
+use Rattle.restore.specs.steps.Readings.{TakesLine}
 use Rattle.restore.proofs.Lengths.{same_length}
 
 -- some of the lines were read, and are the record of the room
@@ -35,7 +35,7 @@ record_more front line r entry before e a = record {
   legal = legal_push full_limits r entry before.legal a;
 }
 
-pub read_more : (all lines rest : List (List ℕ)) (line : List ℕ) (old new : Room) → lines ≡ line ∷ rest → HasRead all lines old → Takes old new line true → HasRead all rest new
+pub read_more : (all lines rest : List (List ℕ)) (line : List ℕ) (old new : Room) → lines ≡ line ∷ rest → HasRead all lines old → TakesLine old new line true → HasRead all rest new
 read_more all lines rest line old new e h t = record {
   front = h.front ++ line ∷ [];
   whole = h.whole ∙ ap (λ (ls : List (List ℕ)). h.front ++ ls) e ∙ sym (append_assoc h.front (line ∷ []) rest);
@@ -57,7 +57,7 @@ read_all all rest room e h = (
 )
 
 pub read_bad : (all lines rest : List (List ℕ)) (line : List ℕ) (old new : Room) (count : ℕ)
-    → lines ≡ line ∷ rest → count ≡ length old.entries → HasRead all lines old → Takes old new line false → IsBadRecord all (count + 1)
+    → lines ≡ line ∷ rest → count ≡ length old.entries → HasRead all lines old → TakesLine old new line false → IsBadRecord all (count + 1)
 read_bad all lines rest line old new count e n h t = record {
   front = h.front;
   line = line;

@@ -8,7 +8,7 @@ use Rattle.rules.specs.Limits.{full_limits}
 use Rattle.rules.specs.Records.{admits, IsLegal, IsLegalAfter}
 use Rattle.wire.specs.Lines.{lines_of}
 use Rattle.wire_reader.specs.steps.Reads.{entry_read}
-use Rattle.record_file.specs.RecordText.{AreLines, whole_part}
+use Rattle.record_file.specs.RecordText.{AreLines, whole_lines}
 use Rattle.record_file.proofs.Lines.{stays}
 use Rattle.restore.specs.declared.restored.Restored.{Restored}
 use Rattle.restore.specs.declared.restored.Restored.TheVariants as restored
@@ -56,12 +56,12 @@ behind before (e ∷ told) (x ∷ entries) (l ∷ ls) more (f ∷ front) later l
 pub has_all : (bytes behind' : List ℕ) (told : List Entry) (one : Restored) → AreLines bytes told → IsLegal full_limits told → IsRestored (bytes ++ behind') one → HasAllOf told one
 has_all bytes behind' told (restored.Room room whole) lines legal is =
     let split = stays bytes behind' lines.whole in
-    let read : map Some told ++ map entry_read (lines_of (whole_part behind')) ≡ map Some room.room.entries =
-    ap (λ l. l ++ map entry_read (lines_of (whole_part behind'))) (sym lines.read)
-    ∙ sym (map-append entry_read (lines_of bytes) (lines_of (whole_part behind'))) ∙ ap (map entry_read) (sym split) ∙ is.0.read in
+    let read : map Some told ++ map entry_read (lines_of (whole_lines behind')) ≡ map Some room.room.entries =
+    ap (λ l. l ++ map entry_read (lines_of (whole_lines behind'))) (sym lines.read)
+    ∙ sym (map-append entry_read (lines_of bytes) (lines_of (whole_lines behind'))) ∙ ap (map entry_read) (sym split) ∙ is.0.read in
     some_prefix told room.room.entries _ read
 has_all bytes behind' told (restored.Bad number) lines legal is =
-    let within = behind [] told is.entries (lines_of bytes) (lines_of (whole_part behind')) is.front is.split.later is.line lines.read
+    let within = behind [] told is.entries (lines_of bytes) (lines_of (whole_lines behind')) is.front is.split.later is.line lines.read
     (sym (stays bytes behind' lines.whole) ∙ is.split.whole) is.before.read is.refused legal in
     omega (arith, within, is.split.counted)
 
@@ -81,17 +81,17 @@ pub has_all_told : (bytes behind' : List ℕ) (told kept : List Entry) (one : Re
     → IsPrefix told kept → AreLines bytes kept → IsLegal full_limits told → IsRestored (bytes ++ behind') one → HasAllOf told one
 has_all_told bytes behind' told kept (restored.Room room whole) begins lines legal is =
     let split = stays bytes behind' lines.whole in
-    let more = map entry_read (lines_of (whole_part behind')) in
+    let more = map entry_read (lines_of (whole_lines behind')) in
     let read : map Some told ++ (map Some begins.0 ++ more) ≡ map Some room.room.entries =
     sym (append_assoc (map Some told) (map Some begins.0) more)
     ∙ ap (λ l. l ++ more) (sym (map-append Some told begins.0) ∙ ap (map Some) begins.1 ∙ sym lines.read)
-    ∙ sym (map-append entry_read (lines_of bytes) (lines_of (whole_part behind'))) ∙ ap (map entry_read) (sym split) ∙ is.0.read in
+    ∙ sym (map-append entry_read (lines_of bytes) (lines_of (whole_lines behind'))) ∙ ap (map entry_read) (sym split) ∙ is.0.read in
     some_prefix told room.room.entries _ read
 has_all_told bytes behind' told kept (restored.Bad number) begins lines legal is =
     let first = split_read entry_read (lines_of bytes) told begins.0 (lines.read ∙ ap (map Some) (sym begins.1)) in
-    let whole : first.0 ++ (first.1 ++ lines_of (whole_part behind')) ≡ is.front ++ is.line ∷ is.split.later =
-    sym (append_assoc first.0 first.1 (lines_of (whole_part behind'))) ∙ ap (λ l. l ++ lines_of (whole_part behind')) (sym first.2)
+    let whole : first.0 ++ (first.1 ++ lines_of (whole_lines behind')) ≡ is.front ++ is.line ∷ is.split.later =
+    sym (append_assoc first.0 first.1 (lines_of (whole_lines behind'))) ∙ ap (λ l. l ++ lines_of (whole_lines behind')) (sym first.2)
     ∙ sym (stays bytes behind' lines.whole) ∙ is.split.whole in
-    let within = behind [] told is.entries first.0 (first.1 ++ lines_of (whole_part behind')) is.front is.split.later is.line first.3
+    let within = behind [] told is.entries first.0 (first.1 ++ lines_of (whole_lines behind')) is.front is.split.later is.line first.3
     whole is.before.read is.refused legal in
     omega (arith, within, is.split.counted)

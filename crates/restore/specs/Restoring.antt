@@ -4,7 +4,7 @@ use mathlib.Core.List.{IsPrefix}
 use Rattle.rules.specs.declared.history.Entry.{Entry}
 use Rattle.rules.specs.Limits.{full_limits}
 use Rattle.wire.specs.Lines.{lines_of}
-use Rattle.record_file.specs.RecordText.{whole_part}
+use Rattle.record_file.specs.RecordText.{whole_lines}
 use Rattle.restore.specs.declared.restored.Restored.{Restored}
 use Rattle.restore.specs.declared.restored.Restored.TheVariants as restored
 use Rattle.restore.specs.Records.{AreRecord, IsBadRecord}
@@ -12,10 +12,10 @@ use Rattle.restore.specs.Records.{AreRecord, IsBadRecord}
 -- The whole lines are the room's record. Or the line of this number is no entry that may come next.
 abbrev pub IsRestored : List ℕ → Restored → Type 0
 IsRestored bytes (restored.Room room whole) =
-    AreRecord (lines_of (whole_part bytes)) room.room.entries × (room.room.limits ≡ full_limits)
-    × (take whole bytes ≡ whole_part bytes)
+    AreRecord (lines_of (whole_lines bytes)) room.room.entries × (room.room.limits ≡ full_limits)
+    × (take whole bytes ≡ whole_lines bytes)
     × (whole ≤ length bytes)
-IsRestored bytes (restored.Bad number) = IsBadRecord (lines_of (whole_part bytes)) number
+IsRestored bytes (restored.Bad number) = IsBadRecord (lines_of (whole_lines bytes)) number
 
 -- the room's record begins with all that was told, or the bad line comes after its lines
 abbrev pub HasAllOf : List Entry → Restored → Type 0

@@ -8,7 +8,7 @@ use Rattle.rules.specs.declared.history.Entry.TheVariants.{Join, Operation}
 use Rattle.rules.specs.declared.refusal.Refusal.{Refusal}
 use Rattle.rules.specs.declared.refusal.Refusal.TheVariants.{NotJoined, NoSuchSite, SiteInUse}
 use Rattle.rules.specs.declared.version.Version.{Version}
-use Rattle.rules.specs.Bodies.{is_change_body, kind_in}
+use Rattle.rules.specs.Bodies.{is_change_body, kind_of_body}
 use Rattle.rules.specs.Operations.{IsHistory, creation_of, changes_on}
 use Rattle.rules.specs.Conflicts.{conflict}
 use Rattle.rules.specs.Admission.{count_at_site}
@@ -45,7 +45,7 @@ pub record IsShownBy (room : Room) (at : ℕ) (object : Name) (kind : Bytes) (vs
   pub nothing : added ≡ None
   pub creation : Op
   pub created : creation_of (operations room.entries) object ≡ Some creation
-  pub of_kind : kind ≡ kind_in creation.body
+  pub of_kind : kind ≡ kind_of_body creation.body
   pub are_versions : vs ≡ versions (operations room.entries) object
 
 module _ (room : Room) (at : ℕ) (object : Name) (kind : Bytes) (vs : List Version) where

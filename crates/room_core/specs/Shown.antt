@@ -6,7 +6,7 @@ use Rattle.base_types.specs.Texts.{Bytes}
 use Rattle.base_types.specs.VersionIds.{id_cmp}
 use Rattle.rules.specs.declared.history.Op.{Op}
 use Rattle.rules.specs.declared.version.Version.{Version}
-use Rattle.rules.specs.Bodies.{kind_in}
+use Rattle.rules.specs.Bodies.{kind_of_body}
 use Rattle.rules.specs.Lists.{HasNoRepeats}
 use Rattle.rules.specs.Operations.{creation_of, changes_on}
 use Rattle.rules.specs.Groups.{IsGroup}
@@ -31,5 +31,5 @@ pub record HasObject (room : Room) (at : ℕ) (object : Name) (kind : Bytes)
   pub at_end : at ≡ length room.entries
   pub creation : Op
   pub created : creation_of (operations room.entries) object ≡ Some creation
-  pub of_kind : kind ≡ kind_in creation.body
+  pub of_kind : kind ≡ kind_of_body creation.body
   pub versions_are : AreVersionsOf (operations room.entries) object versions

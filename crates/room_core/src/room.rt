@@ -10,7 +10,7 @@ ghost use Rattle.drawing.specs.Shown.{shown};
 ghost use Rattle.drawing.specs.steps.Additions.{IsReady as CanBeAdded};
 ghost use Rattle.room_core.specs.Room.{with_entry, empty_room};
 ghost use Rattle.room_core.specs.Answers.{join_answer, back_reply, answer, site_answer, has_site, room_after};
-ghost use Rattle.room_core.specs.steps.Plans.{entry_added, IsAdmitted, IsReady, Plans};
+ghost use Rattle.room_core.specs.steps.Plans.{entry_added, IsAdmitted, IsPlanReady, Plans};
 
 mod accepted;
 mod plans;
@@ -182,7 +182,7 @@ impl RoomState {
 
     /// Carries out what was planned for the room as it is now, and gives the reply. No allocation.
     pub fn commit(&mut self, planned: Planned) -> Reply
-        requires { IsReady self.old planned.addition }
+        requires { IsPlanReady self.old planned.addition }
         ensures reply { result ≡ planned.reply }
         ensures room { self.new.room ≡ with_entry self.old.room (entry_added planned.addition) }
     {

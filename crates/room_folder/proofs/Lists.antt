@@ -3,6 +3,7 @@ use Rattle.std.proofs.Common.{◌≡◌, List, [], ◌∷◌, ◌++◌, All, map
 use Rattle.std.proofs.lemmas.List.{map-append}
 use Rattle.std.proofs.lemmas.List.Elements.{All-push}
 use mathlib.Core.List.{IsPrefix}
+use Rattle.base_types.proofs.Lists.{map_of_map}
 use Rattle.base_types.specs.Texts.{Bytes}
 use Rattle.rules.specs.Limits.{full_limits}
 use Rattle.room_core.specs.State.{DrawingState}
@@ -42,11 +43,6 @@ lists_push rooms names names' states states' files files' room h named stated fi
       limits = subst (All IsFull) (sym stated) (All-push IsFull states room.state h.limits room.limits);
     }
 
--- mapping twice is mapping once
-map_twice : {A B C : Type 0} (g : B → C) (f : A → B) (xs : List A) → map g (map f xs) ≡ map (λ x. g (f x)) xs
-map_twice g f [] = refl
-map_twice g f (x ∷ xs) = ap (λ l. g (f x) ∷ l) (map_twice g f xs)
-
 -- the first rooms of the lists are of the chains of these names
 pub chains_begin : (names : List Bytes) (chains : List ReadChain) (rooms : List SettledRoom) (listed : List Bytes)
     → map (λ chain. first_name (newest_name chain.newest)) chains ≡ map first_name names
@@ -55,5 +51,5 @@ pub chains_begin : (names : List Bytes) (chains : List ReadChain) (rooms : List 
     → IsPrefix (map first_name names) (map first_name listed)
 chains_begin names chains rooms listed read settled lists =
     let newest = λ (chain : ReadChain). newest_name chain.newest in
-    subst (λ l. IsPrefix l (map first_name listed)) (map_twice first_name newest chains ∙ read)
+    subst (λ l. IsPrefix l (map first_name listed)) (map_of_map first_name newest chains ∙ read)
     (subst (λ l. IsPrefix (map first_name (map newest chains)) (map first_name l)) (sym lists) (prefix-map first_name _ _ settled))

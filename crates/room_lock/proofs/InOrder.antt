@@ -14,7 +14,7 @@ use Rattle.crossbeam_utils.specs.declared.cache_padded.CachePadded.{CachePadded}
 use Rattle.base_types.specs.Texts.{Bytes}
 use Rattle.openings.specs.Openings.{OpeningView}
 use Rattle.room_core.proofs.Seen.{some_same}
-use Rattle.room_lock.specs.InOrder.{AreInOrder, AreNamed, IsOpeningFor, name_of, number_of, openings_in, place_of}
+use Rattle.room_lock.specs.InOrder.{AreInOrder, AreNamed, IsOpeningFor, opening_name, number_of, openings_in, opening_place}
 use Rattle.room_lock.specs.Rooms.{RoomsView}
 
 -- a run of numbers with the next one
@@ -43,13 +43,13 @@ module _ (rooms : List (Bytes × CachePadded OpeningView)) (kept : AreInOrder (k
     pub number_is_place : number_of (padded_value room.1) ≡ place
     number_is_place = run_at number_of (openings_in rooms) (length (keys_of rooms)) kept.numbers_are place (padded_value room.1) opened
 
-    pub opened_at_place : place_of (padded_value room.1) ≡ place
-    opened_at_place = run_at place_of (openings_in rooms) (length (keys_of rooms)) kept.places_are place (padded_value room.1) opened
+    pub opened_at_place : opening_place (padded_value room.1) ≡ place
+    opened_at_place = run_at opening_place (openings_in rooms) (length (keys_of rooms)) kept.places_are place (padded_value room.1) opened
 
-    pub opened_by_name : room.0 ≡ name_of (padded_value room.1)
+    pub opened_by_name : room.0 ≡ opening_name (padded_value room.1)
     opened_by_name =
         let key : slice_get (keys_of rooms) place ≡ Some room.0 = slice_get-map (λ (room : Bytes × CachePadded OpeningView). room.0) rooms place ∙ ap (option_map (λ (room : Bytes × CachePadded OpeningView). room.0)) is in
-        let name : slice_get (map name_of (openings_in rooms)) place ≡ Some (name_of (padded_value room.1)) = slice_get-map name_of (openings_in rooms) place ∙ ap (option_map name_of) opened in
+        let name : slice_get (map opening_name (openings_in rooms)) place ≡ Some (opening_name (padded_value room.1)) = slice_get-map opening_name (openings_in rooms) place ∙ ap (option_map opening_name) opened in
         some_same (sym key ∙ ap (λ l. slice_get l place) (sym kept.names_are) ∙ name)
 
     -- the room that stands first under a name is the name's
@@ -61,7 +61,7 @@ module _ (rooms : List (Bytes × CachePadded OpeningView)) (kept : AreInOrder (k
     }
 
 -- an opening of a room on demand
-pub opening_of_other : (view : RoomsView) (name : Bytes) (opening : OpeningView) → ¬ (Contains view.names name) → name_of opening ≡ name → IsOpeningFor view name opening
+pub opening_of_other : (view : RoomsView) (name : Bytes) (opening : OpeningView) → ¬ (Contains view.names name) → opening_name opening ≡ name → IsOpeningFor view name opening
 opening_of_other view name opening other named = record {
   name_is = named;
   number_is = λ first. absurd (other first);
@@ -69,10 +69,10 @@ opening_of_other view name opening other named = record {
 }
 
 -- what stands at a place among named openings has its name
-pub named_at : (openings : List (Bytes × OpeningView)) → AreNamed openings → (place : ℕ) (name : Bytes) (opening : OpeningView) → slice_get openings place ≡ Some (name, opening) → name_of opening ≡ name
+pub named_at : (openings : List (Bytes × OpeningView)) → AreNamed openings → (place : ℕ) (name : Bytes) (opening : OpeningView) → slice_get openings place ≡ Some (name, opening) → opening_name opening ≡ name
 named_at openings all place name opening is =
     let within = slice_get_within openings place (name, opening) is in
-    let P : Bytes × OpeningView → Type 0 = λ named. name_of named.1 ≡ named.0 in
+    let P : Bytes × OpeningView → Type 0 = λ named. opening_name named.1 ≡ named.0 in
     subst P (get_or_from_slice_get openings place (name, opening) (name, opening) is) (all place (name, opening) within)
 
 -- without the room that stands first under a name
@@ -83,18 +83,18 @@ named_without test (e ∷ es) all = at (position test (keys_of (e ∷ es)))
     at : (place : Option ℕ) → AreNamed (option_map_or (λ i. swap_remove (e ∷ es) i e) place (e ∷ es))
     at None = all
     at (Some i) =
-        let P : Bytes × OpeningView → Type 0 = λ named. name_of named.1 ≡ named.0 in
+        let P : Bytes × OpeningView → Type 0 = λ named. opening_name named.1 ≡ named.0 in
         let last = get_or (e ∷ es) (length (e ∷ es) - 1) e in
         All-take P (length (e ∷ es) - 1) (set (e ∷ es) i last) (All-set P (e ∷ es) i last (all (length (e ∷ es) - 1) e (omega arith)) all)
 
 -- with a room more, which was opened behind them
 pub more_in_order : (names : List Bytes) (openings : List OpeningView) (name : Bytes) (opening : OpeningView) → AreInOrder names openings
-    → name_of opening ≡ name → number_of opening ≡ length names → place_of opening ≡ length names → AreInOrder (names ++ name ∷ []) (openings ++ opening ∷ [])
+    → opening_name opening ≡ name → number_of opening ≡ length names → opening_place opening ≡ length names → AreInOrder (names ++ name ∷ []) (openings ++ opening ∷ [])
 more_in_order names openings name opening kept named number place =
     let more : length (names ++ name ∷ []) ≡ suc (length names) = omega (arith, length-append names (name ∷ [])) in
     let run : range_with_len 0 (length names) ++ length names ∷ [] ≡ range_with_len 0 (length (names ++ name ∷ [])) = sym (run_more 0 (length names) (length names) (omega arith)) ∙ ap (range_with_len 0) (sym more) in
     record {
-      names_are = map-append name_of openings (opening ∷ []) ∙ (λ j. kept.names_are j ++ named j ∷ []);
+      names_are = map-append opening_name openings (opening ∷ []) ∙ (λ j. kept.names_are j ++ named j ∷ []);
       numbers_are = map-append number_of openings (opening ∷ []) ∙ (λ j. kept.numbers_are j ++ number j ∷ []) ∙ run;
-      places_are = map-append place_of openings (opening ∷ []) ∙ (λ j. kept.places_are j ++ place j ∷ []) ∙ run;
+      places_are = map-append opening_place openings (opening ∷ []) ∙ (λ j. kept.places_are j ++ place j ∷ []) ∙ run;
     }

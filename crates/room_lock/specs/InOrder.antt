@@ -11,26 +11,26 @@ use Rattle.room_lock.specs.Rooms.{RoomsView}
 abbrev pub number_of : OpeningView → ℕ
 number_of opening = opening.number
 
-abbrev pub place_of : OpeningView → ℕ
-place_of opening = opening.room.place
+abbrev pub opening_place : OpeningView → ℕ
+opening_place opening = opening.room.place
 
-abbrev pub name_of : OpeningView → Bytes
-name_of opening = opening.room.name
+abbrev pub opening_name : OpeningView → Bytes
+opening_name opening = opening.room.name
 
 -- An opening of the room of this name. Where the room is open from the start, the number of its one
 -- opening, and its place, are the place of its name.
 pub record IsOpeningFor (rooms : RoomsView) (name : Bytes) (opening : OpeningView) : Type 0 where
-  pub name_is : name_of opening ≡ name
+  pub name_is : opening_name opening ≡ name
   pub number_is : Contains rooms.names name
       → position (bytes_eq name) rooms.names ≡ Some (number_of opening)
-  pub place_is : Contains rooms.names name → place_of opening ≡ number_of opening
+  pub place_is : Contains rooms.names name → opening_place opening ≡ number_of opening
 
 -- the rooms of these names were opened in order: the number of each opening, and the place of its
 -- room, are the name's place
 pub record AreInOrder (names : List Bytes) (openings : List OpeningView) : Type 0 where
-  pub names_are : map name_of openings ≡ names
+  pub names_are : map opening_name openings ≡ names
   pub numbers_are : map number_of openings ≡ range_with_len 0 (length names)
-  pub places_are : map place_of openings ≡ range_with_len 0 (length names)
+  pub places_are : map opening_place openings ≡ range_with_len 0 (length names)
 
 -- the openings of the rooms that these are prefixes of
 abbrev pub openings_of : List PrefixView → List OpeningView
@@ -42,4 +42,4 @@ openings_in rooms = map (λ (room : Bytes × CachePadded OpeningView). padded_va
 
 -- each opening stands under the name of its room
 abbrev pub AreNamed : List (Bytes × OpeningView) → Type 0
-AreNamed openings = All (λ (named : Bytes × OpeningView). name_of named.1 ≡ named.0) openings
+AreNamed openings = All (λ (named : Bytes × OpeningView). opening_name named.1 ≡ named.0) openings

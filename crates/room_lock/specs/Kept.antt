@@ -2,7 +2,7 @@
 use Rattle.std.specs.Prelude.{◌≡◌, ℕ, List, count_by}
 use Rattle.rules.specs.declared.history.Entry.{Entry}
 use Rattle.rules.specs.declared.limits.LimitValues.{LimitValues}
-use Rattle.shared_history.specs.Beginnings.{Beginning}
+use Rattle.shared_history.specs.Fronts.{FrontView}
 use Rattle.openings.specs.Openings.{OpeningView}
 use Rattle.notes.specs.Notes.{NotePlaces}
 use Rattle.room_core.specs.Room.{Room}
@@ -17,16 +17,16 @@ pub record RoomView : Type 0 where
   pub notes : NotePlaces
 
 -- the front is that prefix of the history of this opening which has these entries
-abbrev pub IsBeginningOf : OpeningView → Beginning → List Entry → Type 0
-IsBeginningOf opening front entries =
+abbrev pub IsFrontOf : OpeningView → FrontView → List Entry → Type 0
+IsFrontOf opening front entries =
     (front.history ≡ opening.room.history) × (front.entries ≡ entries)
 
 -- The history of the room's opening is its record. Each site that has joined has a place on the
 -- shelf.
 pub record IsRoomKept
-    (limits : LimitValues) (opening : OpeningView) (room : Room) (front : Beginning)
+    (limits : LimitValues) (opening : OpeningView) (room : Room) (front : FrontView)
     (shelf : Shelf) : Type 0 where
-  pub written : IsBeginningOf opening front room.entries
+  pub written : IsFrontOf opening front room.entries
   pub limits_are : room.limits ≡ limits
   pub shelved : IsShelfOf opening room.entries shelf
 

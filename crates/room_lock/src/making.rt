@@ -203,7 +203,7 @@ impl<P: RoomHistories> Rooms<P> {
             limits,
             register,
         } = planned;
-        let mut register = register.named();
+        let mut register = register.into_register();
         let (rooms, begun) = make(rt, alloc, &mut register, states, &names)?;
         let others = Others::new(alloc, register, names.len(), others as usize)?;
         Ok((

@@ -8,7 +8,7 @@ ghost use Rattle.std.specs.Prelude.{OnErr, OnOk, Some, bytes_eq, false, true, ve
 ghost use Rattle.std.specs.Map.{lookup};
 ghost use Rattle.std.specs.Sync.Mutex.{mutex_guard_value};
 ghost use Rattle.indexmap.specs.IndexMap.{swap_remove_entry};
-ghost use Rattle.room_lock.specs.InOrder.{name_of};
+ghost use Rattle.room_lock.specs.InOrder.{opening_name};
 ghost use Rattle.room_lock.specs.Lookups.{IfKnown, IfNew};
 ghost use Rattle.room_lock.specs.declared.slot.Stage.TheVariants as stages;
 ghost use Rattle.room_lock.specs.steps.Stages.{IsIdleAs, IsOpenAs};
@@ -68,7 +68,7 @@ impl<P: RoomHistories> Directory<P> {
 
     /// The opening of the room of this name, if it is open on demand.
     fn opening_of(&self, name: &RoomName) -> Option<Opening<P>>
-        ensures some { IfSome result (λ opening. name_of opening ≡ name.now) }
+        ensures some { IfSome result (λ opening. opening_name opening ≡ name.now) }
         ensures none { IsNone result → lookup (bytes_eq name.now) self.now ≡ None }
     {
         match self.openings.get_full(name) {
@@ -105,7 +105,7 @@ impl<P: RoomHistories> Directory<P> {
     fn end(&mut self, name: &RoomName, opening: &Opening<P>) -> bool
         ensures open { (result ≡ true)
             ↔ (lookup (bytes_eq name.now) self.old ≡ Some opening.now) }
-        ensures name { result ≡ true → name_of opening.now ≡ name.now }
+        ensures name { result ≡ true → opening_name opening.now ≡ name.now }
         ensures ended { result ≡ true →
             self.new ≡ swap_remove_entry (bytes_eq name.now) self.old }
         ensures unchanged { result ≡ false → self.new ≡ self.old }
@@ -125,7 +125,7 @@ impl<P: RoomHistories> Directory<P> {
     fn close_idle(&mut self, stage: &mut Stage<P>, name: &RoomName, whole: &Prefix<P>) -> bool
         ensures closed { (result ≡ true) ↔ (IsIdleAs whole.now stage.old
             × (lookup (bytes_eq name.now) self.old ≡ Some whole.now.opening)) }
-        ensures name { result ≡ true → name_of whole.now.opening ≡ name.now }
+        ensures name { result ≡ true → opening_name whole.now.opening ≡ name.now }
         ensures free { result ≡ true → stage.new ≡ stages.Free }
         ensures ended { result ≡ true →
             self.new ≡ swap_remove_entry (bytes_eq name.now) self.old }
@@ -148,7 +148,7 @@ impl<P: RoomHistories> Directory<P> {
         requires name { lookup (bytes_eq new.name) self.old ≡ None }
         ensures opened { IfOk result (λ room.
             self.new ≡ self.old ++ (new.name, room.opening) ∷ []) }
-        ensures name { IfOk result (λ room. name_of room.opening ≡ new.name) }
+        ensures name { IfOk result (λ room. opening_name room.opening ≡ new.name) }
         ensures entries { IfOk result (λ room. room.entries ≡ new.state.room.entries) }
         ensures err { OnErr result (self.new ≡ self.old) }
     {
@@ -210,7 +210,7 @@ impl<P: RoomHistories> Others<P> {
 
     /// The opening of the room of this name, if it is open. Waits for the lock of the directory.
     pub(crate) fn opening_of(&self, rt: &impl Wait, name: &RoomName) -> Option<Opening<P>>
-        ensures { IfSome result (λ opening. name_of opening ≡ name.now) }
+        ensures { IfSome result (λ opening. opening_name opening ≡ name.now) }
     {
         lock_of(rt, &self.directory).opening_of(name)
     }
@@ -246,9 +246,9 @@ impl<P: RoomHistories> Others<P> {
         state: RoomState,
     ) -> Result<Opened<P>, NoMemory>
         requires { state.room.limits ≡ P.limits }
-        ensures new { IfOk result (IfNew (λ begun. (name_of begun.opening ≡ name)
+        ensures new { IfOk result (IfNew (λ begun. (opening_name begun.opening ≡ name)
             × (begun.entries ≡ state.room.entries))) }
-        ensures known { IfOk result (IfKnown (λ opening. name_of opening ≡ name)) }
+        ensures known { IfOk result (IfKnown (λ opening. opening_name opening ≡ name)) }
     {
         let mut directory = lock_of(rt, &self.directory);
         if let Some(opening) = directory.opening_of(&name) {
@@ -289,7 +289,7 @@ impl<P: RoomHistories> Others<P> {
     /// prefix. Returns whether it is closed. Waits for the locks of the directory and of the slot.
     pub(crate) fn close_idle(&self, rt: &impl Wait, name: &RoomName, whole: &Prefix<P>) -> bool
         ensures none { self.now ≡ 0 → result ≡ false }
-        ensures name { result ≡ true → name_of whole.now.opening ≡ name.now }
+        ensures name { result ≡ true → opening_name whole.now.opening ≡ name.now }
     {
         let mut directory = lock_of(rt, &self.directory);
         let Some(mut stage) = self.lock(rt, whole.opening()) else {

@@ -4,10 +4,6 @@ use Rattle.std.proofs.lemmas.List.{map-append, take_more}
 use Rattle.rules.specs.declared.history.Entry.{Entry}
 use Rattle.room_watch.specs.steps.Lines.{added_line, added_lines}
 
--- one more item of a list, under a map
-pub map_more : {A B : Type 0} (f : A → B) (xs : List A) (k : ℕ) (x : A) → k < length xs → x ≡ get_or xs k x → map f (take (k + 1) xs) ≡ map f (take k xs) ++ f x ∷ []
-map_more f xs k x lt is = ap (map f) (take_more xs k x lt ∙ ap (λ y. take k xs ++ y ∷ []) (sym is)) ∙ map-append f (take k xs) (x ∷ [])
-
 pub added_more : (r xs : List Entry) (e : Entry) → added_lines r (xs ++ e ∷ []) ≡ added_lines r xs ++ added_line (r ++ xs) e
 added_more r [] e = append-nil (added_line r e) ∙ ap (λ t. added_line t e) (sym (append-nil r))
 added_more r (x ∷ xs) e =

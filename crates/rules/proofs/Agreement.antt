@@ -3,7 +3,7 @@ use Rattle.std.proofs.Common.{◌≡◌, ℕ, zero, suc, ◌<◌, List, ◌∷�
 use Rattle.std.specs.Prelude.{Contains}
 use Rattle.std.specs.List.{list_any}
 use Rattle.rules.specs.declared.history.Op.{Op}
-use Rattle.rules.specs.Bodies.{version_in}
+use Rattle.rules.specs.Bodies.{version_of_body}
 use Rattle.rules.specs.Groups.{group_named}
 use Rattle.rules.specs.Operations.{IsHistory, IsPartOf, known, name_of}
 use Rattle.rules.specs.Conflicts.{members, direct_conflict, conflict_by, total, base_within, base, conflict}
@@ -24,7 +24,7 @@ base_known (suc n) k b x m = go (base_within (suc n) k b) refl m
   where
     go : (o : Option (List Op)) → base_within (suc n) k b ≡ o → In x (members o) → In x (known k b)
     go None e l = absurd l
-    go (Some g) e l = group_within (conflict_by (base_within n k)) (known k b) g (group_named_back (conflict_by (base_within n k)) name_of (known k b) (version_in b.body) g e).0 x l
+    go (Some g) e l = group_within (conflict_by (base_within n k)) (known k b) g (group_named_back (conflict_by (base_within n k)) name_of (known k b) (version_of_body b.body) g e).0 x l
 
 -- ---- two lists in which some operations know the same
 
@@ -34,8 +34,8 @@ module _ (S : Op → Type 0) (k h : List Op) (same : (x : Op) → S x → known 
   base_within_on (suc n) x s =
       group_named_agree (conflict_by (base_within n k)) (conflict_by (base_within n h)) (known k x)
       (λ y z l r. conflict_agree (base_within n k) (base_within n h) y z (base_within_on n y (closed x y s l)) (base_within_on n z (closed x z s r)))
-      name_of (version_in x.body)
-      ∙ ap (λ g. group_named (conflict_by (base_within n h)) name_of g (version_in x.body)) (same x s)
+      name_of (version_of_body x.body)
+      ∙ ap (λ g. group_named (conflict_by (base_within n h)) name_of g (version_of_body x.body)) (same x s)
 
   -- have the same bases, and the same conflicts between them
   pub base_on : (x : Op) → S x → base k x ≡ base h x
@@ -80,13 +80,13 @@ module _ {h : List Op} (i : IsHistory h) where
       let below : (x y : Op) → Contains h x → In y (known h x) → total y.seen < total x.seen = λ x y l r. total-before i y x (there x y r) l (in_known_back h x y r).earlier in
       let same : (x : Op) → In x (known h b) → base_within n h x ≡ base_within m h x =
       λ x l. let c = below b x t l in enough n m x (there b x l) (omega arith) (omega arith) in
-      group_named_agree (conflict_by (base_within n h)) (conflict_by (base_within m h)) (known h b) (λ x y l r. conflict_agree (base_within n h) (base_within m h) x y (same x l) (same y r)) name_of (version_in b.body)
+      group_named_agree (conflict_by (base_within n h)) (conflict_by (base_within m h)) (known h b) (λ x y l r. conflict_agree (base_within n h) (base_within m h) x y (same x l) (same y r)) name_of (version_of_body b.body)
 
-  pub base_is : (b : Op) → Contains h b → base h b ≡ group_named (conflict h) name_of (known h b) (version_in b.body)
+  pub base_is : (b : Op) → Contains h b → base h b ≡ group_named (conflict h) name_of (known h b) (version_of_body b.body)
   unfolding base conflict
   base_is b t =
       let n = total b.seen in
       let there : (x y : Op) → In y (known h x) → Contains h y = λ x y l. Contains-from_In y h (in_known_back h x y l).there in
       let below : (x y : Op) → Contains h x → In y (known h x) → total y.seen < total x.seen = λ x y l r. total-before i y x (there x y r) l (in_known_back h x y r).earlier in
       let same : (x : Op) → In x (known h b) → base_within n h x ≡ base h x = λ x l. enough n (suc (total x.seen)) x (there b x l) (below b x t l) (omega arith) in
-      group_named_agree (conflict_by (base_within n h)) (conflict h) (known h b) (λ x y l r. conflict_agree (base_within n h) (base h) x y (same x l) (same y r)) name_of (version_in b.body)
+      group_named_agree (conflict_by (base_within n h)) (conflict h) (known h b) (λ x y l r. conflict_agree (base_within n h) (base h) x y (same x l) (same y r)) name_of (version_of_body b.body)

@@ -6,7 +6,7 @@ use Rattle.std.proofs.lemmas.Bool.{true≢false, and_parts, and_cases, not-true,
 use Rattle.base_types.specs.Names.{Name}
 use Rattle.base_types.specs.Texts.{Bytes}
 use Rattle.rules.specs.declared.history.Op.{Op}
-use Rattle.rules.specs.Bodies.{value_in, differ_on_a_key, is_one_a_drop, are_at_odds}
+use Rattle.rules.specs.Bodies.{value_of_body, differ_on_a_key, is_one_a_drop, are_at_odds}
 use Rattle.rules.specs.Operations.{IsHistory, before, concurrent, creation_of, is_past, name_of, same_op, changes_on}
 use Rattle.rules.specs.Conflicts.{base, conflict, direct_conflict}
 use Rattle.rules.specs.Versions.{gives, decides, groups, version_of, shown_of, initial_of}
@@ -30,7 +30,7 @@ last_if key g a e =
     }
 
 -- two operations that aren't in conflict and both could decide a key give it one value
-pub one_value_decided : (h : List Op) (g : List Op) (key : Bytes) (a b : Op) → conflict h a b ≡ false → In a g → decides key g a ≡ true → In b g → decides key g b ≡ true → value_in key a.body ≡ value_in key b.body
+pub one_value_decided : (h : List Op) (g : List Op) (key : Bytes) (a b : Op) → conflict h a b ≡ false → In a g → decides key g a ≡ true → In b g → decides key g b ≡ true → value_of_body key a.body ≡ value_of_body key b.body
 unfolding conflict
 one_value_decided h g key a b free ma da mb db =
     let p = last_if key g a da in
@@ -43,7 +43,7 @@ one_value_decided h g key a b free ma da mb db =
     one_value key a.body b.body p.gives_it q.gives_it (or_parts (differ_on_a_key a.body b.body) (is_one_a_drop a.body b.body) even).0
 
 -- all operations of a group that could decide a key give it one value
-pub one_decision : (h : List Op) (object : Name) (g : List Op) (key : Bytes) (a b : Op) → Contains (groups h object) g → Contains g a → IsTrue (decides key g a) → Contains g b → IsTrue (decides key g b) → value_in key a.body ≡ value_in key b.body
+pub one_decision : (h : List Op) (object : Name) (g : List Op) (key : Bytes) (a b : Op) → Contains (groups h object) g → Contains g a → IsTrue (decides key g a) → Contains g b → IsTrue (decides key g b) → value_of_body key a.body ≡ value_of_body key b.body
 unfolding groups
 one_decision h object g key a b group ma da mb db =
     let i = group_is (conflict h) (changes_on h object) g (In-from_Contains g (groups h object) group) in

@@ -2,7 +2,7 @@
 use Rattle.std.proofs.Common.{◌≡◌, List, refl, sym, ◌∙◌, Option, Some, None, ◌↔◌}
 use Rattle.std.specs.Prelude.{Contains}
 use Rattle.rules.specs.declared.history.Op.{Op}
-use Rattle.rules.specs.Bodies.{version_in}
+use Rattle.rules.specs.Bodies.{version_of_body}
 use Rattle.rules.specs.Groups.{IsGroup, identifier}
 use Rattle.rules.specs.Operations.{IsHistory, known, name_of}
 use Rattle.rules.specs.Conflicts.{base, conflict, members}
@@ -14,9 +14,9 @@ use Rattle.rules.proofs.Agreement.{base_is}
 
 module _ {h : List Op} (i : IsHistory h) (b : Op) (m : Contains h b) where
   -- base(b) is g exactly where g is a group of what b knows and b names g's identifier
-  pub base_is_group : (g : List Op) → (base h b ≡ Some g) ↔ (IsGroup (conflict h) (known h b) g × (identifier (conflict h) name_of (known h b) g ≡ version_in b.body))
+  pub base_is_group : (g : List Op) → (base h b ≡ Some g) ↔ (IsGroup (conflict h) (known h b) g × (identifier (conflict h) name_of (known h b) g ≡ version_of_body b.body))
   base_is_group g =
-      let k = group_named_is (conflict h) name_of (known h b) (version_in b.body) g
+      let k = group_named_is (conflict h) name_of (known h b) (version_of_body b.body) g
       (λ x y p q e. one_op i x y (in_known_back h b x p).there (in_known_back h b y q).there e) (Once-known i b) in
       ((λ e. k.0 (sym (base_is i b m) ∙ e)), (λ e. base_is i b m ∙ k.1 e))
 

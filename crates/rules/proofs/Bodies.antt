@@ -9,7 +9,7 @@ use Rattle.base_types.specs.declared.value.Value.{Value}
 use Rattle.rules.specs.AttrLists.{Attr, value_at, are_different}
 use Rattle.rules.specs.declared.history.Body.{Body}
 use Rattle.rules.specs.declared.history.Body.TheVariants.{New, Put, DropVersion}
-use Rattle.rules.specs.Bodies.{is_put_body, is_drop_body, pairs_in, value_in, differ_on_a_key, is_one_a_drop, are_at_odds}
+use Rattle.rules.specs.Bodies.{is_put_body, is_drop_body, pairs_of_body, value_of_body, differ_on_a_key, is_one_a_drop, are_at_odds}
 use Rattle.rules.proofs.Lists.{In, In-map, In-map_back, any_from, any_back, find_is}
 
 -- ---- values
@@ -59,21 +59,21 @@ first_there : (x y : Option Value) → are_different x y ≡ true → is_some x 
 first_there x y e = second_there y x (different_back x y e)
 
 -- two puts that give a key different values differ on a key
-pub differ_if : (key : Bytes) (b c : Body) → are_different (value_in key b) (value_in key c) ≡ true → differ_on_a_key b c ≡ true
+pub differ_if : (key : Bytes) (b c : Body) → are_different (value_of_body key b) (value_of_body key c) ≡ true → differ_on_a_key b c ≡ true
 differ_if key b c e =
-    let test : Attr → Bool = λ attr. are_different (value_in attr.0 b) (value_in attr.0 c) in
-    let d = In-map_back (λ (attr : Attr). attr.0) key (pairs_in b) (key_there key (pairs_in b) (first_there (value_in key b) (value_in key c) e)) in
-    any_from test d.0 (pairs_in b) d.1 (subst (λ (k : Bytes). are_different (value_in k b) (value_in k c) ≡ true) d.2 e)
+    let test : Attr → Bool = λ attr. are_different (value_of_body attr.0 b) (value_of_body attr.0 c) in
+    let d = In-map_back (λ (attr : Attr). attr.0) key (pairs_of_body b) (key_there key (pairs_of_body b) (first_there (value_of_body key b) (value_of_body key c) e)) in
+    any_from test d.0 (pairs_of_body b) d.1 (subst (λ (k : Bytes). are_different (value_of_body k b) (value_of_body k c) ≡ true) d.2 e)
 
 -- and the other way round
-pub differ_back : (b c : Body) → differ_on_a_key b c ≡ true → (key : Bytes) × (are_different (value_in key b) (value_in key c) ≡ true)
-differ_back b c e = let d = any_back (λ (attr : Attr). are_different (value_in attr.0 b) (value_in attr.0 c)) (pairs_in b) e in (d.0.0, d.2)
+pub differ_back : (b c : Body) → differ_on_a_key b c ≡ true → (key : Bytes) × (are_different (value_of_body key b) (value_of_body key c) ≡ true)
+differ_back b c e = let d = any_back (λ (attr : Attr). are_different (value_of_body attr.0 b) (value_of_body attr.0 c)) (pairs_of_body b) e in (d.0.0, d.2)
 
 pub differ_turned : (b c : Body) → differ_on_a_key b c ≡ true → differ_on_a_key c b ≡ true
-differ_turned b c e = let d = differ_back b c e in differ_if d.0 c b (different_back (value_in d.0 b) (value_in d.0 c) d.1)
+differ_turned b c e = let d = differ_back b c e in differ_if d.0 c b (different_back (value_of_body d.0 b) (value_of_body d.0 c) d.1)
 
 pub differ_self : (b : Body) → differ_on_a_key b b ≡ false
-differ_self b = false_from_ne_true (differ_on_a_key b b) (λ e. let d = differ_back b b e in true≢false (sym d.1 ∙ different_self (value_in d.0 b)))
+differ_self b = false_from_ne_true (differ_on_a_key b b) (λ e. let d = differ_back b b e in true≢false (sym d.1 ∙ different_self (value_of_body d.0 b)))
 
 -- two values that are there and different, as different values
 record Differing (b c : Option Value) : Type 0 where
@@ -98,16 +98,16 @@ different_if : (x y : Value) → (x ≡ y → ⊥) → are_different (Some x) (S
 different_if x y d = not_from_false (same_value x y) (false_from_ne_true (same_value x y) (λ e. d ((same_value-Decides x y).0 e)))
 
 -- two puts differ on a key exactly where they give one key different values
-pub differ_is : (b c : Body) → (differ_on_a_key b c ≡ true) ↔ ((key : Bytes) × (x : Value) × (y : Value) × (value_in key b ≡ Some x) × (value_in key c ≡ Some y) × (x ≡ y → ⊥))
+pub differ_is : (b c : Body) → (differ_on_a_key b c ≡ true) ↔ ((key : Bytes) × (x : Value) × (y : Value) × (value_of_body key b ≡ Some x) × (value_of_body key c ≡ Some y) × (x ≡ y → ⊥))
 differ_is b c = (
-  (λ e. let d = differ_back b c e in let w = differing (value_in d.0 b) (value_in d.0 c) d.1 in (d.0, w.first, w.second, w.first_is, w.second_is, w.apart)),
+  (λ e. let d = differ_back b c e in let w = differing (value_of_body d.0 b) (value_of_body d.0 c) d.1 in (d.0, w.first, w.second, w.first_is, w.second_is, w.apart)),
   (λ w. differ_if w.0 b c ((λ i. are_different (w.3 i) (w.4 i)) ∙ different_if w.1 w.2 w.5)),
 )
 
 -- two puts of one key that don't differ on one give it one value
-pub one_value : (key : Bytes) (b c : Body) → is_some (value_in key b) ≡ true → is_some (value_in key c) ≡ true → differ_on_a_key b c ≡ false → value_in key b ≡ value_in key c
+pub one_value : (key : Bytes) (b c : Body) → is_some (value_of_body key b) ≡ true → is_some (value_of_body key c) ≡ true → differ_on_a_key b c ≡ false → value_of_body key b ≡ value_of_body key c
 one_value key b c p q d =
-    same_if_not_different (value_in key b) (value_in key c) p q (false_from_ne_true _ (λ t. true≢false (sym (differ_if key b c t) ∙ d)))
+    same_if_not_different (value_of_body key b) (value_of_body key c) p q (false_from_ne_true _ (λ t. true≢false (sym (differ_if key b c t) ∙ d)))
 
 -- ---- drops
 
@@ -151,7 +151,7 @@ at_odds_self b = or_from (differ_on_a_key b b) (is_one_a_drop b b) (differ_self 
 differ_from_none : (b : Body) (kind : Bytes) (attrs : List Attr) → differ_on_a_key b (New kind attrs) ≡ false
 differ_from_none b kind attrs = false_from_ne_true _ (λ e.
     let d = differ_back b (New kind attrs) e in
-    true≢false (sym (second_there (value_in d.0 b) None d.1)))
+    true≢false (sym (second_there (value_of_body d.0 b) None d.1)))
 
 pub at_odds_with_new : (b : Body) (kind : Bytes) (attrs : List Attr) → are_at_odds b (New kind attrs) ≡ false
 at_odds_with_new b kind attrs = or_from (differ_on_a_key b (New kind attrs)) (is_one_a_drop b (New kind attrs)) (differ_from_none b kind attrs) (one_a_drop_turned b (New kind attrs) ∙ beside b)

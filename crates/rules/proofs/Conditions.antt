@@ -4,7 +4,7 @@ use Rattle.std.specs.Prelude.{Option, is_none, is_some, find, option_map}
 use Rattle.std.proofs.lemmas.Bool.{and_parts, and_from, le-leb, leb-false, ne_eqb, cases_Bool, true≢false}
 use Rattle.base_types.specs.Names.{is_site, is_op_name}
 use Rattle.base_types.specs.declared.op_name.TheConstants.{MAX_SEQ}
-use Rattle.base_types.proofs.Vectors.{none_if}
+use Rattle.base_types.proofs.Choices.{none_if}
 use Rattle.rules.specs.declared.history.Op.{Op}
 use Rattle.rules.specs.declared.history.Entry.{Entry}
 use Rattle.rules.specs.declared.history.Entry.TheVariants.{Join, Operation, Next}

@@ -9,7 +9,7 @@ use Rattle.rules.specs.declared.history.Op.{Op}
 use Rattle.rules.specs.declared.version.Shown.{Shown}
 use Rattle.rules.specs.declared.version.Shown.TheVariants.{Attrs, Gone}
 use Rattle.rules.specs.AttrLists.{Attr}
-use Rattle.rules.specs.Bodies.{is_change_body, is_put_body, is_drop_body, differ_on_a_key, is_one_a_drop, are_at_odds, value_in}
+use Rattle.rules.specs.Bodies.{is_change_body, is_put_body, is_drop_body, differ_on_a_key, is_one_a_drop, are_at_odds, value_of_body}
 use Rattle.rules.specs.Operations.{IsHistory, before, concurrent, changes_on, creation_of, holds_drop, is_change_on, is_on, known, object_of, same_op}
 use Rattle.rules.specs.Conflicts.{base, conflict, direct_conflict, members, with_base, IsFounded}
 use Rattle.rules.specs.Groups.{groups_of}
@@ -68,7 +68,7 @@ shown_as_attributes h object g e = attributes_if (initial_of (creation_of h obje
 
 -- in whatever order its operations are listed, the same is shown of a group
 pub shown_reordered : (f g : List Op) → SameMembers f g → (initial : List Attr)
-    → ((key : Bytes) (a b : Op) → In a f → In b f → decides key f a ≡ true → decides key f b ≡ true → value_in key a.body ≡ value_in key b.body)
+    → ((key : Bytes) (a b : Op) → In a f → In b f → decides key f a ≡ true → decides key f b ≡ true → value_of_body key a.body ≡ value_of_body key b.body)
     → shown_of initial f ≡ shown_of initial g
 unfolding shown_of
 shown_reordered f g w initial one = λ i. cond (any_same (λ (op : Op). is_drop_body op.body) f g w i) Gone (Attrs (attributes_reordered f g w initial one i))

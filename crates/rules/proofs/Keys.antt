@@ -12,7 +12,7 @@ use Rattle.base_types.specs.Repeats.{repeat_from, first_repeat}
 use Rattle.rules.specs.declared.history.Op.{Op}
 use Rattle.rules.specs.declared.pairs.PairsFault.TheVariants as pairs_faults
 use Rattle.rules.specs.AttrLists.{Attr, value_at, are_different, do_pairs_differ, gives_another, same_key, pairs_fault, are_pairs}
-use Rattle.rules.specs.Bodies.{keys_in, pairs_in}
+use Rattle.rules.specs.Bodies.{keys_of_body, pairs_of_body}
 use Rattle.rules.specs.Lists.{HasNoRepeats, each_once}
 use Rattle.rules.specs.Versions.{keys_of, new_keys}
 use Rattle.rules.proofs.Lists.{In, In-map, In-map_back, In-append_cases, In-append_left, In-append_right, In-filter, In-filter_back, any_from, any_back, any_agree, find_is}
@@ -23,7 +23,7 @@ use Rattle.rules.proofs.Reordered.{SameMembers, In-each_once, In-each_once_back,
 -- ---- which keys there are
 
 pub once_keys : (k : List Op) → Once (keys_of k)
-once_keys k = Once-each_once bytes_eq same_key_is same_key_itself (flat_map (λ op. keys_in op.body) k)
+once_keys k = Once-each_once bytes_eq same_key_is same_key_itself (flat_map (λ op. keys_of_body op.body) k)
 
 as_many : (xs ys : List Bytes) → Once xs → Once ys → SameMembers xs ys → length xs ≡ length ys
 as_many xs ys o u w = let a = length_within xs ys o w.to in let b = length_within ys xs u w.back in omega (arith, a, b)
@@ -47,12 +47,12 @@ module _ (k : List Op) (op : Op) where
 
   -- its keys, each once
   abbrev own : List Bytes
-  own = each_once bytes_eq (keys_in op.body)
+  own = each_once bytes_eq (keys_of_body op.body)
 
   from_new : (key : Bytes) → In key (new_keys k op) → In key (keys_of more)
   from_new key m =
       let c = (In-filter_back is_new key own m).0 in
-      in_keys more op key (In-append_right op k (op ∷ []) (inl refl)) (In-each_once_back bytes_eq same_key_is same_key_itself key (keys_in op.body) c)
+      in_keys more op key (In-append_right op k (op ∷ []) (inl refl)) (In-each_once_back bytes_eq same_key_is same_key_itself key (keys_of_body op.body) c)
 
   from_before : (key : Bytes) → In key (keys_of k) → In key (keys_of more)
   from_before key m = let c = in_keys_back k key m in in_keys more c.0 key (In-append_left c.0 k (op ∷ []) c.1) c.2
@@ -65,12 +65,12 @@ module _ (k : List Op) (op : Op) where
         | inr r ↦ elim r [
           | inr z ↦ absurd z
           | inl e ↦
-              (let given : In key (keys_in op.body) = subst (λ (o : Op). In key (keys_in o.body)) e c.2 in
+              (let given : In key (keys_of_body op.body) = subst (λ (o : Op). In key (keys_of_body o.body)) e c.2 in
               elim (cases_Bool (list_any (bytes_eq key) (keys_of k))) [
                 | inl t ↦
                     (let d = any_back (bytes_eq key) (keys_of k) t in
                     In-append_left key (keys_of k) (new_keys k op) (subst (λ x. In x (keys_of k)) (sym (same_key_is key d.0 d.2)) d.1))
-                | inr f ↦ In-append_right key (keys_of k) (new_keys k op) (In-filter is_new key own (In-each_once bytes_eq same_key_is same_key_itself key (keys_in op.body) given) (not_from_false _ f))
+                | inr f ↦ In-append_right key (keys_of k) (new_keys k op) (In-filter is_new key own (In-each_once bytes_eq same_key_is same_key_itself key (keys_of_body op.body) given) (not_from_false _ f))
               ])
         ]
       ]
@@ -79,7 +79,7 @@ module _ (k : List Op) (op : Op) where
   back key m = elim (In-append_cases key (keys_of k) (new_keys k op) m) [ inl l ↦ from_before key l | inr r ↦ from_new key r ]
 
   both_once : Once (keys_of k ++ new_keys k op)
-  both_once = Once-append (keys_of k) (new_keys k op) (once_keys k) (Once-filter is_new own (Once-each_once bytes_eq same_key_is same_key_itself (keys_in op.body)))
+  both_once = Once-append (keys_of k) (new_keys k op) (once_keys k) (Once-filter is_new own (Once-each_once bytes_eq same_key_is same_key_itself (keys_of_body op.body)))
       (λ key m n.
       let c = (In-filter_back is_new key own n).1 in
       true≢false (sym (any_from (bytes_eq key) key (keys_of k) m (same_key_itself key)) ∙ not-true _ c))
@@ -160,13 +160,13 @@ length-filter_map p (x ∷ xs) = step (p x.0) (filter p (map (λ attr. attr.0) x
     step false l n e = omega (arith, e)
 
 -- of a put, whose keys differ, each key counts once
-pub keys_with_put : (k : List Op) (op : Op) → are_pairs (pairs_in op.body) ≡ true
-    → length (keys_of (k ++ op ∷ [])) ≡ length (keys_of k) + count_by (λ attr. not (list_any (bytes_eq attr.0) (keys_of k))) (pairs_in op.body)
+pub keys_with_put : (k : List Op) (op : Op) → are_pairs (pairs_of_body op.body) ≡ true
+    → length (keys_of (k ++ op ∷ [])) ≡ length (keys_of k) + count_by (λ attr. not (list_any (bytes_eq attr.0) (keys_of k))) (pairs_of_body op.body)
 keys_with_put k op e =
     let new : Bytes → Bool = λ key. not (list_any (bytes_eq key) (keys_of k)) in
     keys_with k op
-    ∙ ap (λ l. length (keys_of k) + length (filter new l)) (each_once_if (keys_in op.body) (distinct_if (pairs_in op.body) e).once)
-    ∙ ap (λ n. length (keys_of k) + n) (length-filter_map new (pairs_in op.body))
+    ∙ ap (λ l. length (keys_of k) + length (filter new l)) (each_once_if (keys_of_body op.body) (distinct_if (pairs_of_body op.body) e).once)
+    ∙ ap (λ n. length (keys_of k) + n) (length-filter_map new (pairs_of_body op.body))
 
 pub pairs_differ : (pairs : List Attr) → are_pairs pairs ≡ true → (1 ≤ length pairs) × (length pairs ≤ 16) × HasNoRepeats (map (λ attr. attr.0) pairs)
 pairs_differ pairs e = let d = distinct_if pairs e in (d.least, d.most, HasNoRepeats-from_Once (map (λ attr. attr.0) pairs) d.once)

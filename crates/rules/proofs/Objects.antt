@@ -9,7 +9,7 @@ use Rattle.rules.specs.declared.history.Body.{Body}
 use Rattle.rules.specs.declared.history.Body.TheVariants.{New, Put, DropVersion}
 use Rattle.rules.specs.declared.refusal.Refusal.TheVariants.{NoSuchVersion, Gone, ObjectFull, TooManyKeys, TooManyVersions}
 use Rattle.rules.specs.declared.limits.LimitValues.{LimitValues}
-use Rattle.rules.specs.Bodies.{is_change_body, object_in}
+use Rattle.rules.specs.Bodies.{is_change_body, object_of_body}
 use Rattle.rules.specs.Records.{has_too_many_keys, version_conditions}
 use Rattle.rules.specs.Lists.{sort_by}
 use Rattle.rules.specs.Groups.{groups_of, identifier}
@@ -37,7 +37,7 @@ creation_is_on object op e =
     let c = and_parts (not (is_change_body op.body)) (same_name op.name object) e in
     go op.body c.0 c.1
   where
-    go : (body : Body) → not (is_change_body body) ≡ true → same_name op.name object ≡ true → same_name (object_in op.name body) object ≡ true
+    go : (body : Body) → not (is_change_body body) ≡ true → same_name op.name object ≡ true → same_name (object_of_body op.name body) object ≡ true
     go (New kind attrs) t f = f
     go (Put o v p) t f = absurd (true≢false (sym t))
     go (DropVersion o v) t f = absurd (true≢false (sym t))

@@ -13,7 +13,7 @@ use Rattle.base_types.specs.Texts.{Bytes}
 use Rattle.base_types.specs.declared.value.Value.{Value}
 use Rattle.rules.specs.declared.history.Op.{Op}
 use Rattle.rules.specs.AttrLists.{Attr}
-use Rattle.rules.specs.Bodies.{keys_in, value_in}
+use Rattle.rules.specs.Bodies.{keys_of_body, value_of_body}
 use Rattle.rules.specs.Lists.{each_once, sort_by}
 use Rattle.rules.specs.Operations.{before}
 use Rattle.rules.specs.Versions.{attributes, decides, gives, key_cmp, keys_of, value_by, value_of_key}
@@ -69,11 +69,11 @@ pub same_key_itself : (x : Bytes) → bytes_eq x x ≡ true
 same_key_itself x = (bytes_eq-Decides x x).1 refl
 
 -- the keys of operations are those of each of them
-pub in_keys : (g : List Op) (op : Op) (key : Bytes) → In op g → In key (keys_in op.body) → In key (keys_of g)
-in_keys g op key m n = In-each_once bytes_eq same_key_is same_key_itself key (flat_map (λ op. keys_in op.body) g) (In-flat_map (λ (op : Op). keys_in op.body) op key g m n)
+pub in_keys : (g : List Op) (op : Op) (key : Bytes) → In op g → In key (keys_of_body op.body) → In key (keys_of g)
+in_keys g op key m n = In-each_once bytes_eq same_key_is same_key_itself key (flat_map (λ op. keys_of_body op.body) g) (In-flat_map (λ (op : Op). keys_of_body op.body) op key g m n)
 
-pub in_keys_back : (g : List Op) (key : Bytes) → In key (keys_of g) → (op : Op) × In op g × In key (keys_in op.body)
-in_keys_back g key m = In-flat_map_back (λ (op : Op). keys_in op.body) key g (In-each_once_back bytes_eq same_key_is same_key_itself key (flat_map (λ op. keys_in op.body) g) m)
+pub in_keys_back : (g : List Op) (key : Bytes) → In key (keys_of g) → (op : Op) × In op g × In key (keys_of_body op.body)
+in_keys_back g key m = In-flat_map_back (λ (op : Op). keys_of_body op.body) key g (In-each_once_back bytes_eq same_key_is same_key_itself key (flat_map (λ op. keys_of_body op.body) g) m)
 
 -- ---- attributes in order of key
 
@@ -122,7 +122,7 @@ module _ (f g : List Op) (w : SameMembers f g) where
     back = λ k m. let c = in_keys_back g k m in in_keys f c.0 k (w.back c.0 c.1) c.2;
   }
 
-  module _ (initial : List Attr) (one : (key : Bytes) (a b : Op) → In a f → In b f → decides key f a ≡ true → decides key f b ≡ true → value_in key a.body ≡ value_in key b.body) where
+  module _ (initial : List Attr) (one : (key : Bytes) (a b : Op) → In a f → In b f → decides key f a ≡ true → decides key f b ≡ true → value_of_body key a.body ≡ value_of_body key b.body) where
     value_the_same : (key : Bytes) → value_of_key initial f key ≡ value_of_key initial g key
     value_the_same key = go (find (decides key f) f) (find (decides key g) g) refl refl
       where

@@ -27,34 +27,34 @@ is_drop_body (DropVersion object version) = true
 
 -- the object that an operation of this name and body creates or changes: it has the name of its
 -- creation
-abbrev pub object_in : Name → Body → Name
-object_in name (New kind attrs) = name
-object_in name (Put object version pairs) = object
-object_in name (DropVersion object version) = object
+abbrev pub object_of_body : Name → Body → Name
+object_of_body name (New kind attrs) = name
+object_of_body name (Put object version pairs) = object
+object_of_body name (DropVersion object version) = object
 
 -- the version that a change starts from, by its identifier; a creation names none
-abbrev pub version_in : Body → List Name
-version_in (New kind attrs) = []
-version_in (Put object version pairs) = version
-version_in (DropVersion object version) = version
+abbrev pub version_of_body : Body → List Name
+version_of_body (New kind attrs) = []
+version_of_body (Put object version pairs) = version
+version_of_body (DropVersion object version) = version
 
 -- the attributes that a put gives, in their order
-abbrev pub pairs_in : Body → List Attr
-pairs_in (New kind attrs) = []
-pairs_in (Put object version pairs) = pairs
-pairs_in (DropVersion object version) = []
+abbrev pub pairs_of_body : Body → List Attr
+pairs_of_body (New kind attrs) = []
+pairs_of_body (Put object version pairs) = pairs
+pairs_of_body (DropVersion object version) = []
 
 -- the keys that a put gives values
-abbrev pub keys_in : Body → List Bytes
-keys_in body = map (λ attr. attr.0) (pairs_in body)
+abbrev pub keys_of_body : Body → List Bytes
+keys_of_body body = map (λ attr. attr.0) (pairs_of_body body)
 
 -- the value that a put gives a key
-abbrev pub value_in : Bytes → Body → Option Value
-value_in key body = value_at key (pairs_in body)
+abbrev pub value_of_body : Bytes → Body → Option Value
+value_of_body key body = value_at key (pairs_of_body body)
 
 -- two puts give some key different values
 abbrev pub differ_on_a_key : Body → Body → Bool
-differ_on_a_key first second = do_pairs_differ (pairs_in first) (pairs_in second)
+differ_on_a_key first second = do_pairs_differ (pairs_of_body first) (pairs_of_body second)
 
 -- exactly one of two changes is a drop
 abbrev pub is_one_a_drop : Body → Body → Bool
@@ -68,10 +68,10 @@ abbrev pub are_at_odds : Body → Body → Bool
 are_at_odds first second = differ_on_a_key first second || is_one_a_drop first second
 
 -- the kind that a creation gives its object; a change gives none
-abbrev pub kind_in : Body → Bytes
-kind_in (New kind attrs) = kind
-kind_in (Put object version pairs) = []
-kind_in (DropVersion object version) = []
+abbrev pub kind_of_body : Body → Bytes
+kind_of_body (New kind attrs) = kind
+kind_of_body (Put object version pairs) = []
+kind_of_body (DropVersion object version) = []
 
 -- the attributes that a creation gives its object; a change gives none
 abbrev pub initial_in : Body → List Attr

@@ -6,7 +6,7 @@ use Rattle.std.specs.Prelude.{◌∷◌, Option, Some, None, Contains, is_some}
 use Rattle.std.specs.List.{list_any}
 use Rattle.base_types.specs.Vectors.{Vector}
 use Rattle.rules.specs.declared.history.Op.{Op}
-use Rattle.rules.specs.Bodies.{is_change_body, version_in, are_at_odds}
+use Rattle.rules.specs.Bodies.{is_change_body, version_of_body, are_at_odds}
 use Rattle.rules.specs.Operations.{before, concurrent, holds_drop, known, name_of, object_of}
 use Rattle.rules.specs.Operations.{is_creation_of}
 use Rattle.rules.specs.Groups.{group_named}
@@ -38,7 +38,7 @@ total (pair ∷ pairs) = pair.1 + total pairs
 abbrev pub base_within : ℕ → List Op → Op → Option (List Op)
 base_within zero h b = None
 base_within (suc n) h b =
-    group_named (conflict_by (base_within n h)) name_of (known h b) (version_in b.body)
+    group_named (conflict_by (base_within n h)) name_of (known h b) (version_of_body b.body)
 
 -- The base of b: the group of what b knows whose identifier b names. Each operation before b counts
 -- fewer than b does.

@@ -7,7 +7,7 @@ use Rattle.std.specs.Ordering.{on}
 use Rattle.base_types.specs.Names.{Name, name_cmp, same_name}
 use Rattle.base_types.specs.Vectors.{count_of, counts, is_vector}
 use Rattle.rules.specs.declared.history.Op.{Op}
-use Rattle.rules.specs.Bodies.{is_change_body, is_drop_body, object_in}
+use Rattle.rules.specs.Bodies.{is_change_body, is_drop_body, object_of_body}
 use Rattle.rules.specs.Lists.{HasNoRepeats, sort_by}
 
 -- an operation's name
@@ -24,7 +24,7 @@ by_name = on name_of name_cmp
 
 -- the object that an operation creates or changes
 abbrev pub object_of : Op → Name
-object_of op = object_in op.name op.body
+object_of op = object_of_body op.name op.body
 
 -- the operation creates the object or changes it
 abbrev pub is_on : Name → Op → Bool

@@ -16,7 +16,7 @@ use Rattle.rules.specs.declared.version.Shown.{Shown}
 use Rattle.rules.specs.declared.version.Shown.TheVariants.{Attrs, Gone}
 use Rattle.rules.specs.declared.version.Version.{Version}
 use Rattle.rules.specs.AttrLists.{Attr, value_at}
-use Rattle.rules.specs.Bodies.{initial_in, keys_in, value_in}
+use Rattle.rules.specs.Bodies.{initial_in, keys_of_body, value_of_body}
 use Rattle.rules.specs.Lists.{each_once, sort_by}
 use Rattle.rules.specs.Operations.{before, creation_of, holds_drop, name_of, changes_on}
 use Rattle.rules.specs.Groups.{groups_of, identifier}
@@ -26,7 +26,7 @@ use Rattle.rules.specs.Conflicts.{conflict}
 
 -- the operation gives the key a value
 abbrev pub gives : Bytes → Op → Bool
-gives key op = is_some (value_in key op.body)
+gives key op = is_some (value_of_body key op.body)
 
 -- An operation of g decides a key: it gives the key a value, and no later operation of g does. On a
 -- history one count tells causal order.
@@ -36,7 +36,7 @@ decides key g op = gives key op && not (list_any (λ later. gives key later && b
 -- the value that an operation gives a key, or else the creation's
 abbrev pub value_by : Bytes → List Attr → Option Op → Option Value
 value_by key initial None = value_at key initial
-value_by key initial (Some op) = value_in key op.body
+value_by key initial (Some op) = value_of_body key op.body
 
 -- the value of a key in g, on an object created with these attributes
 abbrev pub value_of_key : List Attr → List Op → Bytes → Option Value
@@ -46,13 +46,13 @@ value_of_key initial g key = value_by key initial (find (decides key g) g)
 
 -- the keys that puts give values, each once
 abbrev pub keys_of : List Op → List Bytes
-keys_of g = each_once bytes_eq (flat_map (λ op. keys_in op.body) g)
+keys_of g = each_once bytes_eq (flat_map (λ op. keys_of_body op.body) g)
 
 -- the keys of a change that none of these changes gives a value, each once
 abbrev pub new_keys : List Op → Op → List Bytes
 new_keys changes op =
     filter (λ key. not (list_any (bytes_eq key) (keys_of changes)))
-    (each_once bytes_eq (keys_in op.body))
+    (each_once bytes_eq (keys_of_body op.body))
 
 -- attributes are ordered by their keys
 abbrev pub key_cmp : Attr → Attr → Ordering

@@ -108,6 +108,7 @@ pub fn refused_puts()
 
 /// Puts that go past a limit, and some that just don't.
 pub fn puts_past_a_limit()
+    // Of changes and keys:
     ensures changes { refusal (record full_limits { changes = 1 }) one_put
         (puts (2, 1) creation_alone [] (x 9 ∷ [])) ≡ Some ObjectFull }
     ensures keys { refusal (record full_limits { keys = 1 }) one_put
@@ -116,6 +117,7 @@ pub fn puts_past_a_limit()
         (puts (2, 1) creation_alone [] (x 5 ∷ y 1 ∷ red ∷ [])) ≡ Some TooManyKeys }
     ensures few { refusal (record full_limits { keys = 2 }) one_put
         (puts (2, 1) creation_alone [] (x 5 ∷ red ∷ [])) ≡ None }
+    // Of versions, and which refusal comes first:
     ensures versions { refusal (record full_limits { versions = 2 }) three_sites
         (puts (3, 1) creation_alone [] (x 1 ∷ [])) ≡ Some TooManyVersions }
     ensures enough { refusal (record full_limits { versions = 3 }) three_sites

@@ -1,7 +1,7 @@
 //! Operations, and the entries of a room's record.
 
 ghost use Rattle.std.specs.Prelude.{◌≡◌, true, IfOk};
-ghost use Rattle.rules.specs.Bodies.{are_at_odds, is_change_body, is_drop_body, pairs_in, version_in};
+ghost use Rattle.rules.specs.Bodies.{are_at_odds, is_change_body, is_drop_body, pairs_of_body, version_of_body};
 ghost use Rattle.rules.specs.Operations.{object_of};
 ghost use Rattle.rules.specs.Records.{is_end, is_join};
 
@@ -77,7 +77,7 @@ impl Body {
 
     /// The attributes that a put gives. A creation and a drop give none.
     pub fn pairs(&self) -> &[(Key, Value)]
-        ensures { result.now ≡ pairs_in self.now }
+        ensures { result.now ≡ pairs_of_body self.now }
     {
         match self {
             Body::Put { pairs, .. } => pairs.pairs(),
@@ -88,7 +88,7 @@ impl Body {
     /// The identifier of the version that a change starts from. The body must not be a creation.
     pub fn version(&self) -> &VersionId
         requires { is_change_body self.now ≡ true }
-        ensures { result.now ≡ version_in self.now }
+        ensures { result.now ≡ version_of_body self.now }
     {
         match self {
             Body::Put { version, .. } | Body::DropVersion { version, .. } => version,

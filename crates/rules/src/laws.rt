@@ -13,7 +13,7 @@ ghost use Rattle.rules.specs.declared.limits.LimitValues.{LimitValues};
 ghost use Rattle.rules.specs.declared.history.Body.{Body};
 ghost use Rattle.rules.specs.declared.version.Shown.TheVariants.{Attrs, Gone};
 ghost use Rattle.base_types.specs.declared.value.Value.{Value};
-ghost use Rattle.rules.specs.Bodies.{is_put_body, is_drop_body, pairs_in, differ_on_a_key, value_in, version_in};
+ghost use Rattle.rules.specs.Bodies.{is_put_body, is_drop_body, pairs_of_body, differ_on_a_key, value_of_body, version_of_body};
 ghost use Rattle.rules.specs.Lists.{HasNoRepeats};
 ghost use Rattle.rules.specs.Operations.{IsHistory, IsPartOf, AreSame, Before, before, is_past, is_on, is_change_on, name_of, object_of, known, changes_on, operations_on, creation_of, concurrent, holds_drop, IsCausallyOrdered};
 ghost use Rattle.rules.specs.Groups.{groups_of, group_named, identifier, is_compatible, compatible_with_named, IsGroup};
@@ -106,7 +106,7 @@ pub fn groups_never_get_fewer<X>()
 pub fn puts_differ_on_a_key()
     ensures { (b c : Body) → (differ_on_a_key b c ≡ true)
         ↔ ((key : Bytes) × (x : Value) × (y : Value)
-        × (value_in key b ≡ Some x) × (value_in key c ≡ Some y) × (x ≡ y → ⊥)) }
+        × (value_of_body key b ≡ Some x) × (value_of_body key c ≡ Some y) × (x ≡ y → ⊥)) }
 {}
 
 /// The base of an operation is the group of what it knows that has the identifier which it names.
@@ -114,7 +114,7 @@ pub fn base_is_the_named_group()
     ensures { (h : List Op) (b : Op) (g : List Op) → IsHistory h → Contains h b
         → ((base h b ≡ Some g)
         ↔ (IsGroup (conflict h) (known h b) g
-        × (identifier (conflict h) name_of (known h b) g ≡ version_in b.body))) }
+        × (identifier (conflict h) name_of (known h b) g ≡ version_of_body b.body))) }
 {}
 
 /// Conflict goes both ways, and nothing that has a base conflicts with itself.
@@ -189,10 +189,10 @@ pub fn keys_of_a_put_differ()
 pub fn a_change_adds_its_new_keys()
     ensures keys { (k : List Op) (op : Op)
         → length (keys_of (k ++ op ∷ [])) ≡ length (keys_of k) + length (new_keys k op) }
-    ensures of_a_put { (k : List Op) (op : Op) → are_pairs (pairs_in op.body) ≡ true
+    ensures of_a_put { (k : List Op) (op : Op) → are_pairs (pairs_of_body op.body) ≡ true
         → length (keys_of (k ++ op ∷ []))
         ≡ length (keys_of k)
-        + count_by (λ attr. not (list_any (bytes_eq attr.0) (keys_of k))) (pairs_in op.body) }
+        + count_by (λ attr. not (list_any (bytes_eq attr.0) (keys_of k))) (pairs_of_body op.body) }
 {}
 
 // ---- versions
@@ -209,7 +209,7 @@ pub fn deciding_operations_agree()
     ensures { (h : List Op) (object : Name) (g : List Op) (key : Bytes) (a b : Op) → IsHistory h
         → Contains (groups h object) g
         → Contains g a → IsTrue (decides key g a) → Contains g b → IsTrue (decides key g b)
-        → value_in key a.body ≡ value_in key b.body }
+        → value_of_body key a.body ≡ value_of_body key b.body }
 {}
 
 /// In a group in causal order the last put of a key decides its value.
@@ -227,13 +227,13 @@ pub fn a_group_in_any_order()
         → ((a : Op) → Contains f a ↔ Contains g a)
         → ((key : Bytes) (a b : Op) → Contains f a → Contains f b
         → IsTrue (decides key f a) → IsTrue (decides key f b)
-        → value_in key a.body ≡ value_in key b.body)
+        → value_of_body key a.body ≡ value_of_body key b.body)
         → attributes initial f ≡ attributes initial g }
     ensures shown { (initial : List Attr) (f g : List Op)
         → ((a : Op) → Contains f a ↔ Contains g a)
         → ((key : Bytes) (a b : Op) → Contains f a → Contains f b
         → IsTrue (decides key f a) → IsTrue (decides key f b)
-        → value_in key a.body ≡ value_in key b.body)
+        → value_of_body key a.body ≡ value_of_body key b.body)
         → shown_of initial f ≡ shown_of initial g }
 {}
 

@@ -21,7 +21,7 @@ use Rattle.room_lock.specs.steps.Entrances.{IfEntered, IfInUse, IfRefused}
 use Rattle.room_lock.specs.InOrder.{IsOpeningFor}
 use Rattle.room_lock.specs.Passes.{InUseView, PassView, PrefixView}
 use Rattle.room_lock.specs.Rooms.{IsOffered, IsOnDemand, RoomsView, Serves}
-use Rattle.room_lock.specs.Told.{IsBack, IsJoin, IsRefusalOver}
+use Rattle.room_lock.specs.Reported.{IsBack, IsJoin, IsRefusalOver}
 use Rattle.sessions.specs.steps.Entrances.{IsAfter}
 use Rattle.sessions.specs.Turns.{IsAnswer, IsBackRefusal, IsEntering, IsNotServed, IsPermitted, IsPermittedJoin, IsTurnedAway, MayBeShut, MayEnter}
 
@@ -74,24 +74,24 @@ module _ (rooms : RoomsView) (opening : OpeningView) (Enters : PassView → Repl
       served (inr some) = some
 
   -- The pass of who was let in is the session's, and who was not is in no room.
-  pub told_after : {P : Type 0} (denied : ℕ → Type 0) (scope : Scope) (name : Bytes) (went : Entrance P) (new : Option PassView) (told : Option PrefixView) (reply : Reply)
-      → MayEnter scope rooms name → IsOpeningFor rooms name opening → IsEntrance went → IsAfter went new told reply
-      → IsEntering Enters Refuses denied scope rooms name new told reply
-  told_after denied scope name (Entered pass it) new told reply may at is after =
+  pub told_after : {P : Type 0} (denied : ℕ → Type 0) (scope : Scope) (name : Bytes) (went : Entrance P) (new : Option PassView) (reported : Option PrefixView) (reply : Reply)
+      → MayEnter scope rooms name → IsOpeningFor rooms name opening → IsEntrance went → IsAfter went new reported reply
+      → IsEntering Enters Refuses denied scope rooms name new reported reply
+  told_after denied scope name (Entered pass it) new reported reply may at is after =
       inl (pass, subst (λ r. Enters pass r) (sym after.0) is.entered.0, may.0, is.entered.1 ∙ at.name_is, subst (IsOpeningFor rooms name) (sym is.pass_opening) at, after.1, after.2)
-  told_after denied scope name (Refused prefix it) new told reply may at is after =
+  told_after denied scope name (Refused prefix it) new reported reply may at is after =
       inr (inl (record {
         known = λ there. (prefix, subst (λ r. Refuses prefix.entries r) (sym after.0) is.refused, subst (IsOpeningFor rooms name) (sym is.refusal_opening) at, after.1);
         unknown = λ absent. absurd (absent may);
         same = after.2;
       }))
-  told_after denied scope name (InUse it answer) new told reply may at is after =
+  told_after denied scope name (InUse it answer) new reported reply may at is after =
       inr (inl (record {
         known = λ there. (it.prefix, subst (λ r. Refuses it.prefix.entries r) (sym after.0) is.in_use, subst (IsOpeningFor rooms name) (sym is.in_use_opening) at, after.1);
         unknown = λ absent. absurd (absent may);
         same = after.2;
       }))
-  told_after denied scope name NoRoom new told reply may at is after =
+  told_after denied scope name NoRoom new reported reply may at is after =
       inr (inr (inl (may.0, inl (on_demand scope name may at (is.no_room refl)), after)))
 
 none_of : {A : Type 0} (o : Option A) → is_some o ≡ false → o ≡ None
@@ -115,57 +115,57 @@ given_permit permits number None is holds = absurd (cc is)
 given_permit permits number (Some permit) is holds = (permit, holds)
 
 -- nobody is let in where the session may not enter, or there is no room
-away : (Refuses : List Entry → Reply → Type 0) (scope : Scope) (rooms : RoomsView) (name : Bytes) (old new : Option PassView) (told : Option PrefixView) (reply : Reply)
-    → old ≡ None → ¬ (MayEnter scope rooms name) → (reply ≡ No 0 NoSuchRoom) × (told ≡ None) × (new ≡ old) → IsTurnedAway Refuses scope rooms name new told reply
-away Refuses scope rooms name old new told reply empty absent is = record {
+away : (Refuses : List Entry → Reply → Type 0) (scope : Scope) (rooms : RoomsView) (name : Bytes) (old new : Option PassView) (reported : Option PrefixView) (reply : Reply)
+    → old ≡ None → ¬ (MayEnter scope rooms name) → (reply ≡ No 0 NoSuchRoom) × (reported ≡ None) × (new ≡ old) → IsTurnedAway Refuses scope rooms name new reported reply
+away Refuses scope rooms name old new reported reply empty absent is = record {
   known = λ may. absurd (absent may);
   unknown = λ other. (is.0, is.1);
   same = is.2 ∙ empty;
 }
 
-module _ (limits : LimitValues) (rooms : RoomsView) (permitted denied : ℕ → Type 0) (scope : Scope) (name : Bytes) (old new : Option PassView) (told : Option PrefixView) (reply : Reply) (none : is_some old ≡ false) where
+module _ (limits : LimitValues) (rooms : RoomsView) (permitted denied : ℕ → Type 0) (scope : Scope) (name : Bytes) (old new : Option PassView) (reported : Option PrefixView) (reply : Reply) (none : is_some old ≡ false) where
   -- what comes of a session in no room
-  outside : (request : Request) → IsAnswer limits rooms permitted denied scope None new request told reply → IsAnswer limits rooms permitted denied scope old new request told reply
-  outside request = subst (λ (old : Option PassView). IsAnswer limits rooms permitted denied scope old new request told reply) (sym (none_of old none))
+  outside : (request : Request) → IsAnswer limits rooms permitted denied scope None new request reported reply → IsAnswer limits rooms permitted denied scope old new request reported reply
+  outside request = subst (λ (old : Option PassView). IsAnswer limits rooms permitted denied scope old new request reported reply) (sym (none_of old none))
 
   -- an entrance answers a session in no room
   pub join_answered : {P : Type 0} (opening : OpeningView) (went : Entrance P) → MayEnter scope rooms name → IsOpeningFor rooms name opening
-      → IsEntrance rooms opening (IsPermittedJoin limits permitted) (IsRefusalOver limits) went → IsAfter went new told reply → IsAnswer limits rooms permitted denied scope old new (Join name) told reply
+      → IsEntrance rooms opening (IsPermittedJoin limits permitted) (IsRefusalOver limits) went → IsAfter went new reported reply → IsAnswer limits rooms permitted denied scope old new (Join name) reported reply
   join_answered opening went may at is after =
-      outside (Join name) (told_after rooms opening (IsPermittedJoin limits permitted) (IsRefusalOver limits) denied scope name went new told reply may at is after)
+      outside (Join name) (told_after rooms opening (IsPermittedJoin limits permitted) (IsRefusalOver limits) denied scope name went new reported reply may at is after)
 
   pub back_answered : {P : Type 0} (site : ℕ) (opening : OpeningView) (went : Entrance P) → MayEnter scope rooms name → IsOpeningFor rooms name opening
-      → IsEntrance rooms opening (IsBack limits site) (IsBackRefusal limits site) went → IsAfter went new told reply → IsAnswer limits rooms permitted denied scope old new (Back name site) told reply
+      → IsEntrance rooms opening (IsBack limits site) (IsBackRefusal limits site) went → IsAfter went new reported reply → IsAnswer limits rooms permitted denied scope old new (Back name site) reported reply
   back_answered site opening went may at is after =
-      outside (Back name site) (told_after rooms opening (IsBack limits site) (IsBackRefusal limits site) (λ number. ⊥) scope name went new told reply may at is after)
+      outside (Back name site) (told_after rooms opening (IsBack limits site) (IsBackRefusal limits site) (λ number. ⊥) scope name went new reported reply may at is after)
 
   -- a room that is not served
-  shut : (denies : ℕ → Type 0) → allows scope name ≡ true → MayBeShut denies rooms name → (reply ≡ No 0 NotServed) × (told ≡ None) × (new ≡ old)
-      → IsNotServed denies scope rooms name new told reply
+  shut : (denies : ℕ → Type 0) → allows scope name ≡ true → MayBeShut denies rooms name → (reply ≡ No 0 NotServed) × (reported ≡ None) × (new ≡ old)
+      → IsNotServed denies scope rooms name new reported reply
   shut denies may is refused = (may, is, (refused.0, refused.1, refused.2 ∙ none_of old none))
 
   -- a join that is denied
   pub denied_answered : (opening : OpeningView) → MayEnter scope rooms name → IsOpeningFor rooms name opening → denied opening.number
-      → (reply ≡ No 0 NotServed) × (told ≡ None) × (new ≡ old) → IsAnswer limits rooms permitted denied scope old new (Join name) told reply
+      → (reply ≡ No 0 NotServed) × (reported ≡ None) × (new ≡ old) → IsAnswer limits rooms permitted denied scope old new (Join name) reported reply
   denied_answered opening may at denies is = outside (Join name) (inr (inr (inl (shut denied may.0 (inr (opening, at, denies)) is))))
 
   -- a room that cannot be opened now
-  pub join_shut : allows scope name ≡ true → IsOnDemand rooms name → (reply ≡ No 0 NotServed) × (told ≡ None) × (new ≡ old) → IsAnswer limits rooms permitted denied scope old new (Join name) told reply
+  pub join_shut : allows scope name ≡ true → IsOnDemand rooms name → (reply ≡ No 0 NotServed) × (reported ≡ None) × (new ≡ old) → IsAnswer limits rooms permitted denied scope old new (Join name) reported reply
   join_shut may demand is = outside (Join name) (inr (inr (inl (shut denied may (inl demand) is))))
 
-  pub back_shut : (site : ℕ) → allows scope name ≡ true → IsOnDemand rooms name → (reply ≡ No 0 NotServed) × (told ≡ None) × (new ≡ old) → IsAnswer limits rooms permitted denied scope old new (Back name site) told reply
+  pub back_shut : (site : ℕ) → allows scope name ≡ true → IsOnDemand rooms name → (reply ≡ No 0 NotServed) × (reported ≡ None) × (new ≡ old) → IsAnswer limits rooms permitted denied scope old new (Back name site) reported reply
   back_shut site may demand is = outside (Back name site) (inr (inr (inl (shut (λ number. ⊥) may (inl demand) is))))
 
   -- the chain of the room goes on elsewhere
-  pub join_sent_on : (later : Bytes) → IsLater name later → allows scope name ≡ true → (reply ≡ Renewed 0 later) × (told ≡ None) × (new ≡ old) → IsAnswer limits rooms permitted denied scope old new (Join name) told reply
+  pub join_sent_on : (later : Bytes) → IsLater name later → allows scope name ≡ true → (reply ≡ Renewed 0 later) × (reported ≡ None) × (new ≡ old) → IsAnswer limits rooms permitted denied scope old new (Join name) reported reply
   join_sent_on later is may sent = outside (Join name) (inr (inr (inr (later, is, sent.0, may, sent.1, sent.2 ∙ none_of old none))))
 
-  pub back_sent_on : (site : ℕ) (later : Bytes) → IsLater name later → allows scope name ≡ true → (reply ≡ Renewed 0 later) × (told ≡ None) × (new ≡ old) → IsAnswer limits rooms permitted denied scope old new (Back name site) told reply
+  pub back_sent_on : (site : ℕ) (later : Bytes) → IsLater name later → allows scope name ≡ true → (reply ≡ Renewed 0 later) × (reported ≡ None) × (new ≡ old) → IsAnswer limits rooms permitted denied scope old new (Back name site) reported reply
   back_sent_on site later is may sent = outside (Back name site) (inr (inr (inr (later, is, sent.0, may, sent.1, sent.2 ∙ none_of old none))))
 
   -- there is no room that the session may enter
-  pub join_away : ¬ (MayEnter scope rooms name) → (reply ≡ No 0 NoSuchRoom) × (told ≡ None) × (new ≡ old) → IsAnswer limits rooms permitted denied scope old new (Join name) told reply
-  join_away absent is = outside (Join name) (inr (inl (away (IsRefusalOver limits) scope rooms name old new told reply (none_of old none) absent is)))
+  pub join_away : ¬ (MayEnter scope rooms name) → (reply ≡ No 0 NoSuchRoom) × (reported ≡ None) × (new ≡ old) → IsAnswer limits rooms permitted denied scope old new (Join name) reported reply
+  join_away absent is = outside (Join name) (inr (inl (away (IsRefusalOver limits) scope rooms name old new reported reply (none_of old none) absent is)))
 
-  pub back_away : (site : ℕ) → ¬ (MayEnter scope rooms name) → (reply ≡ No 0 NoSuchRoom) × (told ≡ None) × (new ≡ old) → IsAnswer limits rooms permitted denied scope old new (Back name site) told reply
-  back_away site absent is = outside (Back name site) (inr (inl (away (IsBackRefusal limits site) scope rooms name old new told reply (none_of old none) absent is)))
+  pub back_away : (site : ℕ) → ¬ (MayEnter scope rooms name) → (reply ≡ No 0 NoSuchRoom) × (reported ≡ None) × (new ≡ old) → IsAnswer limits rooms permitted denied scope old new (Back name site) reported reply
+  back_away site absent is = outside (Back name site) (inr (inl (away (IsBackRefusal limits site) scope rooms name old new reported reply (none_of old none) absent is)))

@@ -13,10 +13,6 @@ use Rattle.room_lock.specs.Closing.{IsClosed}
 use Rattle.room_lock.specs.Passes.{PartView}
 use Rattle.sessions.specs.Records.{NamedRecord, all_lines, record_lines}
 
--- one more item of a list, under a map
-pub map_more : {A B : Type 0} (f : A → B) (xs : List A) (k : ℕ) (x : A) → k < length xs → x ≡ get_or xs k x → map f (take (k + 1) xs) ≡ map f (take k xs) ++ f x ∷ []
-map_more f xs k x lt is = ap (map f) (take_more xs k x lt ∙ ap (λ y. take k xs ++ y ∷ []) (sym is)) ∙ map-append f (take k xs) (x ∷ [])
-
 pub record_text_more : (r : List Entry) (e : Entry) → record_text (r ++ e ∷ []) ≡ record_text r ++ entry_line e
 record_text_more r e = flat_map-append entry_line r (e ∷ []) ∙ ap (λ l. record_text r ++ l) (append-nil (entry_line e))
 

@@ -1,4 +1,4 @@
--- One message of a session and its reply. `told` is the prefix of a room's record that the reply
+-- One message of a session and its reply. `reported` is the prefix of a room's record that the reply
 -- reports on, if it does. Of the room of an opening, `permitted` says that a new site may be let in,
 -- and `denied` that it need not be; both are told the opening's number.
 use Rattle.std.specs.Prelude.{◌≡◌, ◌⊎◌, ℕ, Bool, List, Option, Some, None, MatchOption, true}
@@ -21,36 +21,36 @@ use Rattle.openings.specs.Openings.{OpeningView}
 use Rattle.room_lock.specs.InOrder.{IsOpeningFor}
 use Rattle.room_lock.specs.Rooms.{IsOnDemand, RoomsView, Serves}
 use Rattle.room_lock.specs.Passes.{PassView, PrefixView, prefix_of}
-use Rattle.room_lock.specs.Told.{IsBack, IsBackRefusalOver, IsCall, IsJoin, IsLeaveOver}
-use Rattle.room_lock.specs.Told.{IsNotesCall, IsRefusalOver}
+use Rattle.room_lock.specs.Reported.{IsBack, IsBackRefusalOver, IsCall, IsJoin, IsLeaveOver}
+use Rattle.room_lock.specs.Reported.{IsNotesCall, IsRefusalOver}
 use Rattle.keeper.specs.Chains.{IsLater}
 use Rattle.sessions.specs.Sessions.{SessionView}
 
 -- the session itself refuses, and is unchanged; the reply reports on no room
 abbrev pub IsRefused : Refusal → Option PassView → Option PassView → Option PrefixView → Reply → Type 0
-IsRefused refusal old new told reply = (reply ≡ No 0 refusal) × (told ≡ None) × (new ≡ old)
+IsRefused refusal old new reported reply = (reply ≡ No 0 refusal) × (reported ≡ None) × (new ≡ old)
 
 -- a call by the session's pass, which the session keeps; the reply reports on all that the pass has
 -- then seen
 abbrev pub IsCallBy : LimitValues → PassView → Option PassView → Request → Option PrefixView → Reply
     → Type 0
-IsCallBy limits was new request told reply =
-    (now : PassView) × IsCall limits was now request reply × (told ≡ Some (prefix_of now.part))
+IsCallBy limits was new request reported reply =
+    (now : PassView) × IsCall limits was now request reply × (reported ≡ Some (prefix_of now.part))
     × (new ≡ Some now)
 
 -- a request about notes by the session's pass, in the same way
 abbrev pub IsNotesBy : LimitValues → PassView → Option PassView → NoteRequest → Option PrefixView
     → Reply → Type 0
-IsNotesBy limits was new request told reply =
+IsNotesBy limits was new request reported reply =
     (now : PassView) × IsNotesCall limits was now request reply
-    × (told ≡ Some (prefix_of now.part)) × (new ≡ Some now)
+    × (reported ≡ Some (prefix_of now.part)) × (new ≡ Some now)
 
 -- A leave: the session's pass is handed back, and the session is in no room. The reply reports on
 -- the record at that time.
 abbrev pub IsLeaveBy : LimitValues → PassView → Option PassView → Option PrefixView → Reply → Type 0
-IsLeaveBy limits was new told reply =
+IsLeaveBy limits was new reported reply =
     (then : PrefixView) × IsLeaveOver limits then.entries was.part reply
-    × (then.opening ≡ was.part.opening) × (told ≡ Some then) × (new ≡ None)
+    × (then.opening ≡ was.part.opening) × (reported ≡ Some then) × (new ≡ None)
 
 -- the session may enter the room of this name, and there is one
 abbrev pub MayEnter : Scope → RoomsView → Bytes → Type 0
@@ -60,25 +60,25 @@ MayEnter scope rooms name = (allows scope name ≡ true) × Serves rooms name
 -- reply reports on all that the pass has seen.
 abbrev pub IsLetIn : (PassView → Reply → Type 0) → Scope → RoomsView → Bytes → Option PassView
     → Option PrefixView → Reply → Type 0
-IsLetIn Holds scope rooms name new told reply =
+IsLetIn Holds scope rooms name new reported reply =
     (pass : PassView) × Holds pass reply × (allows scope name ≡ true) × (pass.room ≡ name)
-    × IsOpeningFor rooms name pass.part.opening × (told ≡ Some (prefix_of pass.part))
+    × IsOpeningFor rooms name pass.part.opening × (reported ≡ Some (prefix_of pass.part))
     × (new ≡ Some pass)
 
 -- the room of this name refused; the reply reports on its record at that time
 abbrev pub IsRefusedOn : (List Entry → Reply → Type 0) → RoomsView → Bytes → Option PrefixView
     → Reply → Type 0
-IsRefusedOn Holds rooms name told reply =
+IsRefusedOn Holds rooms name reported reply =
     (then : PrefixView) × Holds then.entries reply × IsOpeningFor rooms name then.opening
-    × (told ≡ Some then)
+    × (reported ≡ Some then)
 
 -- No site was let in: the room of this name refused, or the session may not enter it, or there is
 -- none. Of the last two it is not told which. The session stays in no room.
 pub record IsTurnedAway
     (Holds : List Entry → Reply → Type 0) (scope : Scope) (rooms : RoomsView) (name : Bytes)
-    (new : Option PassView) (told : Option PrefixView) (reply : Reply) : Type 0 where
-  pub known : MayEnter scope rooms name → IsRefusedOn Holds rooms name told reply
-  pub unknown : ¬ (MayEnter scope rooms name) → (reply ≡ No 0 NoSuchRoom) × (told ≡ None)
+    (new : Option PassView) (reported : Option PrefixView) (reply : Reply) : Type 0 where
+  pub known : MayEnter scope rooms name → IsRefusedOn Holds rooms name reported reply
+  pub unknown : ¬ (MayEnter scope rooms name) → (reply ≡ No 0 NoSuchRoom) × (reported ≡ None)
   pub same : new ≡ None
 
 -- the room refuses a coming back as a site, whether or not a session is in as it
@@ -103,95 +103,95 @@ MayBeShut denied rooms name =
 -- the session may enter the room of this name, which is not served now
 abbrev pub IsNotServed : (ℕ → Type 0) → Scope → RoomsView → Bytes → Option PassView
     → Option PrefixView → Reply → Type 0
-IsNotServed denied scope rooms name new told reply =
+IsNotServed denied scope rooms name new reported reply =
     (allows scope name ≡ true) × MayBeShut denied rooms name
-    × IsRefused NotServed None new told reply
+    × IsRefused NotServed None new reported reply
 
 -- The session may enter the room of this name, but is told of a later room of its chain. The reply
 -- reports on no room.
 abbrev pub IsSentOn : Scope → Bytes → Option PassView → Option PrefixView → Reply → Type 0
-IsSentOn scope name new told reply =
+IsSentOn scope name new reported reply =
     (later : Bytes) × IsLater name later × (reply ≡ Renewed 0 later) × (allows scope name ≡ true)
-    × (told ≡ None) × (new ≡ None)
+    × (reported ≡ None) × (new ≡ None)
 
 -- a site is let in, or it is turned away, or the room is not served, or its chain goes on elsewhere
 abbrev pub IsEntering : (PassView → Reply → Type 0) → (List Entry → Reply → Type 0) → (ℕ → Type 0)
     → Scope → RoomsView → Bytes → Option PassView → Option PrefixView → Reply → Type 0
-IsEntering Enters Refuses denied scope rooms name new told reply =
-    IsLetIn Enters scope rooms name new told reply
-    ⊎ IsTurnedAway Refuses scope rooms name new told reply
-    ⊎ IsNotServed denied scope rooms name new told reply
-    ⊎ IsSentOn scope name new told reply
+IsEntering Enters Refuses denied scope rooms name new reported reply =
+    IsLetIn Enters scope rooms name new reported reply
+    ⊎ IsTurnedAway Refuses scope rooms name new reported reply
+    ⊎ IsNotServed denied scope rooms name new reported reply
+    ⊎ IsSentOn scope name new reported reply
 
 -- a join, and a coming back as a site, which no keeper denies
 abbrev pub IsJoinBy : LimitValues → RoomsView → (ℕ → Type 0) → (ℕ → Type 0) → Scope → Bytes
     → Option PassView → Option PrefixView → Reply → Type 0
-IsJoinBy limits rooms permitted denied scope name new told reply =
+IsJoinBy limits rooms permitted denied scope name new reported reply =
     IsEntering (IsPermittedJoin limits permitted) (IsRefusalOver limits) denied scope rooms name new
-    told reply
+    reported reply
 
 abbrev pub IsBackBy : LimitValues → RoomsView → Scope → Bytes → ℕ → Option PassView
     → Option PrefixView → Reply → Type 0
-IsBackBy limits rooms scope name site new told reply =
+IsBackBy limits rooms scope name site new reported reply =
     IsEntering (IsBack limits site) (IsBackRefusal limits site) (λ number. ⊥) scope rooms name new
-    told reply
+    reported reply
 
 -- the answer to a request of a session that is in a room, which cannot enter another
 abbrev pub IsAnswerInside : LimitValues → PassView → Option PassView → Request → Option PrefixView
     → Reply → Type 0
-IsAnswerInside limits was new (Join name) told reply =
-    IsRefused AlreadyJoined (Some was) new told reply
-IsAnswerInside limits was new (Back name site) told reply =
-    IsRefused AlreadyJoined (Some was) new told reply
-IsAnswerInside limits was new Leave told reply = IsLeaveBy limits was new told reply
-IsAnswerInside limits was new request told reply = IsCallBy limits was new request told reply
+IsAnswerInside limits was new (Join name) reported reply =
+    IsRefused AlreadyJoined (Some was) new reported reply
+IsAnswerInside limits was new (Back name site) reported reply =
+    IsRefused AlreadyJoined (Some was) new reported reply
+IsAnswerInside limits was new Leave reported reply = IsLeaveBy limits was new reported reply
+IsAnswerInside limits was new request reported reply = IsCallBy limits was new request reported reply
 
 -- the answer to a request of a session in no room, which can only enter one
 abbrev pub IsAnswerOutside : LimitValues → RoomsView → (ℕ → Type 0) → (ℕ → Type 0) → Scope
     → Option PassView → Request → Option PrefixView → Reply → Type 0
-IsAnswerOutside limits rooms permitted denied scope new (Join name) told reply =
-    IsJoinBy limits rooms permitted denied scope name new told reply
-IsAnswerOutside limits rooms permitted denied scope new (Back name site) told reply =
-    IsBackBy limits rooms scope name site new told reply
-IsAnswerOutside limits rooms permitted denied scope new request told reply =
-    IsRefused NotJoined None new told reply
+IsAnswerOutside limits rooms permitted denied scope new (Join name) reported reply =
+    IsJoinBy limits rooms permitted denied scope name new reported reply
+IsAnswerOutside limits rooms permitted denied scope new (Back name site) reported reply =
+    IsBackBy limits rooms scope name site new reported reply
+IsAnswerOutside limits rooms permitted denied scope new request reported reply =
+    IsRefused NotJoined None new reported reply
 
 -- the answer to a request of a session of this scope, with its passes before and after
 abbrev pub IsAnswer : LimitValues → RoomsView → (ℕ → Type 0) → (ℕ → Type 0) → Scope
     → Option PassView → Option PassView → Request → Option PrefixView → Reply → Type 0
-IsAnswer limits rooms permitted denied scope (Some was) new request told reply =
-    IsAnswerInside limits was new request told reply
-IsAnswer limits rooms permitted denied scope None new request told reply =
-    IsAnswerOutside limits rooms permitted denied scope new request told reply
+IsAnswer limits rooms permitted denied scope (Some was) new request reported reply =
+    IsAnswerInside limits was new request reported reply
+IsAnswer limits rooms permitted denied scope None new request reported reply =
+    IsAnswerOutside limits rooms permitted denied scope new request reported reply
 
 -- the answer to a request about notes, which only a session that is in a room may ask
 abbrev pub IsNotesAnswer : LimitValues → Option PassView → Option PassView → NoteRequest
     → Option PrefixView → Reply → Type 0
-IsNotesAnswer limits (Some was) new request told reply = IsNotesBy limits was new request told reply
-IsNotesAnswer limits None new request told reply = IsRefused NotJoined None new told reply
+IsNotesAnswer limits (Some was) new request reported reply = IsNotesBy limits was new request reported reply
+IsNotesAnswer limits None new request reported reply = IsRefused NotJoined None new reported reply
 
 -- the answer to bytes that may be such a request, and are no other one
 abbrev pub IsNotesTurn : LimitValues → Option PassView → Option PassView → Bytes
     → Option PrefixView → Reply → Type 0
-IsNotesTurn limits old new bytes told reply =
-    MatchOption (note_request_read bytes) (IsRefused BadMessage old new told reply)
-    (λ request. IsNotesAnswer limits old new request told reply)
+IsNotesTurn limits old new bytes reported reply =
+    MatchOption (note_request_read bytes) (IsRefused BadMessage old new reported reply)
+    (λ request. IsNotesAnswer limits old new request reported reply)
 
 -- the answer to a message; the session keeps its scope
 abbrev pub IsTurn : LimitValues → RoomsView → (ℕ → Type 0) → (ℕ → Type 0) → SessionView
     → SessionView → Bytes → Option PrefixView → Reply → Type 0
-IsTurn limits rooms permitted denied old new bytes told reply =
+IsTurn limits rooms permitted denied old new bytes reported reply =
     (new.scope ≡ old.scope)
-    × MatchOption (request_read bytes) (IsNotesTurn limits old.pass new.pass bytes told reply)
+    × MatchOption (request_read bytes) (IsNotesTurn limits old.pass new.pass bytes reported reply)
     (λ request.
-    IsAnswer limits rooms permitted denied old.scope old.pass new.pass request told reply)
+    IsAnswer limits rooms permitted denied old.scope old.pass new.pass request reported reply)
 
 -- the text is that of the answer, which reports on this prefix of a record
 abbrev pub IsTextOfTurn : LimitValues → RoomsView → (ℕ → Type 0) → (ℕ → Type 0) → SessionView
     → SessionView → Bytes → Option PrefixView → List ℕ → Type 0
-IsTextOfTurn limits rooms permitted denied old new bytes told text =
+IsTextOfTurn limits rooms permitted denied old new bytes reported text =
     (reply : Reply) × (text ≡ reply_text reply)
-    × IsTurn limits rooms permitted denied old new bytes told reply
+    × IsTurn limits rooms permitted denied old new bytes reported reply
 
 -- a session that is in a room asks to wait for an entry
 abbrev pub IsWaitInRoom : Option PassView → Request → Type 0
@@ -220,5 +220,5 @@ abbrev pub MayStand : LimitValues → RoomsView → (ℕ → Type 0) → (ℕ �
     → SessionView → Bytes → Type 0
 MayStand limits rooms permitted denied old new bytes =
     (new ≡ old)
-    ⊎ ((told : Option PrefixView) × (reply : Reply)
-    × IsTurn limits rooms permitted denied old new bytes told reply)
+    ⊎ ((reported : Option PrefixView) × (reply : Reply)
+    × IsTurn limits rooms permitted denied old new bytes reported reply)

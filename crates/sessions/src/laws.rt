@@ -11,7 +11,7 @@ ghost use Rattle.room_lock.specs.InOrder.{IsOpeningFor};
 ghost use Rattle.room_lock.specs.Passes.{PassView, PrefixView};
 ghost use Rattle.room_lock.specs.Rooms.{RoomsView};
 ghost use Rattle.sessions.specs.Sessions.{SessionView};
-ghost use Rattle.room_lock.specs.Told.{IsRefusalOver};
+ghost use Rattle.room_lock.specs.Reported.{IsRefusalOver};
 ghost use Rattle.sessions.specs.Turns.{IsBackBy, IsJoinBy, IsLetIn, IsPermitted, IsPermittedJoin};
 ghost use Rattle.sessions.specs.Turns.{IsSentOn, IsTurn, IsTurnedAway, MayEnter};
 
@@ -21,13 +21,13 @@ use room_lock::RoomHistories;
 /// A session that is let in by a join or a coming back is in the named room.
 pub fn a_session_enters_the_named_room<P: RoomHistories, K: Keeper<P>>()
     ensures join { (limits : LimitValues) (rooms : RoomsView) (scope : Scope) (name : Bytes)
-        (pass : PassView) (told : Option PrefixView) (reply : Reply) →
-        IsJoinBy limits rooms (IsPermitted K.permits) K.denies scope name (Some pass) told reply →
+        (pass : PassView) (reported : Option PrefixView) (reply : Reply) →
+        IsJoinBy limits rooms (IsPermitted K.permits) K.denies scope name (Some pass) reported reply →
         (allows scope name ≡ true) × (pass.room ≡ name)
         × IsOpeningFor rooms name pass.part.opening }
     ensures back { (limits : LimitValues) (rooms : RoomsView) (scope : Scope) (name : Bytes)
-        (site : ℕ) (pass : PassView) (told : Option PrefixView) (reply : Reply) →
-        IsBackBy limits rooms scope name site (Some pass) told reply →
+        (site : ℕ) (pass : PassView) (reported : Option PrefixView) (reply : Reply) →
+        IsBackBy limits rooms scope name site (Some pass) reported reply →
         (allows scope name ≡ true) × (pass.room ≡ name)
         × IsOpeningFor rooms name pass.part.opening }
 {}
@@ -35,9 +35,9 @@ pub fn a_session_enters_the_named_room<P: RoomHistories, K: Keeper<P>>()
 /// A session that is in a room stays in it until it leaves.
 pub fn a_session_stays_in_its_room<P: RoomHistories, K: Keeper<P>>()
     ensures { (limits : LimitValues) (rooms : RoomsView) (old new : SessionView)
-        (was now : PassView) (bytes : Bytes) (told : Option PrefixView) (reply : Reply) →
+        (was now : PassView) (bytes : Bytes) (reported : Option PrefixView) (reply : Reply) →
         old.pass ≡ Some was → new.pass ≡ Some now →
-        IsTurn limits rooms (IsPermitted K.permits) K.denies old new bytes told reply →
+        IsTurn limits rooms (IsPermitted K.permits) K.denies old new bytes reported reply →
         (now.room ≡ was.room) × (now.part.opening ≡ was.part.opening) }
 {}
 
@@ -45,10 +45,10 @@ pub fn a_session_stays_in_its_room<P: RoomHistories, K: Keeper<P>>()
 /// and the name of the first room of its chain, and then nothing or a query.
 pub fn a_session_enters_only_the_chain_of_its_path<P: RoomHistories, K: Keeper<P>>()
     ensures { (limits : LimitValues) (rooms : RoomsView) (target : Bytes)
-        (old new : SessionView) (pass : PassView) (bytes : Bytes) (told : Option PrefixView)
+        (old new : SessionView) (pass : PassView) (bytes : Bytes) (reported : Option PrefixView)
         (reply : Reply) → old.scope ≡ scope_of_target target → old.pass ≡ None →
         new.pass ≡ Some pass →
-        IsTurn limits rooms (IsPermitted K.permits) K.denies old new bytes told reply →
+        IsTurn limits rooms (IsPermitted K.permits) K.denies old new bytes reported reply →
         (query : Bytes) × (target ≡ 47 ∷ first_name pass.room ++ query) × IsQuery query }
 {}
 
@@ -56,30 +56,30 @@ pub fn a_session_enters_only_the_chain_of_its_path<P: RoomHistories, K: Keeper<P
 /// in a room reports is a record of that room.
 pub fn a_reply_reports_on_the_room_of_the_session<P: RoomHistories, K: Keeper<P>>()
     ensures join { (limits : LimitValues) (rooms : RoomsView) (scope : Scope) (name : Bytes)
-        (new : Option PassView) (told : PrefixView) (reply : Reply) →
-        IsJoinBy limits rooms (IsPermitted K.permits) K.denies scope name new (Some told) reply →
-        MayEnter scope rooms name → IsOpeningFor rooms name told.opening }
+        (new : Option PassView) (reported : PrefixView) (reply : Reply) →
+        IsJoinBy limits rooms (IsPermitted K.permits) K.denies scope name new (Some reported) reply →
+        MayEnter scope rooms name → IsOpeningFor rooms name reported.opening }
     ensures back { (limits : LimitValues) (rooms : RoomsView) (scope : Scope) (name : Bytes)
-        (site : ℕ) (new : Option PassView) (told : PrefixView) (reply : Reply) →
-        IsBackBy limits rooms scope name site new (Some told) reply →
-        MayEnter scope rooms name → IsOpeningFor rooms name told.opening }
+        (site : ℕ) (new : Option PassView) (reported : PrefixView) (reply : Reply) →
+        IsBackBy limits rooms scope name site new (Some reported) reply →
+        MayEnter scope rooms name → IsOpeningFor rooms name reported.opening }
     ensures inside { (limits : LimitValues) (rooms : RoomsView) (old new : SessionView)
-        (was : PassView) (bytes : Bytes) (told : PrefixView) (reply : Reply) →
+        (was : PassView) (bytes : Bytes) (reported : PrefixView) (reply : Reply) →
         old.pass ≡ Some was →
-        IsTurn limits rooms (IsPermitted K.permits) K.denies old new bytes (Some told) reply →
-        told.opening ≡ was.part.opening }
+        IsTurn limits rooms (IsPermitted K.permits) K.denies old new bytes (Some reported) reply →
+        reported.opening ≡ was.part.opening }
 {}
 
 /// Where no room is denied, no join of a room that is open from the start is refused as not served.
 /// A site is let in, or turned away by the room, or told of a later room of the chain.
 pub fn a_room_that_is_not_denied_is_served<P: RoomHistories, K: Keeper<P>>()
     ensures { (limits : LimitValues) (rooms : RoomsView) (scope : Scope) (name : Bytes)
-        (new : Option PassView) (told : Option PrefixView) (reply : Reply) →
+        (new : Option PassView) (reported : Option PrefixView) (reply : Reply) →
         ((number : ℕ) → ¬ (K.denies number)) → Contains rooms.names name →
-        IsJoinBy limits rooms (IsPermitted K.permits) K.denies scope name new told reply →
-        IsLetIn (IsPermittedJoin limits (IsPermitted K.permits)) scope rooms name new told reply
-        ⊎ IsTurnedAway (IsRefusalOver limits) scope rooms name new told reply
-        ⊎ IsSentOn scope name new told reply }
+        IsJoinBy limits rooms (IsPermitted K.permits) K.denies scope name new reported reply →
+        IsLetIn (IsPermittedJoin limits (IsPermitted K.permits)) scope rooms name new reported reply
+        ⊎ IsTurnedAway (IsRefusalOver limits) scope rooms name new reported reply
+        ⊎ IsSentOn scope name new reported reply }
 {}
 
 /// Two sessions that are let into rooms of one name, which is open from the start, are in one

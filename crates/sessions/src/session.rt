@@ -213,7 +213,7 @@ impl<P: RoomHistories> Session<P> {
     ) -> Result<Option<Answer<Prefix<P>>>, MessageFault>
         ensures ok { IfOk result (λ found. IfSome found (λ answer. IsTextOfTurn P.limits
             host.now.rooms.now (IsPermitted K.permits) K.denies self.old self.new bytes.now
-            answer.told (string_bytes answer.text))) }
+            answer.reported (string_bytes answer.text))) }
         ensures held { result ≡ Ok None → (may_hold ≡ true) × (self.new ≡ self.old)
             × IsWait host.now.rooms.now self.old bytes.now }
         ensures err { OnErr result
@@ -238,7 +238,7 @@ impl<P: RoomHistories> Session<P> {
     ) -> Result<Option<SessionReply<P>>, MessageFault>
         ensures ok { IfOk result (λ found. IfSome found (λ answer. IsTurn P.limits
             host.now.rooms.now (IsPermitted K.permits) K.denies self.old self.new bytes.now
-            answer.told answer.reply)) }
+            answer.reported answer.reply)) }
         ensures held { result ≡ Ok None → (may_hold ≡ true) × (self.new ≡ self.old)
             × IsWait host.now.rooms.now self.old bytes.now }
         ensures err { OnErr result (self.new ≡ self.old) }
@@ -264,7 +264,7 @@ impl<P: RoomHistories> Session<P> {
         bytes: &[u8],
     ) -> Result<SessionReply<P>, MessageFault>
         ensures ok { IfOk result (λ answer. IsNotesTurn P.limits self.old.pass self.new.pass
-            bytes.now answer.told answer.reply) }
+            bytes.now answer.reported answer.reply) }
         ensures scope { self.new.scope ≡ self.old.scope }
         ensures err { OnErr result (self.new ≡ self.old) }
     {
@@ -336,7 +336,7 @@ impl<P: RoomHistories> Session<P> {
     ) -> Result<SessionReply<P>, MessageFault>
         ensures ok { IfOk result (λ answer. IsAnswer P.limits
             host.now.rooms.now (IsPermitted K.permits) K.denies self.old.scope self.old.pass
-            self.new.pass request answer.told answer.reply) }
+            self.new.pass request answer.reported answer.reply) }
         ensures scope { self.new.scope ≡ self.old.scope }
         ensures err { OnErr result (self.new ≡ self.old) }
     {
@@ -400,7 +400,7 @@ impl<P: RoomHistories> Session<P> {
     ) -> Result<SessionReply<P>, MessageFault>
         ensures ok { IfOk result (λ answer. IsAnswer P.limits
             host.now.rooms.now (IsPermitted K.permits) K.denies self.old.scope self.old.pass
-            self.new.pass (Join name) answer.told answer.reply) }
+            self.new.pass (Join name) answer.reported answer.reply) }
         ensures scope { self.new.scope ≡ self.old.scope }
         ensures err { OnErr result (self.new ≡ self.old) }
         ensures cause { IfErr result (λ why. why ≡ message_fault.NoMemory) }
@@ -434,7 +434,7 @@ impl<P: RoomHistories> Session<P> {
     ) -> Result<SessionReply<P>, MessageFault>
         ensures ok { IfOk result (λ answer. IsAnswer P.limits
             host.now.rooms.now (IsPermitted K.permits) K.denies self.old.scope self.old.pass
-            self.new.pass (Back name site) answer.told answer.reply) }
+            self.new.pass (Back name site) answer.reported answer.reply) }
         ensures scope { self.new.scope ≡ self.old.scope }
         ensures err { OnErr result (self.new ≡ self.old) }
         ensures cause { IfErr result (λ why. why ≡ message_fault.NoMemory) }
@@ -465,7 +465,7 @@ impl<P: RoomHistories> Session<P> {
     ) -> Result<SessionReply<P>, MessageFault>
         ensures ok { IfOk result (λ answer. IsAnswer P.limits
             host.now.rooms.now (IsPermitted K.permits) K.denies self.old.scope self.old.pass
-            self.new.pass Leave answer.told answer.reply) }
+            self.new.pass Leave answer.reported answer.reply) }
         ensures scope { self.new.scope ≡ self.old.scope }
         ensures err { OnErr result (self.new ≡ self.old) }
         ensures cause { IfErr result (λ why. why ≡ message_fault.Torn) }
@@ -484,11 +484,11 @@ impl<P: RoomHistories> Session<P> {
             return Ok(SessionReply::own_refusal(Refusal::NotJoined));
         };
         match host.rooms.hand_back(host.rt, pass) {
-            Ok((told, reply)) => {
+            Ok((reported, reply)) => {
                 if heard_notes.is_some() {
-                    host.chime.strike(host.rt, told.place());
+                    host.chime.strike(host.rt, reported.place());
                 }
-                Ok(SessionReply::of_room(told, reply))
+                Ok(SessionReply::of_room(reported, reply))
             }
             Err(pass) => {
                 self.go_in(room, pass);
@@ -504,7 +504,7 @@ impl<P: RoomHistories> Session<P> {
         request: Request,
     ) -> Result<SessionReply<P>, MessageFault>
         ensures ok { IfOk result (λ answer.
-            IsCallIf P.limits self.old.pass self.new.pass request answer.told answer.reply) }
+            IsCallIf P.limits self.old.pass self.new.pass request answer.reported answer.reply) }
         ensures scope { self.new.scope ≡ self.old.scope }
         ensures err { OnErr result (self.new ≡ self.old) }
         ensures other_rooms { MatchOption self.old.pass (Unit {0})
@@ -522,7 +522,7 @@ impl<P: RoomHistories> Session<P> {
     fn enter(&mut self, name: RoomName, entrance: Entrance<P>) -> SessionReply<P>
         requires outside { self.old.pass ≡ None }
         requires name { IfEntered (λ pass reply. pass.room ≡ name) entrance }
-        ensures after { IsAfter entrance self.new.pass result.told result.reply }
+        ensures after { IsAfter entrance self.new.pass result.reported result.reply }
         ensures scope { self.new.scope ≡ self.old.scope }
     {
         match entrance {
@@ -531,7 +531,7 @@ impl<P: RoomHistories> Session<P> {
                 self.go_in(name, pass);
                 answer
             }
-            Entrance::Refused(told, reply) => SessionReply::of_room(told, reply),
+            Entrance::Refused(reported, reply) => SessionReply::of_room(reported, reply),
             Entrance::InUse(in_use, reply) => SessionReply::of_room(in_use.into_prefix(), reply),
             Entrance::NoRoom => SessionReply::own_refusal(Refusal::NotServed),
         }
@@ -617,7 +617,7 @@ fn call_by<P: RoomHistories, R: Wait, O, K>(
     request: Request,
 ) -> Result<SessionReply<P>, MessageFault>
     ensures ok { IfOk result (λ answer. IsCallBy P.limits
-        pass.old (Some pass.new) request answer.told answer.reply) }
+        pass.old (Some pass.new) request answer.reported answer.reply) }
     ensures err { OnErr result (pass.new ≡ pass.old) }
     ensures other_rooms { ¬ (MayBeOf host.now.rooms.now pass.old.part.opening) →
         result ≡ Err message_fault.Torn }
@@ -634,7 +634,7 @@ fn note_by<P: RoomHistories, R: Wait, O, K>(
     request: NoteRequest,
 ) -> Result<(SessionReply<P>, Heard), MessageFault>
     ensures ok { IfOk result (λ noted. IsNotesBy P.limits
-        pass.old (Some pass.new) request noted.0.told noted.0.reply) }
+        pass.old (Some pass.new) request noted.0.reported noted.0.reply) }
     ensures err { OnErr result (pass.new ≡ pass.old) }
 {
     let place = pass.place();

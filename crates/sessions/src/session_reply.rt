@@ -17,48 +17,48 @@ use wire::{Refusal, Reply, write_reply};
 #[derive(Drop)]
 pub(crate) struct SessionReply<P: RoomHistories> {
     pub(crate) reply: Reply,
-    pub(crate) told: Option<Prefix<P>>,
+    pub(crate) reported: Option<Prefix<P>>,
 }
 
 impl<P: RoomHistories> SessionReply<P> {
-    /// The reply of a room whose record was `told` at that time.
-    pub(crate) fn of_room(told: Prefix<P>, reply: Reply) -> SessionReply<P>
+    /// The reply of a room whose record was `reported` at that time.
+    pub(crate) fn of_room(reported: Prefix<P>, reply: Reply) -> SessionReply<P>
         ensures reply { result.reply ≡ reply }
-        ensures told { result.told ≡ Some told }
+        ensures reported { result.reported ≡ Some reported }
     {
         SessionReply {
             reply,
-            told: Some(told),
+            reported: Some(reported),
         }
     }
 
     /// A refusal by the session itself.
     pub(crate) fn own_refusal(refusal: Refusal) -> SessionReply<P>
         ensures reply { result.reply ≡ No 0 refusal }
-        ensures told { result.told ≡ None }
+        ensures reported { result.reported ≡ None }
     {
         SessionReply {
             reply: Reply::No { at: 0, refusal },
-            told: None,
+            reported: None,
         }
     }
 
     /// The session itself tells of a later room of the chain.
     pub(crate) fn sent_on(room: RoomName) -> SessionReply<P>
         ensures reply { result.reply ≡ Renewed 0 room }
-        ensures told { result.told ≡ None }
+        ensures reported { result.reported ≡ None }
     {
         SessionReply {
             reply: Reply::Renewed { at: 0, room },
-            told: None,
+            reported: None,
         }
     }
 
     /// The observer hears of the reply, and of the entry that the room has added with it, if there is
     /// one. The loops in which sessions wait for that entry are woken. The session is in this room.
     fn tell<R: Wait, O: Observer, K>(&self, host: &Host<'_, P, R, O, K>, room: Option<&RoomName>) {
-        let place = match &self.told {
-            Some(told) => Some(told.place()),
+        let place = match &self.reported {
+            Some(reported) => Some(reported.place()),
             None => None,
         };
         host.observer.after_reply(place, refusal_of(&self.reply));
@@ -84,12 +84,12 @@ impl<P: RoomHistories> SessionReply<P> {
     ) -> Result<Answer<Prefix<P>>, NoMemory>
         ensures text { IfOk result (λ answer.
             string_bytes answer.text ≡ reply_text self.reply) }
-        ensures told { IfOk result (λ answer. answer.told ≡ self.told) }
+        ensures reported { IfOk result (λ answer. answer.reported ≡ self.reported) }
     {
         self.tell(host, room);
         let text = write_reply(host.alloc, &self.reply)?;
-        let SessionReply { reply: _, told } = self;
-        Ok(Answer { text, told })
+        let SessionReply { reply: _, reported } = self;
+        Ok(Answer { text, reported })
     }
 }
 

@@ -19,14 +19,14 @@ impl<P: RoomHistories, R: Wait, O: Observer, K: Keeper<P>> Talk for Host<'_, P, 
 
     type Session = Session<P>;
 
-    type Told = Prefix<P>;
+    type Reported = Prefix<P>;
 
     type Receipt = K::Receipt;
 
     type Scratch = Scratch;
 
-    ghost turn = { λ host old new bytes text told.
-        IsTextOfTurn P.limits host.rooms.now (IsPermitted K.permits) K.denies old new bytes told
+    ghost turn = { λ host old new bytes text reported.
+        IsTextOfTurn P.limits host.rooms.now (IsPermitted K.permits) K.denies old new bytes reported
         text };
 
     ghost waits = { λ host session bytes. IsWait host.rooms.now session bytes };
@@ -36,9 +36,9 @@ impl<P: RoomHistories, R: Wait, O: Observer, K: Keeper<P>> Talk for Host<'_, P, 
     ghost fails = { λ host old new bytes end.
         IsMessageFault P.limits host.rooms.now (IsPermitted K.permits) K.denies old new bytes end };
 
-    ghost shows = { λ receipt told. K.shows receipt told };
+    ghost shows = { λ receipt reported. K.shows receipt reported };
 
-    ghost lacks = { λ told end. IsNotKept K.fails told end };
+    ghost lacks = { λ reported end. IsNotKept K.fails reported end };
 
     fn hear(
         &self,
@@ -58,8 +58,8 @@ impl<P: RoomHistories, R: Wait, O: Observer, K: Keeper<P>> Talk for Host<'_, P, 
         session.is_outside()
     }
 
-    fn receipt(&self, told: &Prefix<P>) -> Result<Option<K::Receipt>, End> {
-        match self.keeper.receipt(self.rt, told) {
+    fn receipt(&self, reported: &Prefix<P>) -> Result<Option<K::Receipt>, End> {
+        match self.keeper.receipt(self.rt, reported) {
             Ok(receipt) => Ok(receipt),
             Err(fault) => Err(end_of_keep(fault)),
         }

@@ -18,7 +18,7 @@ use places::{PlaceSet, Relation};
 use rules::{AttrList, Body, Op, Shown, Version};
 use std::alloc::Global;
 use version_groups::Groups;
-use version_ids::id_by;
+use version_ids::identifier_of;
 
 /// The identifiers of groups, in the order of the groups.
 fn listed_ids<R: Relation>(
@@ -35,7 +35,7 @@ fn listed_ids<R: Relation>(
     let mut scratch = Vec::new(alloc);
     for group in 0..groups.count() {
         let members = groups.members(group);
-        ids.push(id_by(alloc, relation, members, &mut scratch)?)?;
+        ids.push(identifier_of(alloc, relation, members, &mut scratch)?)?;
     }
     Ok(ids)
 }
@@ -94,7 +94,7 @@ fn version_of(
         in Contains (groups_of (is_conflict_of changes.now.ops) all) group.now }
     ensures { IfOk result (λ version. version ≡ version_at creation.now changes.now.ops group.now) }
 {
-    let id = id_by(alloc, changes, group, scratch)?;
+    let id = identifier_of(alloc, changes, group, scratch)?;
     let shown = shown_of(alloc, creation, changes, group)?;
     Ok(Version { id, shown })
 }

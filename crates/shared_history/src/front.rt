@@ -20,13 +20,13 @@ pub struct History {
 impl Model for History {
     ghost use Rattle.std.specs.Prelude.{◌≡◌};
     ghost use Rattle.logbook.specs.Pages.{Book};
-    ghost use Rattle.shared_history.specs.steps.Rules.{counter_of};
+    ghost use Rattle.shared_history.specs.steps.Rules.{entry_counter_of};
 
     ghost Value = { Book };
 
     ghost view = { λ history. history.count.book };
 
-    ghost invariant = { λ history. history.count ≡ counter_of history.count.book };
+    ghost invariant = { λ history. history.count ≡ entry_counter_of history.count.book };
 }
 
 /// A prefix of a history that its holder has seen. At run time it is the number of entries.
@@ -39,9 +39,9 @@ pub struct Front {
 
 impl Model for Front {
     ghost use Rattle.std.specs.Prelude.{◌≡◌, length};
-    ghost use Rattle.shared_history.specs.Beginnings.{Beginning};
+    ghost use Rattle.shared_history.specs.Fronts.{FrontView};
 
-    ghost Value = { Beginning };
+    ghost Value = { FrontView };
 
     ghost view = { λ front. record { history = front.seen.book; entries = front.seen.log } };
 

@@ -8,7 +8,7 @@ use Rattle.base_types.specs.Names.{Name}
 use Rattle.rules.specs.declared.history.Entry.{Entry}
 use Rattle.rules.specs.declared.history.Entry.TheVariants.{Next}
 use Rattle.rules.specs.declared.history.Op.{Op}
-use Rattle.rules.specs.Bodies.{is_change_body, kind_in}
+use Rattle.rules.specs.Bodies.{is_change_body, kind_of_body}
 use Rattle.rules.specs.Operations.{creation_of, name_of}
 use Rattle.rules.specs.Records.{operation_in, operations, objects}
 use Rattle.rules.specs.Versions.{versions}
@@ -40,7 +40,7 @@ ends_with xs f x count r same last next = record {
 -- what these operations draw of the object of this name, by its creation
 picture_by : List Op → Name → Option Op → Option Drawn
 picture_by h name None = None
-picture_by h name (Some op) = drawn_if (kind_in op.body) (live_versions (versions h name))
+picture_by h name (Some op) = drawn_if (kind_of_body op.body) (live_versions (versions h name))
 
 shown_draws : (r : List Entry) (name : Name) (creation : Option Op) → picture_in (shown_by r name creation) ≡ picture_by (operations r) name creation
 unfolding picture_by

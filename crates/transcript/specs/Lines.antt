@@ -14,9 +14,9 @@ use Rattle.wire.specs.Replies.{adds, at_of}
 use Rattle.transcript.specs.declared.line.TranscriptLine.{TranscriptLine}
 
 -- is the request a join
-abbrev pub is_join : Request → Bool
-is_join (Join room) = true
-is_join _ = false
+abbrev pub is_join_request : Request → Bool
+is_join_request (Join room) = true
+is_join_request _ = false
 
 -- does the reply let a new site in
 abbrev pub is_joined : Reply → Bool

@@ -7,5 +7,5 @@ mod line;
 mod order;
 mod ordered_part;
 
-pub use line::{TranscriptLine, is_join};
+pub use line::{TranscriptLine, is_join_request};
 pub use ordered_part::OrderedPart;

@@ -4,7 +4,7 @@ ghost use Rattle.std.specs.Prelude.{◌≡◌, ◌≤◌};
 ghost use Rattle.wire_reader.specs.steps.Reading.{Gives};
 ghost use Rattle.rules.specs.declared.limits.TheConstants.Limits.{MAX_ENTRIES};
 ghost use Rattle.wire.specs.Replies.{at_of};
-ghost use Rattle.transcript.specs.Lines.{entries_after, is_join, is_joined};
+ghost use Rattle.transcript.specs.Lines.{entries_after, is_join_request, is_joined};
 ghost use Rattle.transcript.specs.Lines.{is_returned, is_answer, go_together};
 ghost use Rattle.transcript.specs.steps.Reads.{line_with};
 ghost use Rattle.transcript.specs.steps.Reads.{line_read};
@@ -26,8 +26,8 @@ pub struct TranscriptLine {
 }
 
 /// Returns whether the request is a join.
-pub fn is_join(request: &Request) -> bool
-    ensures { result ≡ is_join request.now }
+pub fn is_join_request(request: &Request) -> bool
+    ensures { result ≡ is_join_request request.now }
 {
     matches!(request, Request::Join { .. })
 }

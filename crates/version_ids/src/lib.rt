@@ -22,7 +22,7 @@ pub mod laws;
 ///
 /// `NoMemory` if an allocation failed.
 #[tactic(auto, using(places::proofs::Rising::among_places))]
-pub fn id_by<R: Relation>(
+pub fn identifier_of<R: Relation>(
     alloc: Global,
     relation: &R,
     group: &PlaceSet,
@@ -42,7 +42,7 @@ pub fn id_by<R: Relation>(
 ///
 /// `NoMemory` if an allocation failed.
 #[tactic(auto, using(places::proofs::Rising::among_places))]
-pub fn resolve<R: Relation>(
+pub fn group_named<R: Relation>(
     alloc: Global,
     relation: &R,
     known: &PlaceSet,

@@ -1,4 +1,4 @@
-pub mod Maps
+pub mod OneLine
 pub mod Pages
 pub mod Shallow
 pub mod Plain

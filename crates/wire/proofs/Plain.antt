@@ -32,7 +32,7 @@ use Rattle.rules.specs.declared.version.Shown.{Shown}
 use Rattle.rules.specs.declared.version.Shown.TheVariants.{Attrs, Gone}
 use Rattle.wire.specs.Notes.{Note}
 use Rattle.wire.specs.declared.reply.Reply.{Reply}
-use Rattle.wire.proofs.Again.{IsPlain, ArePlain, IsHeldNumber}
+use Rattle.wire.proofs.Again.{IsPlain, ArePlain, IsHeldNumber, held_integer}
 
 -- ---- lists
 
@@ -58,17 +58,13 @@ plain_name name h = let low = name_parts name h in (low.0, (low.1, tt))
 plain_names : (names : List Name) → AllByRecursion (λ name. is_op_name name ≡ true) names → IsPlain (names_form names)
 plain_names = each_plain name_form (λ name. is_op_name name ≡ true) plain_name
 
-both_none : {X : Type 0} (a b : Option X) → option_or a b ≡ None → (a ≡ None) × (b ≡ None)
-both_none None b e = (refl, e)
-both_none (Some x) b e = absurd cc
-
 pair_parts : (pair : ℕ × ℕ) → not (is_site pair.0 && nat_le pair.1 MAX_SEQ) ≡ false → (pair.0 < 2 ^ 64) × (pair.1 < 2 ^ 64)
 pair_parts pair h = grind (arith, nat_tests)
 
 plain_after : (last : ℕ) (pairs : Vector) → fault_after last pairs ≡ None → IsPlain (names_form pairs)
 plain_after last [] e = tt
 plain_after last (pair ∷ pairs) e =
-    let a = both_none (pair_fault last pair) (fault_after pair.0 pairs) e in
+    let a = none_both (pair_fault last pair) (fault_after pair.0 pairs) e in
     let low = pair_parts pair (not_first (not (is_site pair.0 && nat_le pair.1 MAX_SEQ)) OutOfRange _ a.0).0 in
     ((low.0, (low.1, tt)), plain_after pair.0 pairs a.1)
 
@@ -77,10 +73,6 @@ unfolding vector_fault
 plain_vector seen h = plain_after 0 seen (none_if (fault_after 0 seen) h)
 
 -- ---- operations
-
-held_integer : (z : ℤ) → FitsSigned w64 z → IsHeldNumber (of_integer z)
-held_integer (pos n) h = omega arith
-held_integer (negsuc n) h = omega arith
 
 plain_value : (v : Value) → IsValue v → IsPlain (value_form v)
 plain_value (Number z) h = held_integer z h

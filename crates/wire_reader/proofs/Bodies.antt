@@ -7,7 +7,7 @@ use Rattle.rules.specs.declared.history.Body.{Body}
 use Rattle.rules.specs.declared.history.Body.TheVariants.{New, Put, DropVersion}
 use Rattle.wire.specs.Form.{list_form, names_form, WordAndFields, body_form, old_body_form, operation_form, IsBody, IsFormBy}
 use Rattle.wire_reader.specs.steps.Reading.{no_others, by_word, Words, WordReader}
-use Rattle.wire_reader.specs.steps.Bodies.{new_at, put_at, drop_at, set_at, body_words, body_at, operation_at}
+use Rattle.wire_reader.specs.steps.Bodies.{new_at, put_at, drop_at, one_pair_at, body_words, body_at, operation_at}
 use Rattle.wire_reader.proofs.Exact.{IsExact, exact_end, exact_field, field_some, IsWordOf, word_of_fields, words_take, no_other_word, same_message}
 use Rattle.wire_reader.proofs.PartForms.{exact_name, exact_seen, exact_id, exact_key, exact_kind, exact_value, exact_attrs, exact_pairs}
 
@@ -37,8 +37,8 @@ one_pair : (pair : Attr) → are_pairs (pair ∷ []) ≡ true
 unfolding pairs_fault
 one_pair pair = refl
 
-set_word : IsBodyWord (codes "set", set_at)
-unfolding set_at
+set_word : IsBodyWord (codes "set", one_pair_at)
+unfolding one_pair_at
 set_word =
     word_of_fields (exact_field exact_name (exact_field exact_id (exact_field exact_key (exact_field exact_value exact_end)))) (codes "set")
     (λ p. Put p.0 p.1.0 ((p.1.1.0, p.1.1.1.0) ∷ []))
@@ -71,7 +71,7 @@ body_again (Put object version pairs) fit =
 body_again (DropVersion object version) fit = rw (exact_name.again object fit.0, exact_id.again version fit.1) refl
 
 pub old_body_again : AreReadAgain old_body_form
-unfolding body_at set_at
+unfolding body_at one_pair_at
 old_body_again (New kind attrs) fit = body_again (New kind attrs) fit
 old_body_again (Put object version []) fit = body_again (Put object version []) fit
 old_body_again (Put object version (pair ∷ [])) fit =

@@ -5,7 +5,7 @@ use Rattle.rules.specs.declared.history.Body.TheVariants.{New, Put, DropVersion}
 use Rattle.wire_reader.specs.steps.Reading.{end_at, field_at, kind_in, attrs_in, pairs_in}
 use Rattle.wire_reader.specs.steps.Reading.{name_in, id_in, key_in, value_in}
 use Rattle.wire_reader.specs.steps.Reading.{◌>>=◌}
-use Rattle.wire_reader.specs.steps.Bodies.{new_at, put_at, drop_at, set_at}
+use Rattle.wire_reader.specs.steps.Bodies.{new_at, put_at, drop_at, one_pair_at}
 use Rattle.wire_reader.specs.steps.Streams.{rest_in}
 use Rattle.wire_reader.proofs.Tokens.{rest_then}
 
@@ -21,6 +21,6 @@ pub drop_steps : (n : ℕ) (ts : List Token) → rest_in drop_at n ts ≡ (rest_
 unfolding drop_at
 drop_steps n ts = rest_then (field_at name_in (field_at id_in end_at)) (λ p. Some (DropVersion p.0 p.1.0)) n ts
 
-pub set_steps : (n : ℕ) (ts : List Token) → rest_in set_at n ts ≡ (rest_in (field_at name_in (field_at id_in (field_at key_in (field_at value_in end_at)))) n ts >>= λ q. Some ((Put q.0.0 q.0.1.0 ((q.0.1.1.0, q.0.1.1.1.0) ∷ [])), q.1))
-unfolding set_at
+pub set_steps : (n : ℕ) (ts : List Token) → rest_in one_pair_at n ts ≡ (rest_in (field_at name_in (field_at id_in (field_at key_in (field_at value_in end_at)))) n ts >>= λ q. Some ((Put q.0.0 q.0.1.0 ((q.0.1.1.0, q.0.1.1.1.0) ∷ [])), q.1))
+unfolding one_pair_at
 set_steps n ts = rest_then (field_at name_in (field_at id_in (field_at key_in (field_at value_in end_at)))) (λ p. Some (Put p.0 p.1.0 ((p.1.1.0, p.1.1.1.0) ∷ []))) n ts

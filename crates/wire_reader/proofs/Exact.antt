@@ -10,7 +10,7 @@ use Rattle.serde_json.specs.Find.{as_str, of_integer}
 use Rattle.serde_json.specs.View.{items_of}
 use Rattle.wire.specs.Form.{list_form, whole_form, AreForms, IsListForm}
 use Rattle.std.proofs.lemmas.Slice.Eq.{bytes_eq-Decides}
-use Rattle.wire_reader.specs.steps.Reading.{◌>>=◌, listed, items_in, passing, all_in, list_in, two_at, two_in, natural_in, whole_in, integer_at, integer_in, end_at, field_at, worded_at, worded_in, Words, WordReader, no_others, by_word, message_in}
+use Rattle.wire_reader.specs.steps.Reading.{◌>>=◌, listed, items_in, passing, all_in, list_in, two_at, two_in, natural_in, whole_in, integer_at, integer_in, end_at, field_at, worded_at, worded_in, Words, WordReader, no_others, by_word, worded_message_in}
 
 -- of values that have one form each
 pub record IsExact (X : Type 0) (read : Data → Option X) (form : X → Data) (Fits : X → Type 0) : Type 0 where
@@ -296,7 +296,7 @@ worded_take (d ∷ ds) p e =
     (ap (λ (x : Data). list_form (x ∷ ds)) (exact_text.takes d a.0 a.1).1)
 
 pub message_takes : {X : Type 0} (IsForm : Data → X → Type 0) (Fits : X → Type 0) (words : Words X) (others : WordReader X) → AllByRecursion (IsWordOf IsForm Fits) words → ((word : List ℕ) → IsWordOf IsForm Fits (word, others word))
-    → (d : Data) (x : X) → message_in words others d ≡ Some x → Fits x × IsForm d x
+    → (d : Data) (x : X) → worded_message_in words others d ≡ Some x → Fits x × IsForm d x
 unfolding worded_in
 message_takes IsForm Fits words others h k d x e =
     let a = bind_some (items_in d >>= worded_at) (λ p. by_word words others p.0 p.1) x e in
@@ -304,7 +304,7 @@ message_takes IsForm Fits words others h k d x e =
     let c = words_take IsForm Fits words others h k a.0.0 a.0.1 x a.2 in
     (c.0, subst (λ (f : Data). IsForm f x) (sym (items_take d b.0 b.1 ∙ worded_take b.0 a.0 b.2)) c.1)
 
-pub message_again : {X : Type 0} (words : Words X) (others : WordReader X) (word : List ℕ) (ds : List Data) → message_in words others (list_form (string word ∷ ds)) ≡ by_word words others word ds
+pub message_again : {X : Type 0} (words : Words X) (others : WordReader X) (word : List ℕ) (ds : List Data) → worded_message_in words others (list_form (string word ∷ ds)) ≡ by_word words others word ds
 unfolding worded_in
 message_again words others word ds = rw (items_again (string word ∷ ds)) refl
 

@@ -23,7 +23,7 @@ use Rattle.wire.specs.Rising.{rise, attr_before, id_before, version_before}
 use Rattle.wire.specs.Form.{list_form, whole_form, name_form, names_form, attrs_form, shown_form, version_form, object_form, note_form, AreIds, AreShown, IsShown, IsVersion, AreVersions, IsObject, IsEntry, IsEntryForm, IsListForm, IsReply, IsReplyForm}
 use Rattle.wire_reader.specs.steps.Reading.{◌>>=◌, field_at, end_at, whole_in, natural_in, list_in, no_others, by_word}
 use Rattle.wire_reader.specs.steps.Entries.{entry_of}
-use Rattle.wire_reader.specs.steps.Replies.{at_in, ids_in, shown_attrs_in, shown_in, version_in, versions_in, object_in, joined_at, returned_at, made_at, taken_at, versions_at, objects_at, entries_at, left_at, notes_at, renewed_at, refusal_with, refusal_fields, no_at, reply_words, reply_of}
+use Rattle.wire_reader.specs.steps.Replies.{at_in, ids_in, shown_attrs_in, shown_in, version_in, versions_in, object_in, joined_at, returned_at, made_at, taken_at, versions_at, objects_at, entries_at, left_at, notes_reply_at, renewed_at, refusal_with, refusal_fields, no_at, reply_words, reply_of}
 use Rattle.wire_reader.proofs.Exact.{IsExact, ReadsForms, AreExact, reads_list, field_some, bind_some, some_is, exact_list, exact_passing, exact_two, exact_made, exact_text, exact_whole, exact_end, exact_field, IsWordOf, word_of_fields, no_other_word, message_takes, message_again}
 use Rattle.wire_reader.proofs.PartForms.{exact_site, exact_from, exact_at, exact_name, exact_id, exact_kind, exact_attr, exact_room}
 use Rattle.wire_reader.proofs.Entries.{reads_entries}
@@ -198,8 +198,8 @@ left_word : IsReplyWord (codes "left", left_at)
 unfolding left_at
 left_word = word_of_fields (exact_field exact_at exact_end) (codes "left") (λ p. Left p.0) (λ p fit. (fit.0, refl))
 
-notes_word : IsReplyWord (codes "notes", notes_at)
-unfolding notes_at
+notes_word : IsReplyWord (codes "notes", notes_reply_at)
+unfolding notes_reply_at
 notes_word = word_of_fields (exact_field exact_at (exact_field exact_notes exact_end)) (codes "notes") (λ p. Notes p.0 p.1.0) (λ p fit. ((fit.0, fit.1.0), refl))
 
 renewed_word : IsReplyWord (codes "renewed", renewed_at)
@@ -218,7 +218,7 @@ unfolding reply_of
 again_by d word ds r form e = ap reply_of form ∙ message_again reply_words no_others word ds ∙ e
 
 reply_again : (d : Data) (r : Reply) → IsReplyForm d r → IsReply r → reply_of d ≡ Some r
-unfolding joined_at returned_at made_at taken_at versions_at objects_at entries_at left_at notes_at renewed_at no_at
+unfolding joined_at returned_at made_at taken_at versions_at objects_at entries_at left_at notes_reply_at renewed_at no_at
 reply_again d (Joined at site) form fit =
     again_by d (codes "joined") (whole_form at ∷ whole_form site ∷ []) _ form (rw (exact_at.again at fit.0, exact_site.again site fit.1) refl)
 reply_again d (Returned at site seq) form fit =

@@ -10,7 +10,7 @@ use Rattle.wire_reader.specs.steps.Reading.{name_in}
 use Rattle.wire_reader.specs.steps.Reading.{kind_in, room_in}
 use Rattle.wire_reader.specs.steps.Entries.{entry_of}
 use Rattle.wire_reader.specs.steps.Reading.{◌>>=◌}
-use Rattle.wire_reader.specs.steps.Replies.{joined_at, returned_at, made_at, taken_at, versions_at, objects_at, entries_at, left_at, notes_at, renewed_at, no_at, at_in, ids_in, versions_in, object_in, refusal_fields}
+use Rattle.wire_reader.specs.steps.Replies.{joined_at, returned_at, made_at, taken_at, versions_at, objects_at, entries_at, left_at, notes_reply_at, renewed_at, no_at, at_in, ids_in, versions_in, object_in, refusal_fields}
 use Rattle.wire_reader.specs.steps.Notes.{notes_in}
 use Rattle.wire_reader.specs.steps.Streams.{rest_in}
 use Rattle.wire_reader.proofs.Tokens.{rest_then}
@@ -47,8 +47,8 @@ pub left_steps : (n : ℕ) (ts : List Token) → rest_in left_at n ts ≡ (rest_
 unfolding left_at
 left_steps n ts = rest_then (field_at at_in end_at) (λ p. Some (Left p.0)) n ts
 
-pub notes_steps : (n : ℕ) (ts : List Token) → rest_in notes_at n ts ≡ (rest_in (field_at at_in (field_at notes_in end_at)) n ts >>= λ q. Some ((Notes q.0.0 q.0.1.0), q.1))
-unfolding notes_at
+pub notes_steps : (n : ℕ) (ts : List Token) → rest_in notes_reply_at n ts ≡ (rest_in (field_at at_in (field_at notes_in end_at)) n ts >>= λ q. Some ((Notes q.0.0 q.0.1.0), q.1))
+unfolding notes_reply_at
 notes_steps n ts = rest_then (field_at at_in (field_at notes_in end_at)) (λ p. Some (Notes p.0 p.1.0)) n ts
 
 pub renewed_steps : (n : ℕ) (ts : List Token) → rest_in renewed_at n ts ≡ (rest_in (field_at at_in (field_at room_in end_at)) n ts >>= λ q. Some ((Renewed q.0.0 q.0.1.0), q.1))

@@ -44,10 +44,6 @@ quoted_front text first middle rest content e f g plain =
 
 -- ---- lists
 
-pub all_parts_push : {X : Type 0} (P : X → Type 0) (xs : List X) (x : X) → AllByRecursion P xs → P x → AllByRecursion P (xs ++ x ∷ [])
-all_parts_push P [] x all one = (one, tt)
-all_parts_push P (y ∷ ys) x all one = (all.0, all_parts_push P ys x all.1 one)
-
 join_push : {X : Type 0} (text : X → List ℕ) (xs : List X) (x : X) → 0 < length xs → join_by text (44 ∷ []) (xs ++ x ∷ []) ≡ join_by text (44 ∷ []) xs ++ 44 ∷ text x
 join_push text [] x some = absurd (omega arith)
 join_push {X} text (y ∷ ys) x some =

@@ -23,8 +23,8 @@ use Rattle.std.specs.Result.{IsErrAnd}
 use Rattle.base_types.specs.declared.value.Value.TheVariants.{Number}
 use Rattle.wire_reader.specs.declared.fault.ReadFault.{ReadFault}
 use Rattle.wire_reader.specs.declared.fault.ReadFault.TheVariants.{Bad, NoMemory}
-use Rattle.wire_reader.specs.steps.Reading.{◌>>=◌, Fails, Gives, listed, items_in, passing, integer_at, integer_in, value_in, two_at, two_in, all_in, list_in, end_at, field_at, worded_at, worded_in, Words, WordReader, by_word, message_in}
-use Rattle.wire_reader.specs.steps.Streams.{next_in, rest_in, opened, string_of, numeral_of, value_of, below_zero, worded, begins_list, fronted, rest_by_word, Takes}
+use Rattle.wire_reader.specs.steps.Reading.{◌>>=◌, Fails, Gives, listed, items_in, passing, integer_at, integer_in, value_in, two_at, two_in, all_in, list_in, end_at, field_at, worded_at, worded_in, Words, WordReader, by_word, worded_message_in}
+use Rattle.wire_reader.specs.steps.Streams.{next_in, rest_in, list_opened, string_of, numeral_of, value_of, below_zero, worded, begins_list, fronted, rest_by_word, Takes}
 
 -- ---- what was converted
 
@@ -265,7 +265,7 @@ next_then f g n ts = then_converted f g (converted of_json (value n ts))
 
 -- ---- lists
 
-pub list_ok : {Y : Type 0} (f : List Data → Option Y) (n : ℕ) (ts r : List Token) → 0 < n → opened ts ≡ Some r → next_in (λ d. items_in d >>= f) n ts ≡ rest_in f (n - 1) r
+pub list_ok : {Y : Type 0} (f : List Data → Option Y) (n : ℕ) (ts r : List Token) → 0 < n → list_opened ts ≡ Some r → next_in (λ d. items_in d >>= f) n ts ≡ rest_in f (n - 1) r
 unfolding next_in rest_in items_in
 list_ok f n (Token.begin_array ∷ ts) r deep e =
     let same : ts ≡ r = cc in
@@ -314,7 +314,7 @@ at_array zero ts = (None, value_is zero (Token.begin_array ∷ ts))
 at_array (suc n) ts = (items (value (suc n - 1)) (length ts) ts, value-begin_array (suc n) ts (omega arith))
 
 -- at a token that opens no list, what reads lists reads nothing
-no_list : {Y : Type 0} (g : Data → Option Y) → IsOfLists g → (n : ℕ) (ts : List Token) → opened ts ≡ None → next_in g n ts ≡ None
+no_list : {Y : Type 0} (g : Data → Option Y) → IsOfLists g → (n : ℕ) (ts : List Token) → list_opened ts ≡ None → next_in g n ts ≡ None
 unfolding next_in
 no_list g lists n [] none = ap (λ o. converted g (converted of_json o)) (value_is n [])
 no_list g lists n (Token.begin_object ∷ ts) none = ap (λ o. converted g (converted of_json o)) (at_object n ts).1 ∙ of_object g lists.object (at_object n ts).0
@@ -328,7 +328,7 @@ no_list g lists n (Token.boolean b ∷ ts) none = ap (λ o. converted g (convert
 no_list g lists n (Token.null ∷ ts) none = ap (λ o. converted g (converted of_json o)) (value_is n (Token.null ∷ ts)) ∙ ap (leaving ts) lists.null
 no_list g lists n (Token.bad ∷ ts) none = ap (λ o. converted g (converted of_json o)) (value_is n (Token.bad ∷ ts))
 
-pub list_bad : {Y : Type 0} (f : List Data → Option Y) (n : ℕ) (ts : List Token) → opened ts ≡ None → next_in (λ d. items_in d >>= f) n ts ≡ None
+pub list_bad : {Y : Type 0} (f : List Data → Option Y) (n : ℕ) (ts : List Token) → list_opened ts ≡ None → next_in (λ d. items_in d >>= f) n ts ≡ None
 unfolding items_in
 list_bad f n ts none = no_list (λ d. items_in d >>= f) (record { null = refl; boolean = λ b. refl; number = λ x. refl; string = λ s. refl; object = λ ms. refl }) n ts none
 
@@ -394,13 +394,13 @@ ends_by n ts (Some r) e = end_ok n ts r e
 pub end_steps : (n : ℕ) (ts : List Token) → rest_in end_at n ts ≡ (after_end_array ts >>= λ r. Some (tt, r))
 end_steps n ts = ends_by n ts (after_end_array ts) refl
 
-list_by : {Y : Type 0} (f : List Data → Option Y) (n : ℕ) (ts : List Token) (o : Option (List Token)) → 0 < n → opened ts ≡ o → next_in (λ d. items_in d >>= f) n ts ≡ (o >>= rest_in f (n - 1))
+list_by : {Y : Type 0} (f : List Data → Option Y) (n : ℕ) (ts : List Token) (o : Option (List Token)) → 0 < n → list_opened ts ≡ o → next_in (λ d. items_in d >>= f) n ts ≡ (o >>= rest_in f (n - 1))
 list_by f n ts None deep e = list_bad f n ts e
 list_by f n ts (Some r) deep e = list_ok f n ts r deep e
 
 -- a list
-pub list_steps : {Y : Type 0} (f : List Data → Option Y) (n : ℕ) (ts : List Token) → 0 < n → next_in (λ d. items_in d >>= f) n ts ≡ (opened ts >>= rest_in f (n - 1))
-list_steps f n ts deep = list_by f n ts (opened ts) deep refl
+pub list_steps : {Y : Type 0} (f : List Data → Option Y) (n : ℕ) (ts : List Token) → 0 < n → next_in (λ d. items_in d >>= f) n ts ≡ (list_opened ts >>= rest_in f (n - 1))
+list_steps f n ts deep = list_by f n ts (list_opened ts) deep refl
 
 -- ---- what a function returned
 
@@ -481,11 +481,11 @@ two_rest first second n (Some r) =
     rest_same (two_at first second) (λ ds. field_at first (field_at second end_at) ds >>= λ p. Some (both p.0 p.1.0)) (two_fields first second) n r ∙ rest_then (field_at first (field_at second end_at)) (λ p. Some (both p.0 p.1.0)) n r
 
 pub two_steps : {X Y : Type 0} (first : Data → Option X) (second : Data → Option Y) (n : ℕ) (ts : List Token) → 0 < n
-    → next_in (two_in first second) n ts ≡ (opened ts >>= λ r. rest_in (field_at first (field_at second end_at)) (n - 1) r >>= λ q. Some ((q.0.0, q.0.1.0), q.1))
+    → next_in (two_in first second) n ts ≡ (list_opened ts >>= λ r. rest_in (field_at first (field_at second end_at)) (n - 1) r >>= λ q. Some ((q.0.0, q.0.1.0), q.1))
 unfolding two_in
-two_steps first second n ts deep = list_steps (two_at first second) n ts deep ∙ two_rest first second (n - 1) (opened ts)
+two_steps first second n ts deep = list_steps (two_at first second) n ts deep ∙ two_rest first second (n - 1) (list_opened ts)
 
-pub all_steps : {X : Type 0} (reader : Data → Option X) (n : ℕ) (ts : List Token) → 0 < n → next_in (list_in reader) n ts ≡ (opened ts >>= rest_in (all_in reader) (n - 1))
+pub all_steps : {X : Type 0} (reader : Data → Option X) (n : ℕ) (ts : List Token) → 0 < n → next_in (list_in reader) n ts ≡ (list_opened ts >>= rest_in (all_in reader) (n - 1))
 unfolding list_in
 all_steps reader n ts deep = list_steps (all_in reader) n ts deep
 
@@ -538,11 +538,11 @@ word_after words others n None = refl
 word_after words others n (Some r) = word_by words others n r (next_in as_str n r) refl
 
 -- a list of a word and what follows it
-pub message_steps : {X : Type 0} (words : Words X) (others : WordReader X) (n : ℕ) (ts : List Token) → 0 < n → next_in (message_in words others) n ts ≡ (worded (n - 1) ts >>= λ q. rest_by_word words others q.0 (n - 1) q.1)
+pub message_steps : {X : Type 0} (words : Words X) (others : WordReader X) (n : ℕ) (ts : List Token) → 0 < n → next_in (worded_message_in words others) n ts ≡ (worded (n - 1) ts >>= λ q. rest_by_word words others q.0 (n - 1) q.1)
 unfolding worded_in
 message_steps words others n ts deep =
-    next_same (message_in words others) (λ d. items_in d >>= λ ds. worded_at ds >>= λ p. by_word words others p.0 p.1) (λ d. regrouped (items_in d) worded_at (λ p. by_word words others p.0 p.1)) n ts
-    ∙ list_steps (λ ds. worded_at ds >>= λ p. by_word words others p.0 p.1) n ts deep ∙ word_after words others (n - 1) (opened ts)
+    next_same (worded_message_in words others) (λ d. items_in d >>= λ ds. worded_at ds >>= λ p. by_word words others p.0 p.1) (λ d. regrouped (items_in d) worded_at (λ p. by_word words others p.0 p.1)) n ts
+    ∙ list_steps (λ ds. worded_at ds >>= λ p. by_word words others p.0 p.1) n ts deep ∙ word_after words others (n - 1) (list_opened ts)
 
 -- ---- values
 

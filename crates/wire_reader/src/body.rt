@@ -1,7 +1,7 @@
 //! What operations do, from the tokens of their text.
 
 ghost use Rattle.std.specs.Prelude.{◌≤◌, ℕ};
-ghost use Rattle.wire_reader.specs.steps.Bodies.{new_at, put_at, drop_at, set_at, body_at, operation_at};
+ghost use Rattle.wire_reader.specs.steps.Bodies.{new_at, put_at, drop_at, one_pair_at, body_at, operation_at};
 ghost use Rattle.wire_reader.specs.steps.Streams.{rest_in, Takes};
 
 use crate::fault::ReadFault;
@@ -50,7 +50,7 @@ fn drop_of(alloc: Global, reader: &mut Reader<'_>) -> Result<Body, ReadFault>
 /// A put of one pair, in the old form.
 fn set_of(alloc: Global, reader: &mut Reader<'_>) -> Result<Body, ReadFault>
     ensures { (n : ℕ) → 2 ≤ n → Takes (λ body. body) result
-        (rest_in set_at n reader.old) reader.new }
+        (rest_in one_pair_at n reader.old) reader.new }
 {
     let object = name_of(reader)?;
     let version = id_of(alloc, reader)?;

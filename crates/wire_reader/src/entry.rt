@@ -4,7 +4,7 @@ ghost use Rattle.std.specs.Prelude.{◌≡◌, ◌≤◌, ℕ, IfOk, IsErrOf, So
 ghost use Rattle.std.specs.Arc.{arc_value};
 ghost use Rattle.rules.specs.declared.history.Entry.{Entry as AnyEntry};
 ghost use Rattle.wire.specs.Form.{IsEntryText};
-ghost use Rattle.wire_reader.specs.steps.Entries.{join_at, next_at, change_at, entry_of};
+ghost use Rattle.wire_reader.specs.steps.Entries.{entry_join_at, next_at, entry_change_at, entry_of};
 ghost use Rattle.wire_reader.specs.steps.Reads.{entry_read};
 ghost use Rattle.wire_reader.specs.steps.Streams.{rest_in, Takes};
 
@@ -19,7 +19,8 @@ use std::alloc::Global;
 use std::sync::Arc;
 
 fn join_of(reader: &mut Reader<'_>) -> Result<Entry, ReadFault>
-    ensures { (n : ℕ) → Takes (λ entry. entry) result (rest_in join_at n reader.old) reader.new }
+    ensures { (n : ℕ) → Takes (λ entry. entry) result
+        (rest_in entry_join_at n reader.old) reader.new }
 {
     let site = whole_of(reader, 1, MAX_SITE)?;
     close_list(reader)?;
@@ -36,7 +37,7 @@ fn next_of(reader: &mut Reader<'_>) -> Result<Entry, ReadFault>
 
 fn change_of(alloc: Global, word: &str, reader: &mut Reader<'_>) -> Result<Entry, ReadFault>
     ensures { (n : ℕ) → 2 ≤ n → Takes (λ entry. entry) result
-        (rest_in (change_at word.now) n reader.old) reader.new }
+        (rest_in (entry_change_at word.now) n reader.old) reader.new }
 {
     let (name, seen, body) = operation_of(alloc, word, reader)?;
     Ok(Entry::Operation(Op { name, seen, body }))

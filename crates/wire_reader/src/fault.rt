@@ -59,10 +59,10 @@ impl From<base_types::NoMemory> for ReadFault {
 }
 
 impl From<NameFault> for ReadFault {
-    ghost use Rattle.wire_reader.specs.steps.Faults.{of_name};
+    ghost use Rattle.wire_reader.specs.steps.Faults.{of_bad_name};
     ghost use Rattle.std.specs.Prelude.{◌≡◌};
 
-    ghost from_gives = { λ f e. e ≡ of_name f };
+    ghost from_gives = { λ f e. e ≡ of_bad_name f };
 
     fn from(fault: NameFault) -> ReadFault {
         match fault {

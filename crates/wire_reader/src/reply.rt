@@ -7,7 +7,7 @@ ghost use Rattle.rules.specs.declared.version.Shown.TheVariants.{Gone};
 ghost use Rattle.wire.specs.Rising.{rise, attr_before, id_before, version_before};
 ghost use Rattle.wire.specs.Form.{IsReplyText};
 ghost use Rattle.wire_reader.specs.steps.Reading.{Gives, whole_in, id_in};
-ghost use Rattle.wire_reader.specs.steps.Replies.{at_in, ids_in, shown_attrs_at, shown_in, version_in, versions_in, object_in, joined_at, returned_at, made_at, taken_at, versions_at, objects_at, entries_at, left_at, notes_at, renewed_at, refusal_with, refusal_fields, no_at, reply_of};
+ghost use Rattle.wire_reader.specs.steps.Replies.{at_in, ids_in, shown_attrs_at, shown_in, version_in, versions_in, object_in, joined_at, returned_at, made_at, taken_at, versions_at, objects_at, entries_at, left_at, notes_reply_at, renewed_at, refusal_with, refusal_fields, no_at, reply_of};
 ghost use Rattle.wire_reader.specs.steps.Reads.{reply_read};
 ghost use Rattle.wire_reader.specs.steps.Streams.{next_in, rest_in, Takes};
 
@@ -271,7 +271,7 @@ fn left_of(reader: &mut Reader<'_>) -> Result<Reply, ReadFault>
 
 fn all_notes_of(alloc: Global, reader: &mut Reader<'_>) -> Result<Reply, ReadFault>
     ensures { (n : ℕ) → 2 ≤ n → Takes (λ reply. reply) result
-        (rest_in notes_at n reader.old) reader.new }
+        (rest_in notes_reply_at n reader.old) reader.new }
 {
     let at = at_of(reader)?;
     let notes = notes_of(alloc, reader)?;

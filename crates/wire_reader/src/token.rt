@@ -7,7 +7,7 @@ ghost use Rattle.json.specs.Reads.{token_of};
 ghost use Rattle.serde_json.specs.Find.{as_str, as_u64};
 ghost use Rattle.serde_json.specs.Read.{number_of};
 ghost use Rattle.wire_reader.specs.steps.Reading.{Gives, integer_at, natural_in, whole_in};
-ghost use Rattle.wire_reader.specs.steps.Streams.{begins_list, below_zero, next_in, numeral_of, opened, string_of, worded, Passes, Takes};
+ghost use Rattle.wire_reader.specs.steps.Streams.{begins_list, below_zero, next_in, numeral_of, list_opened, string_of, worded, Passes, Takes};
 
 use crate::fault::ReadFault;
 use fast_float::Numeral;
@@ -15,7 +15,7 @@ use json::{Reader, Token};
 
 /// Takes the bracket that begins a list.
 pub(crate) fn open_list(reader: &mut Reader<'_>) -> Result<(), ReadFault>
-    ensures { Passes result (opened reader.old) reader.new }
+    ensures { Passes result (list_opened reader.old) reader.new }
 {
     match reader.next() {
         Some(Token::BeginArray) => Ok(()),

@@ -13,7 +13,7 @@ use Rattle.rules.specs.declared.history.Entry.TheVariants.{Join, Next, Operation
 use Rattle.rules.specs.declared.refusal.Refusal.{Refusal}
 use Rattle.rules.specs.declared.refusal.Refusal.TheVariants.{NotJoined, NoSuchSite, SiteInUse, TooFar}
 use Rattle.rules.specs.declared.limits.LimitValues.{LimitValues}
-use Rattle.rules.specs.Bodies.{is_change_body, kind_in}
+use Rattle.rules.specs.Bodies.{is_change_body, kind_of_body}
 use Rattle.rules.specs.Operations.{IsHistory, creation_of, is_creation_of, object_of}
 use Rattle.rules.specs.Admission.{count_at_site}
 use Rattle.rules.specs.Records.{admits, objects, operations, refusal, sites, IsLegal}
@@ -171,7 +171,7 @@ module _ (room : Room) (sound : IsSound room) where
 
   object_in_range : (o : Name × Bytes) → In o (all_objects room.entries) → IsObject o
   object_in_range o m =
-      let c = In-map_back (λ (op : Op). (op.name, kind_in op.body)) o (objects room.entries) m in
+      let c = In-map_back (λ (op : Op). (op.name, kind_of_body op.body)) o (objects room.entries) m in
       let d = In-filter_back (λ (op : Op). not (is_change_body op.body)) c.0 (operations room.entries) c.1 in
       subst IsObject (sym c.2) ((ops c.0 d.0).0, kind_in_range c.0 d.1 (ops c.0 d.0))
 

@@ -17,7 +17,7 @@ use Rattle.world.specs.declared.seats.Seat.{Seat}
 use Rattle.world.specs.declared.seats.Asker.{Asker}
 use Rattle.world.specs.Alone.{Message, Alone, no_site, answer_to, move_of, after_move, after_reply, use_after, noted_by, notes_after_move, alone_answer, alone_after}
 use Rattle.world.specs.Rooms.{Rooms, place_of, named_place, owner_from, owner_of, after_at, rooms_after}
-use Rattle.world.specs.State.{WorldState, Named, names_in, names_of, seat_of, no_room, rooms_in, room_at, is_used, uses_in, use_at, notes_in, notes_of, site_at, alone_at, rooms_of, SeatsWithin}
+use Rattle.world.specs.State.{WorldState, Named, names_in, names_of, seat_of, no_room, rooms_in, room_at, is_used, uses_in, use_at, notes_of_rooms, notes_of, site_at, alone_at, rooms_of, SeatsWithin}
 use Rattle.world.specs.steps.Steps.{asker_answer, place_answer, asker_of, seat_in, IsMoved}
 use Rattle.world.proofs.Places.{place_of_within}
 use Rattle.world.proofs.SeatMaps.{seat_within}
@@ -88,7 +88,7 @@ module _ (state new : WorldState) (message : Message) (place : ℕ) (outcome : O
     (rooms : rooms_in new.rooms ≡ set (rooms_in state.rooms) place (with_entry (room_at state.rooms place) outcome.1))
     (uses : uses_in new.rooms ≡ set (uses_in state.rooms) place (use_after outcome.0 (site_at place (seat_of state.seats message.session)) (use_at state.rooms place)))
     (seats : IsMoved state.seats new.seats outcome.0 message.session place)
-    (noted : notes_in new.rooms ≡ set (notes_in state.rooms) place
+    (noted : notes_of_rooms new.rooms ≡ set (notes_of_rooms state.rooms) place
     (notes_after_move (move_of outcome.0) (site_at place (seat_of state.seats message.session))
     (noted_by (site_at place (seat_of state.seats message.session)) (request_read message.bytes) (note_request_read message.bytes) (notes_of state.rooms place))))
   where
@@ -107,7 +107,7 @@ module _ (state new : WorldState) (message : Message) (place : ℕ) (outcome : O
         ∙ get_or-set_same (uses_in state.rooms) place _ no_site (rw (length-map state.rooms (λ room. is_used room.in_use)) within)
         ∙ ap (λ (o : Outcome). use_after o.0 (site_at place (seat_of state.seats message.session)) (use_at state.rooms place)) (sym is_answer))
         (ap (λ (all : List Notes). get_or all place no_notes) noted
-        ∙ get_or-set_same (notes_in state.rooms) place _ no_notes (rw (length-map state.rooms (λ room. notes_at room.notes)) within)
+        ∙ get_or-set_same (notes_of_rooms state.rooms) place _ no_notes (rw (length-map state.rooms (λ room. notes_at room.notes)) within)
         ∙ ap (λ (o : Outcome). notes_after_move (move_of o.0) (site_at place (seat_of state.seats message.session))
         (noted_by (site_at place (seat_of state.seats message.session)) (request_read message.bytes) (note_request_read message.bytes) (notes_of state.rooms place))) (sym is_answer)))
 
@@ -119,7 +119,7 @@ module _ (state new : WorldState) (message : Message) (place : ℕ) (outcome : O
         (ap (λ (uses : List (ℕ → Bool)). get_or uses q no_site) uses
         ∙ get_or-set_other (uses_in state.rooms) place q _ no_site (λ e. eqb-false place q ne (sym e)))
         (ap (λ (all : List Notes). get_or all q no_notes) noted
-        ∙ get_or-set_other (notes_in state.rooms) place q _ no_notes (λ e. eqb-false place q ne (sym e)))
+        ∙ get_or-set_other (notes_of_rooms state.rooms) place q _ no_notes (λ e. eqb-false place q ne (sym e)))
 
     each : (b : Bool) (q : ℕ) → eqb place q ≡ b → alone_at new q ≡ cond b (alone_after (alone_at state place) message) (alone_at state q)
     each true q e = here q (eqb-true place q e)
@@ -198,7 +198,7 @@ module _ (state : WorldState) (message : Message) (request : Request)
             → rooms_in new.rooms ≡ set (rooms_in state.rooms) asker.place (with_entry (room_at state.rooms asker.place) (place_answer state.rooms asker.place asker.site request).1)
             → uses_in new.rooms ≡ set (uses_in state.rooms) asker.place (use_after (place_answer state.rooms asker.place asker.site request).0 asker.site (use_at state.rooms asker.place))
             → IsMoved state.seats new.seats (place_answer state.rooms asker.place asker.site request).0 asker.session asker.place
-            → notes_in new.rooms ≡ set (notes_in state.rooms) asker.place (notes_after_move (move_of (place_answer state.rooms asker.place asker.site request).0) asker.site (notes_of state.rooms asker.place))
+            → notes_of_rooms new.rooms ≡ set (notes_of_rooms state.rooms) asker.place (notes_after_move (move_of (place_answer state.rooms asker.place asker.site request).0) asker.site (notes_of state.rooms asker.place))
             → rooms_of new ≡ rooms_after (names_of state) (rooms_of state) message
         asked_after new within rooms uses seats notes =
             let outcome = place_answer state.rooms asker.place asker.site request in
@@ -212,7 +212,7 @@ module _ (state : WorldState) (message : Message) (request : Request)
             ∙ ap (notes_after_move move who) (not_noted who request asked had)
             ∙ ap (λ w. notes_after_move move w had) asks.site in
             rooms_of-changed state new message asker.place outcome within asks.apart answer_is rooms used (rw asks.session_is at seats)
-            (notes ∙ ap (set (notes_in state.rooms) asker.place) (sym kept))
+            (notes ∙ ap (set (notes_of_rooms state.rooms) asker.place) (sym kept))
             ∙ ap (after_at (rooms_of state) message) (sym owner_is)
 
 -- whoever asks a room asks one that is there

@@ -25,10 +25,6 @@ pub lines_last : (x : ℕ) (line : List ℕ) → IsOneLine (x ∷ line) → line
 lines_last x [] h = rw (ne_eqb x 10 h.0) refl
 lines_last x (y ∷ line) h = rw (ne_eqb x 10 h.0) (ap (onto_first x) (lines_last y line h.1))
 
-pub no_break_append : (a b : List ℕ) → IsOneLine a → IsOneLine b → IsOneLine (a ++ b)
-no_break_append [] b h k = k
-no_break_append (x ∷ a) b h k = (h.0, no_break_append a b h.1 k)
-
 pub no_break_parts : (a b : List ℕ) → IsOneLine (a ++ b) → IsOneLine a × IsOneLine b
 no_break_parts [] b h = (tt, h)
 no_break_parts (x ∷ a) b h = let parts = no_break_parts a b h.1 in ((h.0, parts.0), parts.1)

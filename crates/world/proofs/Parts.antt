@@ -15,7 +15,8 @@ use Rattle.world.specs.steps.Endings.{Stops}
 use Rattle.world.specs.declared.script.TheConstants.{LINE_LIMIT}
 use Rattle.world.specs.steps.Answered.{kept_part, line_text, IsHeld, LinesShow, IsPastLine, IsPastEnd, Answered, Adds, AnswersSome, Hands, Wrote, WroteSome}
 use Rattle.world.proofs.LongLines.{lines_cut, out_kept, end_kept, shows_kept, shows_whole}
-use Rattle.world.proofs.Lines.{lines_break, lines_last, end_last, no_break_append, no_break_parts}
+use Rattle.wire.proofs.OneLine.{one_line_append}
+use Rattle.world.proofs.Lines.{lines_break, lines_last, end_last, no_break_parts}
 
 -- ---- lines one after the other
 
@@ -129,7 +130,7 @@ pub answered_kept : (s : WorldState) (line bytes longer : List ℕ) → longer �
     → IsHeld longer × Answered s s (line ++ bytes) longer []
 answered_kept s line bytes longer e clean more =
     let all = line ++ bytes in
-    let both = no_break_append line bytes clean more in (
+    let both = one_line_append line bytes clean more in (
       record {
         clean = rw e (no_break_parts (kept_part all) (drop LINE_LIMIT all) (subst IsOneLine (sym (take-append-drop LINE_LIMIT all)) both)).0;
         short = omega (arith, ap length e, length-take LINE_LIMIT all);

@@ -9,7 +9,7 @@ use Rattle.wire.specs.Notes.{Notes}
 use Rattle.notes.specs.Notes.{notes_at}
 use Rattle.world.specs.Alone.{no_site, use_after, move_of, notes_after_move}
 use Rattle.world.specs.Rooms.{place_of}
-use Rattle.world.specs.State.{Named, names_in, no_room, rooms_in, room_at, is_used, uses_in, use_at, notes_in, notes_of}
+use Rattle.world.specs.State.{Named, names_in, no_room, rooms_in, room_at, is_used, uses_in, use_at, notes_of_rooms, notes_of}
 use Rattle.world.specs.steps.Steps.{asker_answer, place_answer}
 
 -- one room is replaced by another of its name
@@ -48,13 +48,13 @@ notes_of_read (r ∷ rs) zero room lt e = ap (λ (x : Named). notes_at x.notes) 
 notes_of_read (r ∷ rs) (suc i) room lt e = notes_of_read rs i room (omega arith) e
 
 -- the notes, once those of the room at a place are these
-pub notes_set : (rooms : List Named) (i : ℕ) (new : Named) (target : Notes) → notes_at new.notes ≡ target → notes_in (set rooms i new) ≡ set (notes_in rooms) i target
-notes_set rooms i new target e = map-set (λ (room : Named). notes_at room.notes) rooms i new ∙ ap (set (notes_in rooms) i) e
+pub notes_set : (rooms : List Named) (i : ℕ) (new : Named) (target : Notes) → notes_at new.notes ≡ target → notes_of_rooms (set rooms i new) ≡ set (notes_of_rooms rooms) i target
+notes_set rooms i new target e = map-set (λ (room : Named). notes_at room.notes) rooms i new ∙ ap (set (notes_of_rooms rooms) i) e
 
 -- once the room at a place has answered
 pub notes_after_answer : (rooms : List Named) (i : ℕ) (old new : Named) (who : Option ℕ) (request : Request) → i < length rooms → old ≡ get_or rooms i old
     → notes_at new.notes ≡ notes_after_move (move_of (asker_answer old.room (is_used old.in_use) who request).0) who (notes_at old.notes)
-    → notes_in (set rooms i new) ≡ set (notes_in rooms) i (notes_after_move (move_of (place_answer rooms i who request).0) who (notes_of rooms i))
+    → notes_of_rooms (set rooms i new) ≡ set (notes_of_rooms rooms) i (notes_after_move (move_of (place_answer rooms i who request).0) who (notes_of rooms i))
 notes_after_answer rooms i old new who request lt e f =
     notes_set rooms i new _
     (f

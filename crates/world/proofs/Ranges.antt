@@ -19,7 +19,7 @@ use Rattle.rules.specs.declared.history.Entry.TheVariants.{Join, Next, Operation
 use Rattle.rules.specs.declared.version.Shown.TheVariants.{Attrs, Gone}
 use Rattle.rules.specs.declared.version.Version.{Version}
 use Rattle.rules.specs.AttrLists.{Attr, value_at}
-use Rattle.rules.specs.Bodies.{initial_in, is_change_body, keys_in, kind_in, value_in}
+use Rattle.rules.specs.Bodies.{initial_in, is_change_body, keys_of_body, kind_of_body, value_of_body}
 use Rattle.rules.specs.Lists.{each_once, sort_by}
 use Rattle.rules.specs.Groups.{in_conflict_with, identifier, IsSublist}
 use Rattle.rules.specs.Conflicts.{conflict}
@@ -94,12 +94,12 @@ entry_is (Operation o) op e range = (let same : o ≡ op = cc in subst IsOp same
 pub ops_in_range : (r : List Entry) → AllByRecursion IsEntry r → (op : Op) → In op (operations r) → IsOp op
 ops_in_range r all op m = let c = In-filter_map_back operation_in op r m in entry_is c.0 op c.2 (all_at IsEntry r all c.0 c.1)
 
-new_kind : (b : Body) → is_change_body b ≡ false → IsBody b → is_kind (kind_in b) ≡ true
+new_kind : (b : Body) → is_change_body b ≡ false → IsBody b → is_kind (kind_of_body b) ≡ true
 new_kind (New kind attrs) e range = range.0
 new_kind (Put object version pairs) e range = absurd cc
 new_kind (DropVersion object version) e range = absurd cc
 
-pub kind_in_range : (op : Op) → not (is_change_body op.body) ≡ true → IsOp op → is_kind (kind_in op.body) ≡ true
+pub kind_in_range : (op : Op) → not (is_change_body op.body) ≡ true → IsOp op → is_kind (kind_of_body op.body) ≡ true
 kind_in_range op e range = new_kind op.body (not-true (is_change_body op.body) e) range.2
 
 initial_in_range : (b : Body) → IsBody b → AllByRecursion IsAttr (initial_in b)
@@ -107,7 +107,7 @@ initial_in_range (New kind attrs) range = range.1.0
 initial_in_range (Put object version pairs) range = tt
 initial_in_range (DropVersion object version) range = tt
 
-keys_in_range : (b : Body) → IsBody b → (key : Bytes) → In key (keys_in b) → is_key key ≡ true
+keys_in_range : (b : Body) → IsBody b → (key : Bytes) → In key (keys_of_body b) → is_key key ≡ true
 keys_in_range (New kind attrs) range key m = absurd m
 keys_in_range (Put object version pairs) range key m =
     let c = In-map_back (λ (attr : Attr). attr.0) key pairs m in
@@ -125,7 +125,7 @@ found_in_range attrs range key v (Some attr) f e =
 value_at_in_range : (attrs : List Attr) → AllByRecursion IsAttr attrs → (key : Bytes) (v : Value) → value_at key attrs ≡ Some v → IsValue v
 value_at_in_range attrs range key v e = found_in_range attrs range key v (find (λ (attr : Attr). bytes_eq attr.0 key) attrs) refl e
 
-value_in_range : (b : Body) → IsBody b → (key : Bytes) (v : Value) → value_in key b ≡ Some v → IsValue v
+value_in_range : (b : Body) → IsBody b → (key : Bytes) (v : Value) → value_of_body key b ≡ Some v → IsValue v
 value_in_range (New kind attrs) range key v e = absurd cc
 value_in_range (Put object version pairs) range key v e = value_at_in_range pairs range.2.0 key v e
 value_in_range (DropVersion object version) range key v e = absurd cc

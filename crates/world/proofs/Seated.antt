@@ -11,7 +11,7 @@ use Rattle.room_core.specs.Room.{Room, with_entry}
 use Rattle.room_core.specs.Answers.{Outcome, has_site}
 use Rattle.world.specs.Alone.{Alone, Message, after_move, use_after_move, move_of, no_site, noted_by, notes_after_move, alone_answer, alone_after, alone_end}
 use Rattle.world.specs.Rooms.{owners, at_room, rooms_end}
-use Rattle.world.specs.State.{uses_in, notes_in, empty_rooms, alone_at, rooms_of, new_world}
+use Rattle.world.specs.State.{uses_in, notes_of_rooms, empty_rooms, alone_at, rooms_of, new_world}
 use Rattle.world.specs.steps.Seated.{IsSeated, empty_alone}
 use Rattle.world.proofs.Moves.{Moves, answer_moves, still_joined}
 use Rattle.world.proofs.UsedSites.{nobody_in}
@@ -183,7 +183,7 @@ free_at [] limits place site = refl
 free_at (name ∷ names) limits zero site = nobody_in site
 free_at (name ∷ names) limits (suc place) site = free_at names limits place site
 
-bare_at : (names : List (List ℕ)) (limits : LimitValues) (place site : ℕ) → get_or (notes_in (empty_rooms names limits)) place no_notes site ≡ None
+bare_at : (names : List (List ℕ)) (limits : LimitValues) (place site : ℕ) → get_or (notes_of_rooms (empty_rooms names limits)) place no_notes site ≡ None
 bare_at [] limits place site = refl
 bare_at (name ∷ names) limits zero site = refl
 bare_at (name ∷ names) limits (suc place) site = bare_at names limits place site

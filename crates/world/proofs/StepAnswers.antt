@@ -23,7 +23,7 @@ use Rattle.world.specs.declared.seats.Asker.{Asker}
 use Rattle.world.specs.declared.seats.Seat.{Seat}
 use Rattle.world.specs.Alone.{Message, answer_to, no_site, notes_or_bad, use_after, move_of, noted_by, notes_after_move, alone_answer, alone_after}
 use Rattle.world.specs.Rooms.{Rooms, named_place, lone_answer, notes_refusal, owner_from, owner_of, reply_at, after_at, reply_to, rooms_after}
-use Rattle.world.specs.State.{WorldState, names_of, no_room, rooms_in, room_at, uses_in, use_at, notes_in, notes_of, seat_of, site_at, alone_at, rooms_of}
+use Rattle.world.specs.State.{WorldState, names_of, no_room, rooms_in, room_at, uses_in, use_at, notes_of_rooms, notes_of, seat_of, site_at, alone_at, rooms_of}
 use Rattle.world.specs.steps.Steps.{place_answer, asker_of, IsTextFor, RepliesTo}
 use Rattle.world.specs.Shown.{OwnerHasObject, ShowsGroups}
 use Rattle.world.specs.Run.{IsAnswer}
@@ -103,7 +103,7 @@ pub room_answer : (state : WorldState) (message : Message) (request : Request) (
     → RepliesTo asker (place_answer state.rooms asker.place asker.site request).0 text state.seats new.seats
     → rooms_in new.rooms ≡ set (rooms_in state.rooms) asker.place (with_entry (room_at state.rooms asker.place) (place_answer state.rooms asker.place asker.site request).1)
     → uses_in new.rooms ≡ set (uses_in state.rooms) asker.place (use_after (place_answer state.rooms asker.place asker.site request).0 asker.site (use_at state.rooms asker.place))
-    → notes_in new.rooms ≡ set (notes_in state.rooms) asker.place (notes_after_move (move_of (place_answer state.rooms asker.place asker.site request).0) asker.site (notes_of state.rooms asker.place))
+    → notes_of_rooms new.rooms ≡ set (notes_of_rooms state.rooms) asker.place (notes_after_move (move_of (place_answer state.rooms asker.place asker.site request).0) asker.site (notes_of state.rooms asker.place))
     → IsAnswer state message text new
 room_answer state message request is_request asker found new text within legal names replies rooms uses notes =
     let owner = owner_is state message request is_request asker found in
@@ -167,7 +167,7 @@ module _ (state : WorldState) (message : Message) (request : NoteRequest)
       -- of a session that is in a room: only the note of its site changes
       pub inside_note : (new : WorldState) (text : List ℕ) → seat.place < length state.rooms → IsTextFor text (notes_reply state seat request)
           → names_of new ≡ names_of state → new.seats ≡ state.seats → rooms_in new.rooms ≡ rooms_in state.rooms → uses_in new.rooms ≡ uses_in state.rooms
-          → notes_in new.rooms ≡ set (notes_in state.rooms) seat.place (notes_after seat.site request (notes_of state.rooms seat.place))
+          → notes_of_rooms new.rooms ≡ set (notes_of_rooms state.rooms) seat.place (notes_after seat.site request (notes_of state.rooms seat.place))
           → IsAnswer state message text new
       inside_note new text within t names seats rooms uses notes =
           let owner = owner_by (Some seat) inside in
@@ -177,7 +177,7 @@ module _ (state : WorldState) (message : Message) (request : NoteRequest)
           (rooms ∙ sym (set_same (rooms_in state.rooms) seat.place no_room))
           (uses ∙ sym (set_same (uses_in state.rooms) seat.place no_site))
           (λ other. ap (λ s. seat_of s other) seats)
-          (notes ∙ ap (set (notes_in state.rooms) seat.place) (sym noted_is)) in
+          (notes ∙ ap (set (notes_of_rooms state.rooms) seat.place) (sym noted_is)) in
           record {
             is_text = t.is_text ∙ ap reply_text (sym is_reply);
             is_read = t.is_read ∙ ap Some (sym is_reply);

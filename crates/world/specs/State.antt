@@ -66,11 +66,11 @@ abbrev pub use_at : List Named → ℕ → ℕ → Bool
 use_at rooms place = slice_index_or (uses_in rooms) place no_site
 
 -- the notes, of the room at a place
-abbrev pub notes_in : List Named → List Notes
-notes_in rooms = map (λ room. notes_at room.notes) rooms
+abbrev pub notes_of_rooms : List Named → List Notes
+notes_of_rooms rooms = map (λ room. notes_at room.notes) rooms
 
 abbrev pub notes_of : List Named → ℕ → Notes
-notes_of rooms place = slice_index_or (notes_in rooms) place no_notes
+notes_of rooms place = slice_index_or (notes_of_rooms rooms) place no_notes
 
 abbrev pub site_at : ℕ → Option Seat → Option ℕ
 site_at place None = None

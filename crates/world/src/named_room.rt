@@ -6,11 +6,11 @@ ghost use Rattle.wire.specs.Form.{AreNotes, IsReply, IsRequest, is_at};
 ghost use Rattle.wire.specs.Notes.{all_notes, notes_after};
 ghost use Rattle.wire.specs.declared.reply.Reply.TheVariants.{Notes as NotesOf};
 ghost use Rattle.room_core.specs.Room.{with_entry};
-ghost use Rattle.room_core.specs.steps.Plans.{IsReady, Plans, entry_added};
+ghost use Rattle.room_core.specs.steps.Plans.{IsPlanReady, Plans, entry_added};
 ghost use Rattle.notes.specs.Notes.{notes_at};
 ghost use Rattle.world.specs.Rooms.{place_of};
 ghost use Rattle.world.specs.Alone.{move_of, notes_after_move, outside_answer, use_after};
-ghost use Rattle.world.specs.State.{Named, names_in, rooms_in, room_at, is_used, uses_in, use_at, notes_in, notes_of, empty_rooms};
+ghost use Rattle.world.specs.State.{Named, names_in, rooms_in, room_at, is_used, uses_in, use_at, notes_of_rooms, notes_of, empty_rooms};
 ghost use Rattle.world.specs.steps.Steps.{asker_answer, place_answer, IsTextFor, RepliesTo};
 
 use crate::seats::{Asker, Seat, move_of, move_seat};
@@ -145,7 +145,7 @@ fn put_in_place(
     asker: Asker,
     planned: Planned,
 ) -> Result<String, NoMemory>
-    requires ready { IsReady room.old planned.addition }
+    requires ready { IsPlanReady room.old planned.addition }
     requires range { IsReply planned.reply }
     ensures ok { IfOk result (λ text.
         RepliesTo asker planned.reply (string_bytes text) seats.old.entries seats.new.entries) }
@@ -284,8 +284,8 @@ pub(crate) fn answer_at(
     ensures notes { let reply = (place_answer rooms.old.items asker.place asker.site request).0 in
         let was = notes_of rooms.old.items asker.place in
         let after = notes_after_move (move_of reply) asker.site was in
-        let others = notes_in rooms.old.items in
-        OnOk result (notes_in rooms.new.items ≡ slice_set others asker.place after) }
+        let others = notes_of_rooms rooms.old.items in
+        OnOk result (notes_of_rooms rooms.new.items ≡ slice_set others asker.place after) }
     ensures err { OnErr result
         ((rooms.new.items ≡ rooms.old.items) × (seats.new.entries ≡ seats.old.entries)) }
 {
@@ -310,8 +310,8 @@ pub(crate) fn ask_notes_at(
     ensures rooms { rooms_in rooms.new.items ≡ rooms_in rooms.old.items }
     ensures uses { uses_in rooms.new.items ≡ uses_in rooms.old.items }
     ensures notes { let after = notes_after site request (notes_of rooms.old.items place) in
-        let others = notes_in rooms.old.items in
-        OnOk result (notes_in rooms.new.items ≡ slice_set others place after) }
+        let others = notes_of_rooms rooms.old.items in
+        OnOk result (notes_of_rooms rooms.new.items ≡ slice_set others place after) }
     ensures err { OnErr result (rooms.new.items ≡ rooms.old.items) }
 {
     rooms[place].note(alloc, site, request)

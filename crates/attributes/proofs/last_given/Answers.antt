@@ -3,7 +3,7 @@ use Rattle.std.specs.Prelude.{All}
 use Rattle.std.proofs.lemmas.List.{get_or_default}
 use Rattle.rules.specs.declared.history.Op.{Op}
 use Rattle.rules.specs.AttrLists.{Attr}
-use Rattle.rules.specs.Bodies.{pairs_in}
+use Rattle.rules.specs.Bodies.{pairs_of_body}
 use Rattle.places.specs.steps.Changes.{at, nothing}
 use Rattle.attributes.specs.steps.Pairs.{given_backwards, with_new_attrs}
 use Rattle.attributes.proofs.Members.{given_more}
@@ -22,8 +22,8 @@ loop-index-preserved c =
     let there : place < length k = subst (λ p. p < length k) (sym c.index.ensures) (subst (All (λ p. p < length k)) (sym c.in_ok-places.ensures) c.requires i place below) in
     let op : c.deref.result.now ≡ at k place = c.deref.ensures ∙ c.index-ops-place.is ∙ get_or_default k place c.index-ops-place.result nothing there in
     let earlier : List Attr = given_backwards (map (at k) (take i members)) in
-    ap (λ attrs. with_new_attrs attrs earlier) (c.in_ok-add_missing.ensures ∙ ap (with_new_attrs before) c.pairs.ensures ∙ ap (λ (o : Op). with_new_attrs before (pairs_in o.body)) op)
-    ∙ sym (with_all-append before (pairs_in (at k place).body) earlier)
+    ap (λ attrs. with_new_attrs attrs earlier) (c.in_ok-add_missing.ensures ∙ ap (with_new_attrs before) c.pairs.ensures ∙ ap (λ (o : Op). with_new_attrs before (pairs_of_body o.body)) op)
+    ∙ sym (with_all-append before (pairs_of_body (at k place).body) earlier)
     ∙ ap (with_new_attrs before) (sym (given_more k members i place below c.index.ensures))
     ∙ ap (λ n. with_new_attrs before (given_backwards (map (at k) (take n members)))) next
     ∙ c.loop-index.invariant

@@ -3,7 +3,7 @@ use Rattle.std.specs.Prelude.{List, [], ◌∷◌, ◌++◌, flat_map, reverse, 
 use Rattle.std.specs.List.{list_any}
 use Rattle.rules.specs.declared.history.Op.{Op}
 use Rattle.rules.specs.AttrLists.{Attr, same_key}
-use Rattle.rules.specs.Bodies.{pairs_in}
+use Rattle.rules.specs.Bodies.{pairs_of_body}
 
 -- with an attribute more, if its key isn't there yet
 abbrev pub with_new : Attr → List Attr → List Attr
@@ -16,4 +16,4 @@ with_new_attrs attrs (x ∷ xs) = with_new_attrs (with_new x attrs) xs
 
 -- what changes give, the last one first
 abbrev pub given_backwards : List Op → List Attr
-given_backwards ops = flat_map (λ op. pairs_in op.body) (reverse ops)
+given_backwards ops = flat_map (λ op. pairs_of_body op.body) (reverse ops)

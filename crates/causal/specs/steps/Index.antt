@@ -12,13 +12,13 @@ use Rattle.rules.specs.Operations.{IsHistory, operation}
 use Rattle.rules.specs.Admission.{count_at_site}
 
 -- the list of a site, where the first list is that of site 1
-abbrev pub places_of : List (List ℕ) → ℕ → List ℕ
-places_of places site = if site == 0 then [] else slice_index_or places (site - 1) []
+abbrev pub places_of_site : List (List ℕ) → ℕ → List ℕ
+places_of_site places site = if site == 0 then [] else slice_index_or places (site - 1) []
 
 -- the place of the operation of a name
-abbrev pub place_of : List (List ℕ) → Name → Option ℕ
-place_of places name =
-    if name.1 == 0 then None else slice_get (places_of places name.0) (name.1 - 1)
+abbrev pub place_of_name : List (List ℕ) → Name → Option ℕ
+place_of_name places name =
+    if name.1 == 0 then None else slice_get (places_of_site places name.0) (name.1 - 1)
 
 -- The operations are a history whose sites number them from 1, and the lists have their places, by
 -- site and then by number: a name is looked up there, and the length of a list is the number of its
@@ -26,8 +26,8 @@ place_of places name =
 pub record IsIndex (h : List Op) (places : List (List ℕ)) : Type 0 where
   pub history : IsHistory h
   pub numbered : (op : Op) → Contains h op → op.name.1 ≤ count_at_site h op.name.0
-  pub found : (name : Name) → place_of places name ≡ position (λ op. same_name op.name name) h
-  pub count : (site : ℕ) → length (places_of places site) ≡ count_at_site h site
+  pub found : (name : Name) → place_of_name places name ≡ position (λ op. same_name op.name name) h
+  pub count : (site : ℕ) → length (places_of_site places site) ≡ count_at_site h site
   pub small : (site : ℕ) → count_at_site h site ≤ MAX_SEQ
 
 -- the element at a number that counts from 1, if there is one

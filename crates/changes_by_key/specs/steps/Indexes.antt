@@ -7,7 +7,7 @@ use Rattle.base_types.specs.Texts.{Bytes}
 use Rattle.rules.specs.declared.history.Op.{Op}
 use Rattle.rules.specs.declared.history.Body.{Body}
 use Rattle.rules.specs.AttrLists.{Attr}
-use Rattle.rules.specs.Bodies.{is_drop_body, keys_in}
+use Rattle.rules.specs.Bodies.{is_drop_body, keys_of_body}
 use Rattle.places.specs.steps.PlaceSet.{has, with_place, places}
 use Rattle.places.specs.steps.Changes.{at}
 
@@ -26,11 +26,11 @@ abbrev pub key_at : List OfKey → ℕ → OfKey
 key_at keys i = slice_index_or keys i (record { key = []; places = [] })
 
 -- does the change give the key a value?
-abbrev pub gives : Bytes → Body → Bool
-gives key body = list_any (bytes_eq key) (keys_in body)
+abbrev pub body_gives : Bytes → Body → Bool
+body_gives key body = list_any (bytes_eq key) (keys_of_body body)
 
 abbrev pub of_key : List Op → Bytes → ℕ → Bool
-of_key k key place = gives key (at k place).body
+of_key k key place = body_gives key (at k place).body
 
 -- is the change at a place a drop?
 abbrev pub is_drop_at : List Op → ℕ → Bool
@@ -69,7 +69,7 @@ pub record IsUnder (keys : List OfKey) (key : Bytes) (place : ℕ) : Type 0 wher
   pub of_it : (key_at keys entry).key ≡ key
   pub placed : has (key_at keys entry).places place ≡ true
 
--- Under each key stand all of the first changes that give it. Whatever stands there gives it: where
+-- Under each key stand all of the first changes that give it. Whatever stands there body_gives it: where
 -- memory was refused, the next change stands under some of its keys. Each key stands once, with
 -- some place.
 pub record AreByKey (k : List Op) (index : KeyIndex) : Type 0 where

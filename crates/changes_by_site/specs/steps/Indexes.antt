@@ -29,20 +29,20 @@ pub record SiteIndex : Type 0 where
   pub len : ℕ
   pub sites : List OfSite
 
-abbrev pub site_at : List OfSite → ℕ → OfSite
-site_at sites i = slice_index_or sites i (record { site = 0; changes = []; places = [] })
+abbrev pub changes_of_site_at : List OfSite → ℕ → OfSite
+changes_of_site_at sites i = slice_index_or sites i (record { site = 0; changes = []; places = [] })
 
 -- is the change at a place of the site?
 abbrev pub of_site : List Op → ℕ → ℕ → Bool
 of_site k site place = (at k place).name.0 == site
 
 -- the number of the change at a place, with the place
-abbrev pub numbered : List Op → ℕ → ℕ × ℕ
-numbered k place = ((at k place).name.1, place)
+abbrev pub numbered_place : List Op → ℕ → ℕ × ℕ
+numbered_place k place = ((at k place).name.1, place)
 
 -- with one change more
-abbrev pub with_change : ℕ → ℕ → OfSite → OfSite
-with_change number place of =
+abbrev pub with_change_of_site : ℕ → ℕ → OfSite → OfSite
+with_change_of_site number place of =
     record {
       site = of.site;
       changes = of.changes ++ (number, place) ∷ [];
@@ -54,7 +54,7 @@ abbrev pub with_change_at : ℕ → ℕ → SiteIndex → SiteIndex
 with_change_at i number index =
     record {
       len = index.len + 1;
-      sites = set index.sites i (with_change number index.len (site_at index.sites i));
+      sites = set index.sites i (with_change_of_site number index.len (changes_of_site_at index.sites i));
     }
 
 -- with the next change, the first of its site
@@ -69,9 +69,9 @@ with_new_site name index = record {
 pub record AreBySite (k : List Op) (index : SiteIndex) : Type 0 where
   pub within : index.len ≤ length k
   pub entries : IsIndex (of_site k) index.len (length index.sites)
-      (λ i. (site_at index.sites i).site) (λ i. (site_at index.sites i).places)
+      (λ i. (changes_of_site_at index.sites i).site) (λ i. (changes_of_site_at index.sites i).places)
   pub numbers : (i : ℕ) → i < length index.sites
-      → (site_at index.sites i).changes ≡ map (numbered k) (site_at index.sites i).places
+      → (changes_of_site_at index.sites i).changes ≡ map (numbered_place k) (changes_of_site_at index.sites i).places
 
 -- changes of one site stand in order of their numbers
 abbrev pub AreInOrder : List Op → Type 0

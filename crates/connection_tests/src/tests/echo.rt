@@ -35,7 +35,7 @@ pub(super) type Turns = usize;
 impl Talk for Echo {
     type Session = Turns;
 
-    type Told = u8;
+    type Reported = u8;
 
     type Receipt = u8;
 
@@ -60,7 +60,7 @@ impl Talk for Echo {
         bytes: &[u8],
         may_hold: bool,
     ) -> Result<Option<Answer<u8>>, End> {
-        let told = match bytes {
+        let reported = match bytes {
             [b'f', ..] => return Err(End::Stray),
             [b'w', ..] if may_hold => return Ok(None),
             [b'k', letter] => Some(*letter),
@@ -73,19 +73,19 @@ impl Talk for Echo {
             return Err(End::NoMemory);
         };
         *session = session.saturating_add(1);
-        Ok(Some(Answer { text, told }))
+        Ok(Some(Answer { text, reported }))
     }
 
     fn is_blocked(&self, _session: &Turns) -> bool {
         self.is_strict
     }
 
-    fn receipt(&self, told: &u8) -> Result<Option<u8>, End> {
-        if *told == b'!' {
+    fn receipt(&self, reported: &u8) -> Result<Option<u8>, End> {
+        if *reported == b'!' {
             return Err(End::NotKept);
         }
-        if *told <= self.kept {
-            return Ok(Some(*told));
+        if *reported <= self.kept {
+            return Ok(Some(*reported));
         }
         Ok(None)
     }

@@ -2,13 +2,13 @@
 use Rattle.std.specs.Prelude.{ℕ, ◌-◌, List, map, slice_index}
 use Rattle.base_types.specs.Names.{Name}
 use Rattle.base_types.specs.Texts.{Bytes}
-use Rattle.rules.specs.Bodies.{kind_in}
+use Rattle.rules.specs.Bodies.{kind_of_body}
 use Rattle.shape.specs.steps.Objects.{Stored}
 use Rattle.drawing.specs.Room.{Room}
 
 -- the names and kinds of objects
 abbrev pub kinds_of : List (Name × Stored) → List (Name × Bytes)
-kinds_of shapes = map (λ shape. (shape.0, kind_in shape.1.object.creation.body)) shapes
+kinds_of shapes = map (λ shape. (shape.0, kind_of_body shape.1.object.creation.body)) shapes
 
 -- for how many more entries, operations of each site, objects, and changes on each object there is
 -- memory; no part of the room

@@ -10,7 +10,7 @@ ghost use Rattle.base_types.specs.Vectors.{counts};
 ghost use Rattle.shape.specs.steps.Planned.{IsPlanned};
 ghost use Rattle.drawing.specs.steps.Additions.{HasShape, IsNext, IsPlanFor, IsReady, body_refusal};
 ghost use Rattle.drawing.specs.Shown.{ids_with};
-ghost use Rattle.drawing.specs.steps.Faults.{IsRefusal};
+ghost use Rattle.drawing.specs.steps.Faults.{IsAddRefusal};
 ghost use Rattle.drawing.specs.steps.State.{spare_of};
 
 use super::Drawing;
@@ -80,7 +80,7 @@ impl Drawing {
         requires { IsNext self.old.room op }
         ensures planned { IfOk result (IsPlanFor self.old.room op self.new) }
         ensures allowed { OnOk result (body_refusal self.old.room op ≡ None) }
-        ensures refusal { IfErr result (IsRefusal (body_refusal self.old.room op)) }
+        ensures refusal { IfErr result (IsAddRefusal (body_refusal self.old.room op)) }
         ensures room { self.new.room ≡ self.old.room }
     {
         if op.body.is_change() {
@@ -96,7 +96,7 @@ impl Drawing {
         requires creation { is_change_body op.body ≡ false }
         ensures planned { IfOk result (IsPlanFor self.old.room op self.new) }
         ensures allowed { OnOk result (body_refusal self.old.room op ≡ None) }
-        ensures refusal { IfErr result (IsRefusal (body_refusal self.old.room op)) }
+        ensures refusal { IfErr result (IsAddRefusal (body_refusal self.old.room op)) }
         ensures room { self.new.room ≡ self.old.room }
     {
         if self.count_objects() >= self.limits.objects() {
@@ -130,7 +130,7 @@ impl Drawing {
         requires change { is_change_body op.body ≡ true }
         ensures planned { IfOk result (IsPlanFor self.old.room op self.new) }
         ensures allowed { OnOk result (body_refusal self.old.room op ≡ None) }
-        ensures refusal { IfErr result (IsRefusal (body_refusal self.old.room op)) }
+        ensures refusal { IfErr result (IsAddRefusal (body_refusal self.old.room op)) }
         ensures room { self.new.room ≡ self.old.room }
     {
         if !op.seen.has(op.object()) {
@@ -175,7 +175,7 @@ impl Drawing {
         ensures ids { IfOk result (λ p. p.1.ids ≡ ids_with self.old.room op) }
         // Whether there is one.
         ensures allowed { OnOk result (body_refusal self.old.room op ≡ None) }
-        ensures refusal { IfErr result (IsRefusal (body_refusal self.old.room op)) }
+        ensures refusal { IfErr result (IsAddRefusal (body_refusal self.old.room op)) }
         // The memory for the operation stays.
         ensures entries { self.new.reserve.entries ≡ self.old.reserve.entries }
         ensures operations { self.new.reserve.operations ≡ self.old.reserve.operations }

@@ -5,13 +5,13 @@ use Rattle.rules.specs.declared.history.Entry.{Entry}
 use Rattle.transcript.specs.declared.line.TranscriptLine.{TranscriptLine}
 use Rattle.history_check.specs.declared.findings.Fault.{Fault}
 use Rattle.history_check.specs.declared.findings.Fault.TheVariants.{NotJoined, WrongReply}
-use Rattle.history_check.specs.Transcripts.{room_at, may_ask, IsAnswered}
+use Rattle.history_check.specs.Transcripts.{room_at_line, may_ask, IsAnswered}
 
 -- the fault of a line, whatever the other lines are
 abbrev pub IsFinding : List Entry → TranscriptLine → Option Fault → Type 0
 IsFinding r line None = IsAnswered r line
-IsFinding r line (Some NotJoined) = may_ask (room_at r line) line ≡ false
-IsFinding r line (Some WrongReply) = (may_ask (room_at r line) line ≡ true) × ¬ IsAnswered r line
+IsFinding r line (Some NotJoined) = may_ask (room_at_line r line) line ≡ false
+IsFinding r line (Some WrongReply) = (may_ask (room_at_line r line) line ≡ true) × ¬ IsAnswered r line
 
 -- the first of these lines with a fault, by its place, and the fault
 abbrev pub IsFirstFault : List Entry → List TranscriptLine → Option (ℕ × Fault) → Type 0

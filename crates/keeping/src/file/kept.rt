@@ -46,11 +46,11 @@ impl<P: RoomHistories> Kept<P> {
     }
 
     /// Returns whether the file keeps all of this prefix of the room's record.
-    pub fn covers(&self, told: &Prefix<P>) -> bool
-        ensures yes { result ≡ true → IsKeptIn self.now told.now }
-        ensures no { result ≡ false → ¬ (told.now.opening ≡ self.now.opening)
-            ⊎ (length self.now.entries < length told.now.entries) }
+    pub fn covers(&self, reported: &Prefix<P>) -> bool
+        ensures yes { result ≡ true → IsKeptIn self.now reported.now }
+        ensures no { result ≡ false → ¬ (reported.now.opening ≡ self.now.opening)
+            ⊎ (length self.now.entries < length reported.now.entries) }
     {
-        told.begins(&self.prefix)
+        reported.begins(&self.prefix)
     }
 }

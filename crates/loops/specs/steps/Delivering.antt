@@ -4,8 +4,8 @@ use Rattle.std.specs.List.{flat_map}
 use Rattle.connection.specs.Standing.{QueuedFrame, Standing}
 
 -- a receipt shows that what the frame reports is kept, if it reports something
-abbrev pub IsShown : {D R : Type 0} → (R → D → Type 0) → QueuedFrame D → Type 0
-IsShown {R = R} shows item = IfSome item.told (λ told. (receipt : R) × shows receipt told)
+abbrev pub HasReceipt : {D R : Type 0} → (R → D → Type 0) → QueuedFrame D → Type 0
+HasReceipt {R = R} shows item = IfSome item.reported (λ reported. (receipt : R) × shows receipt reported)
 
 module _ {S D R : Type 0} (shows : R → D → Type 0) where
   -- The first frames that waited were moved to the output in their order, and what each of them
@@ -14,7 +14,7 @@ module _ {S D R : Type 0} (shows : R → D → Type 0) where
     pub moved : List (QueuedFrame D)
     pub taken : before ≡ record after { waiting = moved ++ after.waiting }
     pub sent : output' ≡ output ++ flat_map (λ item. item.bytes) moved
-    pub shown : All (IsShown shows) moved
+    pub shown : All (HasReceipt shows) moved
 
   -- The same, and some bytes may stand behind those frames.
   abbrev pub DeliversAndMay : List ℕ → Standing S D → Standing S D → List ℕ → List ℕ → Type 0

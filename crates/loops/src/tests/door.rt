@@ -69,7 +69,7 @@ impl Door {
 impl Talk for Door {
     type Session = ();
 
-    type Told = ();
+    type Reported = ();
 
     type Receipt = ();
 
@@ -95,7 +95,10 @@ impl Talk for Door {
         _may_hold: bool,
     ) -> Result<Option<Answer<()>>, End> {
         match String::from_str(self.alloc, "yes") {
-            Ok(text) => Ok(Some(Answer { text, told: None })),
+            Ok(text) => Ok(Some(Answer {
+                text,
+                reported: None,
+            })),
             Err(_) => Err(End::NoMemory),
         }
     }
@@ -104,7 +107,7 @@ impl Talk for Door {
         false
     }
 
-    fn receipt(&self, _told: &()) -> Result<Option<()>, End> {
+    fn receipt(&self, _reported: &()) -> Result<Option<()>, End> {
         Ok(Some(()))
     }
 }

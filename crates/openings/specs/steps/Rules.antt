@@ -4,12 +4,12 @@ use Rattle.logbook.specs.Pages.{Cell, Step, View, Book, Named}
 use Rattle.openings.specs.Openings.{Opened}
 
 -- the first word is the number of openings; the second word of the book stays 0
-abbrev pub IsCounted : List Cell → List Opened → Type 0
-IsCounted cells log = cells ≡ (length log, true) ∷ (0, true) ∷ []
+abbrev pub CountsOpenings : List Cell → List Opened → Type 0
+CountsOpenings cells log = cells ≡ (length log, true) ∷ (0, true) ∷ []
 
 -- the word that counts the openings
-abbrev pub counter_of : Book → Named
-counter_of book = record { tracked = true; key = 0; book = book }
+abbrev pub opening_counter_of : Book → Named
+opening_counter_of book = record { tracked = true; key = 0; book = book }
 
 -- if the count was the expected one, the room was entered behind all that had been seen
 abbrev pub Enters : Step Opened → View Opened ℕ → ℕ → View Opened ℕ → Type 0

@@ -10,11 +10,11 @@ use Rattle.restore.specs.declared.record.Reading.TheVariants as reading
 use Rattle.restore.specs.Records.{AreRecord, IsBadRecord}
 
 -- The room adds the line's entry, which may come next. Or the line is no entry that may come next.
-abbrev pub Takes : Room → Room → List ℕ → Bool → Type 0
-Takes old new line true =
+abbrev pub TakesLine : Room → Room → List ℕ → Bool → Type 0
+TakesLine old new line true =
     (entry : Entry) × (entry_read line ≡ Some entry)
     × (admits old.limits old.entries entry ≡ true) × (new ≡ with_entry old (Some entry))
-Takes old new line false =
+TakesLine old new line false =
     (entry : Entry) → entry_read line ≡ Some entry → admits old.limits old.entries entry ≡ false
 
 -- the result of reading all lines

@@ -48,12 +48,12 @@ abbrev pub IsAdmitted : Room → Entry → Type 0
 IsAdmitted room entry = admits room.limits room.entries entry ≡ true
 
 -- what is planned can be added in this state, and takes no memory
-abbrev pub IsReady : DrawingState → Option Added → Type 0
-IsReady s None = Unit {0}
-IsReady s (Some added) = CanBeAdded s added × IsAdmitted s.room added.entry
+abbrev pub IsPlanReady : DrawingState → Option Added → Type 0
+IsPlanReady s None = Unit {0}
+IsPlanReady s (Some added) = CanBeAdded s added × IsAdmitted s.room added.entry
 
 -- the answer is planned and can be given, or there is no memory for it; the room stays as it is
 abbrev pub Plans : {E : Type 0} → DrawingState → DrawingState → Outcome → Result Plan E → Type 0
 Plans old new answer result =
-    IfOk result (λ plan. (outcome plan ≡ answer) × IsReady new plan.addition)
+    IfOk result (λ plan. (outcome plan ≡ answer) × IsPlanReady new plan.addition)
     × (new.room ≡ old.room)

@@ -5,7 +5,7 @@ ghost use Rattle.rules.specs.declared.history.Entry.TheVariants.{Join, Next, Ope
 ghost use Rattle.rules.specs.Records.{is_placed, admits};
 ghost use Rattle.room_core.specs.Room.{with_entry};
 ghost use Rattle.room_core.specs.Answers.{admitted};
-ghost use Rattle.room_core.specs.steps.Plans.{entry_added, refusal_in, IsReady};
+ghost use Rattle.room_core.specs.steps.Plans.{entry_added, refusal_in, IsPlanReady};
 
 use super::RoomState;
 use crate::planned::Planned;
@@ -78,7 +78,7 @@ impl RoomState {
 
     /// Carries out what was planned for the room as it is now. Tells whether an entry was added.
     fn carry_out(&mut self, planned: Planned) -> bool
-        requires { IsReady self.old planned.addition }
+        requires { IsPlanReady self.old planned.addition }
         ensures added { result ≡ is_some (entry_added planned.addition) }
         ensures room { self.new.room ≡ with_entry self.old.room (entry_added planned.addition) }
     {

@@ -10,7 +10,7 @@ ghost use Rattle.wire.specs.declared.reply.Reply.TheVariants.{No};
 ghost use Rattle.drawing.specs.steps.Additions.{ids_of, IsReady as CanBeAdded};
 ghost use Rattle.drawing.specs.steps.State.{DrawingState};
 ghost use Rattle.room_core.specs.Answers.{join_answer, operation_answer, operation_by, entry_answer, list_reply, pull_reply, has_site};
-ghost use Rattle.room_core.specs.steps.Plans.{entry_added, outcome, order_refusal, refusal_in, reply_by, IsAdmitted, IsReady, Plans};
+ghost use Rattle.room_core.specs.steps.Plans.{entry_added, outcome, order_refusal, refusal_in, reply_by, IsAdmitted, IsPlanReady, Plans};
 
 use super::RoomState;
 use crate::planned::Planned;
@@ -131,7 +131,7 @@ impl RoomState {
             ≡ reply_by (length self.now.room.entries) name (ids_of addition.part) }
         ensures entry { entry_added result.addition ≡ Some addition.entry }
         ensures ready { (s : DrawingState) → CanBeAdded s addition
-            → IsAdmitted s.room addition.entry → IsReady s result.addition }
+            → IsAdmitted s.room addition.entry → IsPlanReady s result.addition }
     {
         let at = self.drawing.len();
         let reply = match addition.take_ids(alloc) {

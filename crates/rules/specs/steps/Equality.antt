@@ -10,7 +10,7 @@ use Rattle.base_types.specs.Values.{same_value, same_value-Decides}
 use Rattle.base_types.specs.Vectors.{Vector, same_pairs}
 use Rattle.rules.specs.AttrLists.{Attr, same_attrs}
 use Rattle.rules.specs.steps.Shared.{held}
-use Rattle.rules.specs.Bodies.{object_in, version_in, pairs_in, kind_in, initial_in}
+use Rattle.rules.specs.Bodies.{object_of_body, version_of_body, pairs_of_body, kind_of_body, initial_in}
 use Rattle.rules.specs.declared.history.Body.{Body}
 use Rattle.rules.specs.declared.history.Body.TheVariants.{New, Put, DropVersion}
 use Rattle.rules.specs.declared.history.Op.{Op}
@@ -64,7 +64,7 @@ pub same_body-Decides : (a b : Body) → Decides (same_body a b) (a ≡ b)
 same_body-Decides (New kind attrs) (New other_kind other_attrs) =
     both_decide _ _ (bytes_eq-Decides kind other_kind) (same_attrs-Decides attrs other_attrs)
     (λ k a. ap (λ x. New x attrs) k ∙ ap (λ y. New other_kind y) a)
-    (λ e. (ap kind_in e, ap initial_in e))
+    (λ e. (ap kind_of_body e, ap initial_in e))
 same_body-Decides (Put object version pairs) (Put other_object other_version other_pairs) =
     both_decide _ _
     (both_decide _ _ (same_name-Decides object other_object)
@@ -73,12 +73,12 @@ same_body-Decides (Put object version pairs) (Put other_object other_version oth
     (λ p a.
     ap (λ x. Put x version pairs) p.0 ∙ ap (λ x. Put other_object x pairs) p.1 ∙ ap
     (λ x. Put other_object other_version x) a)
-    (λ e. ((ap (object_in (0, 0)) e, ap version_in e), ap pairs_in e))
+    (λ e. ((ap (object_of_body (0, 0)) e, ap version_of_body e), ap pairs_of_body e))
 same_body-Decides (DropVersion object version) (DropVersion other_object other_version) =
     both_decide _ _ (same_name-Decides object other_object)
     (same_names-Decides version other_version)
     (λ o w. ap (λ x. DropVersion x version) o ∙ ap (λ x. DropVersion other_object x) w)
-    (λ e. (ap (object_in (0, 0)) e, ap version_in e))
+    (λ e. (ap (object_of_body (0, 0)) e, ap version_of_body e))
 same_body-Decides (New kind attrs) (Put object version pairs) = (λ e. cc, λ e. cc)
 same_body-Decides (New kind attrs) (DropVersion object version) = (λ e. cc, λ e. cc)
 same_body-Decides (Put object version pairs) (New kind attrs) = (λ e. cc, λ e. cc)

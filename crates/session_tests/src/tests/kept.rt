@@ -3,7 +3,8 @@
 use super::CLOSED;
 use super::faults::Calls;
 use super::served::{
-    ANSWERED, ASKED, ENTRIES, Streams, Told, answer_bytes, asked_parts, records_of, serve, stream,
+    ANSWERED, ASKED, ENTRIES, Reported, Streams, answer_bytes, asked_parts, records_of, serve,
+    stream,
 };
 use keeper::KeepFault;
 use log::Log;
@@ -105,20 +106,20 @@ fn serve_talks<R: Threads + Wait + Clock + Net + Log + Sync + Abort + AllocGloba
         all.push(stream(&talk.parts, &talk.expected, usize::MAX, &talk.calls))
             .expect(rt, "memory");
     }
-    let told = Told::new(Some((number as u64, fault)));
+    let reported = Reported::new(Some((number as u64, fault)));
     let mut records = Vec::new(rt.alloc());
     let streams = Streams {
         all,
         has_loop: true,
     };
-    assert!(rt; serve(rt, streams, &told, &mut records).is_ok());
+    assert!(rt; serve(rt, streams, &reported, &mut records).is_ok());
     for talk in talks {
         assert_eq!(rt; talk.calls.taken(), Some(talk.expected.len()), "{number}");
     }
     let expected = records_of(rt, number.min(ENTRIES), RECORD_ELSEWHERE);
     assert_eq!(rt; records.as_slice(), expected.as_bytes());
-    assert_eq!(rt; told.asked(), (number as u64).saturating_add(6));
-    told.cause()
+    assert_eq!(rt; reported.asked(), (number as u64).saturating_add(6));
+    reported.cause()
 }
 
 /// What one asks where no new site is let into the second room, and what it is answered.
@@ -145,7 +146,7 @@ fn no_new_site_is_let_in_without_a_permit(rt: HostRuntime) {
         has_loop: true,
     };
     let mut records = Vec::new(rt.alloc());
-    assert!(rt; serve(&rt, streams, &Told::denying(1), &mut records).is_ok());
+    assert!(rt; serve(&rt, streams, &Reported::denying(1), &mut records).is_ok());
     assert_eq!(rt; talk.calls.taken(), Some(talk.expected.len()));
     let expected = "room r 1\n[\"join\",1]\nroom s 0\n";
     assert_eq!(rt; records.as_slice(), expected.as_bytes());

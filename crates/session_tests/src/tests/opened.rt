@@ -42,7 +42,7 @@ struct Slow {
     asked: AtomicU64,
     opened: AtomicU64,
     /// How often the observer heard of the reason, and of others.
-    told: AtomicU64,
+    reported: AtomicU64,
     told_others: AtomicU64,
     entries: AtomicU64,
     closed: AtomicU64,
@@ -53,7 +53,7 @@ struct Slow {
 struct Heard {
     asked: u64,
     opened: u64,
-    told: u64,
+    reported: u64,
 }
 
 impl Slow {
@@ -63,7 +63,7 @@ impl Slow {
             reason,
             asked: AtomicU64::new(0),
             opened: AtomicU64::new(0),
-            told: AtomicU64::new(0),
+            reported: AtomicU64::new(0),
             told_others: AtomicU64::new(0),
             entries: AtomicU64::new(0),
             closed: AtomicU64::new(0),
@@ -78,7 +78,7 @@ impl Slow {
         Some(Heard {
             asked: self.asked.load(Ordering::SeqCst),
             opened: self.opened.load(Ordering::SeqCst),
-            told: self.told.load(Ordering::SeqCst),
+            reported: self.reported.load(Ordering::SeqCst),
         })
     }
 
@@ -104,7 +104,7 @@ impl Observer for Slow {
 
     fn not_served(&self, reason: Reason) {
         if self.reason == Some(reason) {
-            self.told.fetch_add(1, Ordering::SeqCst);
+            self.reported.fetch_add(1, Ordering::SeqCst);
         } else {
             self.told_others.fetch_add(1, Ordering::SeqCst);
         }
@@ -122,15 +122,15 @@ impl<P: RoomHistories> Keeper<P> for Slow {
 
     type Permit = ();
 
-    ghost shows = { λ _ told. Unit {0} };
+    ghost shows = { λ _ reported. Unit {0} };
 
     ghost permits = { λ _ number. Unit {0} };
 
-    ghost fails = { λ _ told. ⊥ };
+    ghost fails = { λ _ reported. ⊥ };
 
     ghost denies = { λ number. ⊥ };
 
-    fn receipt(&self, _rt: &impl Wait, _told: &Prefix<P>) -> Result<Option<()>, KeepFault> {
+    fn receipt(&self, _rt: &impl Wait, _reported: &Prefix<P>) -> Result<Option<()>, KeepFault> {
         Ok(Some(()))
     }
 
@@ -369,7 +369,7 @@ fn two_sessions_wait_for_a_room(rt: HostRuntime) {
     let heard = Heard {
         asked: 3,
         opened: 1,
-        told: 0,
+        reported: 0,
     };
     assert_eq!(rt; heard_after(&rt, 3, None, &steps), Some(heard));
 }
@@ -383,7 +383,7 @@ fn a_room_is_given_up(rt: HostRuntime) {
             let heard = Heard {
                 asked: 4,
                 opened: 0,
-                told: 1,
+                reported: 1,
             };
             let heard_all = heard_after(&rt, 3, Some(reason), &steps);
             assert_eq!(rt; heard_all, Some(heard), "{reason} {words}");
@@ -401,7 +401,7 @@ fn who_waits_no_longer_is_counted_by_a_reason(rt: HostRuntime) {
         let heard = Heard {
             asked: 1,
             opened: 0,
-            told: 1,
+            reported: 1,
         };
         let heard_all = heard_after(&rt, 3, Some(Reason::Late), &[step]);
         assert_eq!(rt; heard_all, Some(heard), "{words}");
@@ -427,7 +427,7 @@ fn who_asks_for_an_earlier_room_is_sent_on(rt: HostRuntime) {
     let heard = Heard {
         asked: 3,
         opened: 0,
-        told: 3,
+        reported: 3,
     };
     let heard_all = heard_after(&rt, 9, Some(Reason::Late), &steps);
     assert_eq!(rt; heard_all, Some(heard));
@@ -473,7 +473,7 @@ fn a_client_is_let_in_once_its_room_is_open(rt: HostRuntime) {
     let heard = Heard {
         asked: 2,
         opened: 1,
-        told: 0,
+        reported: 0,
     };
     assert_eq!(rt; heard_of_clients(&rt, None, &entries), Some(heard));
 }
@@ -488,7 +488,7 @@ fn a_client_is_not_let_in_if_its_room_is_given_up(rt: HostRuntime) {
         let heard = Heard {
             asked: 2,
             opened: 0,
-            told: 1,
+            reported: 1,
         };
         let heard_all = heard_of_clients(&rt, Some(reason), &entries);
         assert_eq!(rt; heard_all, Some(heard), "{reason}");

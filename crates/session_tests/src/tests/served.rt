@@ -85,7 +85,7 @@ fn serve_in<P, R, S, W>(
     rt: &R,
     planned: NewRooms,
     streams: Streams<S>,
-    told: &Told,
+    reported: &Reported,
     output: &mut W,
 ) -> Result<(), ServeFault>
 where
@@ -100,7 +100,7 @@ where
     if !streams.has_loop {
         polls.clear();
     }
-    serve_streams_in(rt, &rooms, &bell, streams.all, told);
+    serve_streams_in(rt, &rooms, &bell, streams.all, reported);
     let served = Served {
         rt,
         alloc: rt.alloc(),
@@ -110,15 +110,21 @@ where
             clients: 1,
             idle: None,
         },
-        observer: told,
-        keeper: told,
+        observer: reported,
+        keeper: reported,
         is_confining: false,
     };
     serve_streams(served, rooms, Vec::new(rt.alloc()).into_iter(), output)
 }
 
 /// Serves the streams one after the other, numbered from 1.
-fn serve_streams_in<P, R, S>(rt: &R, rooms: &Rooms<P>, bell: &Bell, streams: Vec<S>, told: &Told)
+fn serve_streams_in<P, R, S>(
+    rt: &R,
+    rooms: &Rooms<P>,
+    bell: &Bell,
+    streams: Vec<S>,
+    reported: &Reported,
+)
 where
     P: RoomHistories,
     R: Wait + Abort + AllocGlobal,
@@ -129,8 +135,8 @@ where
         rt,
         alloc: rt.alloc(),
         rooms,
-        observer: told,
-        keeper: told,
+        observer: reported,
+        keeper: reported,
         bell,
         chime: &chime,
         is_confining: false,
@@ -156,7 +162,7 @@ pub(super) struct Streams<S> {
 pub(super) fn serve<R, S, W>(
     rt: &R,
     streams: Streams<S>,
-    told: &Told,
+    reported: &Reported,
     output: &mut W,
 ) -> Result<(), ServeFault>
 where
@@ -164,13 +170,13 @@ where
     S: Read + Write + Drop,
     W: Write,
 {
-    serve_in::<Brand, R, S, W>(rt, plan_rooms(rt, "r s"), streams, told, output)
+    serve_in::<Brand, R, S, W>(rt, plan_rooms(rt, "r s"), streams, reported, output)
 }
 
 /// An observer that counts the entries that rooms have added, and notes why the first session ended;
 /// and a keeper that counts the replies that it is asked for.
 #[derive(Drop)]
-pub(super) struct Told {
+pub(super) struct Reported {
     entries: AtomicU64,
     /// The number of the first session's cause in `CAUSES`.
     cause: AtomicU64,
@@ -181,9 +187,9 @@ pub(super) struct Told {
     denied: Option<u64>,
 }
 
-impl Told {
-    pub(super) fn new(fails: Option<(u64, KeepFault)>) -> Told {
-        Told {
+impl Reported {
+    pub(super) fn new(fails: Option<(u64, KeepFault)>) -> Reported {
+        Reported {
             entries: AtomicU64::new(0),
             cause: AtomicU64::new(u64::MAX),
             asked: AtomicU64::new(0),
@@ -193,10 +199,10 @@ impl Told {
     }
 
     /// One that has no permit for the room of the opening of this number.
-    pub(super) fn denying(number: u64) -> Told {
-        Told {
+    pub(super) fn denying(number: u64) -> Reported {
+        Reported {
             denied: Some(number),
-            ..Told::new(None)
+            ..Reported::new(None)
         }
     }
 
@@ -217,7 +223,7 @@ impl Told {
     }
 }
 
-impl Observer for Told {
+impl Observer for Reported {
     fn after_entry(&self, _room: &RoomName, _place: usize, _kind: EntryKind) {
         self.entries.fetch_add(1, Ordering::SeqCst);
     }
@@ -231,20 +237,20 @@ impl Observer for Told {
     }
 }
 
-impl<P: RoomHistories> Keeper<P> for Told {
+impl<P: RoomHistories> Keeper<P> for Reported {
     type Receipt = ();
 
     type Permit = ();
 
-    ghost shows = { λ _ told. Unit {0} };
+    ghost shows = { λ _ reported. Unit {0} };
 
     ghost permits = { λ _ number. Unit {0} };
 
-    ghost fails = { λ _ told. Unit {0} };
+    ghost fails = { λ _ reported. Unit {0} };
 
     ghost denies = { λ number. Unit {0} };
 
-    fn receipt(&self, _rt: &impl Wait, _told: &Prefix<P>) -> Result<Option<()>, KeepFault> {
+    fn receipt(&self, _rt: &impl Wait, _reported: &Prefix<P>) -> Result<Option<()>, KeepFault> {
         let asked = self.asked.fetch_add(1, Ordering::SeqCst).wrapping_add(1);
         match self.fails {
             Some((number, fault)) if number == asked => Err(fault),
@@ -363,31 +369,31 @@ fn serve_alone<R: Threads + Wait + Clock + Net + Log + Sync + Abort + AllocGloba
     let mut all = Vec::new(rt.alloc());
     all.push(stream(parts, &expected, most, calls))
         .expect(rt, "memory");
-    let told = Told::new(None);
+    let reported = Reported::new(None);
     let mut records = Vec::new(rt.alloc());
     let streams = Streams {
         all,
         has_loop: true,
     };
-    assert!(rt; serve(rt, streams, &told, &mut records).is_ok());
+    assert!(rt; serve(rt, streams, &reported, &mut records).is_ok());
     Outcome {
-        entries: told.entries(),
+        entries: reported.entries(),
         records,
-        cause: told.cause(),
+        cause: reported.cause(),
     }
 }
 
 /// How many replies that come with an entry were sent whole, of so many bytes that were sent.
 fn entries_told(sent: usize) -> usize {
     let mut end = ACCEPTED.len();
-    let mut told: usize = 0;
+    let mut reported: usize = 0;
     for words in ANSWERED.lines().take(ENTRIES) {
         end = end.saturating_add(words.len()).saturating_add(2);
         if end <= sent {
-            told = told.saturating_add(1);
+            reported = reported.saturating_add(1);
         }
     }
-    told
+    reported
 }
 
 /// Returns whether this is why a session ends whose stream failed after it asked so much.
@@ -468,7 +474,12 @@ fn write_records<R: Threads + Wait + Clock + Net + Log + Sync + Abort + AllocGlo
         most,
         calls,
     };
-    serve(rt, Streams { all, has_loop }, &Told::new(None), &mut output)
+    serve(
+        rt,
+        Streams { all, has_loop },
+        &Reported::new(None),
+        &mut output,
+    )
 }
 
 #[test]

@@ -9,5 +9,5 @@ use Rattle.sessions.specs.Turns.{IsCallBy, IsRefused}
 
 abbrev pub IsCallIf : LimitValues → Option PassView → Option PassView → Request → Option PrefixView → Reply
     → Type 0
-IsCallIf limits (Some was) new request told reply = IsCallBy limits was new request told reply
-IsCallIf limits None new request told reply = IsRefused NotJoined None new told reply
+IsCallIf limits (Some was) new request reported reply = IsCallBy limits was new request reported reply
+IsCallIf limits None new request reported reply = IsRefused NotJoined None new reported reply

@@ -10,9 +10,9 @@ use Rattle.room_lock.specs.Passes.{PassView, PrefixView, prefix_of}
 module _ {P : Type 0} where
   -- the session's pass afterwards, the prefix of a record that is reported, and the reply
   abbrev pub IsAfter : Entrance P → Option PassView → Option PrefixView → Reply → Type 0
-  IsAfter (Entered pass it) new told reply =
-      (reply ≡ it) × (told ≡ Some (prefix_of pass.part)) × (new ≡ Some pass)
-  IsAfter (Refused prefix it) new told reply = (reply ≡ it) × (told ≡ Some prefix) × (new ≡ None)
-  IsAfter (InUse in_use it) new told reply =
-      (reply ≡ it) × (told ≡ Some in_use.prefix) × (new ≡ None)
-  IsAfter NoRoom new told reply = (reply ≡ No 0 NotServed) × (told ≡ None) × (new ≡ None)
+  IsAfter (Entered pass it) new reported reply =
+      (reply ≡ it) × (reported ≡ Some (prefix_of pass.part)) × (new ≡ Some pass)
+  IsAfter (Refused prefix it) new reported reply = (reply ≡ it) × (reported ≡ Some prefix) × (new ≡ None)
+  IsAfter (InUse in_use it) new reported reply =
+      (reply ≡ it) × (reported ≡ Some in_use.prefix) × (new ≡ None)
+  IsAfter NoRoom new reported reply = (reply ≡ No 0 NotServed) × (reported ≡ None) × (new ≡ None)

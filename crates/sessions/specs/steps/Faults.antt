@@ -21,5 +21,5 @@ IsMessageFault limits rooms permitted denied old new bytes end =
 
 -- the keeper failed so to keep this prefix of a record
 abbrev pub IsNotKept : (KeepFault → PrefixView → Type 0) → PrefixView → End → Type 0
-IsNotKept fails told end =
-    (fault : KeepFault) × (end ≡ end_of_keep_fault fault) × fails fault told
+IsNotKept fails reported end =
+    (fault : KeepFault) × (end ≡ end_of_keep_fault fault) × fails fault reported

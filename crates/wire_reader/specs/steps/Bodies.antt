@@ -23,14 +23,14 @@ unfoldable pub drop_at : List Data → Option Body
 drop_at ds = field_at name_in (field_at id_in end_at) ds >>= λ p. Some (DropVersion p.0 p.1.0)
 
 -- what a put of one pair does, in the old form
-unfoldable pub set_at : List Data → Option Body
-set_at ds =
+unfoldable pub one_pair_at : List Data → Option Body
+one_pair_at ds =
     field_at name_in (field_at id_in (field_at key_in (field_at value_in end_at))) ds
     >>= λ p. Some (Put p.0 p.1.0 ((p.1.1.0, p.1.1.1.0) ∷ []))
 
 abbrev pub body_words : Words Body
 body_words = (codes "new", new_at) ∷ (codes "put", put_at) ∷ (codes "drop", drop_at)
-    ∷ (codes "set", set_at) ∷ []
+    ∷ (codes "set", one_pair_at) ∷ []
 
 -- what the operation of a word does
 unfoldable pub body_at : WordReader Body

@@ -6,26 +6,26 @@ use Rattle.rules.specs.declared.limits.TheConstants.Limits.{MAX_ENTRIES}
 use Rattle.rules.specs.declared.history.Entry.{Entry}
 use Rattle.rules.specs.declared.history.Entry.TheVariants.{Operation, Join, Next}
 use Rattle.wire_reader.specs.steps.Reading.{◌>>=◌, end_at, field_at, whole_in, name_in, Words}
-use Rattle.wire_reader.specs.steps.Reading.{WordReader, message_in}
+use Rattle.wire_reader.specs.steps.Reading.{WordReader, worded_message_in}
 use Rattle.wire_reader.specs.steps.Bodies.{operation_at}
 
 -- what follows "join"
-unfoldable pub join_at : List Data → Option Entry
-join_at ds = field_at (whole_in 1 MAX_SITE) end_at ds >>= λ p. Some (Join p.0)
+unfoldable pub entry_join_at : List Data → Option Entry
+entry_join_at ds = field_at (whole_in 1 MAX_SITE) end_at ds >>= λ p. Some (Join p.0)
 
 -- what follows "next"
 unfoldable pub next_at : List Data → Option Entry
 next_at ds = field_at (whole_in 0 MAX_ENTRIES) end_at ds >>= λ p. Some (Next p.0)
 
 -- what follows the word of an operation
-unfoldable pub change_at : WordReader Entry
-change_at word ds =
+unfoldable pub entry_change_at : WordReader Entry
+entry_change_at word ds =
     operation_at name_in word ds
     >>= λ p. Some (Operation (record { name = p.0; seen = p.1.0; body = p.1.1 }))
 
 abbrev pub entry_words : Words Entry
-entry_words = (codes "join", join_at) ∷ (codes "next", next_at) ∷ []
+entry_words = (codes "join", entry_join_at) ∷ (codes "next", next_at) ∷ []
 
 -- the entry that a JSON value is a form of
 unfoldable pub entry_of : Data → Option Entry
-entry_of = message_in entry_words change_at
+entry_of = worded_message_in entry_words entry_change_at

@@ -12,9 +12,9 @@ use Rattle.wire_reader.specs.declared.fault.ReadFault.{ReadFault}
 use Rattle.wire_reader.specs.declared.fault.ReadFault.TheVariants.{Bad, NoMemory}
 
 -- of a room's name, a key, a kind or a value's text
-abbrev pub of_name : NameFault → ReadFault
-of_name name.NoMemory = NoMemory
-of_name _ = Bad
+abbrev pub of_bad_name : NameFault → ReadFault
+of_bad_name name.NoMemory = NoMemory
+of_bad_name _ = Bad
 
 -- of a version identifier
 abbrev pub of_list : ListFault → ReadFault

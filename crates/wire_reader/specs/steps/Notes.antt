@@ -9,7 +9,7 @@ use Rattle.wire.specs.Rising.{rise, site_before}
 use Rattle.wire.specs.declared.note.NoteRequest.{NoteRequest}
 use Rattle.wire.specs.declared.note.NoteRequest.TheVariants.{Set, Read}
 use Rattle.wire_reader.specs.steps.Reading.{◌>>=◌, passing, list_in, two_in, end_at, field_at}
-use Rattle.wire_reader.specs.steps.Reading.{whole_in, Words, no_others, message_in}
+use Rattle.wire_reader.specs.steps.Reading.{whole_in, Words, no_others, worded_message_in}
 
 -- the text of a note
 unfoldable pub note_text_in : Data → Option Bytes
@@ -36,4 +36,4 @@ note_words = (codes "note", set_at) ∷ (codes "notes", read_at) ∷ []
 
 -- the request about notes that a JSON value is a form of
 unfoldable pub note_request_of : Data → Option NoteRequest
-note_request_of = message_in note_words no_others
+note_request_of = worded_message_in note_words no_others

@@ -184,5 +184,5 @@ by_word (first ∷ words) others word rest =
     if bytes_eq word first.0 then first.1 rest else by_word words others word rest
 
 -- a list of a word and what follows it, by the word
-abbrev pub message_in : {X : Type 0} → Words X → WordReader X → Data → Option X
-message_in words others d = worded_in d >>= λ p. by_word words others p.0 p.1
+abbrev pub worded_message_in : {X : Type 0} → Words X → WordReader X → Data → Option X
+worded_message_in words others d = worded_in d >>= λ p. by_word words others p.0 p.1

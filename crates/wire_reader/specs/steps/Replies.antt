@@ -18,7 +18,7 @@ use Rattle.wire.specs.declared.reply.Reply.TheVariants.{Objects, Entries, Left, 
 use Rattle.wire.specs.Rising.{rise, attr_before, id_before, version_before}
 use Rattle.wire_reader.specs.steps.Reading.{◌>>=◌, passing, list_in, two_in, end_at, field_at}
 use Rattle.wire_reader.specs.steps.Reading.{whole_in, name_in, all_in, id_in, kind_in, attr_in, room_in}
-use Rattle.wire_reader.specs.steps.Reading.{Words, no_others, message_in}
+use Rattle.wire_reader.specs.steps.Reading.{Words, no_others, worded_message_in}
 use Rattle.wire_reader.specs.steps.Entries.{entry_of}
 use Rattle.wire_reader.specs.steps.Notes.{notes_in}
 
@@ -103,8 +103,8 @@ unfoldable pub left_at : List Data → Option Reply
 left_at ds = field_at at_in end_at ds >>= λ p. Some (Left p.0)
 
 -- what follows "notes"
-unfoldable pub notes_at : List Data → Option Reply
-notes_at ds = field_at at_in (field_at notes_in end_at) ds >>= λ p. Some (Notes p.0 p.1.0)
+unfoldable pub notes_reply_at : List Data → Option Reply
+notes_reply_at ds = field_at at_in (field_at notes_in end_at) ds >>= λ p. Some (Notes p.0 p.1.0)
 
 -- what follows "renewed"
 unfoldable pub renewed_at : List Data → Option Reply
@@ -131,9 +131,9 @@ reply_words =
     ∷ (codes "taken", taken_at)
     ∷ (codes "versions", versions_at) ∷ (codes "objects", objects_at)
     ∷ (codes "entries", entries_at)
-    ∷ (codes "left", left_at) ∷ (codes "notes", notes_at)
+    ∷ (codes "left", left_at) ∷ (codes "notes", notes_reply_at)
     ∷ (codes "renewed", renewed_at) ∷ (codes "no", no_at) ∷ []
 
 -- the reply that a JSON value is a form of
 unfoldable pub reply_of : Data → Option Reply
-reply_of = message_in reply_words no_others
+reply_of = worded_message_in reply_words no_others

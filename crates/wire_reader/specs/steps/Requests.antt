@@ -7,7 +7,7 @@ use Rattle.wire.specs.declared.request.Request.{Request}
 use Rattle.wire.specs.declared.request.Request.TheVariants.{Join, Back, Change, Show, Pull, Leave}
 use Rattle.wire.specs.declared.request.Request.TheVariants.{List as ListObjects}
 use Rattle.wire_reader.specs.steps.Reading.{◌>>=◌, end_at, field_at, whole_in, room_in, name_in}
-use Rattle.wire_reader.specs.steps.Reading.{Words, WordReader, message_in}
+use Rattle.wire_reader.specs.steps.Reading.{Words, WordReader, worded_message_in}
 use Rattle.wire_reader.specs.steps.Bodies.{operation_at}
 
 -- what follows "join"
@@ -47,4 +47,4 @@ request_words =
 
 -- the request that a JSON value is a form of
 unfoldable pub request_of : Data → Option Request
-request_of = message_in request_words change_at
+request_of = worded_message_in request_words change_at

@@ -30,9 +30,9 @@ Takes view (Ok x) read left = read ≡ Some (view x, left)
 Takes view (Err e) read left = Fails e read
 
 -- the tokens of a list, without its beginning
-abbrev pub opened : List Token → Option (List Token)
-opened (Token.begin_array ∷ ts) = Some ts
-opened _ = None
+abbrev pub list_opened : List Token → Option (List Token)
+list_opened (Token.begin_array ∷ ts) = Some ts
+list_opened _ = None
 
 -- a string
 abbrev pub string_of : Token → Option (List ℕ)
@@ -62,7 +62,7 @@ fronted front read = read >>= λ q. Some (front ++ q.0, q.1)
 
 -- the word that a list begins with, as it is read
 abbrev pub worded : ℕ → Parse (List ℕ)
-worded n ts = opened ts >>= next_in as_str n
+worded n ts = list_opened ts >>= next_in as_str n
 
 -- the value of an attribute at this token
 abbrev pub value_of : Token → Option Value

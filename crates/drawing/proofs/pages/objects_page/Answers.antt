@@ -2,14 +2,14 @@ use Rattle.std.proofs.Common.{◌≡◌, [], ◌∷◌, ◌++◌, take, drop, sy
 use Rattle.std.proofs.lemmas.List.{drop-map}
 use Rattle.base_types.specs.Names.{Name}
 use Rattle.base_types.specs.Texts.{Bytes}
-use Rattle.rules.specs.Bodies.{kind_in}
+use Rattle.rules.specs.Bodies.{kind_of_body}
 use Rattle.shape.specs.steps.Objects.{Stored}
 use Rattle.drawing.specs.steps.State.{kinds_of}
 use Rattle.room_record.proofs.Parts.{found_more, page_counted}
 use Rattle.drawing.proofs.pages.objects_page.Goals as goal
 
 abbrev kind_of : Name × Stored → Name × Bytes
-kind_of shape = (shape.0, kind_in shape.1.object.creation.body)
+kind_of shape = (shape.0, kind_of_body shape.1.object.creation.body)
 
 pub loop-place-preserved : goal.loop-place-preserved
 loop-place-preserved c =

@@ -3,7 +3,8 @@ use Rattle.std.specs.Arc.{arc_value}
 use Rattle.rules.specs.declared.history.Entry.{Entry}
 use Rattle.late_join.specs.Replica.{ReplicaState, with_entries, with_taken}
 use Rattle.room_watch.specs.steps.Lines.{added_line, added_lines}
-use Rattle.room_watch.proofs.Added.{added_more, map_more}
+use Rattle.base_types.proofs.Lists.{map_next}
+use Rattle.room_watch.proofs.Added.{added_more}
 use Rattle.room_watch.proofs.follow.lines_of_entries.Goals as goal
 
 pub loop-entry-preserved : goal.loop-entry-preserved
@@ -14,7 +15,7 @@ loop-entry-preserved c =
     let old = c.args.replica.now in
     let front = map arc_value (take k all) in
     let inv = c.loop-entry.invariant in
-    let next : map arc_value (take (k + 1) all) ≡ front ++ arc_value e ∷ [] = map_more arc_value all k e c.loop-entry-test.true c.entry-item.is in
+    let next : map arc_value (take (k + 1) all) ≡ front ++ arc_value e ∷ [] = map_next arc_value all k e c.loop-entry-test.true c.entry-item.is in
     let value : c.deref.result.now ≡ arc_value e = c.deref.ensures in
     record {
       taken =

@@ -7,6 +7,6 @@ use Rattle.sessions.proofs.Staying.{turn_allowed}
 use Rattle.sessions.proofs.laws.a_session_enters_only_the_chain_of_its_path.Goals as goal
 
 pub returns : goal.returns
-returns g c = λ limits rooms target old new pass bytes told reply scope before after is.
+returns g c = λ limits rooms target old new pass bytes reported reply scope before after is.
     room_of_target target pass.room
-    (subst (λ (s : Scope). allows s pass.room ≡ true) scope (turn_allowed limits rooms (IsPermitted g.K.Keeper.permits) g.K.Keeper.denies old new bytes pass told reply before after is))
+    (subst (λ (s : Scope). allows s pass.room ≡ true) scope (turn_allowed limits rooms (IsPermitted g.K.Keeper.permits) g.K.Keeper.denies old new bytes pass reported reply before after is))

@@ -1,4 +1,4 @@
-use Rattle.room_lock.specs.Told.{IsBack, IsRefusalOver}
+use Rattle.room_lock.specs.Reported.{IsBack, IsRefusalOver}
 use Rattle.sessions.specs.Turns.{IsBackRefusal, IsPermitted, IsPermittedJoin}
 use Rattle.sessions.proofs.Staying.{let_in}
 use Rattle.sessions.proofs.laws.a_session_enters_the_named_room.Goals as goal

@@ -3,7 +3,8 @@ use Rattle.std.specs.Arc.{arc_value}
 use Rattle.std.specs.Io.KnownBytes.{Appends}
 use Rattle.std.proofs.KnownBytes.{Appends-trans}
 use Rattle.sessions.specs.Records.{all_lines, record_lines}
-use Rattle.sessions.proofs.Printed.{all_lines_more, map_more, named}
+use Rattle.base_types.proofs.Lists.{map_next}
+use Rattle.sessions.proofs.Printed.{all_lines_more, named}
 use Rattle.sessions.proofs.record.write_records.Goals as goal
 
 pub loop-room-preserved : goal.loop-room-preserved
@@ -11,7 +12,7 @@ loop-room-preserved g c =
     let rooms = c.args.rooms.now in
     let k = c.loop-room.room-index in
     let one = c.room-item.result in
-    let more = map_more named rooms k one c.loop-room-test.true c.room-item.is in
+    let more = map_next named rooms k one c.loop-room-test.true c.room-item.is in
     let slice : record { name = one.room; entries = map arc_value c.as_slice.result.now } ≡ named one = (λ i. record { name = one.room; entries = map arc_value (c.as_slice.ensures.value i) }) in
     let lines : all_lines (map named (take k rooms)) ++ record_lines (record { name = one.room; entries = map arc_value c.as_slice.result.now }) ≡ all_lines (map named (take (k + 1) rooms)) =
     ap (λ room. all_lines (map named (take k rooms)) ++ record_lines room) slice ∙ sym (all_lines_more (map named (take k rooms)) (named one)) ∙ ap all_lines (sym more) in

@@ -2,7 +2,8 @@ use Rattle.std.proofs.Common.{◌≡◌, sym, ◌∙◌, ap, arith, true, List, 
 use Rattle.std.specs.List.{after_first}
 use Rattle.std.specs.Str.Parse.{digits_value}
 use Rattle.base_types.specs.RoomNames.{is_dot, is_successor_number}
-use Rattle.base_types.proofs.RoomNames.{first_number, later_number, later_digits, number-lt, none_of}
+use Rattle.base_types.proofs.Choices.{none_if}
+use Rattle.base_types.proofs.RoomNames.{first_number, later_number, later_digits, number-lt}
 use Rattle.base_types.proofs.room_name.RoomName.number.Goals as goal
 
 -- the digits are what stands behind the name's dot
@@ -14,7 +15,7 @@ returns-then-is_first-clause-value c = first_number _ (sym c.is_first.ensures �
 
 pub number_of-requires : goal.number_of-requires
 number_of-requires c =
-    ap is_successor_number (text_of c) ∙ later_digits _ (none_of _ c.text.ensures.range) (sym c.is_first.ensures ∙ c.if-is_first.false)
+    ap is_successor_number (text_of c) ∙ later_digits _ (none_if _ c.text.ensures.range) (sym c.is_first.ensures ∙ c.if-is_first.false)
 
 pub returns-clause-value : goal.returns-clause-value
 returns-clause-value c =

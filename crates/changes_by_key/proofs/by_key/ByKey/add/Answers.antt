@@ -1,6 +1,6 @@
 use Rattle.std.proofs.Common.{◌+◌, ◌∙◌, sym, ap, subst}
 use Rattle.rules.specs.declared.history.Op.{Op}
-use Rattle.rules.specs.Bodies.{is_drop_body, pairs_in}
+use Rattle.rules.specs.Bodies.{is_drop_body, pairs_of_body}
 use Rattle.changes_by_key.specs.steps.Indexes.{KeyIndex, AreByKey}
 use Rattle.places.proofs.Outcomes.{by_result}
 use Rattle.changes_by_key.proofs.Keyed.{by_key_drop, by_key_new}
@@ -8,7 +8,7 @@ use Rattle.changes_by_key.proofs.by_key.ByKey.add.Goals as goal
 
 pub add_put-requires-clause-pairs : goal.add_put-requires-clause-pairs
 add_put-requires-clause-pairs c =
-    c.pairs.ensures.pairs ∙ sym (ap pairs_in c.in-Put.is) ∙ ap (λ (op : Op). pairs_in op.body) c.next_op.ensures
+    c.pairs.ensures.pairs ∙ sym (ap pairs_of_body c.in-Put.is) ∙ ap (λ (op : Op). pairs_of_body op.body) c.next_op.ensures
 
 pub add_put-requires-clause-no_drop : goal.add_put-requires-clause-no_drop
 add_put-requires-clause-no_drop c =

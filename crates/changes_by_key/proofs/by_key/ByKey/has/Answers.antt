@@ -19,4 +19,4 @@ returns-then-is_some c =
 
 pub returns-else-is_some : goal.returns-else-is_some
 returns-else-is_some c =
-    key_by_last c.args.ops.now c.args.self.now c.requires.keys c.args.key.now (missed c.find.result _ _ c.find.ensures (sym c.is_some.ensures ∙ c.if-is_some.false)) c.is_key_of_last.result c.is_key_of_last.ensures
+    key_by_last c.args.ops.now c.args.self.now c.requires.keys c.args.key.now (missed c.find.result _ _ c.find.ensures (sym c.is_some.ensures ∙ c.if-is_some.false)) c.is_key_of_unindexed.result c.is_key_of_unindexed.ensures

@@ -17,4 +17,4 @@ returns-else-intersects c =
     let members = c.args.members.now in
     drop_by_last c.args.ops.now c.args.self.now c.requires.keys members
     (sym (ap (λ (s : KeyIndex). list_any (has members) s.drops) c.self.view_is) ∙ sym c.intersects.ensures ∙ c.if-intersects.false)
-    c.is_last_drop_at.result c.is_last_drop_at.ensures
+    c.is_unindexed_drop_at.result c.is_unindexed_drop_at.ensures

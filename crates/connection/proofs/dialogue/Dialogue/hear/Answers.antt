@@ -6,14 +6,14 @@ pub returns-in-Ok-Some-clause-ok : goal.returns-in-Ok-Some-clause-ok
 returns-in-Ok-Some-clause-ok g c =
     let talk = c.args.talk.now in
     let turn = rw c.in-Ok-Some.field-0-is at c.in-Ok-Some.ensures.answered in
-    heard (g.T.Talk.turn talk) (g.T.Talk.waits talk) (g.T.Talk.fails talk) c.send.result c.args.context.now _ c.args.message.now (string_bytes c.in-Ok-Some.answer.text) c.in-Ok-Some.answer.told _ _ _ _ _
+    heard (g.T.Talk.turn talk) (g.T.Talk.waits talk) (g.T.Talk.fails talk) c.send.result c.args.context.now _ c.args.message.now (string_bytes c.in-Ok-Some.answer.text) c.in-Ok-Some.answer.reported _ _ _ _ _
     c.in_ok-answer_held.ensures.ok c.self.view_is c.answer_held.ensures.context turn c.send.ensures.ok
 
 pub returns-in-Ok-Some-clause-err : goal.returns-in-Ok-Some-clause-err
 returns-in-Ok-Some-clause-err g c =
     let talk = c.args.talk.now in
     let turn = rw c.in-Ok-Some.field-0-is at c.in-Ok-Some.ensures.answered in
-    unsent (g.T.Talk.turn talk) (g.T.Talk.waits talk) (g.T.Talk.fails talk) c.send.result c.args.context.now _ c.args.message.now (string_bytes c.in-Ok-Some.answer.text) c.in-Ok-Some.answer.told _ _ _ _ _
+    unsent (g.T.Talk.turn talk) (g.T.Talk.waits talk) (g.T.Talk.fails talk) c.send.result c.args.context.now _ c.args.message.now (string_bytes c.in-Ok-Some.answer.text) c.in-Ok-Some.answer.reported _ _ _ _ _
     c.in_ok-answer_held.ensures.ok c.self.view_is c.answer_held.ensures.context turn c.send.ensures.err c.send.ensures.why
 
 pub returns-in-Ok-None-clause-ok : goal.returns-in-Ok-None-clause-ok

@@ -5,9 +5,9 @@ use Rattle.std.specs.Map.{lookup, keys_of}
 use Rattle.indexmap.specs.IndexMap.{set_value_at}
 use Rattle.base_types.specs.Names.{Name, same_name}
 use Rattle.rules.specs.Operations.{object_of}
-use Rattle.shape.specs.steps.Faults.{IsRefusal as IsChangeRefusal}
+use Rattle.shape.specs.steps.Faults.{IsChangeRefusal}
 use Rattle.drawing.specs.steps.Additions.{IsNext, body_refusal}
-use Rattle.drawing.specs.steps.Faults.{IsRefusal, of_change}
+use Rattle.drawing.specs.steps.Faults.{IsAddRefusal, of_change}
 use Rattle.drawing.specs.Room.{room_of}
 use Rattle.drawing.specs.Shown.{ids_with}
 use Rattle.drawing.specs.steps.State.{DrawingState}
@@ -51,8 +51,8 @@ returns-in_err-plan_change-clause-refusal c =
     let refusal = body_refusal room c.args.op in
     let is : IsChangeRefusal refusal fault = λ n.
     by_object room c.args.op c.requires.change i.objects.entries i.past.history c.self.invariant c.requires.counted c.in-Some-get_index_mut.shape.now there ∙ c.in_err-plan_change.ensures.refusal n in
-    subst (λ (s : DrawingState). IfErr c.from_residual.result (IsRefusal (body_refusal s.room c.args.op))) c.self.view_is
-    (if_err c.from_residual.result (λ e. e ≡ of_change fault) (IsRefusal refusal) (λ e given. subst (IsRefusal refusal) (sym given) (refused_alike refusal fault is)) c.from_residual.ensures.1)
+    subst (λ (s : DrawingState). IfErr c.from_residual.result (IsAddRefusal (body_refusal s.room c.args.op))) c.self.view_is
+    (if_err c.from_residual.result (λ e. e ≡ of_change fault) (IsAddRefusal refusal) (λ e given. subst (IsAddRefusal refusal) (sym given) (refused_alike refusal fault is)) c.from_residual.ensures.1)
 
 pub invariant_of-self-2 : goal.invariant_of-self-2
 invariant_of-self-2 c =

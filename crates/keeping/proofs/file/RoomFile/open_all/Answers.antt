@@ -1,7 +1,7 @@
 use Rattle.std.proofs.Common.{◌≡◌, ◌++◌, ◌∷◌, [], length, map, take, get_or, sym, ap, ◌∙◌, arith, append_assoc, length-append}
 use Rattle.std.proofs.lemmas.List.{map-append, take_more, take_all}
 use Rattle.room_lock.specs.Passes.{PrefixView}
-use Rattle.room_lock.specs.InOrder.{name_of}
+use Rattle.room_lock.specs.InOrder.{opening_name}
 use Rattle.keeping.proofs.Places.{next_file, length-files}
 use Rattle.keeping.proofs.file.RoomFile.open_all.Goals as goal
 
@@ -19,7 +19,7 @@ open-requires-clause-name g c =
     let next = next_file c.args.files.items c.loop-file.yielded c.next.new.self.rest.items c.in-Some.file c.args.begun.now c.requires.names c.requires.begun whole in
     let at : c.len-in-loop-file.result ≡ length c.loop-file.yielded = c.len-in-loop-file.ensures ∙ i.3 in
     let prefix = c.index-begun-len.is ∙ ap (λ n. get_or c.args.begun.now n c.index-begun-len.result) at in
-    ap (λ (p : PrefixView). name_of p.opening) prefix ∙ next.name c.index-begun-len.result
+    ap (λ (p : PrefixView). opening_name p.opening) prefix ∙ next.name c.index-begun-len.result
 
 pub open-requires-clause-begun : goal.open-requires-clause-begun
 open-requires-clause-begun g c =

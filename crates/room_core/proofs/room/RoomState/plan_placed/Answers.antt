@@ -4,18 +4,18 @@ use Rattle.rules.specs.Records.{is_placed}
 use Rattle.wire.specs.declared.reply.Reply.TheVariants.{No}
 use Rattle.drawing.specs.declared.fault.AddFault.TheVariants.{NoMemory, Refused}
 use Rattle.drawing.specs.steps.Additions.{IsNext, body_refusal}
-use Rattle.drawing.specs.steps.Faults.{refusal_of}
+use Rattle.drawing.specs.steps.Faults.{refusal_of_add_fault}
 use Rattle.drawing.specs.Room.{Room}
 use Rattle.drawing.specs.steps.State.{DrawingState}
 use Rattle.room_core.specs.Answers.{operation_answer}
-use Rattle.room_core.specs.steps.Plans.{entry_added, order_refusal, outcome, reply_by, IsAdmitted, IsReady}
+use Rattle.room_core.specs.steps.Plans.{entry_added, order_refusal, outcome, reply_by, IsAdmitted, IsPlanReady}
 use Rattle.room_core.proofs.Replay.{admitted, answered, may_be_next, refused_first, reply_is}
 use Rattle.room_core.proofs.room.RoomState.plan_placed.Goals as goal
 
 pub returns-in-Some : goal.returns-in-Some
 returns-in-Some c =
     let refused = sym (refused_first c.args.self.now.room c.args.op c.in-Some.refusal (sym c.in-Some.ensures)) in
-    (((λ i. (c.refuse.ensures.reply i, entry_added (c.refuse.ensures.addition i))) ∙ refused, subst (IsReady c.args.self.now) (sym c.refuse.ensures.addition) tt), refl)
+    (((λ i. (c.refuse.ensures.reply i, entry_added (c.refuse.ensures.addition i))) ∙ refused, subst (IsPlanReady c.args.self.now) (sym c.refuse.ensures.addition) tt), refl)
 
 pub plan-requires : goal.plan-requires
 plan-requires c =
@@ -32,7 +32,7 @@ returns-in-Ok c =
     let reply = c.answer_added.ensures.reply ∙ (λ i. reply_by (length (c.plan.ensures.room i).entries) o.name (plan.ids i)) ∙ reply_is r o in
     let entry = c.answer_added.ensures.entry ∙ ap Some plan.entry in
     let may = subst (IsAdmitted r) (sym plan.entry) (admitted r o placed ordered c.in-Ok.ensures.allowed) in
-    subst (λ (s : DrawingState). ((outcome c.answer_added.result ≡ operation_answer s.room o) × IsReady c.plan.new.self c.answer_added.result.addition) × (c.plan.new.self.room ≡ s.room)) c.self.view_is (
+    subst (λ (s : DrawingState). ((outcome c.answer_added.result ≡ operation_answer s.room o) × IsPlanReady c.plan.new.self c.answer_added.result.addition) × (c.plan.new.self.room ≡ s.room)) c.self.view_is (
       (
         (λ i. (reply i, entry i)) ∙ sym (answered r o placed ordered None c.in-Ok.ensures.allowed),
         c.answer_added.ensures.ready c.plan.new.self plan.ready (subst (λ (room : Room). IsAdmitted room c.in-Ok.addition.entry) (sym c.plan.ensures.room) may),
@@ -49,12 +49,12 @@ returns-in-Err-Refused c =
     let placed = ap (λ (s : DrawingState). is_placed s.room.entries (Operation o)) c.self.view_is ∙ c.requires in
     let ordered = ap (λ (s : DrawingState). order_refusal s.room o) c.self.view_is ∙ sym c.order_refusal.ensures ∙ c.in_default.is in
     let why : body_refusal r o ≡ Some refusal =
-    c.in-Err-Refused.ensures.refusal (λ n. let e : Refused refusal ≡ NoMemory = sym c.in-Err-Refused.field-0-is ∙ n in cc) ∙ ap refusal_of c.in-Err-Refused.field-0-is in
+    c.in-Err-Refused.ensures.refusal (λ n. let e : Refused refusal ≡ NoMemory = sym c.in-Err-Refused.field-0-is ∙ n in cc) ∙ ap refusal_of_add_fault c.in-Err-Refused.field-0-is in
     let reply = c.refuse-in-Err-Refused.ensures.reply ∙ (λ i. No (length (c.plan.ensures.room i).entries) (c.in-Err-Refused.refusal-is i)) in
-    subst (λ (s : DrawingState). ((outcome result ≡ operation_answer s.room o) × IsReady c.plan.new.self result.addition) × (c.plan.new.self.room ≡ s.room)) c.self.view_is (
+    subst (λ (s : DrawingState). ((outcome result ≡ operation_answer s.room o) × IsPlanReady c.plan.new.self result.addition) × (c.plan.new.self.room ≡ s.room)) c.self.view_is (
       (
         (λ i. (reply i, entry_added (c.refuse-in-Err-Refused.ensures.addition i))) ∙ sym (answered r o placed ordered (Some refusal) why),
-        subst (IsReady c.plan.new.self) (sym c.refuse-in-Err-Refused.ensures.addition) tt,
+        subst (IsPlanReady c.plan.new.self) (sym c.refuse-in-Err-Refused.ensures.addition) tt,
       ),
       c.plan.ensures.room,
     )

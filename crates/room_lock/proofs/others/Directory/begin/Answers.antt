@@ -2,7 +2,7 @@ use Rattle.std.proofs.Common.{◌≡◌, ◌++◌, ◌∷◌, [], ◌∙◌, ap,
 use Rattle.std.proofs.lemmas.List.Elements.{All-push}
 use Rattle.base_types.specs.Texts.{Bytes}
 use Rattle.openings.specs.Openings.{OpeningView}
-use Rattle.room_lock.specs.InOrder.{AreNamed, name_of}
+use Rattle.room_lock.specs.InOrder.{AreNamed, opening_name}
 use Rattle.room_lock.proofs.Begins.{on_err_so}
 use Rattle.room_lock.proofs.others.Directory.begin.Goals as goal
 
@@ -15,9 +15,9 @@ returns-in_err-insert_new-clause-err g c = on_err_so c.from_residual-in_err-inse
 pub invariant_of-self-2 : goal.invariant_of-self-2
 invariant_of-self-2 g c =
     let opening : c.copy-2.result ≡ c.in_ok-room.room.opening = c.copy-2.ensures ∙ c.opening.ensures in
-    let here : name_of c.copy-2.result ≡ c.in_ok-name.name = ap name_of opening ∙ c.in_ok-room.ensures.name ∙ sym c.in_ok-name.ensures in
+    let here : opening_name c.copy-2.result ≡ c.in_ok-name.name = ap opening_name opening ∙ c.in_ok-room.ensures.name ∙ sym c.in_ok-name.ensures in
     subst AreNamed (sym c.in_ok-insert_new.ensures.ok)
-    (All-push (λ (named : Bytes × OpeningView). name_of named.1 ≡ named.0) c.self.inside.openings.entries (c.in_ok-name.name, c.copy-2.result) c.self.invariant here)
+    (All-push (λ (named : Bytes × OpeningView). opening_name named.1 ≡ named.0) c.self.inside.openings.entries (c.in_ok-name.name, c.copy-2.result) c.self.invariant here)
 
 pub returns-clause-opened : goal.returns-clause-opened
 returns-clause-opened g c =

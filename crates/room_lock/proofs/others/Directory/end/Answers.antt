@@ -5,7 +5,7 @@ use Rattle.std.specs.Map.{lookup}
 use Rattle.std.specs.Prelude.{bytes_eq}
 use Rattle.std.proofs.lemmas.Map.Made.{lookup_key_same}
 use Rattle.std.proofs.lemmas.Slice.Eq.{bytes_eq-Decides}
-use Rattle.room_lock.specs.InOrder.{AreNamed, name_of}
+use Rattle.room_lock.specs.InOrder.{AreNamed, opening_name}
 use Rattle.room_lock.proofs.InOrder.{named_at, named_without}
 use Rattle.room_lock.proofs.others.Directory.end.Goals as goal
 
@@ -19,7 +19,7 @@ returns-clause-name g c = λ is.
     let key = lookup_key_same bytes_eq-Decides name openings c.in-Some._name.now (sym c.in-Some.ensures.key) in
     let named = named_at openings c.self.invariant c.in-Some._index c.in-Some._name.now c.in-Some.found.now c.in-Some.ensures.entry in
     let same : c.in-Some.found.now ≡ c.args.opening.now = c.is_same.ensures.0 c.if-not-is_same.false in
-    ap name_of (sym same) ∙ named ∙ sym key
+    ap opening_name (sym same) ∙ named ∙ sym key
 
 pub returns-in_default-clause-open : goal.returns-in_default-clause-open
 returns-in_default-clause-open g c = (

@@ -1,5 +1,5 @@
 use Rattle.std.proofs.Common.{◌++◌, ap, sym, ◌∙◌, subst}
-use Rattle.shared_history.specs.Beginnings.{Beginning}
+use Rattle.shared_history.specs.Fronts.{FrontView}
 use Rattle.openings.specs.Openings.{Opened, OpeningView}
 use Rattle.room_lock.specs.Passes.{PrefixView}
 use Rattle.room_lock.specs.Shelves.{Shelf, IsShelfOf, full_shelf}
@@ -17,7 +17,7 @@ invariant_of-result g c =
     let entered = ap (λ (o : OpeningView). o.room.history) c.in-Some.ensures.opening ∙ ap (λ (e : Opened). e.history) c.new-entered.ensures in
     let history = c.add_all.ensures.history ∙ c.open-history.ensures.history ∙ sym entered in
     let entries = c.add_all.ensures.entries ∙ (λ j. c.open-history.ensures.entries j ++ c.entries.ensures.entries j) in
-    let whole = c.of_front-whole.ensures ∙ (λ j. record { opening = opening; entries = ((ap (λ (f : Beginning). f.entries) c.front-2.ensures) ∙ entries) j }) in
+    let whole = c.of_front-whole.ensures ∙ (λ j. record { opening = opening; entries = ((ap (λ (f : FrontView). f.entries) c.front-2.ensures) ∙ entries) j }) in
     let shelf = c.in_ok-shelf.ensures ∙ ap (λ (w : PrefixView). full_shelf w.opening w.entries) whole in (
       record {
         written = (history, entries);

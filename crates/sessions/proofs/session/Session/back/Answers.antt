@@ -18,7 +18,7 @@ returns-clause-ok g c =
     let went = c.back-entrance.result in
     let outside : is_some c.self.inside.inside ≡ false = cc in
     let none : is_some c.args.self.now.pass ≡ false = sym (ap (λ (session : SessionView). is_some session.pass) c.self.view_is) ∙ outside in
-    back_answered g.P.RoomHistories.limits c.args.host.now.rooms.now (IsPermitted g.K.Keeper.permits) g.K.Keeper.denies c.args.self.now.scope c.args.name c.args.self.now.pass _ c.enter.result.told c.enter.result.reply none
+    back_answered g.P.RoomHistories.limits c.args.host.now.rooms.now (IsPermitted g.K.Keeper.permits) g.K.Keeper.denies c.args.self.now.scope c.args.name c.args.self.now.pass _ c.enter.result.reported c.enter.result.reply none
     c.args.site opening went at.0 at.1 (record {
       entered = c.back-entrance.ensures.entered;
       refused = if_refused_so _ _ went (λ prefix reply refused. (false, refused)) c.back-entrance.ensures.entrance_refused;
@@ -34,5 +34,5 @@ returns-in-Some-clause-ok g c =
     let found = subst (λ (o : Option Bytes). IfSome o (λ later. IsLater c.args.name later × (allows c.args.self.now.scope c.args.name ≡ true))) c.in-Some.is c.in_ok-later-in-NoRoom.ensures.later in
     let outside : is_some c.self.inside.inside ≡ false = cc in
     let none : is_some c.args.self.now.pass ≡ false = sym (ap (λ (session : SessionView). is_some session.pass) c.self.view_is) ∙ outside in
-    back_sent_on g.P.RoomHistories.limits c.args.host.now.rooms.now (IsPermitted g.K.Keeper.permits) g.K.Keeper.denies c.args.self.now.scope c.args.name c.args.self.now.pass c.args.self.now.pass c.sent_on.result.told c.sent_on.result.reply none
-    c.args.site c.in-Some.later found.0 found.1 (c.sent_on.ensures.reply, c.sent_on.ensures.told, refl)
+    back_sent_on g.P.RoomHistories.limits c.args.host.now.rooms.now (IsPermitted g.K.Keeper.permits) g.K.Keeper.denies c.args.self.now.scope c.args.name c.args.self.now.pass c.args.self.now.pass c.sent_on.result.reported c.sent_on.result.reply none
+    c.args.site c.in-Some.later found.0 found.1 (c.sent_on.ensures.reply, c.sent_on.ensures.reported, refl)

@@ -16,7 +16,7 @@ returns-clause-ok g c =
     let none : is_some c.args.self.now.pass ≡ false = sym (ap (λ (session : SessionView). is_some session.pass) c.self.view_is) ∙ outside in
     let given : is_some c.permit.result ≡ true = c.is_none.ensures ∙ ap not c.if-is_none.false in
     let permitted = given_permit g.K.Keeper.permits opening.number c.permit.result given c.permit.ensures.some in
-    join_answered g.P.RoomHistories.limits c.args.host.now.rooms.now (IsPermitted g.K.Keeper.permits) g.K.Keeper.denies c.args.self.now.scope c.args.name c.args.self.now.pass _ c.enter.result.told c.enter.result.reply none
+    join_answered g.P.RoomHistories.limits c.args.host.now.rooms.now (IsPermitted g.K.Keeper.permits) g.K.Keeper.denies c.args.self.now.scope c.args.name c.args.self.now.pass _ c.enter.result.reported c.enter.result.reply none
     opening c.in_ok-entrance.entrance at.0 at.1 (record {
       entered = entered_permitted _ _ opening c.in_ok-entrance.entrance permitted c.in_ok-entrance.ensures.entered c.in_ok-entrance.ensures.pass_opening;
       refused = c.in_ok-entrance.ensures.entrance_refused;

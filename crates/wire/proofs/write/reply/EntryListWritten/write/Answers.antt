@@ -1,7 +1,7 @@
 use Rattle.std.proofs.Common.{◌∙◌, ◌++◌, ◌∷◌, [], List, ℕ, ap, sym, lit<, string_bytes}
 use Rattle.std.specs.Arc.{arc_value}
 use Rattle.wire.specs.Form.{entry_form}
-use Rattle.wire.proofs.Maps.{map_of_map}
+use Rattle.base_types.proofs.Lists.{map_of_map}
 use Rattle.wire.proofs.Pages.{page_in_brackets}
 use Rattle.wire.proofs.write.reply.EntryListWritten.write.Goals as goal
 

@@ -2,7 +2,7 @@ use Rattle.std.proofs.lemmas.Result.{IfOk-weaker}
 use Rattle.places.specs.steps.PlaceSet.{places}
 use Rattle.places.proofs.Rising.{among_places}
 use Rattle.version_ids.proofs.Scopes.{identified}
-use Rattle.version_ids.proofs.id_by.Goals as goal
+use Rattle.version_ids.proofs.identifier_of.Goals as goal
 
 pub returns : goal.returns
 returns g c =

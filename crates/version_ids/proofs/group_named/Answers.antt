@@ -4,7 +4,7 @@ use Rattle.rules.specs.Groups.{in_conflict_with, is_named}
 use Rattle.places.proofs.Rising.{among_places}
 use Rattle.version_ids.proofs.Scopes.{kept_among, kept_low}
 use Rattle.version_ids.proofs.Found.{found_group, no_group}
-use Rattle.version_ids.proofs.resolve.Goals as goal
+use Rattle.version_ids.proofs.group_named.Goals as goal
 
 pub compatible_places-requires-clause-named : goal.compatible_places-requires-clause-named
 compatible_places-requires-clause-named g c =

@@ -6,18 +6,18 @@ ghost use Rattle.std.specs.Prelude.{slice_set, vec_len};
 use std::alloc::Global;
 
 /// Values, each at a key of its own. It cannot be dropped if its values cannot: each is taken out.
-pub(crate) struct Slots<T> {
+pub(crate) struct Slab<T> {
     values: Vec<Option<T>>,
     /// Keys at which no value stands.
     free: Vec<usize>,
 }
 
-impl<T> Slots<T> {
+impl<T> Slab<T> {
     /// No values.
-    pub(crate) fn new(alloc: Global) -> Slots<T>
+    pub(crate) fn new(alloc: Global) -> Slab<T>
         ensures { result.values.items ≡ [] }
     {
-        Slots {
+        Slab {
             values: Vec::new(alloc),
             free: Vec::new(alloc),
         }
@@ -100,7 +100,7 @@ impl<T> Slots<T> {
     pub(crate) fn into_values(self) -> Vec<Option<T>>
         ensures { result ≡ self.values }
     {
-        let Slots { values, free: _ } = self;
+        let Slab { values, free: _ } = self;
         values
     }
 }

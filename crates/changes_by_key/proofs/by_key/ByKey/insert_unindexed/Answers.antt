@@ -4,7 +4,7 @@ use Rattle.changes_by_key.proofs.Keyed.{within_and_one}
 use Rattle.std.proofs.lemmas.Bool.{cases_lt, eq-eqb, or_left, or_right}
 use Rattle.places.specs.steps.PlaceSet.{has}
 use Rattle.places.proofs.WordPlaces.{has-with_place}
-use Rattle.changes_by_key.proofs.by_key.ByKey.insert_last.Goals as goal
+use Rattle.changes_by_key.proofs.by_key.ByKey.insert_unindexed.Goals as goal
 
 pub loop-place-preserved : goal.loop-place-preserved
 loop-place-preserved c =

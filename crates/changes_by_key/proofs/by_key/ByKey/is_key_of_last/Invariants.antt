@@ -1,7 +1,0 @@
-use Rattle.std.proofs.Common.{◌≡◌, ℕ, ◌<◌, ◌≤◌, false}
-use Rattle.changes_by_key.specs.steps.Indexes.{gives}
-use Rattle.places.specs.steps.Changes.{at}
-use Rattle.changes_by_key.proofs.by_key.ByKey.is_key_of_last.Given as goal
-
-abbrev pub invariant-loop-place : goal.invariant-loop-place
-invariant-loop-place l = (p : ℕ) → l.self.len ≤ p → p < l.place → gives l.key (at l.ops p).body ≡ false

@@ -17,8 +17,8 @@ ghost use Rattle.room_lock.specs.Closing.{IsClosed, IsComplete};
 ghost use Rattle.room_lock.specs.steps.Ends.{IsEndOver};
 ghost use Rattle.room_lock.specs.declared.fault.CloseFault.TheVariants as close_fault;
 ghost use Rattle.room_lock.specs.Shelves.{count_away, full_shelf, is_away, part_of, with_at};
-ghost use Rattle.room_lock.specs.Told.{IsBackOver, IsBackRefusalOver, IsCallOver, IsJoinOver};
-ghost use Rattle.room_lock.specs.Told.{IsLeaveOver, IsNotesCallOver, IsRefusalOver};
+ghost use Rattle.room_lock.specs.Calls.{IsBackOver, IsBackRefusalOver, IsCallOver, IsJoinOver};
+ghost use Rattle.room_lock.specs.Calls.{IsLeaveOver, IsNotesCallOver, IsRefusalOver};
 ghost use Rattle.wire.specs.Notes.{notes_after, with_note};
 ghost use Rattle.notes.specs.Notes.{notes_at};
 

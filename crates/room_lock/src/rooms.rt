@@ -17,8 +17,8 @@ ghost use Rattle.room_lock.specs.Passes.{MayBeOf};
 ghost use Rattle.room_lock.specs.Rooms.{IsListOf, IsOffered, IsOnDemand, Serves};
 ghost use Rattle.room_lock.specs.Lookups.{IfKnown, IfNew, IfOpen};
 ghost use Rattle.room_lock.specs.steps.Stages.{IsOpenAs};
-ghost use Rattle.room_lock.specs.Told.{IsBack, IsBackRefusalOver, IsCall, IsJoin, IsLeaveOver};
-ghost use Rattle.room_lock.specs.Told.{IsNotesCall, IsRefusalOver};
+ghost use Rattle.room_lock.specs.Calls.{IsBack, IsBackRefusalOver, IsCall, IsJoin, IsLeaveOver};
+ghost use Rattle.room_lock.specs.Calls.{IsNotesCall, IsRefusalOver};
 
 use crate::closing::{RoomRecord, close_all, close_others};
 use crate::entrance::Entrance;

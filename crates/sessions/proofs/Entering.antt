@@ -21,9 +21,10 @@ use Rattle.room_lock.specs.steps.Entrances.{IfEntered, IfInUse, IfRefused}
 use Rattle.room_lock.specs.InOrder.{IsOpeningFor}
 use Rattle.room_lock.specs.Passes.{InUseView, PassView, PrefixView}
 use Rattle.room_lock.specs.Rooms.{IsOffered, IsOnDemand, RoomsView, Serves}
-use Rattle.room_lock.specs.Reported.{IsBack, IsJoin, IsRefusalOver}
+use Rattle.room_lock.specs.Calls.{IsBack, IsJoin, IsRefusalOver}
 use Rattle.sessions.specs.steps.Entrances.{IsAfter}
-use Rattle.sessions.specs.Turns.{IsAnswer, IsBackRefusal, IsEntering, IsNotServed, IsPermitted, IsPermittedJoin, IsTurnedAway, MayBeShut, MayEnter}
+use Rattle.sessions.specs.Entering.{IsBackRefusal, IsEntering, IsNotServed, IsPermitted, IsPermittedJoin, IsTurnedAway, MayBeShut, MayEnter}
+use Rattle.sessions.specs.Turns.{IsAnswer}
 
 -- the place of a name is one of the places
 found_within : (n len k : ℕ) (b : Bool) → nat_lt n len ≡ b → cond b (Some n) None ≡ Some k → k < len

@@ -16,8 +16,9 @@ use Rattle.room_lock.specs.Passes.{PassView, PrefixView, prefix_of}
 use Rattle.room_lock.specs.Rooms.{RoomsView}
 use Rattle.sessions.specs.Sessions.{SessionView}
 use Rattle.rules.specs.declared.refusal.Refusal.TheVariants.{BadMessage}
-use Rattle.room_lock.specs.Reported.{IsBack, IsRefusalOver}
-use Rattle.sessions.specs.Turns.{IsAnswer, IsAnswerInside, IsAnswerOutside, IsBackRefusal, IsCallBy, IsEntering, IsJoinBy, IsLetIn, IsNotesAnswer, IsNotesBy, IsPermittedJoin, IsRefused, IsSentOn, IsTurn, IsTurnedAway, MayBeShut, MayEnter}
+use Rattle.room_lock.specs.Calls.{IsBack, IsRefusalOver}
+use Rattle.sessions.specs.Entering.{IsBackRefusal, IsEntering, IsJoinBy, IsLetIn, IsPermittedJoin, IsRefused, IsSentOn, IsTurnedAway, MayBeShut, MayEnter}
+use Rattle.sessions.specs.Turns.{IsAnswer, IsAnswerInside, IsAnswerOutside, IsCallBy, IsNotesAnswer, IsNotesBy, IsTurn}
 
 -- the pass is of the named room, which the scope allows
 abbrev pub IsInNamed : Scope → RoomsView → Bytes → PassView → Type 0

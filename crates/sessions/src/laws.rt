@@ -11,9 +11,10 @@ ghost use Rattle.room_lock.specs.InOrder.{IsOpeningFor};
 ghost use Rattle.room_lock.specs.Passes.{PassView, PrefixView};
 ghost use Rattle.room_lock.specs.Rooms.{RoomsView};
 ghost use Rattle.sessions.specs.Sessions.{SessionView};
-ghost use Rattle.room_lock.specs.Reported.{IsRefusalOver};
-ghost use Rattle.sessions.specs.Turns.{IsBackBy, IsJoinBy, IsLetIn, IsPermitted, IsPermittedJoin};
-ghost use Rattle.sessions.specs.Turns.{IsSentOn, IsTurn, IsTurnedAway, MayEnter};
+ghost use Rattle.room_lock.specs.Calls.{IsRefusalOver};
+ghost use Rattle.sessions.specs.Entering.{IsBackBy, IsJoinBy, IsLetIn, IsPermitted, IsPermittedJoin};
+ghost use Rattle.sessions.specs.Entering.{IsSentOn, IsTurnedAway, MayEnter};
+ghost use Rattle.sessions.specs.Turns.{IsTurn};
 
 use keeper::Keeper;
 use room_lock::RoomHistories;

@@ -16,9 +16,10 @@ ghost use Rattle.room_lock.specs.Lookups.{IfOpen};
 ghost use Rattle.keeper.specs.Accesses.{IfKnown, IfNew};
 ghost use Rattle.keeper.specs.Chains.{IsLater};
 ghost use Rattle.scope.specs.Scopes.{allows};
-ghost use Rattle.sessions.specs.Turns.{IsAnswer, IsCallBy, IsPermitted, IsTextOfTurn, IsTurn, IsWait};
-ghost use Rattle.sessions.specs.Turns.{AsksToOpen, IsNotesBy, IsNotesTurn, IsWaitInRoom, MayEnter};
-ghost use Rattle.sessions.specs.Turns.{MayStand};
+ghost use Rattle.sessions.specs.Entering.{IsPermitted, MayEnter};
+ghost use Rattle.sessions.specs.Turns.{IsAnswer, IsCallBy, IsNotesBy, IsNotesTurn, IsTextOfTurn};
+ghost use Rattle.sessions.specs.Turns.{IsTurn, MayStand};
+ghost use Rattle.sessions.specs.Waits.{AsksToOpen, IsWait, IsWaitInRoom};
 
 use crate::cause::MessageFault;
 use crate::host::Host;

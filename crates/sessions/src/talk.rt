@@ -15,7 +15,9 @@ use wire_reader::Scratch;
 impl<P: RoomHistories, R: Wait, O: Observer, K: Keeper<P>> Talk for Host<'_, P, R, O, K> {
     ghost use Rattle.sessions.specs.steps.Faults.{IsMessageFault, IsNotKept};
     ghost use Rattle.std.specs.Prelude.{◌≡◌, None};
-    ghost use Rattle.sessions.specs.Turns.{IsPermitted, IsTextOfTurn, IsWait};
+    ghost use Rattle.sessions.specs.Entering.{IsPermitted};
+    ghost use Rattle.sessions.specs.Turns.{IsTextOfTurn};
+    ghost use Rattle.sessions.specs.Waits.{IsWait};
 
     type Session = Session<P>;
 

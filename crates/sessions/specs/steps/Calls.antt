@@ -5,7 +5,8 @@ use Rattle.rules.specs.declared.refusal.Refusal.TheVariants.{NotJoined}
 use Rattle.wire.specs.declared.request.Request.{Request}
 use Rattle.wire.specs.declared.reply.Reply.{Reply}
 use Rattle.room_lock.specs.Passes.{PassView, PrefixView}
-use Rattle.sessions.specs.Turns.{IsCallBy, IsRefused}
+use Rattle.sessions.specs.Entering.{IsRefused}
+use Rattle.sessions.specs.Turns.{IsCallBy}
 
 abbrev pub IsCallIf : LimitValues → Option PassView → Option PassView → Request → Option PrefixView → Reply
     → Type 0

@@ -1,5 +1,5 @@
-use Rattle.room_lock.specs.Reported.{IsBack, IsRefusalOver}
-use Rattle.sessions.specs.Turns.{IsBackRefusal, IsPermitted, IsPermittedJoin}
+use Rattle.room_lock.specs.Calls.{IsBack, IsRefusalOver}
+use Rattle.sessions.specs.Entering.{IsBackRefusal, IsPermitted, IsPermittedJoin}
 use Rattle.sessions.proofs.Staying.{told_of, turn_told}
 use Rattle.sessions.proofs.laws.a_reply_reports_on_the_room_of_the_session.Goals as goal
 

@@ -2,7 +2,7 @@ use Rattle.std.proofs.Common.{◌≡◌, true, subst}
 use Rattle.scope.specs.Scopes.{allows}
 use Rattle.scope.specs.declared.scope.Scope.{Scope}
 use Rattle.scope.proofs.Targets.{room_of_target}
-use Rattle.sessions.specs.Turns.{IsPermitted}
+use Rattle.sessions.specs.Entering.{IsPermitted}
 use Rattle.sessions.proofs.Staying.{turn_allowed}
 use Rattle.sessions.proofs.laws.a_session_enters_only_the_chain_of_its_path.Goals as goal
 

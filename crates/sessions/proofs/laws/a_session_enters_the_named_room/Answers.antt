@@ -1,5 +1,5 @@
-use Rattle.room_lock.specs.Reported.{IsBack, IsRefusalOver}
-use Rattle.sessions.specs.Turns.{IsBackRefusal, IsPermitted, IsPermittedJoin}
+use Rattle.room_lock.specs.Calls.{IsBack, IsRefusalOver}
+use Rattle.sessions.specs.Entering.{IsBackRefusal, IsPermitted, IsPermittedJoin}
 use Rattle.sessions.proofs.Staying.{let_in}
 use Rattle.sessions.proofs.laws.a_session_enters_the_named_room.Goals as goal
 

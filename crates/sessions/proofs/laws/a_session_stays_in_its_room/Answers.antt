@@ -1,4 +1,4 @@
-use Rattle.sessions.specs.Turns.{IsPermitted}
+use Rattle.sessions.specs.Entering.{IsPermitted}
 use Rattle.sessions.proofs.Staying.{turn_stays}
 use Rattle.sessions.proofs.laws.a_session_stays_in_its_room.Goals as goal
 

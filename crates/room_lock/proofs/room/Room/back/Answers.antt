@@ -10,7 +10,7 @@ use Rattle.room_lock.specs.Passes.{PartView, PassView}
 use Rattle.room_lock.specs.Shelves.{Shelf, part_of}
 use Rattle.room_lock.specs.Kept.{IsRoomKept, RoomView}
 use Rattle.room_lock.specs.Shelves.{AreOfSitesIn}
-use Rattle.room_lock.specs.Told.{IsBackOver}
+use Rattle.room_lock.specs.Calls.{IsBackOver}
 use Rattle.room_lock.proofs.Answers.{count_of_front}
 use Rattle.room_lock.proofs.Balance.{with_shelf}
 use Rattle.room_lock.proofs.Replies.{room_is}

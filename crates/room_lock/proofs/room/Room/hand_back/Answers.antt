@@ -14,7 +14,7 @@ use Rattle.room_lock.specs.Passes.{PartView}
 use Rattle.room_lock.specs.Kept.{IsRoomKept}
 use Rattle.room_lock.specs.Shelves.{AreOfSitesIn}
 use Rattle.room_lock.specs.Shelves.{Shelf, IsShelfOf}
-use Rattle.room_lock.specs.Told.{IsLeaveOver}
+use Rattle.room_lock.specs.Calls.{IsLeaveOver}
 use Rattle.room_lock.proofs.Balance.{with_shelf}
 use Rattle.room_lock.proofs.Fronts.{seen_begins}
 use Rattle.wire.specs.Notes.{with_note}

@@ -7,7 +7,7 @@ use Rattle.openings.specs.Openings.{OpeningView}
 use Rattle.room_lock.specs.InOrder.{IsOpeningFor}
 use Rattle.room_lock.specs.Lookups.{IfOpen}
 use Rattle.sessions.specs.Sessions.{SessionView}
-use Rattle.sessions.specs.Turns.{IsPermitted, MayEnter}
+use Rattle.sessions.specs.Entering.{IsPermitted, MayEnter}
 use Rattle.sessions.proofs.Entering.{back_answered, back_sent_on, if_in_use_so, if_refused_so}
 use Rattle.sessions.proofs.session.Session.back.Goals as goal
 

@@ -4,7 +4,7 @@ use Rattle.openings.specs.Openings.{OpeningView}
 use Rattle.room_lock.specs.InOrder.{IsOpeningFor}
 use Rattle.room_lock.specs.Lookups.{IfOpen}
 use Rattle.sessions.specs.Sessions.{SessionView}
-use Rattle.sessions.specs.Turns.{IsPermitted, MayEnter}
+use Rattle.sessions.specs.Entering.{IsPermitted, MayEnter}
 use Rattle.sessions.proofs.Entering.{entered_permitted, given_permit, if_in_use_so, join_answered}
 use Rattle.sessions.proofs.session.Session.join.Goals as goal
 

@@ -1,7 +1,8 @@
 use Rattle.std.proofs.Common.{rules, inr, Option, string_bytes, subst, sym}
 use Rattle.byte_streams.proofs.Written.{err_of}
 use Rattle.room_lock.specs.Passes.{PrefixView}
-use Rattle.sessions.specs.Turns.{IsPermitted, IsTextOfTurn, IsTurn}
+use Rattle.sessions.specs.Entering.{IsPermitted}
+use Rattle.sessions.specs.Turns.{IsTextOfTurn, IsTurn}
 use Rattle.sessions.proofs.session.Session.message.Goals as goal
 
 pub returns-in_ok-into_answer-in-Some-clause-ok : goal.returns-in_ok-into_answer-in-Some-clause-ok

@@ -7,9 +7,9 @@ the most. Beside it stand the median and the 99th percentile of the time to the 
 the program that `./test` proved."""
 
 import itertools
+import multiprocessing
 import statistics
 import tempfile
-import threading
 import time
 
 from server import (
@@ -19,6 +19,8 @@ from server import (
 from lib.keeping import path_of
 from lib.limit_records import MAX_OBJECTS, full
 from lib.records import compact
+
+FORK = multiprocessing.get_context("fork")
 
 FULL = ["full-1", "full-2"]
 # The first client's room is one of the open ones.
@@ -50,10 +52,12 @@ def put(connection, count):
     return times
 
 
-def open_in_turn(connection, times, is_over):
-    """Comes into the rooms with full records in turn, until it is over. Notes the seconds to each reply."""
+def open_in_turn(connection, is_over, found):
+    """Comes into the rooms with full records in turn, until it is over. Then finds the seconds to each reply."""
+    times = []
     for room in itertools.cycle(FULL):
         if is_over.is_set():
+            found.put(times)
             return
         reply, seconds = timed(connection, f'["back","{room}",1]')
         expect_reply(reply, '["back",16384,1,')
@@ -67,13 +71,15 @@ def measure(record, puts, opens):
         for room in FULL:
             path_of(folder, room).write_text(record)
         with Server(0, [], keep=folder, on_demand=PLACES) as server:
-            openings, is_over = [], threading.Event()
-            opener = threading.Thread(target=open_in_turn, args=(connect(server), openings, is_over))
+            # A process of its own: two threads of one would wait for each other.
+            is_over, found = FORK.Event(), FORK.Queue()
+            opener = FORK.Process(target=open_in_turn, args=(connect(server), is_over, found))
             client, start = connect(server), time.monotonic()
             if opens:
                 opener.start()
             times = put(client, puts)
             is_over.set()
+            openings = found.get() if opens else []
             if opens:
                 opener.join()
             return times, openings, time.monotonic() - start

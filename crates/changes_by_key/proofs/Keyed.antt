@@ -240,7 +240,7 @@ drop_next pairs i pair l e =
     let one : suc i ≡ i + 1 = omega arith in
     drop-cons pairs i pair l ∙ (λ t. sym e t ∷ drop (one t) pairs)
 
--- each of the pairs body_gives its key
+-- each of the pairs gives its key
 pub given_at : (pairs : List Attr) (i : ℕ) (pair : Attr) → i < length pairs → pair ≡ get_or pairs i pair → list_any (bytes_eq pair.0) (map (λ pair. pair.0) pairs) ≡ true
 given_at pairs i pair l e =
     sym (any_key pair.0 pairs)
@@ -261,7 +261,7 @@ one_key_more pairs i pair old new n l e kept there key h = elim h [
 
 module _ (k : List Op) (index : KeyIndex) (w : AreByKey k index) where
   module _ (key : Bytes) where
-    -- a key that it has, some change body_gives a value
+    -- a key that it has, some change gives a value
     pub key_given : (i : ℕ) → i < length index.keys → (key_at index.keys i).key ≡ key → list_any (λ (op : Op). body_gives key op.body) k ≡ true
     key_given i l e =
         let s = w.some i l in

@@ -21,7 +21,7 @@ use Rattle.places.specs.steps.PlaceSet.{AreBelow}
 use Rattle.places.proofs.Places.{has_if_in, below}
 use Rattle.conflict_rows.specs.steps.Rows.{places_outside}
 
--- what is at odds with a put is a drop, or body_gives one of its keys a value
+-- what is at odds with a put is a drop, or gives one of its keys a value
 pub at_odds_found : (object : Name) (version : List Name) (pairs : List Attr) (body : Body) → are_at_odds (Put object version pairs) body ≡ true → (is_drop_body body || list_any (λ pair. body_gives pair.0 body) pairs) ≡ true
 at_odds_found object version pairs body e = elim (or_cases (differ_on_a_key (Put object version pairs) body) (is_one_a_drop (Put object version pairs) body) e) [
   | inl d ↦

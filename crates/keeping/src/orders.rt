@@ -2,11 +2,12 @@
 
 use crate::sleepers::Sleepers;
 use base_types::{NoMemory, RoomName};
-use crossbeam_utils::Backoff;
 use std::alloc::Global;
 use std::collections::VecDeque;
 use std::sync::atomic::{AtomicBool, AtomicUsize, Ordering};
 use std::sync::{Condvar, Mutex, MutexGuard, Wait};
+use std::thread::yield_now;
+use std::time::{Clock, Duration, Instant};
 
 /// What a thread is to do next.
 #[derive(Drop)]
@@ -62,8 +63,8 @@ impl Queue {
     }
 }
 
-/// How often a thread looks for the next order before it sleeps: about a third of a millisecond.
-const LOOKS: u32 = 120;
+/// For how long a thread looks for the next order before it sleeps.
+const LOOK_MICROS: u64 = 300;
 
 /// What is to be done next, which threads share.
 #[derive(Drop)]
@@ -123,25 +124,26 @@ impl Orders {
     }
 
     /// Looks for the next order for a while, unless another thread does. A thread that sleeps is woken
-    /// late.
-    fn look(&self) {
+    /// late, and to wake it costs who adds the order as much.
+    fn look(&self, rt: &(impl Wait + Clock)) {
         if self.is_looking.swap(true, Ordering::SeqCst) {
             return;
         }
-        let backoff = Backoff::new();
-        for _ in 0..LOOKS {
-            if self.count.load(Ordering::SeqCst) > 0 {
-                break;
+        if let Ok(began) = Instant::now(rt) {
+            for _ in rt.forever() {
+                if self.count.load(Ordering::SeqCst) > 0 || has_looked(rt, began) {
+                    break;
+                }
+                yield_now();
             }
-            backoff.spin();
         }
         self.is_looking.store(false, Ordering::SeqCst);
     }
 
     /// Waits for the next order, and takes it out. If more are left, wakes another thread. `None` once
     /// all is over and no order is left for this thread, or if more threads wait than were announced.
-    pub(crate) fn next(&self, rt: &impl Wait) -> Option<Order> {
-        self.look();
+    pub(crate) fn next(&self, rt: &(impl Wait + Clock)) -> Option<Order> {
+        self.look(rt);
         let mut queue = self.queue.lock(rt);
         for _ in rt.forever() {
             if let Some(order) = queue.pop() {
@@ -180,5 +182,13 @@ impl Orders {
         for alarm in &self.alarms {
             alarm.notify_all();
         }
+    }
+}
+
+/// Returns whether a thread that began to look then has looked long enough, or its clock fails.
+fn has_looked(rt: &impl Clock, began: Instant) -> bool {
+    match began.elapsed(rt) {
+        Ok(time) => time >= Duration::from_micros(LOOK_MICROS),
+        Err(_) => true,
     }
 }

@@ -69,7 +69,7 @@ pub record IsUnder (keys : List OfKey) (key : Bytes) (place : ℕ) : Type 0 wher
   pub of_it : (key_at keys entry).key ≡ key
   pub placed : has (key_at keys entry).places place ≡ true
 
--- Under each key stand all of the first changes that give it. Whatever stands there body_gives it: where
+-- Under each key stand all of the first changes that give it. Whatever stands there gives it: where
 -- memory was refused, the next change stands under some of its keys. Each key stands once, with
 -- some place.
 pub record AreByKey (k : List Op) (index : KeyIndex) : Type 0 where

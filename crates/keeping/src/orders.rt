@@ -4,6 +4,7 @@ use crate::sleepers::Sleepers;
 use base_types::{NoMemory, RoomName};
 use std::alloc::Global;
 use std::collections::VecDeque;
+use std::io;
 use std::sync::atomic::{AtomicBool, AtomicUsize, Ordering};
 use std::sync::{Condvar, Mutex, MutexGuard, Wait};
 use std::thread::yield_now;
@@ -63,7 +64,7 @@ impl Queue {
     }
 }
 
-/// For how long a thread looks for the next order before it sleeps.
+/// For how long a thread looks for the next order before it sleeps, where orders come as soon.
 const LOOK_MICROS: u64 = 300;
 
 /// What is to be done next, which threads share.
@@ -76,6 +77,8 @@ pub(crate) struct Orders {
     count: AtomicUsize,
     /// A thread looks for the next order.
     is_looking: AtomicBool,
+    /// The last order that a thread waited for came before it had looked for long.
+    comes_soon: AtomicBool,
 }
 
 impl Orders {
@@ -98,6 +101,7 @@ impl Orders {
             alarms,
             count: AtomicUsize::new(0),
             is_looking: AtomicBool::new(false),
+            comes_soon: AtomicBool::new(false),
         })
     }
 
@@ -123,20 +127,20 @@ impl Orders {
         }
     }
 
-    /// Looks for the next order for a while, unless another thread does. A thread that sleeps is woken
-    /// late, and to wake it costs who adds the order as much.
+    /// Looks for the next order for a while where orders come soon, unless another thread does. A thread
+    /// that sleeps is woken late, and to wake it costs who adds the order as much.
     fn look(&self, rt: &(impl Wait + Clock)) {
-        if self.is_looking.swap(true, Ordering::SeqCst) {
+        if !self.comes_soon.load(Ordering::SeqCst) || self.is_looking.swap(true, Ordering::SeqCst) {
             return;
         }
-        if let Ok(began) = Instant::now(rt) {
-            for _ in rt.forever() {
-                if self.count.load(Ordering::SeqCst) > 0 || has_looked(rt, began) {
-                    break;
-                }
-                yield_now();
+        let began = Instant::now(rt);
+        for _ in rt.forever() {
+            if self.count.load(Ordering::SeqCst) > 0 || !is_soon(rt, &began) {
+                break;
             }
+            yield_now();
         }
+        self.comes_soon.store(is_soon(rt, &began), Ordering::SeqCst);
         self.is_looking.store(false, Ordering::SeqCst);
     }
 
@@ -158,8 +162,10 @@ impl Orders {
                 return None;
             }
             let bed = queue.sleepers.fall_asleep()?;
+            let began = Instant::now(rt);
             queue = self.alarms.get(bed)?.wait(rt, queue);
             queue.sleepers.leave(bed);
+            self.comes_soon.store(is_soon(rt, &began), Ordering::SeqCst);
         }
         unreachable!()
     }
@@ -185,10 +191,13 @@ impl Orders {
     }
 }
 
-/// Returns whether a thread that began to look then has looked long enough, or its clock fails.
-fn has_looked(rt: &impl Clock, began: Instant) -> bool {
-    match began.elapsed(rt) {
-        Ok(time) => time >= Duration::from_micros(LOOK_MICROS),
-        Err(_) => true,
+/// Returns whether less time has passed since then than a thread looks. It has not if the clock fails.
+fn is_soon(rt: &impl Clock, began: &io::Result<Instant>) -> bool {
+    match began {
+        Ok(began) => match began.elapsed(rt) {
+            Ok(time) => time < Duration::from_micros(LOOK_MICROS),
+            Err(_) => false,
+        },
+        Err(_) => false,
     }
 }

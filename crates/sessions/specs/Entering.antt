@@ -1,6 +1,6 @@
--- How a session enters a room, or does not. `reported` is the prefix of a room's record that the reply
--- reports on, if it does. Of the room of an opening, `permitted` says that a new site may be let in,
--- and `denied` that it need not be; both are told the opening's number.
+-- How a session enters a room, or does not. `reported` is the prefix of a room's record that the
+-- reply reports on, if it does. Of the room of an opening, `permitted` says that a new site may be
+-- let in, and `denied` that it need not be; both are told the opening's number.
 use Rattle.std.specs.Prelude.{◌≡◌, ◌⊎◌, ℕ, Bool, List, Option, Some, None, true}
 use Rattle.base_types.specs.Texts.{Bytes}
 use Rattle.rules.specs.declared.history.Entry.{Entry}
@@ -19,7 +19,8 @@ use Rattle.room_lock.specs.Calls.{IsBack, IsBackRefusalOver, IsJoin, IsRefusalOv
 use Rattle.keeper.specs.Chains.{IsLater}
 
 -- the session itself refuses, and is unchanged; the reply reports on no room
-abbrev pub IsRefused : Refusal → Option PassView → Option PassView → Option PrefixView → Reply → Type 0
+abbrev pub IsRefused : Refusal → Option PassView → Option PassView → Option PrefixView → Reply
+    → Type 0
 IsRefused refusal old new reported reply = (reply ≡ No 0 refusal) × (reported ≡ None) × (new ≡ old)
 
 -- the session may enter the room of this name, and there is one
@@ -64,7 +65,8 @@ abbrev pub IsPermittedJoin : LimitValues → (ℕ → Type 0) → PassView → R
 IsPermittedJoin limits permitted pass reply =
     IsJoin limits pass reply × permitted pass.part.opening.number
 
--- The room of this name may not be served now: it is opened on demand, or an opening of it is denied.
+-- The room of this name may not be served now: it is opened on demand, or an opening of it is
+-- denied.
 abbrev pub MayBeShut : (ℕ → Type 0) → RoomsView → Bytes → Type 0
 MayBeShut denied rooms name =
     IsOnDemand rooms name

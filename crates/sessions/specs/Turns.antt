@@ -1,5 +1,6 @@
--- The promise of the server: one message of a session, and its reply. `reported` is the prefix of a
--- room's record that the reply reports on, if it does. `permitted` and `denied` are as in `Entering`.
+-- The promise of the server: one message of a session, and its reply. `reported` is the prefix of
+-- a room's record that the reply reports on, if it does. `permitted` and `denied` are as in
+-- `Entering`.
 use Rattle.std.specs.Prelude.{◌≡◌, ◌⊎◌, ℕ, List, Option, Some, None, MatchOption}
 use Rattle.base_types.specs.Texts.{Bytes}
 use Rattle.rules.specs.declared.limits.LimitValues.{LimitValues}
@@ -47,7 +48,8 @@ IsAnswerInside limits was new (Join name) reported reply =
 IsAnswerInside limits was new (Back name site) reported reply =
     IsRefused AlreadyJoined (Some was) new reported reply
 IsAnswerInside limits was new Leave reported reply = IsLeaveBy limits was new reported reply
-IsAnswerInside limits was new request reported reply = IsCallBy limits was new request reported reply
+IsAnswerInside limits was new request reported reply =
+    IsCallBy limits was new request reported reply
 
 -- the answer to a request of a session in no room, which can only enter one
 abbrev pub IsAnswerOutside : LimitValues → RoomsView → (ℕ → Type 0) → (ℕ → Type 0) → Scope
@@ -70,7 +72,8 @@ IsAnswer limits rooms permitted denied scope None new request reported reply =
 -- the answer to a request about notes, which only a session that is in a room may ask
 abbrev pub IsNotesAnswer : LimitValues → Option PassView → Option PassView → NoteRequest
     → Option PrefixView → Reply → Type 0
-IsNotesAnswer limits (Some was) new request reported reply = IsNotesBy limits was new request reported reply
+IsNotesAnswer limits (Some was) new request reported reply =
+    IsNotesBy limits was new request reported reply
 IsNotesAnswer limits None new request reported reply = IsRefused NotJoined None new reported reply
 
 -- the answer to bytes that may be such a request, and are no other one

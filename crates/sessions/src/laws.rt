@@ -23,7 +23,8 @@ use room_lock::RoomHistories;
 pub fn a_session_enters_the_named_room<P: RoomHistories, K: Keeper<P>>()
     ensures join { (limits : LimitValues) (rooms : RoomsView) (scope : Scope) (name : Bytes)
         (pass : PassView) (reported : Option PrefixView) (reply : Reply) →
-        IsJoinBy limits rooms (IsPermitted K.permits) K.denies scope name (Some pass) reported reply →
+        IsJoinBy limits rooms (IsPermitted K.permits) K.denies scope name (Some pass) reported
+        reply →
         (allows scope name ≡ true) × (pass.room ≡ name)
         × IsOpeningFor rooms name pass.part.opening }
     ensures back { (limits : LimitValues) (rooms : RoomsView) (scope : Scope) (name : Bytes)
@@ -58,7 +59,8 @@ pub fn a_session_enters_only_the_chain_of_its_path<P: RoomHistories, K: Keeper<P
 pub fn a_reply_reports_on_the_room_of_the_session<P: RoomHistories, K: Keeper<P>>()
     ensures join { (limits : LimitValues) (rooms : RoomsView) (scope : Scope) (name : Bytes)
         (new : Option PassView) (reported : PrefixView) (reply : Reply) →
-        IsJoinBy limits rooms (IsPermitted K.permits) K.denies scope name new (Some reported) reply →
+        IsJoinBy limits rooms (IsPermitted K.permits) K.denies scope name new (Some reported)
+        reply →
         MayEnter scope rooms name → IsOpeningFor rooms name reported.opening }
     ensures back { (limits : LimitValues) (rooms : RoomsView) (scope : Scope) (name : Bytes)
         (site : ℕ) (new : Option PassView) (reported : PrefixView) (reply : Reply) →

@@ -14,8 +14,7 @@ use Rattle.base_types.specs.declared.op_name.TheConstants.{MAX_SEQ}
 use Rattle.base_types.specs.declared.state_vector.VectorFault.TheVariants.{OutOfRange}
 use Rattle.base_types.specs.declared.value.Value.{Value}
 use Rattle.base_types.specs.declared.value.Value.TheVariants.{Number, Text}
-use Rattle.base_types.proofs.Choices.{not_first}
-use Rattle.base_types.proofs.Vectors.{none_if}
+use Rattle.base_types.proofs.Choices.{none_both, none_if, not_first}
 use Rattle.rules.specs.AttrLists.{Attr}
 use Rattle.rules.specs.declared.history.Entry.{Entry}
 use Rattle.rules.specs.declared.history.Entry.TheVariants.{Operation, Next, Join as JoinOf}

@@ -8,7 +8,8 @@ use Rattle.room_lock.specs.Passes.{PassView, PrefixView}
 use Rattle.sessions.specs.Entering.{IsRefused}
 use Rattle.sessions.specs.Turns.{IsCallBy}
 
-abbrev pub IsCallIf : LimitValues → Option PassView → Option PassView → Request → Option PrefixView → Reply
-    → Type 0
-IsCallIf limits (Some was) new request reported reply = IsCallBy limits was new request reported reply
+abbrev pub IsCallIf : LimitValues → Option PassView → Option PassView → Request → Option PrefixView
+    → Reply → Type 0
+IsCallIf limits (Some was) new request reported reply =
+    IsCallBy limits was new request reported reply
 IsCallIf limits None new request reported reply = IsRefused NotJoined None new reported reply

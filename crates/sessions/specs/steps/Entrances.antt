@@ -12,7 +12,8 @@ module _ {P : Type 0} where
   abbrev pub IsAfter : Entrance P → Option PassView → Option PrefixView → Reply → Type 0
   IsAfter (Entered pass it) new reported reply =
       (reply ≡ it) × (reported ≡ Some (prefix_of pass.part)) × (new ≡ Some pass)
-  IsAfter (Refused prefix it) new reported reply = (reply ≡ it) × (reported ≡ Some prefix) × (new ≡ None)
+  IsAfter (Refused prefix it) new reported reply =
+      (reply ≡ it) × (reported ≡ Some prefix) × (new ≡ None)
   IsAfter (InUse in_use it) new reported reply =
       (reply ≡ it) × (reported ≡ Some in_use.prefix) × (new ≡ None)
   IsAfter NoRoom new reported reply = (reply ≡ No 0 NotServed) × (reported ≡ None) × (new ≡ None)

@@ -4,7 +4,6 @@ use crate::sleepers::Sleepers;
 use base_types::{NoMemory, RoomName};
 use std::alloc::Global;
 use std::collections::VecDeque;
-use std::io;
 use std::sync::atomic::{AtomicBool, AtomicUsize, Ordering};
 use std::sync::{Condvar, Mutex, MutexGuard, Wait};
 use std::thread::yield_now;
@@ -32,6 +31,8 @@ struct Queue {
     spare: usize,
     /// The threads that wait for orders.
     sleepers: Sleepers,
+    /// When the last order was taken out.
+    taken: Option<Instant>,
     /// No more will come but from who takes them out.
     is_over: bool,
 }
@@ -58,14 +59,26 @@ impl Queue {
         Some(order)
     }
 
+    /// Notes that an order is taken out. Returns whether the one before was a short time ago.
+    fn note_taken(&mut self, rt: &impl Clock) -> bool {
+        let before = std::mem::replace(&mut self.taken, Instant::now(rt).ok());
+        match before {
+            Some(before) => is_within(rt, before, SOON_MICROS),
+            None => false,
+        }
+    }
+
     /// The number of orders.
     fn len(&self) -> usize {
         self.keeps.len().saturating_add(self.moves.len())
     }
 }
 
-/// For how long a thread looks for the next order before it sleeps, where orders come as soon.
+/// For how long a thread looks for the next order before it sleeps, where orders come soon.
 const LOOK_MICROS: u64 = 300;
+
+/// Orders come soon if there is no more than this time between the last two.
+const SOON_MICROS: u64 = 1_000;
 
 /// What is to be done next, which threads share.
 #[derive(Drop)]
@@ -77,7 +90,7 @@ pub(crate) struct Orders {
     count: AtomicUsize,
     /// A thread looks for the next order.
     is_looking: AtomicBool,
-    /// The last order that a thread waited for came before it had looked for long.
+    /// Orders come soon.
     comes_soon: AtomicBool,
 }
 
@@ -96,6 +109,7 @@ impl Orders {
                 moves: VecDeque::new(alloc),
                 spare: (threads / 2).max(1),
                 sleepers: Sleepers::none(alloc, threads)?,
+                taken: None,
                 is_over: false,
             }),
             alarms,
@@ -133,14 +147,14 @@ impl Orders {
         if !self.comes_soon.load(Ordering::SeqCst) || self.is_looking.swap(true, Ordering::SeqCst) {
             return;
         }
-        let began = Instant::now(rt);
-        for _ in rt.forever() {
-            if self.count.load(Ordering::SeqCst) > 0 || !is_soon(rt, &began) {
-                break;
+        if let Ok(began) = Instant::now(rt) {
+            for _ in rt.forever() {
+                if self.count.load(Ordering::SeqCst) > 0 || !is_within(rt, began, LOOK_MICROS) {
+                    break;
+                }
+                yield_now();
             }
-            yield_now();
         }
-        self.comes_soon.store(is_soon(rt, &began), Ordering::SeqCst);
         self.is_looking.store(false, Ordering::SeqCst);
     }
 
@@ -153,6 +167,8 @@ impl Orders {
             if let Some(order) = queue.pop() {
                 let left = queue.len();
                 self.count.store(left, Ordering::SeqCst);
+                let comes_soon = queue.note_taken(rt);
+                self.comes_soon.store(comes_soon, Ordering::SeqCst);
                 if left > 0 {
                     self.wake_one(queue);
                 }
@@ -162,10 +178,8 @@ impl Orders {
                 return None;
             }
             let bed = queue.sleepers.fall_asleep()?;
-            let began = Instant::now(rt);
             queue = self.alarms.get(bed)?.wait(rt, queue);
             queue.sleepers.leave(bed);
-            self.comes_soon.store(is_soon(rt, &began), Ordering::SeqCst);
         }
         unreachable!()
     }
@@ -191,13 +205,10 @@ impl Orders {
     }
 }
 
-/// Returns whether less time has passed since then than a thread looks. It has not if the clock fails.
-fn is_soon(rt: &impl Clock, began: &io::Result<Instant>) -> bool {
-    match began {
-        Ok(began) => match began.elapsed(rt) {
-            Ok(time) => time < Duration::from_micros(LOOK_MICROS),
-            Err(_) => false,
-        },
+/// Returns whether less than this time has passed since then. False if the clock fails.
+fn is_within(rt: &impl Clock, began: Instant, micros: u64) -> bool {
+    match began.elapsed(rt) {
+        Ok(time) => time < Duration::from_micros(micros),
         Err(_) => false,
     }
 }

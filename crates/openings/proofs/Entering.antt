@@ -5,7 +5,7 @@ use Rattle.std.proofs.lemmas.Bool.Decides.{nat_tests}
 use mathlib.Core.List.{IsPrefix}
 use prog.Atomic.{either}
 use Rattle.logbook.specs.Pages.{Cell, cell, keeps, no_nib, step, Moves, Goes}
-use Rattle.shared_history.proofs.Beginnings.{prefix_whole}
+use Rattle.shared_history.proofs.Prefixes.{prefix_whole}
 use Rattle.openings.specs.Openings.{Opened}
 use Rattle.openings.specs.steps.Rules.{CountsOpenings, Enters}
 

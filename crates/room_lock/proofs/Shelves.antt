@@ -7,7 +7,7 @@ use Rattle.std.proofs.lemmas.List.{get_or-set_same, get_or-set_other, length-set
 use mathlib.Core.List.{IsPrefix}
 use Rattle.rules.specs.declared.history.Entry.{Entry}
 use Rattle.rules.specs.Records.{sites}
-use Rattle.shared_history.proofs.Beginnings.{prefix_trans}
+use Rattle.shared_history.proofs.Prefixes.{prefix_trans}
 use Rattle.openings.specs.Openings.{OpeningView}
 use Rattle.room_lock.specs.Passes.{PartView}
 use Rattle.room_lock.specs.Shelves.{Shelf, IsPartFor, IsShelfOf, full_shelf, part_of, whole_part, with_at}

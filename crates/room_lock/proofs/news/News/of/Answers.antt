@@ -3,7 +3,7 @@ use Rattle.std.specs.Prelude.{IsNone}
 use Rattle.std.specs.Arc.{arc_value}
 use Rattle.std.proofs.lemmas.List.{length-map, take-append-drop}
 use mathlib.Core.List.{IsPrefix}
-use Rattle.shared_history.proofs.Beginnings.{prefix_length}
+use Rattle.shared_history.proofs.Prefixes.{prefix_length}
 use Rattle.room_lock.proofs.Fronts.{take_prefix}
 use Rattle.room_lock.proofs.news.News.of.Goals as goal
 

@@ -13,6 +13,9 @@ const TOKEN = new RegExp(
 )
 const SPACE = new RegExp(SPACES.source, "y")
 const DEEPEST = 127
+const QUOTED_ALL = /"(?:[^"\\]|\\.)*"/g
+// Outside of strings: what a message cannot have, and numbers that may be no exact `Number`.
+const UNUSUAL = /[^[\],0-9 \t\n\r-]|-0|[0-9]{16}/
 
 /**
  * Converts an integer to a `Number` if that is exact, otherwise to a `BigInt`. So equal integers are equal by `===`.
@@ -72,6 +75,13 @@ class Reader {
   }
 }
 
+/** Whether `JSON.parse` reads a text as `readText` does, unless its lists are too deep. It is several times as fast. */
+const isUsual = (text) => !UNUSUAL.test(text.replace(QUOTED_ALL, ""))
+
+/** Whether a value is within so many lists at most. */
+const isFlat = (value, depth = DEEPEST) =>
+  !Array.isArray(value) || (depth > 0 && value.every((element) => isFlat(element, depth - 1)))
+
 /**
  * Parses a JSON text that consists of lists, strings and integers.
  * @param {string} text
@@ -79,6 +89,10 @@ class Reader {
  * @throws {SyntaxError} the text is not JSON, or has an object, a fraction, an exponent, a boolean or null
  */
 export function readText(text) {
+  if (isUsual(text)) {
+    const value = JSON.parse(text)
+    if (isFlat(value)) return value
+  }
   const reader = new Reader(text)
   const value = reader.value(reader.token(), 0)
   reader.end()

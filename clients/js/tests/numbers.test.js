@@ -30,9 +30,10 @@ test("texts of messages", LIMIT, () => {
   assert.deepEqual(readText(writeText([letters])), [letters], "letters")
   assert.equal(readText('"\\u00e9\\u20AC\\ud83d\\ude00\\/\\u0041"'), "é€😀/A", "escapes")
   assert.equal(readText(JSON.stringify("\\".repeat(100000))).length, 100000, "a long text")
+  assert.deepEqual(readText('["1.5 -0 {null}","\\"",9007199254740993,-7]'), ["1.5 -0 {null}", '"', EXACT + 2n, -7], "both")
   const none = [
     "", "1.0", "1e0", "-0", "01", "+1", "[1,]", "[,1]", "[1 2]", "[1", "1]", "[1]]", "{}", "null", "true", '"', '"\n"',
-    "'a'", "1 2", '"\\x"', "[".repeat(128) + "]".repeat(128),
+    "'a'", "1 2", '["a",-0]', '["a",1.5]', '"a"1', "[1,\u00a02]", '"\\x"', "[".repeat(128) + "]".repeat(128),
   ]
   for (const text of none) assert.throws(() => readText(text), { name: "SyntaxError" }, `the text ${text.slice(0, 20)}`)
   assert.ok(Array.isArray(readText("[".repeat(127) + "]".repeat(127))), "127 lists in each other")

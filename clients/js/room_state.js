@@ -32,6 +32,8 @@ const LEFT_BEHIND = "This drawing went on in another room without your last chan
 
 // So long after a reply the storage may have changes that the record has already. A reload finds them there.
 const SAVED_AFTER_MILLISECONDS = 100
+// So long after the first entries of a record came, the storage may lack it. A reload before that loads them again.
+const LOADED_SAVED_AFTER_MILLISECONDS = 2000
 
 export class RoomState {
   // How many entries the server has at least.
@@ -67,6 +69,9 @@ export class RoomState {
   #isRestoring = false
   // Will save that changes are in the record, or null.
   #saving = null
+  // The index of the first entry that is not saved, and what will save the record once it is loaded. Or null.
+  #unsavedFrom = null
+  #savingRecord = null
 
   /**
    * @param {SavedState} saved
@@ -322,7 +327,9 @@ export class RoomState {
       this.#record.push(entry)
       if (operation !== null) this.#settleIfOwn(entryOf(operation))
     }
-    this.#saved.saveRecord(this.#record, from)
+    this.#unsavedFrom ??= from
+    if (this.isLoaded && this.#savingRecord === null) this.#saveRecord()
+    else this.#savingRecord ??= setTimeout(() => this.#saveRecord(), LOADED_SAVED_AFTER_MILLISECONDS)
     this.show()
   }
 
@@ -506,8 +513,7 @@ export class RoomState {
   /** Discards all state of the room, saved state included. Returns the codes of the objects that were shown. */
   #reset() {
     const gone = this.#drawing.names().map(codeOf)
-    clearTimeout(this.#saving)
-    this.#saving = null
+    this.#stopSaving()
     this.#passage = null
     this.#held.clear()
     this.#site = null
@@ -538,9 +544,14 @@ export class RoomState {
 
   /** Removes what is saved. */
   clearSaved() {
-    clearTimeout(this.#saving)
-    this.#saving = null
+    this.#stopSaving()
     this.#saved.clear()
+  }
+
+  /** What was to be saved later is no longer there. */
+  #stopSaving() {
+    for (const timer of [this.#saving, this.#savingRecord]) clearTimeout(timer)
+    this.#saving = this.#savingRecord = this.#unsavedFrom = null
   }
 
   /**
@@ -585,13 +596,23 @@ export class RoomState {
 
   /** Saves the state of another room in place of the old one's. */
   #saveAll(name) {
-    this.#saved.clear()
+    this.clearSaved()
     this.#saved.saveSite(this.#site, name)
     this.#saved.saveRecord(this.#record, 0)
     this.#saveChanges()
   }
 
+  /** Saves the entries of the record that are not saved yet. */
+  #saveRecord() {
+    clearTimeout(this.#savingRecord)
+    this.#savingRecord = null
+    if (this.#unsavedFrom !== null) this.#saved.saveRecord(this.#record, this.#unsavedFrom)
+    this.#unsavedFrom = null
+  }
+
+  /** Changes build on the record, so that is saved first. */
   #saveChanges() {
+    this.#saveRecord()
     clearTimeout(this.#saving)
     this.#saving = null
     this.#saved.saveChanges(this.#unrecordedEntries())
@@ -631,6 +652,7 @@ export class RoomState {
    */
   close() {
     if (this.#saving !== null) this.#saveChanges()
+    this.#saveRecord()
     this.isClosed = true
     this.#release()
     return this.#pending.splice(0)

@@ -2,7 +2,7 @@
 
 import assert from "node:assert/strict"
 import test from "node:test"
-import { LIMIT } from "./checks.js"
+import { LIMIT, waitUntil } from "./checks.js"
 import { withServer } from "./rooms.js"
 import { Storage } from "./storage.js"
 
@@ -18,6 +18,9 @@ class CountingStorage extends Storage {
 
 const savedChanges = (storage) =>
   JSON.parse([...storage.texts].find(([key]) => key.endsWith(" changes"))?.[1] ?? "[]").length
+
+const savedEntries = (storage) =>
+  [...storage.texts].filter(([key]) => / record \d+$/.test(key)).flatMap(([, text]) => JSON.parse(text)).length
 
 const MANY = 1000
 // Replies come within this time of each other, and the last save is a tenth of a second behind the last reply.
@@ -48,4 +51,22 @@ test("a tab that ends before it has saved the replies", LIMIT, withServer(async 
   const again = await client({ storage: atOnce })
   await again.settled()
   assert.deepEqual([again.site, again.objects().length], [site, 10], "its site and its objects")
+}))
+
+/** To save a record while it is loaded would delay its drawing. It is saved soon, or with the first change, or the end. */
+test("a record is saved when it is loaded", LIMIT, withServer(async (client) => {
+  const first = await client()
+  first.transaction(() => Array.from({ length: 200 }, (_, number) => first.create("rect", { number })))
+  await first.settled()
+  const [storage, other, later] = [new Storage(), new Storage(), new Storage()]
+  const room = await client({ storage })
+  assert.deepEqual([room.isLoaded, savedEntries(storage)], [true, 0], "what is saved of a record that was just loaded")
+  const { length } = room.record
+  room.close()
+  assert(savedEntries(storage) >= length, "what is saved at the end")
+  const changing = await client({ storage: other })
+  changing.create("rect", {})
+  assert.deepEqual([savedEntries(other), savedChanges(other)], [changing.record.length, 1], "what is saved with a change")
+  const third = await client({ storage: later })
+  await waitUntil("the record is saved", () => savedEntries(later) === third.record.length)
 }))

@@ -5,7 +5,7 @@ import { Connections } from "./connections.js"
 import { Selection } from "./selection.js"
 import { shapeOf, withAttributes } from "./shapes.js"
 
-export const keyOf = (name) => name.join(",")
+export const keyOf = ([site, number]) => `${site},${number}`
 export const nameOf = (key) => key.split(",").map(Number)
 
 /** What `previews` is while nothing is dragged. */

@@ -11,6 +11,7 @@ const TEXT_BYTES = 256
 const TEXTS = 8
 const MOST = 99999
 const LIFTED = "/"
+const POINT = /^\d{1,5},\d{1,5}$/
 const keyOfText = (place) => `points-${place}`
 export const POINT_KEYS = Array.from({ length: TEXTS }, (_, place) => keyOfText(place))
 
@@ -24,12 +25,19 @@ export const POINT_KEYS = Array.from({ length: TEXTS }, (_, place) => keyOfText(
  */
 export function strokesIn(attributes) {
   const texts = POINT_KEYS.map((key) => attributes.get(key)).filter((text) => typeof text === "string")
-  const strokes = [[]]
+  let stroke = []
+  const strokes = [stroke]
   for (const word of texts.flatMap((text) => text.split(" "))) {
-    if (word === LIFTED) strokes.push([])
-    else if (/^\d{1,5},\d{1,5}$/.test(word)) strokes.at(-1).push(word.split(",").map(Number))
+    if (POINT.test(word)) stroke.push(pointOf(word))
+    else if (word === LIFTED) strokes.push((stroke = []))
   }
-  return strokes.filter((stroke) => stroke.length > 0)
+  return strokes.filter(({ length }) => length > 0)
+}
+
+/** @returns {[number, number]} */
+function pointOf(word) {
+  const comma = word.indexOf(",")
+  return [Number(word.slice(0, comma)), Number(word.slice(comma + 1))]
 }
 
 /**
@@ -89,9 +97,9 @@ export function simplify(points, distance) {
  */
 export const pathOf = (strokes) => strokes.map(pathOfStroke).join(" ")
 
-function pathOfStroke([first, ...rest]) {
-  const ways = rest.length === 0 ? [first] : rest
-  return [`M ${first.join(" ")}`, ...ways.map((point) => `L ${point.join(" ")}`)].join(" ")
+function pathOfStroke(stroke) {
+  const [first, ...others] = stroke.map(([x, y]) => `${x} ${y}`)
+  return `M ${first} L ${others.length === 0 ? first : others.join(" L ")}`
 }
 
 /** The bounding box of points. */

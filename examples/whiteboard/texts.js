@@ -13,13 +13,18 @@ export const TEXT_BYTES = 4000
 
 const keyOfPiece = (place) => (place === 0 ? "name" : `name-${place + 1}`)
 export const TEXT_KEYS = Array.from({ length: PIECES }, (_, place) => keyOfPiece(place))
+const [FIRST_KEY, ...LATER_KEYS] = TEXT_KEYS
 
 export const bytesOf = (text) => ENCODER.encode(text).length
 
 /** Reads the text from attributes. @param {Map<string, unknown>} attributes */
 export function textIn(attributes) {
-  const [first, ...others] = TEXT_KEYS.map((key) => attributes.get(key))
-  return String(first ?? "") + others.filter((piece) => typeof piece === "string").join("")
+  let text = String(attributes.get(FIRST_KEY) ?? "")
+  for (const key of LATER_KEYS) {
+    const piece = attributes.get(key)
+    if (typeof piece === "string") text += piece
+  }
+  return text
 }
 
 /**

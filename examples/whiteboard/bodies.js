@@ -21,6 +21,9 @@ export const PAPER_COLOUR = "#ffffff"
 // On a colour darker than this (0 to 255) the text is light.
 const DARK = 140
 
+// The last stroke's element without its path.
+let lastStroke = svg("path")
+
 /** What the style sheet gives the edge of a shape, a line, and letters. A picture without style sheet has it too. */
 export const EDGE_STYLE = { stroke: "#000000", "stroke-opacity": 0.45, "stroke-width": EDGE_WIDTH }
 export const LINE_STYLE = {
@@ -41,15 +44,22 @@ export function bodyOf(shape, name = "body") {
     return svg("path", { class: `${name} stroke`, d: pathOfArrow(shape), style })
   }
   const box = boundsOf(shape)
-  if (kind === "pen") {
-    return svg("path", { class: `${name} stroke`, d: pathOf(strokesIn(shape, box)), style })
-  }
+  if (kind === "pen") return strokeWith(`${name} stroke`, style, pathOf(strokesIn(shape, box)))
   if (kind === "text") return svg("rect", { class: `${name} unseen-body`, ...box, fill: "none" })
   if (kind === "ellipse") {
     const [rx, ry] = [box.width / 2, box.height / 2]
     return svg("ellipse", { class: name, cx: box.x + rx, cy: box.y + ry, rx, ry, fill, style })
   }
   return svg("rect", { class: name, ...box, rx: 6, fill, style })
+}
+
+/** The element of a stroke. A copy of the one before shares its style, which the browser then reads once for all. */
+function strokeWith(name, style, d) {
+  const isAlike = lastStroke.getAttribute("class") === name && lastStroke.getAttribute("style") === style
+  if (!isAlike) lastStroke = svg("path", { class: name, style })
+  const stroke = lastStroke.cloneNode()
+  stroke.setAttribute("d", d)
+  return stroke
 }
 
 /** The colour and the width of a line, or of a shape's edge, where they are not those of the style sheet. */
@@ -89,9 +99,16 @@ function headOf([x, y], [fromX, fromY]) {
 /** The strokes of the pen on the drawing, scaled to fill their box. */
 function strokesIn({ strokes }, { x, y, width, height }) {
   if (strokes.length === 0) return [[[x, y]]]
-  const most = (side) => strokes.flat().reduce((largest, point) => Math.max(largest, point[side]), 0)
-  const [wide, high] = [most(0) && width / most(0), most(1) && height / most(1)]
+  const [right, bottom] = [mostOf(strokes, 0), mostOf(strokes, 1)]
+  const [wide, high] = [right && width / right, bottom && height / bottom]
   return strokes.map((stroke) => stroke.map((point) => [x + point[0] * wide, y + point[1] * high]))
+}
+
+/** How far strokes reach to the right (0) or down (1). */
+function mostOf(strokes, side) {
+  let most = 0
+  for (const stroke of strokes) for (const point of stroke) most = Math.max(most, point[side])
+  return most
 }
 
 /** The text of a shape. One that stands for itself begins at its corner; on others it is made to fit. */

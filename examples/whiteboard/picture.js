@@ -63,7 +63,7 @@ function elementsOf(board, { name, place, isAlone }) {
   const stripe = isAlone ? null : stripeOf(shapes, place)
   const bodies = bodiesOf(shapes[place], stripe, `picture-${keyOf(name)}-${letterOf(place)}`)
   const all = shapes[place].text === "" ? bodies : [...bodies, textOf({ ...shapes[place], ...stripe })]
-  return all.filter((element) => !element.matches(".grip, .unseen-body"))
+  return all.filter((element) => !element.matches(".unseen-body"))
 }
 
 /** The box of what a layer draws. It has to be in the page for that. */

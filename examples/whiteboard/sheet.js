@@ -4,12 +4,18 @@ import { isSameId } from "../../clients/js/grace.js"
 import { bodyOf, isThin, textOf } from "./bodies.js"
 import { keyOf, nameOf } from "./board.js"
 import { boundsOf } from "./boxes.js"
-import { svg } from "./elements.js"
+import { setAttribute, svg } from "./elements.js"
+import { Grips } from "./grips.js"
 import { letterOf, wordsOf } from "./words.js"
 
 // Up to this many versions at the same place are drawn as stripes. If there are more, only one is visible.
 const STRIPES = 4
 const GAP = 7
+// Each version is a copy of this one: attributes that are alike are set once for all.
+const VERSION = svg("g", {
+  class: "version", tabindex: 0, role: "button", "aria-keyshortcuts": "Delete F2", "aria-pressed": false,
+  "data-letter": letterOf(0),
+})
 
 export class Sheet {
   // By object: for each of its versions the element and its sort keys.
@@ -19,6 +25,7 @@ export class Sheet {
   // The version at which the user points in the panel, and the others of its object.
   #alone = null
   #aside = []
+  #grips = new Grips()
 
   /**
    * @param {import("./board.js").Board} board
@@ -43,6 +50,7 @@ export class Sheet {
     let isSorted = true
     for (const name of names) if (!this.#refresh(name)) isSorted = this.#replace(name) && isSorted
     if (!isSorted) this.#order()
+    this.#grips.draw()
     if (focused !== undefined && !document.activeElement?.closest(".version")) this.#focus(focused)
     this.isDrawing = false
   }
@@ -161,8 +169,7 @@ export class Sheet {
   }
 
   #version(name, shapes, place, isMarked) {
-    return this.#fill(svg("g", { tabindex: 0, role: "button", "aria-keyshortcuts": "Delete F2" }),
-      name, shapes, place, isMarked)
+    return this.#fill(/** @type {SVGElement} */ (VERSION.cloneNode()), name, shapes, place, isMarked)
   }
 
   /** Gives the element of a version what it draws, and what it says. */
@@ -170,13 +177,15 @@ export class Sheet {
     const shape = shapes[place]
     const letter = letterOf(place)
     const words = wordsOf(shape) + (shapes.length > 1 ? `, version ${letter} of ${shapes.length}` : "")
-    const own = {
-      class: isMarked ? "version picked" : "version", "aria-label": words, "aria-pressed": isMarked,
-      "data-object": keyOf(name), "data-letter": letter,
-    }
-    for (const [key, value] of Object.entries(own)) element.setAttribute(key, value)
+    const key = keyOf(name)
+    setAttribute(element, "class", isMarked ? "version picked" : "version")
+    setAttribute(element, "aria-label", words)
+    setAttribute(element, "aria-pressed", String(isMarked))
+    setAttribute(element, "data-object", key)
+    setAttribute(element, "data-letter", letter)
     const stripe = stripeOf(shapes, place)
-    element.replaceChildren(...bodiesOf(shape, stripe, `${keyOf(name)}-${letter}`))
+    element.replaceChildren(...bodiesOf(shape, stripe, `${key}-${letter}`))
+    this.#grips.note(element, isThin(shape))
     if (shape.text !== "") element.append(textOf(stripe === null ? shape : { ...shape, ...stripe }))
     return element
   }
@@ -185,28 +194,20 @@ export class Sheet {
 /** The elements of a shape without its text: cut to a stripe if there is one, whose clip path has this identifier. */
 export function bodiesOf(shape, stripe, id) {
   const body = bodyOf(shape)
-  if (isThin(shape)) return [gripOf(body), body]
   if (stripe === null) return [body]
   body.setAttribute("clip-path", `url(#stripe-${id})`)
   return [svg("clipPath", { id: `stripe-${id}` }, svg("rect", stripe)), body]
 }
 
-/** The invisible wider outline of a thin line, which is easier to hit. */
-function gripOf(body) {
-  const grip = body.cloneNode()
-  grip.setAttribute("class", "grip")
-  grip.removeAttribute("style")
-  return grip
-}
-
 /** The indexes of the versions that have the same position and size as this one. */
 export function atOnePlace(shapes, place) {
-  const placeOf = ({ x, y, width, height }) => keyOf([x, y, width, height])
+  const placeOf = ({ x, y, width, height }) => [x, y, width, height].join()
   return [...shapes.keys()].filter((other) => placeOf(shapes[other]) === placeOf(shapes[place]))
 }
 
 /** The stripe of a version that shares its place with a few others, otherwise null. */
 export function stripeOf(shapes, place) {
+  if (shapes.length === 1) return null
   const there = atOnePlace(shapes, place)
   if (there.length === 1 || there.length > STRIPES || isThin(shapes[place])) return null
   const { x, y, width, height } = boundsOf(shapes[place])

@@ -7,7 +7,6 @@
  * new is shown. When the room is renewed, the page goes on in the new one under the same address.
  */
 
-import { Room } from "../../clients/js/grace.js"
 import { Alignment } from "./alignment.js"
 import { Board } from "./board.js"
 import { Changes } from "./changes.js"
@@ -23,9 +22,9 @@ import { Grouping } from "./groups.js"
 import { Handwriting } from "./handwriting.js"
 import { Incoming } from "./incoming.js"
 import { Keys } from "./keys.js"
-import { placeOfPage } from "./links.js"
 import { Nudges } from "./nudges.js"
 import { showOldDrawing } from "./old_drawing.js"
+import { openedRoom } from "./opened_room.js"
 import { Others } from "./others.js"
 import { Panel } from "./panel.js"
 import { PanelButton } from "./panel_button.js"
@@ -46,9 +45,10 @@ export class Page {
   #progress = new Frames(() => showProgress(this.room))
   #roomName
 
-  constructor(address, roomName) {
+  /** @param {import("./opened_room.js").OpenedRoom} room @param {string} roomName its first name */
+  constructor(room, roomName) {
     this.#roomName = roomName
-    this.room = new Room(address, roomName, { storage: "person", roomInPath: true, lookIfFull: true })
+    this.room = room
     this.board = new Board(this.room)
     this.view = new View(this.board)
     this.camera = this.view.camera
@@ -81,6 +81,7 @@ export class Page {
     part("room").textContent = roomName
     document.title = `${roomName} – Whiteboard`
     this.#listen(roomName)
+    room.begin()
   }
 
   /** Draws the parts around the drawing. */
@@ -184,8 +185,8 @@ export class Page {
 }
 
 try {
-  const { roomName, server } = placeOfPage()
-  new Page(server, roomName)
+  const { room, roomName } = openedRoom()
+  new Page(room, roomName)
 } catch (fault) {
   showNoDrawing(fault.message)
   throw fault

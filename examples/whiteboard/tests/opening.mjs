@@ -1,10 +1,11 @@
 /** How a room opens: what the page shows while it loads, and how long that takes. */
 
+import { readFile } from "node:fs/promises"
 import { createServer } from "node:net"
 import { join } from "node:path"
 import { expect, expectEqual } from "../../../clients/js/tests/checks.js"
 import { Proxy } from "../../../clients/js/tests/proxy.js"
-import { COUNT, HEADING, PICTURES, STATE, isOpen, pageOf, serve, step, watch } from "./people.mjs"
+import { COUNT, HEADING, PICTURES, STATE, isOpen, onScreen, pageOf, serve, step, watch } from "./people.mjs"
 
 const OBJECTS = 200
 // A person perceives a delay of up to about one and a half seconds as immediate. Other programs on the machine may use
@@ -13,6 +14,9 @@ const BOUND_MILLISECONDS = 1500
 const TRIES = 3
 // Long enough to see what the page shows between two answers.
 const ROUND_TRIP_MILLISECONDS = 700
+const PAGE = new URL("../index.html", import.meta.url)
+// More than get their grips at once.
+const STROKES = 600
 
 export async function opening(browser) {
   const { server, address } = await serve("--in-memory", "--sessions", "50")
@@ -21,6 +25,56 @@ export async function opening(browser) {
     await step("a server that does not answer", () => silentServer(browser, address))
     await step(`a room of ${OBJECTS} objects opens in time`, () => fullRoom(browser, address))
     await step("a bar tells how far a room is loaded", () => loadingBar(browser, address))
+  } finally {
+    server.kill()
+  }
+  await step("the page names all modules that it loads", namedModules)
+  await step(`each of ${STROKES} strokes can be hit beside its line`, () => manyGrips(browser))
+}
+
+/** The browser loads all modules at once, as it need not read one to find the next. */
+async function namedModules() {
+  const page = await readFile(PAGE, "utf8")
+  const named = [...page.matchAll(/<(?:link rel="modulepreload" href|script type="module" src)="([^"]+)"/g)]
+  const loaded = new Set()
+  await findModules(new URL("whiteboard.js", PAGE).href, loaded)
+  expectEqual("the modules", named.map(([, path]) => new URL(path, PAGE).href).sort(), [...loaded].sort())
+}
+
+/** Adds a module and all that it imports. */
+async function findModules(address, found) {
+  if (found.has(address)) return
+  found.add(address)
+  const text = await readFile(new URL(address), "utf8")
+  for (const [, path] of text.matchAll(/^(?:import|export) [^"]*"(\.[^"]+)"$/gm)) {
+    await findModules(new URL(path, address).href, found)
+  }
+}
+
+/** Also those that got their grips after they were shown. */
+async function manyGrips(browser) {
+  const { server, address } = await serve("--in-memory", "--sessions", "50")
+  try {
+    const room = await watch(address)
+    const [wide, high] = [40, 30]
+    room.transaction(() => Array.from({ length: STROKES }, (_, place) => room.create("pen", {
+      x: (place % 30) * wide, y: Math.floor(place / 30) * high, width: 20, height: 0, "points-0": "0,0 20,0",
+    })))
+    await room.settled()
+    const page = await browser.open(address, 1240, 720)
+    await isOpen(page)
+    await page.waitUntil("all grips", `document.querySelectorAll(".version > .grip + .body").length === ${STROKES}`)
+    for (const place of [0, STROKES / 2, STROKES - 1]) {
+      const [x, y] = await onScreen(page, [(place % 30) * wide + 10, Math.floor(place / 30) * high])
+      await page.press([x, y + 7])
+      await page.release([x, y + 7])
+      const selected = await page.look(`document.querySelector(".picked.version")?.dataset.object`)
+      expectEqual("the selected stroke", selected, room.objects()[place].join(","))
+    }
+    expectEqual("grips", await page.look(`document.querySelectorAll(".grip").length`), STROKES)
+    expectEqual("faults in the page", page.faults, [])
+    await page.close()
+    room.close()
   } finally {
     server.kill()
   }
@@ -47,11 +101,17 @@ async function openNoting(browser, address) {
   return { page, start }
 }
 
+/** The headings but for the first one, `Loading`. A room may be there before the page could show that. */
+async function headingsOf(page) {
+  const [first, ...others] = await page.look("told.headings")
+  return first === "Loading" ? others : [first, ...others]
+}
+
 async function emptyRoom(browser, address) {
   const { page } = await openNoting(browser, address)
   await isOpen(page)
   await page.frame()
-  expectEqual("the headings", await page.look("told.headings"), ["Loading", "Nothing is drawn yet"])
+  expectEqual("the headings", await headingsOf(page), ["Nothing is drawn yet"])
   expectEqual("the bar", await page.look("document.getElementById('loading').hidden"), true)
   await page.picture(join(PICTURES, "empty.png"))
   await page.close()
@@ -92,7 +152,7 @@ async function timeToOpen(browser, address, isFirst) {
   const { page, start } = await openNoting(browser, address)
   await page.waitUntil("all objects", `${COUNT} === ${OBJECTS}`)
   const time = performance.now() - start
-  expectEqual("the headings", await page.look("told.headings"), ["Loading", `Objects (${OBJECTS})`])
+  expectEqual("the headings", await headingsOf(page), [`Objects (${OBJECTS})`])
   expectEqual("faults in the page", page.faults, [])
   if (isFirst) await page.picture(join(PICTURES, "many.png"))
   await page.close()

@@ -143,10 +143,11 @@ export class Board {
 
   /** The versions that survived a deletion, except those that the user keeps. */
   survivors(name) {
-    const keptVersions = this.#keptSurvivors.get(keyOf(name)) ?? []
+    const survivors = this.shown(name).filter(({ outlived }) => outlived.length > 0)
+    const keptVersions = survivors.length === 0 ? [] : this.#keptSurvivors.get(keyOf(name)) ?? []
     const isKept = (version) => keptVersions.some((one) =>
       one.outlived.length >= version.outlived.length && this.successors(name, one).includes(version))
-    return this.shown(name).filter((version) => version.outlived.length > 0 && !isKept(version))
+    return survivors.filter((version) => !isKept(version))
   }
 
   /** Keeps versions that survived a deletion: the page stops mentioning the deletion. */

@@ -1,6 +1,6 @@
 /**
- * The grips of thin lines: invisible wider outlines, which are easier to hit. Those of many lines are made when the lines
- * are on the screen, some in each frame.
+ * The grips of thin lines: invisible wider outlines, which are easier to hit. Those of many lines are made when the
+ * lines are on the screen, some in each frame.
  */
 
 import { Frames } from "./frames.js"

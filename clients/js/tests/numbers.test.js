@@ -30,7 +30,8 @@ test("texts of messages", LIMIT, () => {
   assert.deepEqual(readText(writeText([letters])), [letters], "letters")
   assert.equal(readText('"\\u00e9\\u20AC\\ud83d\\ude00\\/\\u0041"'), "é€😀/A", "escapes")
   assert.equal(readText(JSON.stringify("\\".repeat(100000))).length, 100000, "a long text")
-  assert.deepEqual(readText('["1.5 -0 {null}","\\"",9007199254740993,-7]'), ["1.5 -0 {null}", '"', EXACT + 2n, -7], "both")
+  const both = ["1.5 -0 {null}", '"', EXACT + 2n, -7]
+  assert.deepEqual(readText('["1.5 -0 {null}","\\"",9007199254740993,-7]'), both, "strings with numbers")
   const none = [
     "", "1.0", "1e0", "-0", "01", "+1", "[1,]", "[,1]", "[1 2]", "[1", "1]", "[1]]", "{}", "null", "true", '"', '"\n"',
     "'a'", "1 2", '["a",-0]', '["a",1.5]', '"a"1', "[1,\u00a02]", '"\\x"', "[".repeat(128) + "]".repeat(128),

@@ -53,7 +53,7 @@ test("a tab that ends before it has saved the replies", LIMIT, withServer(async 
   assert.deepEqual([again.site, again.objects().length], [site, 10], "its site and its objects")
 }))
 
-/** To save a record while it is loaded would delay its drawing. It is saved soon, or with the first change, or the end. */
+/** To save a record while it is loaded would delay its drawing. It is saved soon, or with a change, or at the end. */
 test("a record is saved when it is loaded", LIMIT, withServer(async (client) => {
   const first = await client()
   first.transaction(() => Array.from({ length: 200 }, (_, number) => first.create("rect", { number })))
@@ -66,7 +66,7 @@ test("a record is saved when it is loaded", LIMIT, withServer(async (client) => 
   assert(savedEntries(storage) >= length, "what is saved at the end")
   const changing = await client({ storage: other })
   changing.create("rect", {})
-  assert.deepEqual([savedEntries(other), savedChanges(other)], [changing.record.length, 1], "what is saved with a change")
+  assert.deepEqual([savedEntries(other), savedChanges(other)], [changing.record.length, 1], "saved with a change")
   const third = await client({ storage: later })
   await waitUntil("the record is saved", () => savedEntries(later) === third.record.length)
 }))

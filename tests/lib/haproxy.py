@@ -1,4 +1,4 @@
-"""HAProxy with lines of docs/OPERATIONS.md."""
+"""HAProxy with the lines of examples/operations."""
 
 import contextlib
 import socket

@@ -16,7 +16,7 @@ from lib.crowd import Crowd
 from lib.keeping import KeepingServer, expect_kept, room_folder
 from lib.haproxy import running_haproxy
 from lib.nginx import lines_of_document, replace_once, running_nginx
-from lib.serving import Client, free_address
+from lib.serving import ROOT, Client, free_address
 from lib.websocket_client import Connection, Ended
 
 ROOMS = [f"room-{number}" for number in range(6)]
@@ -44,8 +44,8 @@ def behind_nginx(folder, port, servers):
 
 
 def behind_haproxy(folder, port, servers):
-    """Runs HAProxy at this port before these processes, by the document's lines without TLS."""
-    lines = lines_of_document("With HAProxy:")
+    """Runs HAProxy at this port before these processes, by the lines of examples/operations without TLS."""
+    lines = (ROOT / "examples/operations/haproxy.cfg").read_text()
     for number, server in enumerate(servers):
         lines = replace_once(lines, f"127.0.0.1:{7000 + number}\n", f"{server.name}\n")
     lines = replace_once(lines, "bind :443 ssl crt /etc/haproxy/draw.pem", f"bind 127.0.0.1:{port}")

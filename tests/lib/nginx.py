@@ -38,7 +38,7 @@ def lines_of_document(before):
 def replace_once(text, old, new):
     """Returns the text with the only occurrence of `old` replaced."""
     if text.count(old) != 1:
-        raise AssertionError(f"the nginx configuration of docs/OPERATIONS.md has {old!r} {text.count(old)} times")
+        raise AssertionError(f"the configuration has {old!r} {text.count(old)} times")
     return text.replace(old, str(new))
 
 

@@ -43,7 +43,9 @@ def visit(connection, visits, names, end):
         if time.monotonic() > end:
             break
         name = f"name-{number % names}"
-        asked, expected = (f'["join","{name}"]', '["joined",0,1]') if number < names else (f'["back","{name}",1]', '["back",1,1')
+        asked, expected = f'["join","{name}"]', '["joined",0,1]'
+        if number >= names:
+            asked, expected = f'["back","{name}",1]', '["back",1,1'
         start = time.monotonic()
         (reply,) = ask(connection, asked)
         times.append(time.monotonic() - start)

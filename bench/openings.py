@@ -53,7 +53,8 @@ def put(connection, count):
 
 
 def open_in_turn(connection, is_over, found):
-    """Comes into the rooms with full records in turn, until it is over. Then finds the seconds to each reply."""
+    """Comes into the rooms with full records in turn, until it is over. Then puts the seconds to
+    each reply into `found`."""
     times = []
     for room in itertools.cycle(FULL):
         if is_over.is_set():

@@ -1,6 +1,7 @@
-//! Changes from compact text, the form in which clients mostly send them. Reading it takes a third of
+//! Requests from compact text, the form in which clients mostly send them. Reading it takes a third of
 //! the time of a JSON reader. Each part says that what it takes is the compact text of what it gives. Any
 //! other text is left to the JSON reader: with white space, escapes, or a number of more than nine digits.
+//! So are all but changes, pulls and waits.
 
 ghost use Rattle.std.specs.Prelude.{◌≡◌, ◌+◌, ◌<◌, ◌≤◌, ◌∷◌, [], ◌++◌, codes, true, false, length, map, take, IfOk, IsTrue, MatchOption, OnOk};
 ghost use Rattle.std.specs.Fmt.{decimal};
@@ -10,8 +11,8 @@ ghost use Rattle.serde_json.specs.Data.{Data};
 ghost use Rattle.serde_json.specs.Written.{compact_text};
 ghost use Rattle.base_types.specs.Names.{is_op_name, is_seq};
 ghost use Rattle.base_types.specs.Vectors.{is_vector};
-ghost use Rattle.wire.specs.Form.{attr_form, attrs_form, body_form, list_form, name_form, names_form, request_form, value_form, ArePairs, IsAttr, IsBody, IsId, IsRequest, IsValue};
-ghost use Rattle.wire_reader.specs.steps.Compact.{fields_text};
+ghost use Rattle.wire.specs.Form.{attr_form, attrs_form, body_form, list_form, name_form, names_form, request_form, value_form, ArePairs, is_from, IsAttr, IsBody, IsId, IsRequest, IsValue};
+ghost use Rattle.wire_reader.specs.steps.Compact.{fields_text, request_word};
 ghost use Rattle.wire.specs.steps.Quoting.{is_plain_byte};
 
 use crate::fault::ReadFault;
@@ -19,7 +20,7 @@ use base_types::{Key, Kind, MAX_SEQ, NoMemory, OpName, SitePairs, StateVector, V
 use rules::{Attrs, Body, Pairs};
 use std::alloc::Global;
 use std::marker::Model;
-use wire::Request;
+use wire::{MAX_FROM, Request};
 
 /// A number with more digits is left to the JSON reader.
 const MAX_SHORTER: u32 = 99_999_999;
@@ -397,15 +398,17 @@ fn seq_of(cursor: &mut Cursor<'_>) -> Result<u32, ReadFault>
     }
 }
 
-/// Takes a change.
-fn change_of(alloc: Global, cursor: &mut Cursor<'_>) -> Result<Request, ReadFault>
-    ensures text { IfOk result (λ change.
-        cursor.old ≡ compact_text (request_form change) ++ cursor.new) }
+/// Takes the fields of a change, to the end of the list. Its word and a comma were taken before.
+fn change_of(
+    alloc: Global,
+    word: &[u8],
+    cursor: &mut Cursor<'_>,
+) -> Result<Request, ReadFault>
+    ensures text { IfOk result (λ change. 91 ∷ (quoted (request_word change) ++ 44 ∷ cursor.old)
+        ≡ compact_text (request_form change) ++ cursor.new) }
+    ensures word { IfOk result (λ change. request_word change ≡ word.now) }
     ensures range { IfOk result IsRequest }
 {
-    cursor.expect(b'[')?;
-    let word = cursor.quoted()?;
-    cursor.expect(b',')?;
     let seq = seq_of(cursor)?;
     cursor.expect(b',')?;
     let seen = seen_of(alloc, cursor)?;
@@ -414,20 +417,86 @@ fn change_of(alloc: Global, cursor: &mut Cursor<'_>) -> Result<Request, ReadFaul
     Ok(Request::Change { seq, seen, body })
 }
 
-/// The change that a message is the compact text of. Linear in the message, as far as it is that.
+/// Takes the place that a page begins at, and the end of the list.
+fn place_of(cursor: &mut Cursor<'_>) -> Result<u32, ReadFault>
+    ensures text { IfOk result (λ from. cursor.old ≡ decimal from ++ 93 ∷ cursor.new) }
+    ensures range { IfOk result (λ from. is_from from ≡ true) }
+{
+    let from = cursor.number()?;
+    cursor.expect(b']')?;
+    if from <= MAX_FROM {
+        Ok(from)
+    } else {
+        Err(ReadFault::Bad)
+    }
+}
+
+/// Takes the fields of a pull, to the end of the list. Its word and a comma were taken before.
+fn pull_of(cursor: &mut Cursor<'_>) -> Result<Request, ReadFault>
+    ensures text { IfOk result (λ pull. 91 ∷ (quoted (request_word pull) ++ 44 ∷ cursor.old)
+        ≡ compact_text (request_form pull) ++ cursor.new) }
+    ensures word { IfOk result (λ pull. request_word pull ≡ codes "pull") }
+    ensures range { IfOk result IsRequest }
+{
+    let from = place_of(cursor)?;
+    Ok(Request::Pull { from, waits: false })
+}
+
+/// Takes the fields of a wait, to the end of the list. Its word and a comma were taken before.
+fn wait_of(cursor: &mut Cursor<'_>) -> Result<Request, ReadFault>
+    ensures text { IfOk result (λ wait. 91 ∷ (quoted (request_word wait) ++ 44 ∷ cursor.old)
+        ≡ compact_text (request_form wait) ++ cursor.new) }
+    ensures word { IfOk result (λ wait. request_word wait ≡ codes "wait") }
+    ensures range { IfOk result IsRequest }
+{
+    let from = place_of(cursor)?;
+    Ok(Request::Pull { from, waits: true })
+}
+
+/// Takes the fields of a request, to the end of the list. Its word and a comma were taken before.
+fn fields_of(
+    alloc: Global,
+    word: &[u8],
+    cursor: &mut Cursor<'_>,
+) -> Result<Request, ReadFault>
+    ensures text { IfOk result (λ request. 91 ∷ (quoted (request_word request) ++ 44 ∷ cursor.old)
+        ≡ compact_text (request_form request) ++ cursor.new) }
+    ensures word { IfOk result (λ request. request_word request ≡ word.now) }
+    ensures range { IfOk result IsRequest }
+{
+    match word {
+        b"pull" => pull_of(cursor),
+        b"wait" => wait_of(cursor),
+        _ => change_of(alloc, word, cursor),
+    }
+}
+
+/// Takes a request.
+fn request_of(alloc: Global, cursor: &mut Cursor<'_>) -> Result<Request, ReadFault>
+    ensures text { IfOk result (λ request.
+        cursor.old ≡ compact_text (request_form request) ++ cursor.new) }
+    ensures range { IfOk result IsRequest }
+{
+    cursor.expect(b'[')?;
+    let word = cursor.quoted()?;
+    cursor.expect(b',')?;
+    fields_of(alloc, word, cursor)
+}
+
+/// The request that a message is the compact text of. Linear in the message, as far as it is that.
 ///
 /// # Errors
 ///
-/// - `Bad` if it is another one: perhaps of another request, or of a change in another form.
+/// - `Bad` if it is another one: perhaps of a request of another kind, or in another form.
 /// - `NoMemory` if an allocation failed.
-pub(crate) fn read_change(alloc: Global, message: &[u8]) -> Result<Request, ReadFault>
-    ensures text { IfOk result (λ change. message.now ≡ compact_text (request_form change)) }
+pub(crate) fn read_compact(alloc: Global, message: &[u8]) -> Result<Request, ReadFault>
+    ensures text { IfOk result (λ request. message.now ≡ compact_text (request_form request)) }
     ensures range { IfOk result IsRequest }
 {
     let mut cursor = Cursor { rest: message };
-    let change = change_of(alloc, &mut cursor)?;
+    let request = request_of(alloc, &mut cursor)?;
     if cursor.rest.is_empty() {
-        Ok(change)
+        Ok(request)
     } else {
         Err(ReadFault::Bad)
     }

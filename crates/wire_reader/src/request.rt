@@ -10,7 +10,7 @@ ghost use Rattle.wire_reader.specs.steps.Reads.{request_read};
 ghost use Rattle.wire_reader.specs.steps.Streams.{rest_in, Takes};
 
 use crate::body::operation_of;
-use crate::compact::read_change;
+use crate::compact::read_compact;
 use crate::fault::ReadFault;
 use crate::part::{Part, name_of, read_text, room_of, utf8_of};
 use crate::token::{Seq, close_list, whole_of, word_of};
@@ -105,17 +105,17 @@ impl Part for Request {
     }
 }
 
-/// Reads a change in compact text.
-fn change_in_bytes(alloc: Global, bytes: &[u8]) -> Result<Request, ReadFault>
+/// Reads a request in compact text.
+fn compact_in_bytes(alloc: Global, bytes: &[u8]) -> Result<Request, ReadFault>
     requires { length bytes.now ≤ MAX_REQUEST_LEN }
-    ensures { IfOk result (λ change. request_read bytes.now ≡ Some change) }
+    ensures { IfOk result (λ request. request_read bytes.now ≡ Some request) }
 {
-    let change = read_change(alloc, bytes)?;
+    let request = read_compact(alloc, bytes)?;
     let _text = utf8_of(bytes)?;
-    Ok(change)
+    Ok(request)
 }
 
-/// Reads a request. Most are changes in compact text, which need no JSON reader.
+/// Reads a request. Most are in compact text, which needs no JSON reader.
 #[tactic(auto, unfolding(crate::specs::steps::Reads::request_read))]
 fn request_in_bytes(
     alloc: Global,
@@ -127,8 +127,8 @@ fn request_in_bytes(
     if bytes.len() > MAX_REQUEST_LEN {
         return Err(ReadFault::Bad);
     }
-    match change_in_bytes(alloc, bytes) {
-        Ok(change) => Ok(change),
+    match compact_in_bytes(alloc, bytes) {
+        Ok(request) => Ok(request),
         Err(ReadFault::Bad) => read_text(alloc, scratch, bytes),
         Err(ReadFault::NoMemory) => Err(ReadFault::NoMemory),
     }

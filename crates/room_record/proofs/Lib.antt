@@ -1,2 +1,3 @@
+mod FirstTexts
+mod Joined
 pub mod Parts
-mod Texts

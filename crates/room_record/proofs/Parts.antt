@@ -1,5 +1,5 @@
 -- Parts of a list whose members are seen through a function.
-use Rattle.std.proofs.Common.{◌≡◌, ℕ, ◌+◌, ◌-◌, ◌<◌, List, [], ◌∷◌, ◌++◌, length, get_or, map, take, drop, sym, ap, ◌∙◌, slice_get, Some, min}
+use Rattle.std.proofs.Common.{◌≡◌, ℕ, ◌+◌, ◌-◌, ◌<◌, List, [], ◌∷◌, ◌++◌, length, get_or, map, take, drop, sym, ap, ◌∙◌, slice_get, Some, min, arith}
 use Rattle.std.proofs.lemmas.List.{get_or-map, length-drop, length-map, take-map, take_min, take_more, drop-map}
 use Rattle.std.proofs.lemmas.Option.{get_or_from_slice_get, slice_get_within}
 
@@ -25,3 +25,11 @@ page_of f xs from page count is =
     sym (take-map f count (drop from xs))
     ∙ page_counted f (drop from xs) page count (is ∙ ap (min page) (sym (length-drop from xs)))
     ∙ ap (take page) (sym (drop-map f from xs))
+
+-- and of a list that is seen the same
+pub page_of_shared : {X Y : Type 0} (f : X → Y) (owners part xs : List X) (from page count size : ℕ) → map f owners ≡ map f (take (from + count - from) (drop from part)) → part ≡ xs
+    → count ≡ min page (size - from) → size ≡ length xs → map f owners ≡ take page (drop from (map f xs))
+page_of_shared f owners part xs from page count size seen whole counted all =
+    seen
+    ∙ ap (λ ys. map f (take (from + count - from) (drop from ys))) whole
+    ∙ page_of f xs from page (from + count - from) (omega (arith, counted, all))

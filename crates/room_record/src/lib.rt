@@ -2,5 +2,6 @@
 #![tactic(auto)]
 
 mod record;
+mod texts;
 
 pub use record::{Record, shared_entries};

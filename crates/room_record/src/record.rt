@@ -1,9 +1,10 @@
 //! A room's record, with texts of its entries.
 
-ghost use Rattle.std.specs.Prelude.{◌≡◌, ◌<◌, ◌≤◌, ◌++◌, ◌∷◌, [], length, drop, map, take, IfOk, OnOk, string_bytes, vec_len};
+ghost use Rattle.std.specs.Prelude.{◌≡◌, ◌<◌, ◌≤◌, ◌++◌, ◌∷◌, [], length, drop, map, take, IfOk, OnOk};
 ghost use Rattle.std.specs.Arc.{arc_value};
 ghost use Rattle.room_record.specs.steps.Records.{AreTexts};
 
+use crate::texts::Texts;
 use base_types::NoMemory;
 use rules::Entry;
 use std::alloc::Global;
@@ -16,11 +17,11 @@ use wire::{EntryList, write_entry};
 #[derive(Drop)]
 pub struct Record {
     entries: Vec<Arc<Entry>>,
-    texts: Vec<String>,
+    texts: Texts,
 }
 
 impl Model for Record {
-    ghost use Rattle.std.specs.Prelude.{◌-◌, map, string_bytes, vec_capacity, vec_len};
+    ghost use Rattle.std.specs.Prelude.{◌-◌, map, vec_capacity, vec_len};
     ghost use Rattle.std.specs.Arc.{arc_value};
     ghost use Rattle.room_record.specs.steps.Records.{AreTexts, RecordState};
 
@@ -31,8 +32,7 @@ impl Model for Record {
       spare = vec_capacity r.entries - vec_len r.entries;
     } };
 
-    ghost invariant = { λ r.
-        AreTexts (map string_bytes r.texts.items) (map arc_value r.entries.items) };
+    ghost invariant = { λ r. AreTexts r.texts (map arc_value r.entries.items) };
 }
 
 impl Record {
@@ -42,7 +42,7 @@ impl Record {
     {
         Record {
             entries: Vec::new(alloc),
-            texts: Vec::new(alloc),
+            texts: Texts::new(alloc),
         }
     }
 
@@ -89,7 +89,8 @@ impl Record {
     }
 
     /// At most `count` entries from a place on. The page has its text too, unless an entry before
-    /// the place has none. Linear in the page and its text.
+    /// the place has none. Linear in the page and its text on average: the string of all texts moves
+    /// when it grows.
     ///
     /// # Errors
     ///
@@ -105,7 +106,10 @@ impl Record {
             return Ok(EntryList::from_vec(entries));
         }
         write_texts(alloc, &self.entries, end, &mut self.texts)?;
-        EntryList::with_texts(alloc, entries, &self.texts[from..end])
+        let Some(text) = self.texts.joined(alloc, from, end)? else {
+            return Ok(EntryList::from_vec(entries));
+        };
+        Ok(EntryList::with_text(entries, text))
     }
 }
 
@@ -129,16 +133,15 @@ fn write_texts(
     alloc: Global,
     entries: &[Arc<Entry>],
     end: usize,
-    texts: &mut Vec<String>,
+    texts: &mut Texts,
 ) -> Result<(), NoMemory>
-    requires texts { AreTexts (map string_bytes texts.old.items) (map arc_value entries.now) }
+    requires texts { AreTexts texts.old (map arc_value entries.now) }
     requires range { end ≤ length entries.now }
-    ensures texts { AreTexts (map string_bytes texts.new.items) (map arc_value entries.now) }
-    ensures all { OnOk result (end ≤ vec_len texts.new) }
+    ensures texts { AreTexts texts.new (map arc_value entries.now) }
+    ensures all { OnOk result (end ≤ length texts.new) }
 {
     for place in texts.len()..end {
-        let mut text = write_entry(alloc, &entries[place])?;
-        text.shrink_to_fit();
+        let text = write_entry(alloc, &entries[place])?;
         texts.push(text)?;
     }
     Ok(())

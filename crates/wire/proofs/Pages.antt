@@ -38,13 +38,10 @@ after_first : {X : Type 0} (text : X → List ℕ) (xs : List X) → flat_map (�
 after_first text [] = refl
 after_first text (x ∷ xs) = ap (λ s. 44 ∷ (text x ++ s)) (after_first text xs)
 
-of_texts : {X : Type 0} (text : X → List ℕ) (xs : List X) → join_by text (44 ∷ []) xs ≡ join_by (λ s. s) (44 ∷ []) (map text xs)
+-- what is joined are the texts
+pub of_texts : {X : Type 0} (text : X → List ℕ) (xs : List X) → join_by text (44 ∷ []) xs ≡ join_by (λ s. s) (44 ∷ []) (map text xs)
 of_texts text [] = refl
 of_texts text (x ∷ xs) = ap (λ s. text x ++ s) (after_first text xs)
-
--- the same texts are joined to the same text
-pub same_texts : {X Y : Type 0} (text : X → List ℕ) (other : Y → List ℕ) (xs : List X) (ys : List Y) → map text xs ≡ map other ys → join_by text (44 ∷ []) xs ≡ join_by other (44 ∷ []) ys
-same_texts text other xs ys e = of_texts text xs ∙ ap (join_by (λ s. s) (44 ∷ [])) e ∙ sym (of_texts other ys)
 
 -- ---- lists of forms
 

@@ -1,14 +1,11 @@
 //! The lists in replies. Contracts see each as the plain list of its members.
 
-ghost use Rattle.std.specs.Prelude.{◌≡◌, ◌∷◌, [], IfOk, IfSome, length, map, string_bytes};
-ghost use Rattle.std.specs.List.{join_by};
+ghost use Rattle.std.specs.Prelude.{◌≡◌, IfSome, map, string_bytes};
 ghost use Rattle.std.specs.Arc.{arc_value};
 ghost use Rattle.wire.specs.steps.Pages.{entries_text};
-ghost use Rattle.wire.specs.Texts.{entry_text};
 
-use base_types::{Kind, NoMemory, OpName, ValueText, VersionId};
+use base_types::{Kind, OpName, ValueText, VersionId};
 use rules::{Entry, Version};
-use std::alloc::Global;
 use std::marker::Model;
 use std::sync::Arc;
 
@@ -247,25 +244,16 @@ impl EntryList {
         }
     }
 
-    /// These entries, in their order, and their texts joined, which `write_reply` then copies. Linear
-    /// in the texts.
-    ///
-    /// # Errors
-    ///
-    /// `NoMemory` if an allocation failed.
-    pub fn with_texts(
-        alloc: Global,
-        entries: Vec<Arc<Entry>>,
-        texts: &[String],
-    ) -> Result<EntryList, NoMemory>
-        requires { map string_bytes texts.now ≡ map entry_text (map arc_value entries.items) }
-        ensures { IfOk result (λ list. list ≡ map arc_value entries.items) }
+    /// These entries, in their order, and their text, which `write_reply` then copies. Takes no
+    /// memory.
+    pub fn with_text(entries: Vec<Arc<Entry>>, text: String) -> EntryList
+        requires { string_bytes text ≡ entries_text (map arc_value entries.items) }
+        ensures { result ≡ map arc_value entries.items }
     {
-        let text = join_texts(alloc, texts)?;
-        Ok(EntryList {
+        EntryList {
             entries,
             text: Some(text),
-        })
+        }
     }
 
     /// The entries.
@@ -284,30 +272,6 @@ impl EntryList {
             None => None,
         }
     }
-}
-
-/// How much room the texts take with a comma each.
-fn room_for(texts: &[String]) -> usize {
-    let mut room: usize = 0;
-    for text in texts {
-        room = room.saturating_add(text.len()).saturating_add(1);
-    }
-    room
-}
-
-/// The texts with commas between them, in one allocation.
-fn join_texts(alloc: Global, texts: &[String]) -> Result<String, NoMemory>
-    ensures { IfOk result (λ joined. string_bytes joined
-        ≡ join_by string_bytes (44 ∷ []) texts.now) }
-{
-    let mut joined = String::with_capacity(alloc, room_for(texts))?;
-    for at in 0..texts.len() {
-        if at > 0 {
-            joined.push_str(",")?;
-        }
-        joined.push_str(&texts[at])?;
-    }
-    Ok(joined)
 }
 
 impl PartialEq for EntryList {

@@ -1,9 +1,9 @@
-use Rattle.std.proofs.Common.{◌≡◌, ◌<◌, [], ◌∷◌, map, length, get_or, string_bytes, sym, ap, ◌∙◌, subst, arith}
-use Rattle.std.proofs.lemmas.List.{map-append, length-map, get_or-map}
+use Rattle.std.proofs.Common.{◌≡◌, ◌+◌, ◌<◌, map, length, get_or, string_bytes, sym, ap, ◌∙◌, subst, arith}
+use Rattle.std.proofs.lemmas.List.{length-map, length_push, get_or-map}
 use Rattle.std.specs.Arc.{arc_value}
 use Rattle.room_record.specs.steps.Records.{AreTexts}
 use Rattle.wire.specs.Texts.{entry_text}
-use Rattle.room_record.proofs.Texts.{one_more_text}
+use Rattle.room_record.proofs.FirstTexts.{one_more_text}
 use Rattle.room_record.proofs.record.write_texts.Goals as goal
 
 pub loop-place-init : goal.loop-place-init
@@ -14,23 +14,23 @@ returns-in_err-text-clause-texts c = c.loop-place.invariant.0
 
 pub returns-in_err-push-clause-texts : goal.returns-in_err-push-clause-texts
 returns-in_err-push-clause-texts c =
-    subst (λ texts. AreTexts (map string_bytes texts) (map arc_value c.args.entries.now)) (sym c.in_err-push.ensures.items) c.loop-place.invariant.0
+    subst (λ texts. AreTexts texts (map arc_value c.args.entries.now)) (sym c.in_err-push.ensures.err) c.loop-place.invariant.0
 
 pub loop-place-preserved : goal.loop-place-preserved
 loop-place-preserved c =
     let texts = c.loop-place.texts in
     let entries = c.args.entries.now in
     let entry = c.index-entries-place.result in
-    let count : length (map string_bytes texts.items) ≡ c.loop-place.place = length-map texts.items string_bytes ∙ sym texts.ok.0 ∙ c.loop-place.invariant.1 in
+    let text = string_bytes c.in_ok-text.text in
+    let count : length texts ≡ c.loop-place.place = c.loop-place.invariant.1 in
     let within : c.loop-place.place < length entries = omega (arith, c.loop-place-test.true, c.requires.range) in
     let there : arc_value entry ≡ get_or (map arc_value entries) c.loop-place.place (arc_value entry) =
     ap arc_value c.index-entries-place.is ∙ sym (get_or-map arc_value entries c.loop-place.place entry (arc_value entry) within) in
-    let more = ap (map string_bytes) c.in_ok-push.ensures.items ∙ map-append string_bytes texts.items (c.shrink_to_fit.new.self ∷ []) in
-    let is : string_bytes c.shrink_to_fit.new.self ≡ entry_text (arc_value entry) = c.shrink_to_fit.ensures.bytes ∙ c.in_ok-text.ensures.text ∙ ap entry_text c.deref.ensures in (
-      subst (λ ts. AreTexts ts (map arc_value entries)) (sym more)
-          (one_more_text (map string_bytes texts.items) (map arc_value entries) (string_bytes c.shrink_to_fit.new.self) (arc_value entry)
+    let is : text ≡ entry_text (arc_value entry) = c.in_ok-text.ensures.text ∙ ap entry_text c.deref.ensures in (
+      subst (λ ts. AreTexts ts (map arc_value entries)) (sym c.in_ok-push.ensures.ok)
+          (one_more_text texts (map arc_value entries) text (arc_value entry)
           (omega (arith, count, within, length-map entries arc_value)) (there ∙ ap (λ k. get_or (map arc_value entries) k (arc_value entry)) (sym count)) is c.loop-place.invariant.0),
-      omega (arith, c.in_ok-push.ensures.len, c.loop-place.invariant.1),
+      ap length c.in_ok-push.ensures.ok ∙ length_push texts text ∙ ap (λ n. n + 1) count,
     )
 
 pub returns-clause-texts : goal.returns-clause-texts

@@ -1,10 +1,11 @@
 #!/usr/bin/env python3
 """Measures what the opening of rooms with full records costs, and prints a Markdown table. A client puts values in a
-room of `grace serve --rooms 2 --keep DIR` without a pause: first alone, then while another client comes into two rooms
-with full records in turn, and leaves them. There is one place for the two, so each is closed when the other is opened.
-The time of an opening is that to the reply to a back, with the closing of the other room; the table has the median and
-the most. Beside it stand the median and the 99th percentile of the time to the replies of the first client. It measures
-the program that `./test` proved."""
+room of `grace serve --rooms 2 --keep DIR` without a pause: alone, while another process keeps a processor busy, and while
+another client comes into two rooms with full records in turn, and leaves them. There is one place for the two, so each
+is closed when the other is opened, and the server keeps a processor busy too. So the second row shows what the machine
+adds, and the third what the server does. The runs take turns. The time of an opening is that to the reply to a back,
+with the closing of the other room; the table has the median and the most. Beside it stand the median and the 99th
+percentile of the time to the replies of the first client. It measures the program that `./test` proved."""
 
 import itertools
 import multiprocessing
@@ -52,9 +53,17 @@ def put(connection, count):
     return times
 
 
-def open_in_turn(connection, is_over, found):
+def keep_busy(_server, is_over, found):
+    """Keeps a processor busy until it is over. Opens nothing."""
+    while not is_over.is_set():
+        sum(range(100_000))
+    found.put([])
+
+
+def open_in_turn(server, is_over, found):
     """Comes into the rooms with full records in turn, until it is over. Then puts the seconds to
     each reply into `found`."""
+    connection = connect(server)
     times = []
     for room in itertools.cycle(FULL):
         if is_over.is_set():
@@ -66,24 +75,29 @@ def open_in_turn(connection, is_over, found):
         ask(connection, '["leave"]')
 
 
-def measure(record, puts, opens):
-    """Returns the seconds to the first client's replies, the seconds to each opening, and the seconds of the run."""
+def measure(record, puts, other):
+    """Returns the seconds to the first client's replies, the seconds to each opening, and the seconds of the run.
+    Meanwhile a process does the other work, if there is some."""
     with tempfile.TemporaryDirectory() as folder:
         for room in FULL:
             path_of(folder, room).write_text(record)
         with Server(0, [], keep=folder, on_demand=PLACES) as server:
             # A process of its own: two threads of one would wait for each other.
             is_over, found = FORK.Event(), FORK.Queue()
-            opener = FORK.Process(target=open_in_turn, args=(connect(server), is_over, found))
+            worker = FORK.Process(target=other or keep_busy, args=(server, is_over, found))
             client, start = connect(server), time.monotonic()
-            if opens:
-                opener.start()
+            if other is None:
+                is_over.set()
+            worker.start()
             times = put(client, puts)
             is_over.set()
-            openings = found.get() if opens else []
-            if opens:
-                opener.join()
+            openings = found.get()
+            worker.join()
             return times, openings, time.monotonic() - start
+
+
+# What else happens while the first client puts values.
+MEANWHILE = {"nothing": None, "a processor is busy": keep_busy, "rooms are opened and closed": open_in_turn}
 
 
 def cells_of(runs):
@@ -105,15 +119,14 @@ def main():
     if not 1 < options.puts <= MOST_PUTS or not 1 <= options.objects <= MAX_OBJECTS:
         parser.error("so many puts or objects are not possible")
     record = "".join(f"{compact(entry)}\n" for entry in full(options.objects).entries)
-    titles(["Build", "Other rooms", "Openings a second", "Median, ms", "Most, ms", "A put, ms", "99%, ms"])
-    for opens in (False, True):
-        runs = [[] for _ in builds]
-        for _ in range(options.runs):
-            for build, of_build in zip(builds, runs):
-                use_build(build)
-                of_build.append(measure(record, options.puts, opens))
-        for build, of_build in zip(builds, runs):
-            row([build.name, "opened and closed" if opens else "none", *cells_of(of_build)])
+    titles(["Build", "Meanwhile", "Openings a second", "Median, ms", "Most, ms", "A put, ms", "99%, ms"])
+    runs = {(build, name): [] for build in builds for name in MEANWHILE}
+    for _ in range(options.runs):
+        for (build, name), found in runs.items():
+            use_build(build)
+            found.append(measure(record, options.puts, MEANWHILE[name]))
+    for (build, name), found in runs.items():
+        row([build.name, name, *cells_of(found)])
 
 
 if __name__ == "__main__":

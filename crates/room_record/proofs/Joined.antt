@@ -6,9 +6,9 @@ use Rattle.std.specs.List.{flat_map}
 use Rattle.room_record.specs.steps.Texts.{AreJoined, before_commas, between_commas, ends_from, with_commas}
 
 -- the places belong to the texts
-pub ends-texts : (front : List ℕ) (ts : List (List ℕ)) (at : ℕ) → at ≡ length front → before_commas at (ends_from at ts) (front ++ with_commas ts) ≡ ts
-ends-texts front [] at is = refl
-ends-texts front (t ∷ ts) at is =
+texts_at_ends : (front : List ℕ) (ts : List (List ℕ)) (at : ℕ) → at ≡ length front → before_commas at (ends_from at ts) (front ++ with_commas ts) ≡ ts
+texts_at_ends front [] at is = refl
+texts_at_ends front (t ∷ ts) at is =
     let end = at + length t + 1 in
     let rest = with_commas ts in
     let after : front ++ ((t ++ 44 ∷ []) ++ rest) ≡ (front ++ (t ++ 44 ∷ [])) ++ rest = sym (append_assoc front (t ++ 44 ∷ []) rest) in
@@ -18,15 +18,15 @@ ends-texts front (t ∷ ts) at is =
     ap (take (end - (at + 1))) (drop_at front ((t ++ 44 ∷ []) ++ rest) at (sym is) ∙ append_assoc t (44 ∷ []) rest)
     ∙ take_at t (44 ∷ rest) (end - (at + 1)) width in
     let others : before_commas end (ends_from end ts) (front ++ ((t ++ 44 ∷ []) ++ rest)) ≡ ts =
-    ap (before_commas end (ends_from end ts)) after ∙ ends-texts (front ++ (t ++ 44 ∷ [])) ts end size in
+    ap (before_commas end (ends_from end ts)) after ∙ texts_at_ends (front ++ (t ++ 44 ∷ [])) ts end size in
     (λ i. first i ∷ others i)
 
 -- one text more has one comma more
-pub more_commas : (ts : List (List ℕ)) (t : List ℕ) → with_commas (ts ++ t ∷ []) ≡ with_commas ts ++ (t ++ 44 ∷ [])
+more_commas : (ts : List (List ℕ)) (t : List ℕ) → with_commas (ts ++ t ∷ []) ≡ with_commas ts ++ (t ++ 44 ∷ [])
 more_commas ts t = flat_map-append (λ s. s ++ 44 ∷ []) ts (t ∷ []) ∙ ap (λ s. with_commas ts ++ s) (append-nil (t ++ 44 ∷ []))
 
 -- and its end is the last
-pub more_ends : (at : ℕ) (ts : List (List ℕ)) (t : List ℕ) → ends_from at (ts ++ t ∷ []) ≡ ends_from at ts ++ (at + length (with_commas (ts ++ t ∷ []))) ∷ []
+more_ends : (at : ℕ) (ts : List (List ℕ)) (t : List ℕ) → ends_from at (ts ++ t ∷ []) ≡ ends_from at ts ++ (at + length (with_commas (ts ++ t ∷ []))) ∷ []
 more_ends at [] t =
     let size : at + length t + 1 ≡ at + length ((t ++ 44 ∷ []) ++ []) = simp length-append (omega arith) in
     ap (λ n. n ∷ []) size
@@ -41,7 +41,7 @@ ends_counted at [] = refl
 ends_counted at (t ∷ ts) = ap suc (ends_counted (at + length t + 1) ts)
 
 -- an end says how long the texts before it are
-pub end_found : (at : ℕ) (ts : List (List ℕ)) (k d : ℕ) → k < length ts → get_or (ends_from at ts) k d ≡ at + length (with_commas (take (suc k) ts))
+end_found : (at : ℕ) (ts : List (List ℕ)) (k d : ℕ) → k < length ts → get_or (ends_from at ts) k d ≡ at + length (with_commas (take (suc k) ts))
 end_found at [] k d l = absurd (omega arith)
 end_found at (t ∷ ts) zero d l = let size : at + length t + 1 ≡ at + length ((t ++ 44 ∷ []) ++ []) = simp length-append (omega arith) in size
 end_found at (t ∷ ts) (suc k) d l =
@@ -56,7 +56,7 @@ later_commas [] = refl
 later_commas (t ∷ ts) =
     ap (λ s. 44 ∷ s) (append_assoc t (44 ∷ []) (with_commas ts) ∙ ap (λ s. t ++ s) (later_commas ts) ∙ sym (append_assoc t (flat_map (λ t. 44 ∷ t) ts) (44 ∷ [])))
 
-pub last_comma : (ts : List (List ℕ)) → 0 < length ts → with_commas ts ≡ between_commas ts ++ 44 ∷ []
+last_comma : (ts : List (List ℕ)) → 0 < length ts → with_commas ts ≡ between_commas ts ++ 44 ∷ []
 last_comma [] l = absurd (omega arith)
 last_comma (t ∷ ts) l =
     append_assoc t (44 ∷ []) (with_commas ts) ∙ ap (λ s. t ++ s) (later_commas ts) ∙ sym (append_assoc t (flat_map (λ t. 44 ∷ t) ts) (44 ∷ []))
@@ -97,7 +97,7 @@ part ts from end start comma less all starts ends =
 
 -- such bytes and ends are those of these texts alone
 pub texts_found : (joined ends : List ℕ) (ts : List (List ℕ)) → AreJoined joined ends ts → before_commas 0 ends joined ≡ ts
-texts_found joined ends ts are = (λ i. before_commas 0 (are.1 i) (are.0 i)) ∙ ends-texts [] ts 0 refl
+texts_found joined ends ts are = (λ i. before_commas 0 (are.1 i) (are.0 i)) ∙ texts_at_ends [] ts 0 refl
 
 -- a text with its comma may follow them
 pub one_more_joined : (joined ends : List ℕ) (ts : List (List ℕ)) (t more all : List ℕ) → AreJoined joined ends ts

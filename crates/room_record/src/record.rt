@@ -89,8 +89,8 @@ impl Record {
     }
 
     /// At most `count` entries from a place on. The page has its text too, unless an entry before
-    /// the place has none. Linear in the page and its text on average: the string of all texts moves
-    /// when it grows.
+    /// the place has none. Linear in the page and its text on average: the string of all texts
+    /// moves when it grows.
     ///
     /// # Errors
     ///

@@ -12,7 +12,7 @@ use std::marker::Model;
 pub(crate) struct Texts {
     /// The texts with a comma behind each.
     joined: String,
-    /// Where each text's comma ends.
+    /// Where each text ends in `joined`, with its comma.
     ends: Vec<usize>,
 }
 
@@ -63,9 +63,9 @@ impl Texts {
         Ok(())
     }
 
-    /// The texts from a place to another, with commas between them. `None` is for a part that is
-    /// not text: it never is, as whole texts and commas are, but no contract says so. Linear in these
-    /// texts.
+    /// The texts from a place to another, with commas between them. `None` would say that a
+    /// character is cut, which never happens between whole texts, though no contract rules it out.
+    /// Linear in these texts.
     ///
     /// # Errors
     ///

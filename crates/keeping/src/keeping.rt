@@ -348,13 +348,13 @@ impl<P: RoomHistories, J: Journal + Drop, F: RoomFiles<J> + Drop> Keeper<P> for 
             Order::Keep(place) => Some(self.keep_at(rt, alloc, rooms, place)),
             Order::Open(name) => {
                 let attempt = self.open_room(rt, alloc, rooms, name);
-                self.orders.end_move(rt);
+                self.orders.end_opening(rt);
                 Some(attempt)
             }
             Order::Close(place) => {
                 let ticks = self.close_after;
                 let attempt = self.close_room(rt, alloc, rooms, Idle { place, ticks });
-                self.orders.end_move(rt);
+                self.orders.end_closing(rt);
                 Some(attempt)
             }
         }

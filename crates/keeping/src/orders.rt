@@ -20,15 +20,20 @@ pub(crate) enum Order {
     Close(usize),
 }
 
-/// The orders, in the order in which they came. Records are kept first.
+/// The orders, in the order in which they came. Records are kept first, then rooms are opened.
 #[derive(Drop)]
 struct Queue {
     /// The places of rooms whose records are to be kept.
     keeps: VecDeque<usize>,
-    /// The rooms that are to be opened or closed.
-    moves: VecDeque<Order>,
+    /// The rooms that are to be opened.
+    opens: VecDeque<RoomName>,
+    /// The places of rooms that are to be closed.
+    closes: VecDeque<usize>,
     /// How many threads may open and close rooms now.
     spare: usize,
+    /// A thread closes a room. No other does meanwhile: nobody waits for it, and the allocator keeps
+    /// memory for each thread that closes rooms.
+    is_closing: bool,
     /// The threads that wait for orders.
     sleepers: Sleepers,
     /// When the last order was taken out.
@@ -44,19 +49,44 @@ impl Queue {
         match order {
             Order::Keep(place) => self.keeps.push_back(place).is_ok(),
             Order::Open(_) | Order::Close(_) if self.is_over => true,
-            Order::Open(_) | Order::Close(_) => self.moves.push_back(order).is_ok(),
+            Order::Open(name) => self.opens.push_back(name).is_ok(),
+            Order::Close(place) => self.closes.push_back(place).is_ok(),
         }
     }
 
-    /// Takes the next order out.
+    /// Takes the next order out that a thread may carry out now.
     fn pop(&mut self) -> Option<Order> {
         if let Some(place) = self.keeps.pop_front() {
             return Some(Order::Keep(place));
         }
         let spare = self.spare.checked_sub(1)?;
-        let order = self.moves.pop_front()?;
+        let order = self.pop_move()?;
         self.spare = spare;
         Some(order)
+    }
+
+    /// Takes the next order to open or close a room out.
+    fn pop_move(&mut self) -> Option<Order> {
+        if let Some(name) = self.opens.pop_front() {
+            return Some(Order::Open(name));
+        }
+        if self.is_closing {
+            return None;
+        }
+        let place = self.closes.pop_front()?;
+        self.is_closing = true;
+        Some(Order::Close(place))
+    }
+
+    /// How many orders threads may take out now.
+    fn count_ready(&self) -> usize {
+        let moves = if self.spare == 0 {
+            0
+        } else {
+            let closes = usize::from(!self.is_closing && !self.closes.is_empty());
+            self.opens.len().saturating_add(closes)
+        };
+        self.keeps.len().saturating_add(moves)
     }
 
     /// Notes that an order is taken out. Returns whether the one before was a short time ago.
@@ -66,11 +96,6 @@ impl Queue {
             Some(before) => is_within(rt, before, SOON_MICROS),
             None => false,
         }
-    }
-
-    /// The number of orders.
-    fn len(&self) -> usize {
-        self.keeps.len().saturating_add(self.moves.len())
     }
 }
 
@@ -86,8 +111,8 @@ pub(crate) struct Orders {
     queue: Mutex<Queue>,
     /// What wakes the thread in each bed of the sleepers.
     alarms: Vec<Condvar>,
-    /// The number of orders in the queue.
-    count: AtomicUsize,
+    /// How many orders of the queue threads may take out now.
+    ready: AtomicUsize,
     /// A thread looks for the next order.
     is_looking: AtomicBool,
     /// Orders come soon.
@@ -97,7 +122,7 @@ pub(crate) struct Orders {
 impl Orders {
     /// No orders for so many threads, with space to keep the rooms at so many places: an order to keep
     /// one, of which there is at most one for each place, is never lost. At most half of the threads
-    /// open and close rooms at a time. `NoMemory` if an allocation failed.
+    /// open and close rooms at a time, and one of these closes. `NoMemory` if an allocation failed.
     pub(crate) fn new(alloc: Global, places: usize, threads: usize) -> Result<Orders, NoMemory> {
         let mut alarms = Vec::with_capacity(alloc, threads)?;
         for _ in 0..threads {
@@ -106,25 +131,30 @@ impl Orders {
         Ok(Orders {
             queue: Mutex::new(Queue {
                 keeps: VecDeque::with_capacity(alloc, places)?,
-                moves: VecDeque::new(alloc),
+                opens: VecDeque::new(alloc),
+                closes: VecDeque::new(alloc),
                 spare: (threads / 2).max(1),
+                is_closing: false,
                 sleepers: Sleepers::none(alloc, threads)?,
                 taken: None,
                 is_over: false,
             }),
             alarms,
-            count: AtomicUsize::new(0),
+            ready: AtomicUsize::new(0),
             is_looking: AtomicBool::new(false),
             comes_soon: AtomicBool::new(false),
         })
     }
 
-    /// Adds an order, and wakes a thread that waits if none looks. False if an allocation failed.
+    /// Adds an order, and wakes a thread that waits if it may be taken out and none looks. False if an
+    /// allocation failed.
     pub(crate) fn add(&self, rt: &impl Wait, order: Order) -> bool {
         let mut queue = self.queue.lock(rt);
+        let before = queue.count_ready();
         let is_added = queue.push(order);
-        self.count.store(queue.len(), Ordering::SeqCst);
-        if !self.is_looking.load(Ordering::SeqCst) {
+        let ready = queue.count_ready();
+        self.ready.store(ready, Ordering::SeqCst);
+        if ready > before && !self.is_looking.load(Ordering::SeqCst) {
             self.wake_one(queue);
         }
         is_added
@@ -149,7 +179,7 @@ impl Orders {
         }
         if let Ok(began) = Instant::now(rt) {
             for _ in rt.forever() {
-                if self.count.load(Ordering::SeqCst) > 0 || !is_within(rt, began, LOOK_MICROS) {
+                if self.ready.load(Ordering::SeqCst) > 0 || !is_within(rt, began, LOOK_MICROS) {
                     break;
                 }
                 yield_now();
@@ -158,15 +188,16 @@ impl Orders {
         self.is_looking.store(false, Ordering::SeqCst);
     }
 
-    /// Waits for the next order, and takes it out. If more are left, wakes another thread. `None` once
-    /// all is over and no order is left for this thread, or if more threads wait than were announced.
+    /// Waits for the next order, and takes it out. If more may be taken, wakes another thread. `None`
+    /// once all is over and no order is left for this thread, or if more threads wait than were
+    /// announced.
     pub(crate) fn next(&self, rt: &(impl Wait + Clock)) -> Option<Order> {
         self.look(rt);
         let mut queue = self.queue.lock(rt);
         for _ in rt.forever() {
             if let Some(order) = queue.pop() {
-                let left = queue.len();
-                self.count.store(left, Ordering::SeqCst);
+                let left = queue.count_ready();
+                self.ready.store(left, Ordering::SeqCst);
                 let comes_soon = queue.note_taken(rt);
                 self.comes_soon.store(comes_soon, Ordering::SeqCst);
                 if left > 0 {
@@ -184,20 +215,31 @@ impl Orders {
         unreachable!()
     }
 
-    /// A thread has opened or closed a room, as it was ordered to.
-    pub(crate) fn end_move(&self, rt: &impl Wait) {
+    /// A thread has opened a room, as it was ordered to. It asks for its next order itself, so nobody
+    /// is woken.
+    pub(crate) fn end_opening(&self, rt: &impl Wait) {
+        self.end_move(&mut self.queue.lock(rt));
+    }
+
+    /// A thread has closed a room, as it was ordered to. It asks for its next order itself.
+    pub(crate) fn end_closing(&self, rt: &impl Wait) {
         let mut queue = self.queue.lock(rt);
+        queue.is_closing = false;
+        self.end_move(&mut queue);
+    }
+
+    /// A thread more may open or close a room.
+    fn end_move(&self, queue: &mut Queue) {
         queue.spare = queue.spare.saturating_add(1);
-        if !queue.moves.is_empty() {
-            self.wake_one(queue);
-        }
+        self.ready.store(queue.count_ready(), Ordering::SeqCst);
     }
 
     /// No more will come but from who takes them out. No room is opened or closed any more.
     pub(crate) fn end(&self, rt: &impl Wait) {
         let mut queue = self.queue.lock(rt);
         queue.is_over = true;
-        queue.moves.clear();
+        queue.opens.clear();
+        queue.closes.clear();
         drop(queue);
         for alarm in &self.alarms {
             alarm.notify_all();

@@ -399,11 +399,7 @@ fn seq_of(cursor: &mut Cursor<'_>) -> Result<u32, ReadFault>
 }
 
 /// Takes the fields of a change, to the end of the list. Its word and a comma were taken before.
-fn change_of(
-    alloc: Global,
-    word: &[u8],
-    cursor: &mut Cursor<'_>,
-) -> Result<Request, ReadFault>
+fn change_of(alloc: Global, word: &[u8], cursor: &mut Cursor<'_>) -> Result<Request, ReadFault>
     ensures text { IfOk result (λ change. 91 ∷ (quoted (request_word change) ++ 44 ∷ cursor.old)
         ≡ compact_text (request_form change) ++ cursor.new) }
     ensures word { IfOk result (λ change. request_word change ≡ word.now) }
@@ -454,11 +450,7 @@ fn wait_of(cursor: &mut Cursor<'_>) -> Result<Request, ReadFault>
 }
 
 /// Takes the fields of a request, to the end of the list. Its word and a comma were taken before.
-fn fields_of(
-    alloc: Global,
-    word: &[u8],
-    cursor: &mut Cursor<'_>,
-) -> Result<Request, ReadFault>
+fn fields_of(alloc: Global, word: &[u8], cursor: &mut Cursor<'_>) -> Result<Request, ReadFault>
     ensures text { IfOk result (λ request. 91 ∷ (quoted (request_word request) ++ 44 ∷ cursor.old)
         ≡ compact_text (request_form request) ++ cursor.new) }
     ensures word { IfOk result (λ request. request_word request ≡ word.now) }

@@ -1,15 +1,13 @@
 -- What a session is after an entrance.
-use Rattle.std.proofs.Common.{◌≡◌, ◌⊎◌, ◌<◌, ℕ, Bool, cond, nat_lt, arith, inl, inr, true, false, is_some, List, length, Option, None, Some, refl, sym, subst, ◌∙◌}
-use Rattle.std.specs.Prelude.{◌≤◌, Contains, IfSome, bytes_eq, position}
+use Rattle.std.proofs.Common.{◌≡◌, ◌<◌, ℕ, Bool, cond, nat_lt, arith, inl, inr, true, false, is_some, List, length, Option, None, Some, refl, sym, subst, ◌∙◌}
+use Rattle.std.specs.Prelude.{◌≤◌, Contains, IfSome, MatchOption, bytes_eq, position}
 use Rattle.std.specs.List.{position_or_len}
 use Rattle.std.proofs.lemmas.Bool.Decides.{nat_tests}
 use Rattle.base_types.specs.Texts.{Bytes}
 use Rattle.rules.specs.declared.history.Entry.{Entry}
 use Rattle.wire.specs.declared.reply.Reply.{Reply}
-use Rattle.wire.specs.declared.reply.Reply.TheVariants.{No, Renewed}
+use Rattle.wire.specs.declared.reply.Reply.TheVariants.{Renewed}
 use Rattle.keeper.specs.Chains.{IsLater}
-use Rattle.rules.specs.declared.refusal.Refusal.TheVariants.{NoSuchRoom, NotServed}
-use Rattle.rules.specs.declared.limits.LimitValues.{LimitValues}
 use Rattle.wire.specs.declared.request.Request.{Request}
 use Rattle.wire.specs.declared.request.Request.TheVariants.{Join, Back}
 use Rattle.scope.specs.Scopes.{allows}
@@ -22,9 +20,10 @@ use Rattle.room_lock.specs.InOrder.{IsOpeningFor}
 use Rattle.room_lock.specs.Passes.{InUseView, PassView, PrefixView}
 use Rattle.room_lock.specs.Rooms.{IsOffered, IsOnDemand, RoomsView, Serves}
 use Rattle.room_lock.specs.Calls.{IsBack, IsJoin, IsRefusalOver}
+use Rattle.sessions.specs.Sessions.{HostView, IsPermitted, SessionTurn}
 use Rattle.sessions.specs.steps.Entrances.{IsAfter}
-use Rattle.sessions.specs.Entering.{IsBackRefusal, IsEntering, IsNotServed, IsPermitted, IsPermittedJoin, IsTurnedAway, MayBeShut, MayEnter}
-use Rattle.sessions.specs.Turns.{IsAnswer}
+use Rattle.sessions.specs.Entering.{IsBackRefusal, IsEntering, IsPermittedJoin, MayEnter}
+use Rattle.sessions.specs.Turns.{IsAnswer, IsAnswerInside, IsAnswerOutside}
 
 -- the place of a name is one of the places
 found_within : (n len k : ℕ) (b : Bool) → nat_lt n len ≡ b → cond b (Some n) None ≡ Some k → k < len
@@ -75,39 +74,39 @@ module _ (rooms : RoomsView) (opening : OpeningView) (Enters : PassView → Repl
       served (inr some) = some
 
   -- The pass of who was let in is the session's, and who was not is in no room.
-  pub told_after : {P : Type 0} (denied : ℕ → Type 0) (scope : Scope) (name : Bytes) (went : Entrance P) (new : Option PassView) (reported : Option PrefixView) (reply : Reply)
-      → MayEnter scope rooms name → IsOpeningFor rooms name opening → IsEntrance went → IsAfter went new reported reply
-      → IsEntering Enters Refuses denied scope rooms name new reported reply
-  told_after denied scope name (Entered pass it) new reported reply may at is after =
+  pub told_after : {P : Type 0} (denied : ℕ → Type 0) (name : Bytes) (turn : SessionTurn) (went : Entrance P)
+      → MayEnter turn.old.scope rooms name → IsOpeningFor rooms name opening → IsEntrance went → IsAfter went turn.new.pass turn.reported turn.reply
+      → IsEntering Enters Refuses denied rooms name turn
+  told_after denied name turn (Entered pass it) may at is after =
       inl (pass, subst (λ r. Enters pass r) (sym after.0) is.entered.0, may.0, is.entered.1 ∙ at.name_is, subst (IsOpeningFor rooms name) (sym is.pass_opening) at, after.1, after.2)
-  told_after denied scope name (Refused prefix it) new reported reply may at is after =
+  told_after denied name turn (Refused prefix it) may at is after =
       inr (inl (record {
         known = λ there. (prefix, subst (λ r. Refuses prefix.entries r) (sym after.0) is.refused, subst (IsOpeningFor rooms name) (sym is.refusal_opening) at, after.1);
         unknown = λ absent. absurd (absent may);
         same = after.2;
       }))
-  told_after denied scope name (InUse it answer) new reported reply may at is after =
+  told_after denied name turn (InUse it answer) may at is after =
       inr (inl (record {
         known = λ there. (it.prefix, subst (λ r. Refuses it.prefix.entries r) (sym after.0) is.in_use, subst (IsOpeningFor rooms name) (sym is.in_use_opening) at, after.1);
         unknown = λ absent. absurd (absent may);
         same = after.2;
       }))
-  told_after denied scope name NoRoom new reported reply may at is after =
-      inr (inr (inl (may.0, inl (on_demand scope name may at (is.no_room refl)), after)))
+  told_after denied name turn NoRoom may at is after =
+      inr (inr (inl (may.0, inl (on_demand turn.old.scope name may at (is.no_room refl)), after.0, after.1, after.2)))
 
 none_of : {A : Type 0} (o : Option A) → is_some o ≡ false → o ≡ None
 none_of None is = refl
 none_of (Some x) is = absurd (cc is)
 
 -- who is let in is let into a room that is permitted
-pub entered_permitted : {P : Type 0} (limits : LimitValues) (permitted : ℕ → Type 0) (opening : OpeningView) (went : Entrance P)
-    → permitted opening.number
-    → IfEntered (λ pass reply. IsJoin limits pass reply × (pass.room ≡ opening.room.name)) went → IfEntered (λ pass reply. pass.part.opening ≡ opening) went
-    → IfEntered (λ pass reply. IsPermittedJoin limits permitted pass reply × (pass.room ≡ opening.room.name)) went
-entered_permitted limits permitted opening (Entered pass reply) may is at = ((is.0, subst (λ (o : OpeningView). permitted o.number) (sym at) may), is.1)
-entered_permitted limits permitted opening (Refused prefix reply) may is at = tt
-entered_permitted limits permitted opening (InUse it reply) may is at = tt
-entered_permitted limits permitted opening NoRoom may is at = tt
+pub entered_permitted : {P : Type 0} (host : HostView) (opening : OpeningView) (went : Entrance P)
+    → host.permitted opening.number
+    → IfEntered (λ pass reply. IsJoin host.limits pass reply × (pass.room ≡ opening.room.name)) went → IfEntered (λ pass reply. pass.part.opening ≡ opening) went
+    → IfEntered (λ pass reply. IsPermittedJoin host pass reply × (pass.room ≡ opening.room.name)) went
+entered_permitted host opening (Entered pass reply) may is at = ((is.0, subst (λ (o : OpeningView). host.permitted o.number) (sym at) may), is.1)
+entered_permitted host opening (Refused prefix reply) may is at = tt
+entered_permitted host opening (InUse it reply) may is at = tt
+entered_permitted host opening NoRoom may is at = tt
 
 -- a permit that was given
 pub given_permit : {Permit : Type 0} (permits : Permit → ℕ → Type 0) (number : ℕ) (found : Option Permit) → is_some found ≡ true
@@ -115,58 +114,25 @@ pub given_permit : {Permit : Type 0} (permits : Permit → ℕ → Type 0) (numb
 given_permit permits number None is holds = absurd (cc is)
 given_permit permits number (Some permit) is holds = (permit, holds)
 
--- nobody is let in where the session may not enter, or there is no room
-away : (Refuses : List Entry → Reply → Type 0) (scope : Scope) (rooms : RoomsView) (name : Bytes) (old new : Option PassView) (reported : Option PrefixView) (reply : Reply)
-    → old ≡ None → ¬ (MayEnter scope rooms name) → (reply ≡ No 0 NoSuchRoom) × (reported ≡ None) × (new ≡ old) → IsTurnedAway Refuses scope rooms name new reported reply
-away Refuses scope rooms name old new reported reply empty absent is = record {
-  known = λ may. absurd (absent may);
-  unknown = λ other. (is.0, is.1);
-  same = is.2 ∙ empty;
-}
-
-module _ (limits : LimitValues) (rooms : RoomsView) (permitted denied : ℕ → Type 0) (scope : Scope) (name : Bytes) (old new : Option PassView) (reported : Option PrefixView) (reply : Reply) (none : is_some old ≡ false) where
+module _ (host : HostView) (name : Bytes) (turn : SessionTurn) (none : is_some turn.old.pass ≡ false) where
   -- what comes of a session in no room
-  outside : (request : Request) → IsAnswer limits rooms permitted denied scope None new request reported reply → IsAnswer limits rooms permitted denied scope old new request reported reply
-  outside request = subst (λ (old : Option PassView). IsAnswer limits rooms permitted denied scope old new request reported reply) (sym (none_of old none))
+  outside : (request : Request) → IsAnswerOutside host request turn → IsAnswer host request turn
+  outside request =
+      subst (λ (pass : Option PassView). MatchOption pass (IsAnswerOutside host request turn) (λ was. IsAnswerInside host.limits was request turn))
+      (sym (none_of turn.old.pass none))
 
   -- an entrance answers a session in no room
-  pub join_answered : {P : Type 0} (opening : OpeningView) (went : Entrance P) → MayEnter scope rooms name → IsOpeningFor rooms name opening
-      → IsEntrance rooms opening (IsPermittedJoin limits permitted) (IsRefusalOver limits) went → IsAfter went new reported reply → IsAnswer limits rooms permitted denied scope old new (Join name) reported reply
+  pub join_answered : {P : Type 0} (opening : OpeningView) (went : Entrance P) → MayEnter turn.old.scope host.rooms name → IsOpeningFor host.rooms name opening
+      → IsEntrance host.rooms opening (IsPermittedJoin host) (IsRefusalOver host.limits) went → IsAfter went turn.new.pass turn.reported turn.reply → IsAnswer host (Join name) turn
   join_answered opening went may at is after =
-      outside (Join name) (told_after rooms opening (IsPermittedJoin limits permitted) (IsRefusalOver limits) denied scope name went new reported reply may at is after)
+      outside (Join name) (told_after host.rooms opening (IsPermittedJoin host) (IsRefusalOver host.limits) host.denied name turn went may at is after)
 
-  pub back_answered : {P : Type 0} (site : ℕ) (opening : OpeningView) (went : Entrance P) → MayEnter scope rooms name → IsOpeningFor rooms name opening
-      → IsEntrance rooms opening (IsBack limits site) (IsBackRefusal limits site) went → IsAfter went new reported reply → IsAnswer limits rooms permitted denied scope old new (Back name site) reported reply
+  pub back_answered : {P : Type 0} (site : ℕ) (opening : OpeningView) (went : Entrance P) → MayEnter turn.old.scope host.rooms name → IsOpeningFor host.rooms name opening
+      → IsEntrance host.rooms opening (IsBack host.limits site) (IsBackRefusal host.limits site) went → IsAfter went turn.new.pass turn.reported turn.reply → IsAnswer host (Back name site) turn
   back_answered site opening went may at is after =
-      outside (Back name site) (told_after rooms opening (IsBack limits site) (IsBackRefusal limits site) (λ number. ⊥) scope name went new reported reply may at is after)
-
-  -- a room that is not served
-  shut : (denies : ℕ → Type 0) → allows scope name ≡ true → MayBeShut denies rooms name → (reply ≡ No 0 NotServed) × (reported ≡ None) × (new ≡ old)
-      → IsNotServed denies scope rooms name new reported reply
-  shut denies may is refused = (may, is, (refused.0, refused.1, refused.2 ∙ none_of old none))
-
-  -- a join that is denied
-  pub denied_answered : (opening : OpeningView) → MayEnter scope rooms name → IsOpeningFor rooms name opening → denied opening.number
-      → (reply ≡ No 0 NotServed) × (reported ≡ None) × (new ≡ old) → IsAnswer limits rooms permitted denied scope old new (Join name) reported reply
-  denied_answered opening may at denies is = outside (Join name) (inr (inr (inl (shut denied may.0 (inr (opening, at, denies)) is))))
-
-  -- a room that cannot be opened now
-  pub join_shut : allows scope name ≡ true → IsOnDemand rooms name → (reply ≡ No 0 NotServed) × (reported ≡ None) × (new ≡ old) → IsAnswer limits rooms permitted denied scope old new (Join name) reported reply
-  join_shut may demand is = outside (Join name) (inr (inr (inl (shut denied may (inl demand) is))))
-
-  pub back_shut : (site : ℕ) → allows scope name ≡ true → IsOnDemand rooms name → (reply ≡ No 0 NotServed) × (reported ≡ None) × (new ≡ old) → IsAnswer limits rooms permitted denied scope old new (Back name site) reported reply
-  back_shut site may demand is = outside (Back name site) (inr (inr (inl (shut (λ number. ⊥) may (inl demand) is))))
+      outside (Back name site) (told_after host.rooms opening (IsBack host.limits site) (IsBackRefusal host.limits site) (λ number. ⊥) name turn went may at is after)
 
   -- the chain of the room goes on elsewhere
-  pub join_sent_on : (later : Bytes) → IsLater name later → allows scope name ≡ true → (reply ≡ Renewed 0 later) × (reported ≡ None) × (new ≡ old) → IsAnswer limits rooms permitted denied scope old new (Join name) reported reply
-  join_sent_on later is may sent = outside (Join name) (inr (inr (inr (later, is, sent.0, may, sent.1, sent.2 ∙ none_of old none))))
-
-  pub back_sent_on : (site : ℕ) (later : Bytes) → IsLater name later → allows scope name ≡ true → (reply ≡ Renewed 0 later) × (reported ≡ None) × (new ≡ old) → IsAnswer limits rooms permitted denied scope old new (Back name site) reported reply
-  back_sent_on site later is may sent = outside (Back name site) (inr (inr (inr (later, is, sent.0, may, sent.1, sent.2 ∙ none_of old none))))
-
-  -- there is no room that the session may enter
-  pub join_away : ¬ (MayEnter scope rooms name) → (reply ≡ No 0 NoSuchRoom) × (reported ≡ None) × (new ≡ old) → IsAnswer limits rooms permitted denied scope old new (Join name) reported reply
-  join_away absent is = outside (Join name) (inr (inl (away (IsRefusalOver limits) scope rooms name old new reported reply (none_of old none) absent is)))
-
-  pub back_away : (site : ℕ) → ¬ (MayEnter scope rooms name) → (reply ≡ No 0 NoSuchRoom) × (reported ≡ None) × (new ≡ old) → IsAnswer limits rooms permitted denied scope old new (Back name site) reported reply
-  back_away site absent is = outside (Back name site) (inr (inl (away (IsBackRefusal limits site) scope rooms name old new reported reply (none_of old none) absent is)))
+  pub back_sent_on : (site : ℕ) (later : Bytes) → IsLater name later → allows turn.old.scope name ≡ true → turn.reply ≡ Renewed 0 later → turn.reported ≡ None → turn.new.pass ≡ turn.old.pass
+      → IsAnswer host (Back name site) turn
+  back_sent_on site later is may reply reported same = outside (Back name site) (inr (inr (inr (later, is, reply, may, reported, same ∙ none_of turn.old.pass none))))

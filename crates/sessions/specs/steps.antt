@@ -1,5 +1,6 @@
 pub mod Calls
 pub mod Entrances
+pub mod Replies
 pub mod Causes
 pub mod Ends
 pub mod Faults

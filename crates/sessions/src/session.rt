@@ -7,8 +7,10 @@ ghost use Rattle.wire.specs.declared.request.Request.TheVariants.{Join, Back, Le
 ghost use Rattle.sessions.specs.declared.cause.MessageFault.TheVariants as message_fault;
 ghost use Rattle.sessions.specs.steps.Calls.{IsCallIf};
 ghost use Rattle.sessions.specs.steps.Entrances.{IsAfter};
+ghost use Rattle.sessions.specs.steps.Replies.{turn_of};
+ghost use Rattle.room_lock.specs.Calls.{IsCall, IsNotesCall};
 ghost use Rattle.room_lock.specs.InOrder.{IsOpeningFor};
-ghost use Rattle.room_lock.specs.Passes.{MayBeOf};
+ghost use Rattle.room_lock.specs.Passes.{MayBeOf, prefix_of};
 ghost use Rattle.room_lock.specs.Rooms.{IsOnDemand};
 ghost use Rattle.room_lock.specs.declared.lookup.Lookup.TheVariants as lookup;
 ghost use Rattle.room_lock.specs.steps.Entrances.{IfEntered};
@@ -16,9 +18,9 @@ ghost use Rattle.room_lock.specs.Lookups.{IfOpen};
 ghost use Rattle.keeper.specs.Accesses.{IfKnown, IfNew};
 ghost use Rattle.keeper.specs.Chains.{IsLater};
 ghost use Rattle.scope.specs.Scopes.{allows};
-ghost use Rattle.sessions.specs.Entering.{IsPermitted, MayEnter};
-ghost use Rattle.sessions.specs.Turns.{IsAnswer, IsCallBy, IsNotesBy, IsNotesTurn, IsTextOfTurn};
-ghost use Rattle.sessions.specs.Turns.{IsTurn, MayStand};
+ghost use Rattle.sessions.specs.Sessions.{host_of};
+ghost use Rattle.sessions.specs.Entering.{MayEnter};
+ghost use Rattle.sessions.specs.Turns.{IsAnswer, IsNotesTurn, IsTextOfTurn, IsTurn, MayStand};
 ghost use Rattle.sessions.specs.Waits.{AsksToOpen, IsWait, IsWaitInRoom};
 
 use crate::cause::MessageFault;
@@ -212,13 +214,13 @@ impl<P: RoomHistories> Session<P> {
         bytes: &[u8],
         may_hold: bool,
     ) -> Result<Option<Answer<Prefix<P>>>, MessageFault>
-        ensures ok { IfOk result (λ found. IfSome found (λ answer. IsTextOfTurn P.limits
-            host.now.rooms.now (IsPermitted K.permits) K.denies self.old self.new bytes.now
+        ensures ok { IfOk result (λ found. IfSome found (λ answer. IsTextOfTurn
+            (host_of P.limits host.now.rooms.now K.permits K.denies) self.old self.new bytes.now
             answer.reported (string_bytes answer.text))) }
         ensures held { result ≡ Ok None → (may_hold ≡ true) × (self.new ≡ self.old)
             × IsWait host.now.rooms.now self.old bytes.now }
         ensures err { OnErr result
-            (MayStand P.limits host.now.rooms.now (IsPermitted K.permits) K.denies self.old self.new
+            (MayStand (host_of P.limits host.now.rooms.now K.permits K.denies) self.old self.new
             bytes.now) }
         ensures torn { result ≡ Err message_fault.Torn → self.new ≡ self.old }
     {
@@ -237,9 +239,9 @@ impl<P: RoomHistories> Session<P> {
         bytes: &[u8],
         may_hold: bool,
     ) -> Result<Option<SessionReply<P>>, MessageFault>
-        ensures ok { IfOk result (λ found. IfSome found (λ answer. IsTurn P.limits
-            host.now.rooms.now (IsPermitted K.permits) K.denies self.old self.new bytes.now
-            answer.reported answer.reply)) }
+        ensures ok { IfOk result (λ found. IfSome found (λ answer. IsTurn
+            (host_of P.limits host.now.rooms.now K.permits K.denies) bytes.now
+            (turn_of self.old self.new answer))) }
         ensures held { result ≡ Ok None → (may_hold ≡ true) × (self.new ≡ self.old)
             × IsWait host.now.rooms.now self.old bytes.now }
         ensures err { OnErr result (self.new ≡ self.old) }
@@ -264,8 +266,8 @@ impl<P: RoomHistories> Session<P> {
         scratch: &mut Scratch,
         bytes: &[u8],
     ) -> Result<SessionReply<P>, MessageFault>
-        ensures ok { IfOk result (λ answer. IsNotesTurn P.limits self.old.pass self.new.pass
-            bytes.now answer.reported answer.reply) }
+        ensures ok { IfOk result (λ answer. IsNotesTurn P.limits bytes.now
+            (turn_of self.old self.new answer)) }
         ensures scope { self.new.scope ≡ self.old.scope }
         ensures err { OnErr result (self.new ≡ self.old) }
     {
@@ -335,9 +337,9 @@ impl<P: RoomHistories> Session<P> {
         host: &Host<'_, P, R, O, K>,
         request: Request,
     ) -> Result<SessionReply<P>, MessageFault>
-        ensures ok { IfOk result (λ answer. IsAnswer P.limits
-            host.now.rooms.now (IsPermitted K.permits) K.denies self.old.scope self.old.pass
-            self.new.pass request answer.reported answer.reply) }
+        ensures ok { IfOk result (λ answer. IsAnswer
+            (host_of P.limits host.now.rooms.now K.permits K.denies) request
+            (turn_of self.old self.new answer)) }
         ensures scope { self.new.scope ≡ self.old.scope }
         ensures err { OnErr result (self.new ≡ self.old) }
     {
@@ -399,9 +401,9 @@ impl<P: RoomHistories> Session<P> {
         host: &Host<'_, P, R, O, K>,
         name: RoomName,
     ) -> Result<SessionReply<P>, MessageFault>
-        ensures ok { IfOk result (λ answer. IsAnswer P.limits
-            host.now.rooms.now (IsPermitted K.permits) K.denies self.old.scope self.old.pass
-            self.new.pass (Join name) answer.reported answer.reply) }
+        ensures ok { IfOk result (λ answer. IsAnswer
+            (host_of P.limits host.now.rooms.now K.permits K.denies) (Join name)
+            (turn_of self.old self.new answer)) }
         ensures scope { self.new.scope ≡ self.old.scope }
         ensures err { OnErr result (self.new ≡ self.old) }
         ensures cause { IfErr result (λ why. why ≡ message_fault.NoMemory) }
@@ -433,9 +435,9 @@ impl<P: RoomHistories> Session<P> {
         name: RoomName,
         site: u32,
     ) -> Result<SessionReply<P>, MessageFault>
-        ensures ok { IfOk result (λ answer. IsAnswer P.limits
-            host.now.rooms.now (IsPermitted K.permits) K.denies self.old.scope self.old.pass
-            self.new.pass (Back name site) answer.reported answer.reply) }
+        ensures ok { IfOk result (λ answer. IsAnswer
+            (host_of P.limits host.now.rooms.now K.permits K.denies) (Back name site)
+            (turn_of self.old self.new answer)) }
         ensures scope { self.new.scope ≡ self.old.scope }
         ensures err { OnErr result (self.new ≡ self.old) }
         ensures cause { IfErr result (λ why. why ≡ message_fault.NoMemory) }
@@ -464,9 +466,9 @@ impl<P: RoomHistories> Session<P> {
         &mut self,
         host: &Host<'_, P, R, O, K>,
     ) -> Result<SessionReply<P>, MessageFault>
-        ensures ok { IfOk result (λ answer. IsAnswer P.limits
-            host.now.rooms.now (IsPermitted K.permits) K.denies self.old.scope self.old.pass
-            self.new.pass Leave answer.reported answer.reply) }
+        ensures ok { IfOk result (λ answer. IsAnswer
+            (host_of P.limits host.now.rooms.now K.permits K.denies) Leave
+            (turn_of self.old self.new answer)) }
         ensures scope { self.new.scope ≡ self.old.scope }
         ensures err { OnErr result (self.new ≡ self.old) }
         ensures cause { IfErr result (λ why. why ≡ message_fault.Torn) }
@@ -505,7 +507,7 @@ impl<P: RoomHistories> Session<P> {
         request: Request,
     ) -> Result<SessionReply<P>, MessageFault>
         ensures ok { IfOk result (λ answer.
-            IsCallIf P.limits self.old.pass self.new.pass request answer.reported answer.reply) }
+            IsCallIf P.limits request (turn_of self.old self.new answer)) }
         ensures scope { self.new.scope ≡ self.old.scope }
         ensures err { OnErr result (self.new ≡ self.old) }
         ensures other_rooms { MatchOption self.old.pass (Unit {0})
@@ -617,8 +619,10 @@ fn call_by<P: RoomHistories, R: Wait, O, K>(
     pass: &mut Pass<P>,
     request: Request,
 ) -> Result<SessionReply<P>, MessageFault>
-    ensures ok { IfOk result (λ answer. IsCallBy P.limits
-        pass.old (Some pass.new) request answer.reported answer.reply) }
+    ensures reply { IfOk result (λ answer.
+        IsCall P.limits pass.old pass.new request answer.reply) }
+    ensures reported { IfOk result (λ answer.
+        answer.reported ≡ Some (prefix_of pass.new.part)) }
     ensures err { OnErr result (pass.new ≡ pass.old) }
     ensures other_rooms { ¬ (MayBeOf host.now.rooms.now pass.old.part.opening) →
         result ≡ Err message_fault.Torn }
@@ -634,8 +638,10 @@ fn note_by<P: RoomHistories, R: Wait, O, K>(
     pass: &mut Pass<P>,
     request: NoteRequest,
 ) -> Result<(SessionReply<P>, Heard), MessageFault>
-    ensures ok { IfOk result (λ noted. IsNotesBy P.limits
-        pass.old (Some pass.new) request noted.0.reported noted.0.reply) }
+    ensures reply { IfOk result (λ noted.
+        IsNotesCall P.limits pass.old pass.new request noted.0.reply) }
+    ensures reported { IfOk result (λ noted.
+        noted.0.reported ≡ Some (prefix_of pass.new.part)) }
     ensures err { OnErr result (pass.new ≡ pass.old) }
 {
     let place = pass.place();

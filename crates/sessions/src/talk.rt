@@ -15,7 +15,7 @@ use wire_reader::Scratch;
 impl<P: RoomHistories, R: Wait, O: Observer, K: Keeper<P>> Talk for Host<'_, P, R, O, K> {
     ghost use Rattle.sessions.specs.steps.Faults.{IsMessageFault, IsNotKept};
     ghost use Rattle.std.specs.Prelude.{◌≡◌, None};
-    ghost use Rattle.sessions.specs.Entering.{IsPermitted};
+    ghost use Rattle.sessions.specs.Sessions.{host_of};
     ghost use Rattle.sessions.specs.Turns.{IsTextOfTurn};
     ghost use Rattle.sessions.specs.Waits.{IsWait};
 
@@ -28,7 +28,7 @@ impl<P: RoomHistories, R: Wait, O: Observer, K: Keeper<P>> Talk for Host<'_, P, 
     type Scratch = Scratch;
 
     ghost turn = { λ host old new bytes text reported.
-        IsTextOfTurn P.limits host.rooms.now (IsPermitted K.permits) K.denies old new bytes reported
+        IsTextOfTurn (host_of P.limits host.rooms.now K.permits K.denies) old new bytes reported
         text };
 
     ghost waits = { λ host session bytes. IsWait host.rooms.now session bytes };
@@ -36,7 +36,7 @@ impl<P: RoomHistories, R: Wait, O: Observer, K: Keeper<P>> Talk for Host<'_, P, 
     ghost blocks = { λ _ session. session.pass ≡ None };
 
     ghost fails = { λ host old new bytes end.
-        IsMessageFault P.limits host.rooms.now (IsPermitted K.permits) K.denies old new bytes end };
+        IsMessageFault (host_of P.limits host.rooms.now K.permits K.denies) old new bytes end };
 
     ghost shows = { λ receipt reported. K.shows receipt reported };
 

@@ -6,8 +6,9 @@ use Rattle.keeper.specs.Chains.{IsLater}
 use Rattle.openings.specs.Openings.{OpeningView}
 use Rattle.room_lock.specs.InOrder.{IsOpeningFor}
 use Rattle.room_lock.specs.Lookups.{IfOpen}
-use Rattle.sessions.specs.Sessions.{SessionView}
-use Rattle.sessions.specs.Entering.{IsPermitted, MayEnter}
+use Rattle.sessions.specs.Sessions.{HostView, SessionTurn, SessionView, host_of}
+use Rattle.sessions.specs.Entering.{MayEnter}
+use Rattle.sessions.specs.steps.Replies.{turn_of}
 use Rattle.sessions.proofs.Entering.{back_answered, back_sent_on, if_in_use_so, if_refused_so}
 use Rattle.sessions.proofs.session.Session.back.Goals as goal
 
@@ -18,8 +19,9 @@ returns-clause-ok g c =
     let went = c.back-entrance.result in
     let outside : is_some c.self.inside.inside ≡ false = cc in
     let none : is_some c.args.self.now.pass ≡ false = sym (ap (λ (session : SessionView). is_some session.pass) c.self.view_is) ∙ outside in
-    back_answered g.P.RoomHistories.limits c.args.host.now.rooms.now (IsPermitted g.K.Keeper.permits) g.K.Keeper.denies c.args.self.now.scope c.args.name c.args.self.now.pass _ c.enter.result.reported c.enter.result.reply none
-    c.args.site opening went at.0 at.1 (record {
+    let host : HostView = host_of g.P.RoomHistories.limits c.args.host.now.rooms.now g.K.Keeper.permits g.K.Keeper.denies in
+    let turn : SessionTurn = turn_of c.args.self.now c.enter.new.self c.enter.result in
+    back_answered host c.args.name turn none c.args.site opening went at.0 at.1 (record {
       entered = c.back-entrance.ensures.entered;
       refused = if_refused_so _ _ went (λ prefix reply refused. (false, refused)) c.back-entrance.ensures.entrance_refused;
       in_use = if_in_use_so _ _ went (λ it reply refused. (true, refused.1)) c.back-entrance.ensures.in_use;
@@ -34,5 +36,6 @@ returns-in-Some-clause-ok g c =
     let found = subst (λ (o : Option Bytes). IfSome o (λ later. IsLater c.args.name later × (allows c.args.self.now.scope c.args.name ≡ true))) c.in-Some.is c.in_ok-later-in-NoRoom.ensures.later in
     let outside : is_some c.self.inside.inside ≡ false = cc in
     let none : is_some c.args.self.now.pass ≡ false = sym (ap (λ (session : SessionView). is_some session.pass) c.self.view_is) ∙ outside in
-    back_sent_on g.P.RoomHistories.limits c.args.host.now.rooms.now (IsPermitted g.K.Keeper.permits) g.K.Keeper.denies c.args.self.now.scope c.args.name c.args.self.now.pass c.args.self.now.pass c.sent_on.result.reported c.sent_on.result.reply none
-    c.args.site c.in-Some.later found.0 found.1 (c.sent_on.ensures.reply, c.sent_on.ensures.reported, refl)
+    let host : HostView = host_of g.P.RoomHistories.limits c.args.host.now.rooms.now g.K.Keeper.permits g.K.Keeper.denies in
+    let turn : SessionTurn = turn_of c.args.self.now c.args.self.now c.sent_on.result in
+    back_sent_on host c.args.name turn none c.args.site c.in-Some.later found.0 found.1 c.sent_on.ensures.reply c.sent_on.ensures.reported refl

@@ -140,16 +140,6 @@ impl<P: RoomHistories> Session<P> {
         self.inside.is_none()
     }
 
-    /// The pass, if the session is in a room.
-    pub fn pass(&self) -> Option<&Pass<P>>
-        ensures { option_map (λ pass. pass.now) result ≡ self.now.pass }
-    {
-        match &self.inside {
-            Some(inside) => Some(&inside.pass),
-            None => None,
-        }
-    }
-
     /// The name of the room, if the session is in a room.
     pub fn room(&self) -> Option<&RoomName>
         ensures { option_map (λ name. name.now) result

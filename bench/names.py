@@ -5,8 +5,9 @@ after each tenth of them a row has the memory of the process, the rooms' files t
 99th percentile of the time to the replies to the entrances since the row before. A file may be open twice, as its
 chain's lock too. The last row is of the time when all rooms are closed. With `--of COUNT` the client comes into that
 many rooms again and again: into each it joins once, and then comes back as its site. So what grows only with more names
-is what names leave behind. A run ends at `--minutes` with the rows that it has. It measures the program that `./test`
-proved."""
+is what names leave behind. For two seconds the server remembers what is kept of a room that it closed, so memory grows
+with the rate too, which `--rate` bounds. A run ends at `--minutes` with the rows that it has. It measures the program
+that `./test` proved."""
 
 import contextlib
 import pathlib
@@ -35,11 +36,13 @@ def open_files_of(server):
     return count
 
 
-def visit(connection, visits, names, end):
+def visit(connection, visits, names, end, pause):
     """Enters and leaves a room at each of these visits, the rooms of so many names in turn, until the end of the time.
-    Returns the seconds to each entrance's reply."""
-    times = []
+    A visit begins so many seconds after the one before, or later. Returns the seconds to each entrance's reply."""
+    times, due = [], time.monotonic()
     for number in visits:
+        time.sleep(max(0, due - time.monotonic()))
+        due = max(due, time.monotonic()) + pause
         if time.monotonic() > end:
             break
         name = f"name-{number % names}"
@@ -66,12 +69,13 @@ def measure(build, folder, options):
     use_build(build)
     end = time.monotonic() + 60 * options.minutes
     visits, names = options.visits, options.of or options.visits
+    pause = 1 / options.rate if options.rate else 0
     steps = sorted({min(FIRST, visits), *(visits * tenth // TENTHS for tenth in range(1, TENTHS + 1))})
     with tempfile.TemporaryDirectory(dir=folder) as kept:
         with Server(0, [], keep=kept, on_demand=ROOMS, close_after=CLOSE_AFTER) as server:
             connection, made = connect(server), 0
             for step in steps:
-                times = visit(connection, range(made, step), names, end)
+                times = visit(connection, range(made, step), names, end, pause)
                 made += len(times)
                 if times:
                     print_row(build, server, made, times)
@@ -83,6 +87,7 @@ def main():
     parser = compare_words_of(__doc__, 1)
     parser.add_argument("--visits", type=int, default=100_000, help="entrances of a run")
     parser.add_argument("--of", type=int, help="rooms that are entered; otherwise each is entered once")
+    parser.add_argument("--rate", type=float, help="visits a second at most; otherwise as many as the client can make")
     parser.add_argument("--minutes", type=float, default=10, help="the longest time of a run")
     parser.add_argument("--folder", type=pathlib.Path, default=ROOT / "bench/out",
                         help="a folder on the disk that keeps the rooms")

@@ -35,7 +35,6 @@ use std::marker::Brand;
 use std::net::{Net, OpenListener, TcpListener};
 use std::sync::atomic::{AtomicBool, Ordering};
 use std::thread;
-use std::thread::JoinHandle;
 use std::time::Duration;
 
 /// The places for the next rooms of each chain, where no other rooms are opened on demand.
@@ -349,31 +348,19 @@ where
                 None => None,
             };
             let served = serve_streams(served, rooms, streams, output);
-            end_attendants(rt, running, over, departing, reporter);
+            drop(running);
+            if let Some(over) = &over {
+                let _ = over.wake();
+            }
+            if let Some(departing) = departing {
+                let _door = departing.join(rt);
+            }
+            if let Some(reporter) = reporter {
+                reporter.join(rt);
+            }
             served
         },
     )
-}
-
-/// Ends the threads of the attendants, and waits for them. The thread that reports ends with `running`.
-/// The thread that waits for the end of standard input ends once `over` is woken.
-fn end_attendants(
-    rt: &impl Platform,
-    running: Sender<()>,
-    over: Option<Waker>,
-    departing: Option<JoinHandle<Waker>>,
-    reporter: Option<JoinHandle<()>>,
-) {
-    drop(running);
-    if let Some(over) = &over {
-        let _ = over.wake();
-    }
-    if let Some(departing) = departing {
-        let _door = departing.join(rt);
-    }
-    if let Some(reporter) = reporter {
-        reporter.join(rt);
-    }
 }
 
 /// Serves in rooms that are kept nowhere.

@@ -1,13 +1,13 @@
 #!/usr/bin/env python3
-"""Measures what many names of rooms on demand leave behind in `grace serve --rooms 100 --keep DIR --close-after 1`, and
-prints a Markdown table. One client joins a room and leaves it, then one of another name, and so on. After 100 visits and
-after each tenth of them a row has the memory of the process, the rooms' files that it has open, and the median and the
-99th percentile of the time to the replies to the entrances since the row before. A file may be open twice, as its
-chain's lock too. The last row is of the time when all rooms are closed. With `--of COUNT` the client comes into that
-many rooms again and again: into each it joins once, and then comes back as its site. So what grows only with more names
-is what names leave behind. For two seconds the server remembers what is kept of a room that it closed, so memory grows
-with the rate too, which `--rate` bounds. A run ends at `--minutes` with the rows that it has. It measures the program
-that `./test` proved."""
+"""Measures what many names of rooms on demand leave behind in `grace serve --rooms 100 --keep DIR --close-after 1`,
+and prints a Markdown table. One client joins a room and leaves it, then one of another name, and so on. After 100
+visits and after each tenth of them a row has the memory of the process, the rooms' files that it has open, and the
+median and the 99th percentile of the time to the replies to the entrances since the row before. A file may be open
+twice, as its chain's lock too. The last row is of the time when all rooms are closed. With `--of COUNT` the client
+comes into that many rooms again and again: into each it joins once, and then comes back as its site. So what grows
+only with more names is what names leave behind. For up to two seconds the server remembers what is kept of a room that
+it closed, so memory grows with the rate too, which `--rate` bounds. A run ends at `--minutes` with the rows that it
+has. It measures the program that `./test` proved."""
 
 import contextlib
 import pathlib

@@ -1,11 +1,11 @@
 #!/usr/bin/env python3
 """Measures what the opening of rooms with full records costs, and prints a Markdown table. A client puts values in a
-room of `grace serve --rooms 2 --keep DIR` without a pause: alone, while another process keeps a processor busy, and while
-another client comes into two rooms with full records in turn, and leaves them. There is one place for the two, so each
-is closed when the other is opened, and the server keeps a processor busy too. So the second row shows what the machine
-adds, and the third what the server does. The runs take turns. The time of an opening is that to the reply to a back,
-with the closing of the other room; the table has the median and the most. Beside it stand the median and the 99th
-percentile of the time to the replies of the first client. It measures the program that `./test` proved."""
+room of `grace serve --rooms 2 --keep DIR` without a pause: alone, while another process keeps a processor busy, and
+while another client comes into two rooms with full records in turn, and leaves them. There is one place for the two,
+so each is closed when the other is opened, and the server keeps a processor busy too. So what the third row has above
+the second is the server's own. The runs take turns. The time of an opening is that to the reply to a back, with the
+closing of the other room; the table has the median and the most. Beside it stand the median and the 99th percentile of
+the time to the replies of the first client. It measures the program that `./test` proved."""
 
 import itertools
 import multiprocessing

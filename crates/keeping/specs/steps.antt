@@ -1,2 +1,4 @@
 pub mod Found
 pub mod Standings
+pub mod Queues
+pub mod Beds

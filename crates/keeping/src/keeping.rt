@@ -10,7 +10,8 @@ use crate::doors::{Doors, Obstacle};
 use crate::file::{Clean, Kept, RoomFile};
 use crate::files::RoomFiles;
 use crate::moving::Idle;
-use crate::orders::{Order, Orders};
+use crate::orders::Orders;
+use crate::queue::Order;
 use base_types::{NoMemory, RoomName};
 use journal::Journal;
 use keeper::{Access, Attempt, Change, Failing, FileSync, KeepFault, Keeper, Reason};
@@ -149,7 +150,7 @@ impl<P: RoomHistories, J: Journal + Drop, F: RoomFiles<J> + Drop> Keeping<P, J, 
             && let Some(outcome) = here.keep(rt, alloc, rooms)
         {
             if outcome.is_ordered {
-                self.orders.add(rt, Order::Keep(place));
+                self.orders.add_next(rt, Order::Keep(place));
             }
             if outcome.is_awaited {
                 self.order_parked(rt, alloc);
@@ -292,8 +293,9 @@ impl<P: RoomHistories, J: Journal + Drop, F: RoomFiles<J> + Drop> Keeper<P> for 
         if doors.is_full() {
             return Ok(Access::NotServed(Reason::Full));
         }
+        let ordered = name.copy(alloc)?;
         doors.begin_move(name.copy(alloc)?)?;
-        if !self.order_open(rt, alloc, name) {
+        if !self.orders.add(rt, Order::Open(ordered)) {
             doors.end_move(name);
             return Err(NoMemory);
         }

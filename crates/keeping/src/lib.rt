@@ -11,6 +11,7 @@ mod keeping;
 pub mod laws;
 mod moving;
 mod orders;
+mod queue;
 mod recent;
 mod sleepers;
 

@@ -8,7 +8,7 @@ use crate::desk::{Closing, Left, text_of};
 use crate::file::RoomFile;
 use crate::files::{FileFound, RoomFiles};
 use crate::keeping::Keeping;
-use crate::orders::Order;
+use crate::queue::Order;
 use base_types::{NoMemory, RoomName};
 use journal::Journal;
 use keeper::{Attempt, Beginning, Change, Reason};
@@ -110,7 +110,7 @@ impl<P: RoomHistories, J: Journal + Drop, F: RoomFiles<J> + Drop> Keeping<P, J, 
         };
         let mut attempt = self.close_room(rt, alloc, rooms, idle);
         // Only now, since another thread may take the order and would close one more room.
-        if !self.order_open(rt, alloc, &name) {
+        if !self.open_next(rt, alloc, &name) {
             attempt.news[0] = Some(self.waiting_place(&name));
             self.doors.lock(rt).fail(name, Reason::NoMemory);
         }
@@ -159,7 +159,7 @@ impl<P: RoomHistories, J: Journal + Drop, F: RoomFiles<J> + Drop> Keeping<P, J, 
         for (place, desk) in self.places.iter().enumerate().skip(self.first) {
             match desk.left(rt, alloc, rooms) {
                 Left::New => {
-                    self.orders.add(rt, Order::Keep(place));
+                    self.orders.add_next(rt, Order::Keep(place));
                     return Space::Soon;
                 }
                 Left::Ordered => return Space::Soon,
@@ -169,20 +169,21 @@ impl<P: RoomHistories, J: Journal + Drop, F: RoomFiles<J> + Drop> Keeping<P, J, 
         Space::None
     }
 
-    /// Has each room opened next that waits for space.
+    /// Has each room opened next that waits for space, by a thread that carries out another order.
     pub(crate) fn order_parked(&self, rt: &impl Wait, alloc: Global) {
         let parked = self.doors.lock(rt).take_parked(alloc);
         for name in parked.iter() {
-            if !self.order_open(rt, alloc, name) {
+            if !self.open_next(rt, alloc, name) {
                 self.doors.lock(rt).end_move(name);
             }
         }
     }
 
-    /// Has the room of this name opened next. Returns false if an allocation failed.
-    pub(crate) fn order_open(&self, rt: &impl Wait, alloc: Global, name: &RoomName) -> bool {
+    /// Has the room of this name opened next, by a thread that carries out another order. Returns false
+    /// if an allocation failed.
+    fn open_next(&self, rt: &impl Wait, alloc: Global, name: &RoomName) -> bool {
         match name.copy(alloc) {
-            Ok(name) => self.orders.add(rt, Order::Open(name)),
+            Ok(name) => self.orders.add_next(rt, Order::Open(name)),
             Err(NoMemory) => false,
         }
     }

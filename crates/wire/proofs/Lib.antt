@@ -6,3 +6,4 @@ pub mod Quoting
 pub mod Again
 pub mod Written
 pub mod OwnTexts
+pub mod Pairs

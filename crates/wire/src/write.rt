@@ -1,6 +1,7 @@
 //! Requests, replies and entries as text.
 
 mod entry;
+mod number;
 mod operation;
 mod part;
 mod reply;

@@ -21,7 +21,6 @@ pub(super) fn write_operation<H: Written>(
     ensures { let form = operation_form (H.form head.now) seen.now (body_form body.now) in OnOk
         result (string_bytes text.new ≡ string_bytes text.old ++ compact_text form) }
 {
-    let seen = seen.pairs();
     match body {
         Body::New { kind, attrs } => ("new", head, seen, kind, attrs.pairs()).write(alloc, text),
         Body::Put {

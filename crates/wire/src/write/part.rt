@@ -1,9 +1,7 @@
-//! Values that have a JSON form, and their texts. Numbers, brackets and commas are put behind a text
-//! at once: a writer of tokens takes twice the time, and an answer with many identifiers is little
-//! else.
+//! Values that have a JSON form, and their texts. Brackets and commas are put behind a text at once:
+//! a writer of tokens takes twice the time.
 
-ghost use Rattle.std.specs.Prelude.{◌≡◌, ◌+◌, ◌<◌, ◌∷◌, [], ◌++◌, map, pos, IfOk, OnOk, string_bytes};
-ghost use Rattle.std.specs.Fmt.{decimal};
+ghost use Rattle.std.specs.Prelude.{◌≡◌, ◌∷◌, [], ◌++◌, map, pos, IfOk, OnOk, string_bytes};
 ghost use Rattle.std.specs.List.{list_all};
 ghost use Rattle.json.specs.Print.{quoted};
 ghost use Rattle.serde_json.specs.Data.{Data, string};
@@ -13,7 +11,8 @@ ghost use Rattle.wire.specs.Form.{list_form, whole_form, name_form, names_form, 
 ghost use Rattle.wire.specs.Form.{shown_form, version_form};
 ghost use Rattle.wire.specs.steps.Quoting.{is_plain_byte};
 
-use base_types::{Key, Kind, NoMemory, OpName, ValueText, VersionId};
+use super::number::{push_number, push_pair};
+use base_types::{Key, Kind, NoMemory, OpName, StateVector, ValueText, VersionId};
 use itoa::Buffer;
 use json::Writer;
 use rules::{Shown, Version};
@@ -40,28 +39,6 @@ pub(crate) fn compact<W: Written>(alloc: Global, part: &W) -> Result<String, NoM
     let mut text = String::with_capacity(alloc, FIRST_ROOM)?;
     part.write(alloc, &mut text)?;
     Ok(text)
-}
-
-/// Puts a digit behind a text.
-fn push_digit(text: &mut String, digit: u32) -> Result<(), NoMemory>
-    requires { digit < 10 }
-    ensures { OnOk result (string_bytes text.new ≡ string_bytes text.old ++ (48 + digit) ∷ []) }
-{
-    text.push(char::from(b'0' + digit as u8))?;
-    Ok(())
-}
-
-/// Puts a number behind a text.
-#[tactic(auto, using(std::proofs::lemmas::Fmt::decimal_digit))]
-fn push_number(text: &mut String, number: u32) -> Result<(), NoMemory>
-    ensures { OnOk result (string_bytes text.new ≡ string_bytes text.old ++ decimal number) }
-{
-    if number < 10 {
-        return push_digit(text, number);
-    }
-    push_number(text, number / 10)?;
-    push_digit(text, number % 10)?;
-    Ok(())
 }
 
 /// Puts a whole number behind a text.
@@ -238,8 +215,26 @@ impl<A: Written, B: Written, C: Written, D: Written, E: Written, F: Written> Wri
 impl Written for OpName {
     ghost form = { name_form };
 
-    fn write(&self, alloc: Global, text: &mut String) -> Result<(), NoMemory> {
-        (self.site(), self.seq()).write(alloc, text)
+    fn write(&self, _alloc: Global, text: &mut String) -> Result<(), NoMemory> {
+        push_pair(text, self.site(), self.seq())
+    }
+}
+
+impl Written for StateVector {
+    ghost form = { names_form };
+
+    fn write(&self, _alloc: Global, text: &mut String) -> Result<(), NoMemory> {
+        let pairs = self.pairs();
+        text.push('[')?;
+        for at in 0..pairs.len() {
+            if at > 0 {
+                text.push(',')?;
+            }
+            let (site, count) = pairs[at];
+            push_pair(text, site, count)?;
+        }
+        text.push(']')?;
+        Ok(())
     }
 }
 

@@ -169,7 +169,8 @@ impl<P: RoomHistories, J: Journal + Drop, F: RoomFiles<J> + Drop> Keeping<P, J, 
         Space::None
     }
 
-    /// Has each room opened next that waits for space, by a thread that carries out another order.
+    /// Orders that each room is opened that waits for space. The thread that calls this takes the first
+    /// order next.
     pub(crate) fn order_parked(&self, rt: &impl Wait, alloc: Global) {
         let parked = self.doors.lock(rt).take_parked(alloc);
         for name in parked.iter() {
@@ -179,8 +180,8 @@ impl<P: RoomHistories, J: Journal + Drop, F: RoomFiles<J> + Drop> Keeping<P, J, 
         }
     }
 
-    /// Has the room of this name opened next, by a thread that carries out another order. Returns false
-    /// if an allocation failed.
+    /// Orders that the room of this name is opened. The thread that calls this takes the order next.
+    /// Returns false if an allocation failed.
     fn open_next(&self, rt: &impl Wait, alloc: Global, name: &RoomName) -> bool {
         match name.copy(alloc) {
             Ok(name) => self.orders.add_next(rt, Order::Open(name)),

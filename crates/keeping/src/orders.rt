@@ -85,9 +85,9 @@ impl Orders {
         is_added
     }
 
-    /// Adds an order of a thread that carries out another, and asks for its next one soon. So nobody is
-    /// woken: the fewer threads open rooms, the less memory the allocator keeps for them. False if an
-    /// allocation failed.
+    /// Adds an order, and wakes nobody: the thread that calls this carries out another order, and takes
+    /// the next one itself. The fewer threads open rooms, the less memory the allocator keeps for them.
+    /// False if an allocation failed.
     pub(crate) fn add_next(&self, rt: &impl Wait, order: Order) -> bool {
         let mut roster = self.roster.lock(rt);
         let is_added = roster.queue.push(order);

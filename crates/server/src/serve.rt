@@ -334,17 +334,13 @@ where
         |scope| -> Result<(), ServeFault>
             requires { IsSend P.row × IsSend K.Receipt.row × IsSend K.Permit.row }
         {
-            let reporter = match period {
-                Some(period) => scope
-                    .spawn(move || observer.report_every(period, &stop))
-                    .ok(),
-                None => None,
-            };
-            let departing = match departure {
-                Some(departure) => match scope.spawn(move || departure.run()) {
-                    Ok(thread) => Some(thread),
-                    Err(_) => return Err(ServeFault::NoWorker),
-                },
+            let reporter = period.and_then(|period| {
+                let report = move || observer.report_every(period, &stop);
+                scope.spawn(report).ok()
+            });
+            let departing = match departure.map(|departure| scope.spawn(move || departure.run())) {
+                Some(Ok(thread)) => Some(thread),
+                Some(Err(_)) => return Err(ServeFault::NoWorker),
                 None => None,
             };
             let served = serve_streams(served, rooms, streams, output);

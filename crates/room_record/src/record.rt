@@ -106,7 +106,7 @@ impl Record {
             return Ok(EntryList::from_vec(entries));
         }
         write_texts(alloc, &self.entries, end, &mut self.texts)?;
-        let Some(text) = self.texts.joined(alloc, from, end)? else {
+        let Some(text) = self.texts.text_of(alloc, from, end)? else {
             return Ok(EntryList::from_vec(entries));
         };
         Ok(EntryList::with_text(entries, text))

@@ -70,7 +70,7 @@ impl Texts {
     /// # Errors
     ///
     /// `NoMemory` if an allocation failed.
-    pub(crate) fn joined(
+    pub(crate) fn text_of(
         &self,
         alloc: Global,
         from: usize,

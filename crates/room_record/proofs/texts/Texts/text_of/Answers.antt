@@ -1,7 +1,7 @@
 use Rattle.std.proofs.Common.{◌≡◌, ◌+◌, ◌-◌, drop, take, length, ap, ◌∙◌, arith}
 use Rattle.room_record.specs.steps.Texts.{with_commas}
 use Rattle.room_record.proofs.Joined.{a_comma, part}
-use Rattle.room_record.proofs.texts.Texts.joined.Goals as goal
+use Rattle.room_record.proofs.texts.Texts.text_of.Goals as goal
 
 pub overflow_sub-comma : goal.overflow_sub-comma
 overflow_sub-comma c =

@@ -1,4 +1,4 @@
-//! Numbers as text, and pairs of them. An answer with many identifiers is little else.
+//! Numbers and pairs of numbers as text. An answer with many identifiers is little else.
 
 ghost use Rattle.std.specs.Prelude.{◌≡◌, ◌≤◌, ◌+◌, ◌<◌, ◌∷◌, ◌++◌, OnOk, string_bytes, length, drop};
 ghost use Rattle.std.specs.Fmt.{decimal};
@@ -24,8 +24,8 @@ pub(super) fn push_number(text: &mut String, number: u32) -> Result<(), NoMemory
     Ok(())
 }
 
-/// Puts a list of two numbers behind a text. It makes the bytes first, from the last to the first:
-/// to put them behind the text one by one takes three times the instructions.
+/// Puts a list of two numbers behind a text. The bytes are made first, from the last to the first, so
+/// that the text grows once.
 pub(super) fn push_pair(text: &mut String, first: u32, second: u32) -> Result<(), NoMemory>
     ensures { OnOk result (string_bytes text.new
         ≡ string_bytes text.old ++ compact_text (name_form (first, second))) }

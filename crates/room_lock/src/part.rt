@@ -50,13 +50,6 @@ impl<P: RoomHistories> Part<P> {
         self.seen.opening()
     }
 
-    /// The number of entries of the room's record that the site has seen.
-    pub fn count_seen(&self) -> u64
-        ensures { result ≡ length self.now.seen }
-    {
-        self.seen.len()
-    }
-
     /// The prefix of the room's record that the site has seen.
     pub fn prefix(&self) -> Prefix<P>
         ensures { result ≡ prefix_of self.now }

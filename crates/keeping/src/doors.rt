@@ -28,7 +28,7 @@ pub(crate) enum Obstacle {
 #[derive(Drop)]
 pub(crate) struct Doors<P: RoomHistories> {
     moving: IndexSet<RoomName>,
-    /// Those of them that wait for space, until an attempt to keep a room ends that may give it.
+    /// Those for which there is no space, until an attempt to keep a room ends that may give it.
     parked: IndexSet<RoomName>,
     failed: Recent<RoomName, Reason>,
     /// By the numbers of their openings.

@@ -30,7 +30,7 @@ const WAITING_PLACES: usize = 64;
 /// The files of all rooms, by the places of the rooms. A thread writes and syncs all that a room has
 /// by then for all that wait for it. No two threads write for one room. Rooms on demand are opened and
 /// closed by these threads too, with their files. Locks are taken in this order: the doors, a place,
-/// and then what `Rooms` locks. The lock of the chains is taken alone.
+/// then what `Rooms` locks, and that of the orders last. The lock of the chains is taken alone.
 #[derive(Drop)]
 pub struct Keeping<P: RoomHistories, J: Journal, F> {
     pub(crate) places: Vec<Place<P, J>>,

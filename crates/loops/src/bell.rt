@@ -66,7 +66,7 @@ fn no_watchers(alloc: Global, places: usize) -> Result<Vec<AtomicU64>, AllocErro
 }
 
 impl Bell {
-    /// A bell for this many loops and rooms, and for each loop the sockets that it waits for.
+    /// A bell for so many loops and places of rooms, and for each loop the sockets that it waits for.
     ///
     /// # Errors
     /// `NoLoop` unless `loops` is from 1 to `MAX_LOOPS`.
@@ -105,7 +105,7 @@ impl Bell {
         ))
     }
 
-    /// How many rooms there are.
+    /// How many places of rooms there are.
     pub(crate) fn places(&self) -> usize {
         self.watchers.len()
     }

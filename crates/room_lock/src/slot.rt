@@ -100,9 +100,9 @@ impl<P: RoomHistories> Slot<P> {
     }
 }
 
-/// Takes a lock. Holds take microseconds, and a thread that sleeps is woken late, so the thread
-/// spins first. It does not yield: where threads outnumber processors, a thread that yields may
-/// wait for milliseconds.
+/// Takes a lock. But for the end of a nearly full room, holds take microseconds, and a thread that
+/// sleeps is woken late. So the thread spins first. It does not yield: where threads outnumber
+/// processors, a thread that yields may wait for milliseconds.
 pub(crate) fn lock_of<'a, T>(rt: &impl Wait, guarded: &'a Mutex<T>) -> MutexGuard<'a, T> {
     let backoff = Backoff::new();
     for _try in 0..TRIES {

@@ -182,8 +182,8 @@ impl<P: RoomHistories> Session<P> {
     /// `back` in a room, all others in no room, rooms that do not exist or are not in its
     /// scope, and rooms that cannot be opened now, or for which the keeper has no permit. It tells
     /// who asks for a room whose chain goes on elsewhere of the newest room. Every other request is
-    /// one call of the rooms: `join` and `back` may give a pass, `leave` hands it back, and the rest
-    /// call the room by it.
+    /// carried out by one call of the rooms: `join` and `back` may give a pass, `leave` hands it
+    /// back, and the rest call the room by it.
     /// With `may_hold` it holds a `wait` in a room whose record has exactly the number of entries
     /// that the request names. It also holds a `join` or `back` of a room that is being opened.
     /// Without, a `wait` is a pull, and such a room is not served. A session that has asked for the

@@ -1,62 +1,22 @@
 //! Groups as they are shown.
 
-ghost use Rattle.std.specs.Prelude.{◌≡◌, ◌<◌, false, All, IfOk, Contains, length, map};
-ghost use Rattle.base_types.specs.VersionIds.{id_cmp};
+ghost use Rattle.std.specs.Prelude.{◌≡◌, false, IfOk, Contains, length, map};
 ghost use Rattle.rules.specs.Bodies.{initial_in, is_change_body};
 ghost use Rattle.rules.specs.Lists.{sort_by};
-ghost use Rattle.rules.specs.Groups.{groups_of, identifier};
+ghost use Rattle.rules.specs.Groups.{groups_of};
 ghost use Rattle.rules.specs.Versions.{by_id, shown_of};
 ghost use Rattle.places.specs.steps.PlaceSet.{places};
-ghost use Rattle.version_groups.specs.steps.Kept.{AreGroups};
 ghost use Rattle.places.specs.steps.Changes.{at, is_conflict_of};
 ghost use Rattle.shape.specs.steps.Kept.{version_at, AreGroupsOf};
 
 use attributes::attributes_of;
-use base_types::{NoMemory, VersionId};
+use base_types::NoMemory;
 use conflict::ObjectChanges;
-use places::{PlaceSet, Relation};
+use places::PlaceSet;
 use rules::{AttrList, Body, Op, Shown, Version};
 use std::alloc::Global;
 use version_groups::Groups;
 use version_ids::identifier_of;
-
-/// The identifiers of groups, in the order of the groups.
-fn listed_ids<R: Relation>(
-    alloc: Global,
-    relation: &R,
-    groups: &Groups,
-) -> Result<Vec<VersionId>, NoMemory>
-    requires { All (All (λ place. place < R.size relation.now)) groups.now.groups }
-    ensures { let all = places (R.size relation.now)
-        in let id_of = identifier (R.conflicts relation.now) (R.name_at relation.now) all
-        in IfOk result (λ ids. ids.items ≡ map id_of groups.now.groups) }
-{
-    let mut ids = Vec::with_capacity(alloc, groups.count())?;
-    let mut scratch = Vec::new(alloc);
-    for group in 0..groups.count() {
-        let members = groups.members(group);
-        ids.push(identifier_of(alloc, relation, members, &mut scratch)?)?;
-    }
-    Ok(ids)
-}
-
-/// The identifiers of the groups of all places of a relation, in their own order.
-pub(crate) fn sorted_ids<R: Relation>(
-    alloc: Global,
-    relation: &R,
-    groups: &Groups,
-) -> Result<Vec<VersionId>, NoMemory>
-    requires { AreGroups (R.conflicts relation.now) (places (R.size relation.now))
-        groups.now.groups }
-    ensures { let all = places (R.size relation.now)
-        in let id_of = identifier (R.conflicts relation.now) (R.name_at relation.now) all
-        in IfOk result (λ ids. ids.items ≡ sort_by id_cmp (map id_of groups.now.groups)) }
-{
-    let _ = relation.len();
-    let mut ids = listed_ids(alloc, relation, groups)?;
-    ids.sort_unstable();
-    Ok(ids)
-}
 
 /// What is shown of a group: that it is gone where it holds a drop, and else its attributes.
 fn shown_of(

@@ -1,10 +1,10 @@
 //! One more place. Each group takes the place in, or stays. What of a group that stays is
 //! compatible with the place becomes a candidate for a new group.
 
-ghost use Rattle.std.specs.Prelude.{◌≡◌, ◌-◌, ◌<◌, map, IfOk, OnOk, All};
-ghost use Rattle.std.specs.List.{list_any};
+ghost use Rattle.std.specs.Prelude.{◌≡◌, ◌&&◌, ◌-◌, ◌<◌, filter, map, true, IfOk, OnOk, All};
+ghost use Rattle.std.specs.List.{list_all, list_any};
 ghost use Rattle.places.specs.steps.PlaceSet.{is_within, places, with_place};
-ghost use Rattle.version_groups.specs.steps.Kept.{AreGroups};
+ghost use Rattle.version_groups.specs.steps.Kept.{AreGroups, HaveGrown};
 ghost use Rattle.version_groups.specs.steps.Steps.{group_after, candidate, incompatible_groups, is_none_of, sift, next_groups, with_candidate};
 ghost use Rattle.places.specs.steps.PlaceSet.{AreBelow};
 
@@ -14,7 +14,7 @@ use std::alloc::Global;
 use std::collections::VecDeque;
 
 /// The groups of all places of a relation, from those of all but its last place.
-#[tactic(auto, using(crate::proofs::Exact::groups_of_more))]
+#[tactic(auto, using(crate::proofs::Exact::groups_of_more, crate::proofs::Grown::have_grown))]
 pub(crate) fn groups_with_last<R: Relation>(
     alloc: Global,
     relation: &R,
@@ -23,14 +23,17 @@ pub(crate) fn groups_with_last<R: Relation>(
     requires some { 0 < R.size relation.now }
     requires groups { AreGroups (R.conflicts relation.now) (places (R.size relation.now - 1))
         kept.now }
-    ensures { IfOk result (λ next.
+    ensures groups { IfOk result (λ next.
         AreGroups (R.conflicts relation.now) (places (R.size relation.now)) next.items) }
+    ensures grown { IfOk result (λ next.
+        HaveGrown (R.size relation.now - 1) kept.now next.items) }
 {
     let place = relation.len() - 1;
     step(alloc, kept, relation.conflicts_of_last(), place)
 }
 
 /// The groups with one place more.
+#[tactic(auto, using(crate::proofs::Covered::nothing_more))]
 fn step(
     alloc: Global,
     kept: &[PlaceSet],
@@ -41,9 +44,50 @@ fn step(
     ensures { IfOk result (λ next.
         next.items ≡ next_groups (is_none_of conflicting.now) place kept.now) }
 {
-    let (mut next, candidates) = groups_and_candidates(alloc, kept, conflicting, place)?;
-    add_candidates(&mut next, candidates)?;
+    let mut next = grown_groups(alloc, kept, conflicting, place)?;
+    if covers_all_candidates(alloc, kept, conflicting, place)? {
+        return Ok(next);
+    }
+    add_candidates(&mut next, candidates(alloc, kept, conflicting, place)?)?;
     Ok(next)
+}
+
+/// Is all that has no conflict with the place one of several groups? So it is where the author of a
+/// change knows all others. Each candidate then lies in that group with the place.
+fn covers_all_candidates(
+    alloc: Global,
+    groups: &[PlaceSet],
+    conflicting: &PlaceSet,
+    place: u32,
+) -> Result<bool, NoMemory>
+    ensures { let is_free = is_none_of conflicting.now in IfOk result (λ covers. covers ≡ true
+        → list_any (λ g. is_within (filter is_free (places place)) g && list_all is_free g)
+        groups.now ≡ true) }
+{
+    if groups.len() < 2 {
+        return Ok(false);
+    }
+    let free = PlaceSet::first_places(alloc, place)?.without(alloc, conflicting)?;
+    Ok(is_one_group(groups, &free, conflicting))
+}
+
+/// Has one of the groups all free places, and none in conflict with the place?
+fn is_one_group(groups: &[PlaceSet], free: &PlaceSet, conflicting: &PlaceSet) -> bool
+    ensures { let is_free = is_none_of conflicting.now
+        in result ≡ list_any (λ g. is_within free.now g && list_all is_free g) groups.now }
+{
+    groups
+        .iter()
+        .any(|group| is_all_free(group, free, conflicting))
+}
+
+/// Has a group all free places, and none in conflict with the place?
+#[tactic(auto, using(crate::proofs::Pieces::none_of_all))]
+fn is_all_free(group: &PlaceSet, free: &PlaceSet, conflicting: &PlaceSet) -> bool
+    ensures { let is_free = is_none_of conflicting.now
+        in result ≡ (is_within free.now group.now && list_all is_free group.now) }
+{
+    free.is_subset(group) && !group.intersects(conflicting)
 }
 
 /// A group with the place.
@@ -72,32 +116,61 @@ fn candidate_of(
     Ok(members)
 }
 
-/// Each group, with the place where nothing in it conflicts with the place, and a candidate for each
-/// other group.
-fn groups_and_candidates(
+/// A group, with the place where nothing in it conflicts with the place.
+#[tactic(auto, using(crate::proofs::Pieces::group_with_place, crate::proofs::Pieces::group_without_place, crate::proofs::Pieces::none_of_all))]
+fn group_after(
+    alloc: Global,
+    group: &PlaceSet,
+    conflicting: &PlaceSet,
+    place: u32,
+) -> Result<PlaceSet, NoMemory>
+    requires { AreBelow place group.now }
+    ensures { IfOk result (λ members.
+        members ≡ group_after (is_none_of conflicting.now) place group.now) }
+{
+    if group.intersects(conflicting) {
+        return group.copy(alloc);
+    }
+    with_place(alloc, group, place)
+}
+
+/// Each group, with the place where nothing in it conflicts with the place.
+fn grown_groups(
     alloc: Global,
     groups: &[PlaceSet],
     conflicting: &PlaceSet,
     place: u32,
-) -> Result<(Vec<PlaceSet>, VecDeque<PlaceSet>), NoMemory>
+) -> Result<Vec<PlaceSet>, NoMemory>
     requires { All (AreBelow place) groups.now }
-    ensures groups { IfOk result (λ both. both.0.items
-        ≡ map (group_after (is_none_of conflicting.now) place) groups.now) }
-    ensures candidates { let is_compatible = is_none_of conflicting.now
-        in IfOk result (λ both. both.1.items
-        ≡ map (candidate is_compatible place) (incompatible_groups is_compatible groups.now)) }
+    ensures { IfOk result (λ next.
+        next.items ≡ map (group_after (is_none_of conflicting.now) place) groups.now) }
 {
     let mut next = Vec::with_capacity(alloc, groups.len())?;
+    for group in groups {
+        next.push(group_after(alloc, group, conflicting, place)?)?;
+    }
+    Ok(next)
+}
+
+/// A candidate for each group in which something conflicts with the place.
+fn candidates(
+    alloc: Global,
+    groups: &[PlaceSet],
+    conflicting: &PlaceSet,
+    place: u32,
+) -> Result<VecDeque<PlaceSet>, NoMemory>
+    requires { All (AreBelow place) groups.now }
+    ensures { let is_compatible = is_none_of conflicting.now in IfOk result (λ candidates.
+        candidates.items
+        ≡ map (candidate is_compatible place) (incompatible_groups is_compatible groups.now)) }
+{
     let mut candidates = VecDeque::new(alloc);
     for group in groups {
         if group.intersects(conflicting) {
-            next.push(group.copy(alloc)?)?;
             candidates.push_back(candidate_of(alloc, group, conflicting, place)?)?;
-        } else {
-            next.push(with_place(alloc, group, place)?)?;
         }
     }
-    Ok((next, candidates))
+    Ok(candidates)
 }
 
 /// Appends each candidate that is part of no group and of no later candidate.

@@ -1,10 +1,7 @@
 -- The forms of what is in range are plain.
-use Rattle.std.proofs.Common.{◌≡◌, ℕ, ◌^◌, ◌<◌, ◌&&◌, true, false, not, List, [], ◌∷◌, map, Option, Some, None, ℤ, pos, negsuc, refl, arith}
-use Rattle.std.specs.Prelude.{nat_le, FitsSigned}
-use Rattle.std.specs.Int.{w64}
-use Rattle.serde_json.specs.Find.{of_integer}
+use Rattle.std.proofs.Common.{◌≡◌, ℕ, ◌^◌, ◌<◌, ◌&&◌, true, false, not, List, [], ◌∷◌, map, None, arith}
+use Rattle.std.specs.Prelude.{nat_le}
 use Rattle.std.specs.List.{AllByRecursion}
-use Rattle.std.specs.Option.{option_or}
 use Rattle.std.proofs.lemmas.Bool.Decides.{nat_tests}
 use Rattle.serde_json.specs.Data.{Data}
 use Rattle.serde_json.specs.View.{items_of}
@@ -31,7 +28,7 @@ use Rattle.rules.specs.declared.version.Shown.{Shown}
 use Rattle.rules.specs.declared.version.Shown.TheVariants.{Attrs, Gone}
 use Rattle.wire.specs.Notes.{Note}
 use Rattle.wire.specs.declared.reply.Reply.{Reply}
-use Rattle.wire.proofs.Again.{IsPlain, ArePlain, IsHeldNumber, held_integer}
+use Rattle.wire.proofs.Again.{IsPlain, ArePlain, held_integer}
 
 -- ---- lists
 

@@ -7,6 +7,7 @@ mod lists;
 mod note;
 mod reply;
 mod request;
+mod shared_id;
 mod write;
 
 pub use lists::{EntryList, IdList, NoteList, ObjectList, VersionList};
@@ -14,4 +15,5 @@ pub use note::NoteRequest;
 pub use reply::{EntryKind, Reply};
 pub use request::{MAX_FROM, MAX_REQUEST_LEN, Request};
 pub use rules::Refusal;
+pub use shared_id::SharedId;
 pub use write::{write_entry, write_reply, write_request};

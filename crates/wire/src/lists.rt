@@ -1,18 +1,20 @@
 //! The lists in replies. Contracts see each as the plain list of its members.
 
-ghost use Rattle.std.specs.Prelude.{◌≡◌, IfSome, map, string_bytes};
+ghost use Rattle.std.specs.Prelude.{◌≡◌, IfOk, IfSome, map, string_bytes};
 ghost use Rattle.std.specs.Arc.{arc_value};
 ghost use Rattle.wire.specs.steps.Pages.{entries_text};
 
-use base_types::{Kind, OpName, ValueText, VersionId};
+use crate::shared_id::SharedId;
+use base_types::{Kind, NoMemory, OpName, ValueText, VersionId};
 use rules::{Entry, Version};
+use std::alloc::Global;
 use std::marker::Model;
 use std::sync::Arc;
 
-/// The identifiers of an object's versions.
+/// The identifiers of an object's versions. Each is shared with the object.
 #[derive(Drop)]
 pub struct IdList {
-    ids: Vec<VersionId>,
+    ids: Vec<SharedId>,
 }
 
 impl Model for IdList {
@@ -26,14 +28,29 @@ impl Model for IdList {
 
 impl IdList {
     /// These identifiers, in their order. Takes no memory.
-    pub fn from_vec(ids: Vec<VersionId>) -> IdList
+    pub fn from_vec(ids: Vec<SharedId>) -> IdList
         ensures { result ≡ ids.items }
     {
         IdList { ids }
     }
 
+    /// These identifiers without their texts, in their order. Takes memory for each.
+    ///
+    /// # Errors
+    ///
+    /// `NoMemory` if an allocation failed.
+    pub fn unwritten(alloc: Global, ids: Vec<VersionId>) -> Result<IdList, NoMemory>
+        ensures { IfOk result (λ list. list ≡ ids.items) }
+    {
+        let mut shared = Vec::with_capacity(alloc, ids.len())?;
+        for id in ids {
+            shared.push(SharedId::unwritten(alloc, id)?)?;
+        }
+        Ok(IdList { ids: shared })
+    }
+
     /// The identifiers.
-    pub fn as_slice(&self) -> &[VersionId]
+    pub fn as_slice(&self) -> &[SharedId]
         ensures { result.now ≡ self.now }
     {
         &self.ids

@@ -54,12 +54,12 @@ impl Part for VersionId {
 }
 
 /// The identifiers, if they rise.
-fn ids_with(ids: Vec<VersionId>) -> Result<IdList, ReadFault>
+fn ids_with(alloc: Global, ids: Vec<VersionId>) -> Result<IdList, ReadFault>
     ensures { Gives (λ list. list) result
         (if rise id_before ids.items then Some ids.items else None) }
 {
     let ids = rising(ids)?;
-    Ok(IdList::from_vec(ids))
+    Ok(IdList::unwritten(alloc, ids)?)
 }
 
 fn ids_of(alloc: Global, reader: &mut Reader<'_>) -> Result<IdList, ReadFault>
@@ -67,7 +67,7 @@ fn ids_of(alloc: Global, reader: &mut Reader<'_>) -> Result<IdList, ReadFault>
         (next_in ids_in n reader.old) reader.new }
 {
     let ids: Vec<VersionId> = list_of(alloc, reader)?;
-    ids_with(ids)
+    ids_with(alloc, ids)
 }
 
 /// The attributes of a version, if their keys rise.

@@ -1,5 +1,6 @@
 -- What is kept beside the changes.
-use Rattle.std.specs.Prelude.{◌≡◌, ℕ, false, List, length, map}
+use Rattle.std.specs.Prelude.{◌≡◌, ℕ, ◌+◌, ◌<◌, false, List, length, map}
+use Rattle.base_types.specs.Names.{Name}
 use Rattle.rules.specs.declared.history.Op.{Op}
 use Rattle.rules.specs.declared.version.Version.{Version}
 use Rattle.rules.specs.Bodies.{initial_in, is_change_body}
@@ -13,18 +14,39 @@ use Rattle.version_groups.specs.steps.Kept.{AreGroups, Kept}
 abbrev pub AreGroupsOf : List Op → List (List ℕ) → Type 0
 AreGroupsOf k gs = AreGroups (is_conflict_of k) (places (length k)) gs
 
--- the groups of all places, and the number of different keys
-pub record IsKept (creation : Op) (changes : Changes) (groups : Kept) (keys : ℕ) : Type 0 where
+-- the identifier of a group of the places of all changes
+abbrev pub id_at : List Op → List ℕ → List Name
+id_at k g = identifier (is_conflict_of k) (λ i. (at k i).name) (places (length k)) g
+
+-- groups, and the identifiers that are kept for them
+pub record Named : Type 0 where
+  pub groups : Kept
+  pub ids : List (List Name)
+
+-- they are the groups of the places of all changes, each with its identifier
+pub record AreNamedOf (k : List Op) (named : Named) : Type 0 where
+  pub covered : named.groups.ops ≡ length k
+  pub groups_are : AreGroupsOf k named.groups.groups
+  pub ids_are : named.ids ≡ map (id_at k) named.groups.groups
+
+-- the changes l go on from k by one, and the conflicts of k stay as they are
+pub record GoesOn (k l : List Op) : Type 0 where
+  pub size : length l ≡ length k + 1
+  pub same : (i : ℕ) → i < length k → at l i ≡ at k i
+  pub conflicts : (i j : ℕ) → i < length k → j < length k
+      → is_conflict_of k i j ≡ is_conflict_of l i j
+
+-- the groups of all changes with their identifiers, and the number of different keys
+pub record IsKept (creation : Op) (changes : Changes) (groups : Named) (keys : ℕ) : Type 0 where
   pub is_creation : is_change_body creation.body ≡ false
   pub object : changes.object ≡ creation.name
   pub changes_on : AreChangesOn changes.object changes.ops
-  pub covered : groups.ops ≡ length changes.ops
-  pub groups_are : AreGroupsOf changes.ops groups.groups
+  pub groups_are : AreNamedOf changes.ops groups
   pub keys_are : keys ≡ length (keys_of changes.ops)
 
 -- a group of the places as it is shown
 abbrev pub version_at : Op → List Op → List ℕ → Version
 version_at creation k g = record {
-  id = identifier (is_conflict_of k) (λ i. (at k i).name) (places (length k)) g;
+  id = id_at k g;
   shown = shown_of (initial_in creation.body) (map (at k) g);
 }

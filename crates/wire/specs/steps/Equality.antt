@@ -31,6 +31,9 @@ pairs_decide first second p q =
 
 -- ---- the lists
 
+pub same_id-equivalence : IsEquivalence same_names
+same_id-equivalence = decided same_names same_names-Decides
+
 abbrev pub same_ids : List (List Name) → List (List Name) → Bool
 same_ids = pointwise same_names
 

@@ -12,6 +12,7 @@ ghost use Rattle.wire.specs.Form.{shown_form, version_form};
 ghost use Rattle.wire.specs.steps.Quoting.{is_plain_byte};
 
 use super::number::{push_number, push_pair};
+use crate::shared_id::SharedId;
 use base_types::{Key, Kind, NoMemory, OpName, StateVector, ValueText, VersionId};
 use itoa::Buffer;
 use json::Writer;
@@ -243,6 +244,18 @@ impl Written for VersionId {
 
     fn write(&self, alloc: Global, text: &mut String) -> Result<(), NoMemory> {
         self.names().write(alloc, text)
+    }
+}
+
+impl Written for SharedId {
+    ghost form = { names_form };
+
+    fn write(&self, alloc: Global, text: &mut String) -> Result<(), NoMemory> {
+        let Some(known) = self.text() else {
+            return self.names().write(alloc, text);
+        };
+        text.push_str(known)?;
+        Ok(())
     }
 }
 

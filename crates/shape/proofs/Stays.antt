@@ -1,0 +1,104 @@
+-- The identifier of a group stays where none of its places comes newly into conflict.
+use Rattle.std.proofs.Common.{◌≡◌, ℕ, ◌<◌, Bool, true, false, List, [], ◌∷◌, ◌++◌, length, map, not, refl, sym, ap, ◌∙◌, subst, arith, ◌⊎◌, inl, inr}
+use Rattle.std.specs.Prelude.{All, filter, slice_index_or}
+use Rattle.std.specs.List.{list_any}
+use Rattle.std.proofs.lemmas.Bool.{cases_Bool, false_from_ne_true, true≢false}
+use Rattle.base_types.specs.Names.{Name, name_cmp}
+use Rattle.rules.specs.declared.history.Op.{Op}
+use Rattle.rules.specs.Groups.{identifier, in_conflict_with}
+use Rattle.rules.specs.Lists.{sort_by}
+use Rattle.rules.proofs.Lists.{In, In-filter, In-filter_back, any_from, any_back, any_none, filter_agree, map_agree, In-append_left, In-append_right}
+use Rattle.places.specs.steps.PlaceSet.{has, places}
+use Rattle.places.specs.steps.Changes.{at, conflicting_places, is_conflict_of}
+use Rattle.places.proofs.Places.{In-places, below, has-filter, has-filter_past, has_if_in, in_all}
+use Rattle.std.proofs.lemmas.List.{length-map}
+use Rattle.std.specs.List.Sorted.{IsPermutation}
+use Rattle.rules.proofs.Groups.{groups_agree}
+use Rattle.version_groups.specs.steps.Kept.{AreGroups, HaveGrown}
+use Rattle.shape.specs.steps.Kept.{id_at, AreNamedOf, GoesOn, Named}
+use Rattle.shape.proofs.Listing.{at_map, kept_below}
+
+-- the groups, by the relation with one change more
+pub groups_go_on : (k l : List Op) → GoesOn k l → (gs : List (List ℕ)) (n : ℕ) → n ≡ length k → AreGroups (is_conflict_of k) (places (length k)) gs → AreGroups (is_conflict_of l) (places n) gs
+groups_go_on k l w gs n e are =
+    subst (λ m. AreGroups (is_conflict_of l) (places m) gs) (sym e)
+    (subst (λ s. IsPermutation gs s) (groups_agree (is_conflict_of k) (is_conflict_of l) (places (length k)) (λ i j m n. w.conflicts i j (below (length k) i m) (below (length k) j n))) are)
+
+filter_append : {X : Type 0} (p : X → Bool) (xs ys : List X) → filter p (xs ++ ys) ≡ filter p xs ++ filter p ys
+filter_append p [] ys = refl
+filter_append p (x ∷ xs) ys = elim (cases_Bool (p x)) [
+  | inl t ↦ rw t (ap (λ l. x ∷ l) (filter_append p xs ys))
+  | inr f ↦ rw f (filter_append p xs ys)
+]
+
+append_none : {X : Type 0} (xs : List X) → xs ++ [] ≡ xs
+append_none [] = refl
+append_none (x ∷ xs) = ap (λ l. x ∷ l) (append_none xs)
+
+module _ (k l : List Op) (w : GoesOn k l) (newly : List ℕ) (e : newly ≡ filter (λ place. not (has (conflicting_places k) place)) (conflicting_places l)) where
+  -- is the change at a place in conflict with some, before and after?
+  abbrev before : ℕ → Bool
+  before = in_conflict_with (is_conflict_of k) (places (length k))
+
+  abbrev after : ℕ → Bool
+  after = in_conflict_with (is_conflict_of l) (places (length l))
+
+  -- what is in conflict stays so
+  still : (x : ℕ) → x < length k → before x ≡ true → after x ≡ true
+  still x low t =
+      let c = any_back (is_conflict_of k x) (places (length k)) t in
+      let high = below (length k) c.0 c.1 in
+      any_from (is_conflict_of l x) c.0 (places (length l)) (In-places (length l) c.0 (omega (arith, w.size, high))) (sym (w.conflicts x c.0 low high) ∙ c.2)
+
+  -- what is in conflict after, and not newly, was so before
+  was : (x : ℕ) → x < length l → has newly x ≡ false → after x ≡ true → has (conflicting_places k) x ≡ true
+  was x low n t = elim (cases_Bool (has (conflicting_places k) x)) [
+    | inl h ↦ h
+    | inr h ↦ (let there : In x (conflicting_places l) = In-filter after x (places (length l)) (In-places (length l) x low) t in
+        let new : In x newly = subst (λ s. In x s) (sym e) (In-filter (λ place. not (has (conflicting_places k) place)) x (conflicting_places l) there (ap not h)) in
+        absurd (true≢false (sym (has_if_in newly x new) ∙ n)))
+  ]
+
+  same : (x : ℕ) → x < length k → has newly x ≡ false → after x ≡ before x
+  same x low n = elim (cases_Bool (before x)) [
+    | inl t ↦ still x low t ∙ sym t
+    | inr f ↦ false_from_ne_true (after x) (λ t. true≢false (sym (was x (omega (arith, low, w.size)) n t) ∙ has-filter before (length k) x low ∙ f)) ∙ sym f
+  ]
+
+  last : has newly (length k) ≡ false → after (length k) ≡ false
+  last n = false_from_ne_true (after (length k)) (λ t. true≢false (sym (was (length k) (omega (arith, w.size)) n t) ∙ has-filter_past before (length k) (length k) (omega arith)))
+
+  none_newly : (g : List ℕ) → list_any (has newly) g ≡ false → (x : ℕ) → In x g → has newly x ≡ false
+  none_newly g n x m = any_none (has newly) x g n m
+
+  by_places : (g : List ℕ) → ((x : ℕ) → In x g → x < length k) → ((x : ℕ) → In x g → has newly x ≡ false) → map (λ i. (at l i).name) (filter after g) ≡ map (λ i. (at k i).name) (filter before g)
+  by_places g low n =
+      ap (map (λ i. (at l i).name)) (filter_agree after before g (λ x m. same x (low x m) (n x m)))
+      ∙ map_agree (λ i. (at l i).name) (λ i. (at k i).name) (filter before g) (λ x m. ap (λ (o : Op). o.name) (w.same x (low x (In-filter_back before x g m).0)))
+
+  with_last : (g : List ℕ) → has newly (length k) ≡ false → filter after (g ++ length k ∷ []) ≡ filter after g
+  with_last g n = filter_append after g (length k ∷ []) ∙ (let f = last n in ap (λ s. filter after g ++ s) (rw f refl)) ∙ append_none (filter after g)
+
+  pub id_stays : (g h : List ℕ) → All (λ p. p < length k) g → (h ≡ g) ⊎ (h ≡ g ++ length k ∷ []) → list_any (has newly) h ≡ false → id_at l h ≡ id_at k g
+  unfolding identifier
+  id_stays g h all grown n =
+      let low : (x : ℕ) → In x g → x < length k = in_all (λ p. p < length k) g all in
+      elim grown [
+        | inl f ↦ ap (λ s. sort_by name_cmp (map (λ i. (at l i).name) (filter after s))) f ∙ ap (sort_by name_cmp) (by_places g low (λ x m. none_newly h n x (subst (λ s. In x s) (sym f) m)))
+        | inr f ↦ (let there : (x : ℕ) → In x (g ++ length k ∷ []) → has newly x ≡ false = λ x m. none_newly h n x (subst (λ s. In x s) (sym f) m) in
+            ap (λ s. sort_by name_cmp (map (λ i. (at l i).name) (filter after s))) f
+            ∙ ap (λ s. sort_by name_cmp (map (λ i. (at l i).name) s)) (with_last g (there (length k) (In-append_right (length k) g (length k ∷ []) (inl refl))))
+            ∙ ap (sort_by name_cmp) (by_places g low (λ x m. there x (In-append_left x g (length k ∷ []) m))))
+      ]
+
+  -- what is kept for a group is its identifier still
+  pub kept_stays : (named : Named) → AreNamedOf k named → (i : ℕ) → i < length named.ids → (gs : List (List ℕ)) → HaveGrown named.groups.ops named.groups.groups gs → (h : List ℕ) → h ≡ slice_index_or gs i [] → list_any (has newly) h ≡ false
+      → (id : List Name) → id ≡ slice_index_or named.ids i [] → id ≡ id_at l h
+  kept_stays named are i there gs grown h at_h n id f =
+      let kept = named.groups.groups in
+      let count : length named.ids ≡ length kept = ap length are.ids_are ∙ length-map kept (id_at k) in
+      let low : i < length kept = subst (λ m. i < m) count there in
+      let g = slice_index_or kept i [] in
+      let was : id ≡ id_at k g = f ∙ ap (λ s. slice_index_or s i []) are.ids_are ∙ at_map (id_at k) kept i [] [] low in
+      let step : (h ≡ g) ⊎ (h ≡ g ++ length k ∷ []) = elim (grown i low) [ inl a ↦ inl (at_h ∙ a) | inr b ↦ inr (at_h ∙ b ∙ ap (λ m. g ++ m ∷ []) are.covered) ] in
+      was ∙ sym (id_stays g h (kept_below (is_conflict_of k) (length k) kept are.groups_are i [] low) step n)

@@ -1,0 +1,202 @@
+//! The groups of an object's changes with their identifiers. Both are kept between calls, since a
+//! change leaves most identifiers as they are.
+
+ghost use Rattle.std.specs.Prelude.{◌≡◌, ◌<◌, ◌≤◌, [], Err, false, All, IfOk, IfSome, OnOk, length, map, slice_index_or};
+ghost use Rattle.std.specs.List.{list_any};
+ghost use Rattle.base_types.specs.VersionIds.{id_cmp};
+ghost use Rattle.rules.specs.Groups.{group_named};
+ghost use Rattle.rules.specs.Lists.{sort_by};
+ghost use Rattle.places.specs.steps.PlaceSet.{has, places};
+ghost use Rattle.places.specs.steps.Lookups.{IsPlaceOf};
+ghost use Rattle.places.specs.steps.Changes.{at, is_conflict_of};
+ghost use Rattle.version_groups.specs.declared.fault.AddFault.TheVariants as AddFault;
+ghost use Rattle.version_groups.specs.steps.Kept.{count_of_groups, HaveGrown};
+ghost use Rattle.shape.specs.steps.Kept.{id_at, AreGroupsOf, AreNamedOf, GoesOn};
+
+use base_types::{NoMemory, VersionId};
+use conflict::{ObjectChanges, WithAddition};
+use places::{PlaceSet, Relation};
+use smallvec::SmallVec;
+use std::alloc::Global;
+use std::marker::Model;
+use version_groups::{AddFault, Groups};
+use version_ids::identifier_of;
+use wire::SharedId;
+
+/// Identifiers in the order of the groups. Most objects have one group.
+type Ids = SmallVec<SharedId, 1>;
+
+/// The groups of all changes of an object, each with its identifier.
+#[derive(Drop)]
+pub(crate) struct NamedGroups {
+    groups: Groups,
+    ids: Ids,
+}
+
+impl Model for NamedGroups {
+    ghost use Rattle.shape.specs.steps.Kept.{Named};
+
+    ghost Value = { Named };
+
+    ghost view = { λ named. record { groups = named.groups; ids = named.ids.items } };
+}
+
+/// The identifier of a group, in memory of its own. The memory of `scratch` serves all groups.
+fn new_id(
+    alloc: Global,
+    changes: &WithAddition<'_>,
+    group: &PlaceSet,
+    scratch: &mut Vec<u32>,
+) -> Result<SharedId, NoMemory>
+    requires { All (λ place. place < length changes.now) group.now }
+    ensures { IfOk result (λ id. id ≡ id_at changes.now group.now) }
+{
+    let id = identifier_of(alloc, changes, group, scratch)?;
+    SharedId::with_text(alloc, id)
+}
+
+/// At which place an identifier stands, if it is one of these.
+fn find(ids: &[SharedId], id: &VersionId) -> Option<usize>
+    ensures { IsPlaceOf (λ i. slice_index_or ids.now i []) (length ids.now) id.now result }
+{
+    for place in 0..ids.len() {
+        if ids[place].names() == id.names() {
+            return Some(place);
+        }
+    }
+    None
+}
+
+impl NamedGroups {
+    /// The group of no changes.
+    pub(crate) fn new(alloc: Global) -> Result<NamedGroups, NoMemory>
+        ensures { IfOk result (AreNamedOf []) }
+    {
+        let groups = Groups::new(alloc)?;
+        let mut ids = Ids::new(alloc);
+        ids.push(SharedId::default())?;
+        Ok(NamedGroups { groups, ids })
+    }
+
+    /// The groups.
+    pub(crate) fn groups(&self) -> &Groups
+        ensures { result.now ≡ self.now.groups }
+    {
+        &self.groups
+    }
+
+    /// The groups with one more change, in memory of their own. `TooMany` if there would be more
+    /// than the limit, and `NoMemory`.
+    pub(crate) fn plan(
+        &self,
+        alloc: Global,
+        before: &ObjectChanges,
+        after: &WithAddition<'_>,
+        limit: usize,
+    ) -> Result<NamedGroups, AddFault>
+        requires before { AreNamedOf before.now.ops self.now }
+        requires after { GoesOn before.now.ops after.now }
+        requires some { 0 < limit }
+        ensures named { IfOk result (AreNamedOf after.now) }
+        // How many there are.
+        ensures within { OnOk result
+            (count_of_groups (is_conflict_of after.now) (length after.now) ≤ limit) }
+        ensures too_many { result ≡ Err AddFault.TooMany
+            → limit < count_of_groups (is_conflict_of after.now) (length after.now) }
+    {
+        let groups = self.groups.plan(alloc, after, limit)?;
+        let ids = self.ids_after(alloc, before, after, &groups)?;
+        Ok(NamedGroups { groups, ids })
+    }
+
+    /// The identifiers of the groups with one more change. That of a group in which no place comes
+    /// newly into conflict is the one before.
+    fn ids_after(
+        &self,
+        alloc: Global,
+        before: &ObjectChanges,
+        after: &WithAddition<'_>,
+        groups: &Groups,
+    ) -> Result<Ids, NoMemory>
+        requires before { AreNamedOf before.now.ops self.now }
+        requires after { GoesOn before.now.ops after.now }
+        requires groups { AreGroupsOf after.now groups.now.groups }
+        requires grown { let kept = self.now.groups
+            in HaveGrown kept.ops kept.groups groups.now.groups }
+        ensures { IfOk result (λ ids. ids.items ≡ map (id_at after.now) groups.now.groups) }
+    {
+        let newly = after.in_conflict().without(alloc, before.in_conflict())?;
+        let mut ids = Ids::with_capacity(alloc, groups.count())?;
+        let mut scratch = Vec::new(alloc);
+        for group in 0..groups.count() {
+            let members = groups.members(group);
+            let id = match self.id_that_stays(group, members, &newly) {
+                Some(id) => id.share()?,
+                None => new_id(alloc, after, members, &mut scratch)?,
+            };
+            ids.push(id)?;
+        }
+        Ok(ids)
+    }
+
+    /// The identifier of a group, unless one of its members now comes newly into conflict, or the
+    /// group is new.
+    fn id_that_stays(&self, group: usize, members: &PlaceSet, newly: &PlaceSet) -> Option<&SharedId>
+        ensures id { IfSome result (λ id. id.now ≡ slice_index_or self.now.ids group []) }
+        ensures before { IfSome result (λ id. group < length self.now.ids) }
+        ensures stays { IfSome result (λ id. list_any (has newly.now) members.now ≡ false) }
+    {
+        let id = self.ids.get(group)?;
+        if members.intersects(newly) {
+            return None;
+        }
+        Some(id)
+    }
+
+    /// The group with an identifier, in memory of its own, or `None` if no group has it. Compares
+    /// the identifier with each that is kept.
+    pub(crate) fn group_named(
+        &self,
+        alloc: Global,
+        changes: &ObjectChanges,
+        id: &VersionId,
+    ) -> Result<Option<PlaceSet>, NoMemory>
+        requires { AreNamedOf changes.now.ops self.now }
+        ensures { let ops = changes.now.ops in IfOk result (λ group. group
+            ≡ group_named (is_conflict_of ops) (λ i. (at ops i).name) (places (length ops)) id.now) }
+    {
+        // With the length of a relation comes what it keeps.
+        let _ = changes.len();
+        let Some(group) = find(&self.ids, id) else {
+            return Ok(None);
+        };
+        Ok(Some(self.groups.members(group).copy(alloc)?))
+    }
+
+    /// The identifiers in their own order, each with one more owner.
+    pub(crate) fn sorted_ids(
+        &self,
+        alloc: Global,
+        changes: &WithAddition<'_>,
+    ) -> Result<Vec<SharedId>, NoMemory>
+        requires { AreNamedOf changes.now self.now }
+        ensures { IfOk result (λ ids. ids.items ≡ sort_by id_cmp self.now.ids) }
+    {
+        // With the length of a relation comes what it keeps.
+        let _ = changes.len();
+        let mut ids = self.shared_ids(alloc)?;
+        ids.sort_unstable_by(|a, b| a.names().cmp(b.names()));
+        Ok(ids)
+    }
+
+    /// The identifiers in the order of the groups, each with one more owner.
+    fn shared_ids(&self, alloc: Global) -> Result<Vec<SharedId>, NoMemory>
+        ensures { IfOk result (λ ids. ids.items ≡ self.now.ids) }
+    {
+        let mut ids = Vec::with_capacity(alloc, self.ids.len())?;
+        for id in self.ids.as_slice() {
+            ids.push(id.share()?)?;
+        }
+        Ok(ids)
+    }
+}

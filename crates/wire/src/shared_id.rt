@@ -1,0 +1,155 @@
+//! Identifiers that are shared with their texts. Of an object with many versions a change leaves
+//! most identifiers as they are, and so each text is written once.
+
+ghost use Rattle.std.specs.Prelude.{◌≡◌, [], IfOk, IfSome, string_bytes};
+ghost use Rattle.serde_json.specs.Written.{compact_text};
+ghost use Rattle.wire.specs.Form.{names_form};
+
+use crate::write::compact;
+use base_types::{NoMemory, OpName, VersionId};
+use std::alloc::Global;
+use std::marker::Model;
+use std::sync::Arc;
+
+/// An identifier, which may have its text.
+#[derive(Drop)]
+struct Written {
+    id: VersionId,
+    text: Option<String>,
+}
+
+impl Model for Written {
+    ghost use Rattle.std.specs.Prelude.{◌≡◌, List, IfSome, string_bytes};
+    ghost use Rattle.serde_json.specs.Written.{compact_text};
+    ghost use Rattle.base_types.specs.Names.{Name};
+    ghost use Rattle.wire.specs.Form.{names_form};
+
+    ghost Value = { List Name };
+
+    ghost view = { λ written. written.id };
+
+    ghost invariant = { λ written. IfSome written.text
+        (λ text. string_bytes text ≡ compact_text (names_form written.id)) };
+}
+
+/// The identifier of a version, which owners share. It may have its text, which `write_reply` then
+/// copies. That of no names takes no memory. Contracts see the identifier.
+#[derive(Drop)]
+pub struct SharedId {
+    written: Option<Arc<Written>>,
+}
+
+impl Model for SharedId {
+    ghost use Rattle.std.specs.Prelude.{[], List, option_map, unwrap_or};
+    ghost use Rattle.std.specs.Arc.{arc_value};
+    ghost use Rattle.base_types.specs.Names.{Name};
+
+    ghost Value = { List Name };
+
+    ghost view = { λ id. unwrap_or (option_map arc_value id.written) [] };
+}
+
+impl SharedId {
+    /// The identifier with its text. Linear in its names.
+    ///
+    /// # Errors
+    ///
+    /// `NoMemory` if an allocation failed.
+    pub fn with_text(alloc: Global, id: VersionId) -> Result<SharedId, NoMemory>
+        ensures { IfOk result (λ shared. shared ≡ id) }
+    {
+        let text = if id.names().is_empty() {
+            None
+        } else {
+            Some(compact(alloc, &id)?)
+        };
+        SharedId::of_written(alloc, Written { id, text })
+    }
+
+    /// The identifier without its text.
+    ///
+    /// # Errors
+    ///
+    /// `NoMemory` if an allocation failed.
+    pub fn unwritten(alloc: Global, id: VersionId) -> Result<SharedId, NoMemory>
+        ensures { IfOk result (λ shared. shared ≡ id) }
+    {
+        SharedId::of_written(alloc, Written { id, text: None })
+    }
+
+    fn of_written(alloc: Global, written: Written) -> Result<SharedId, NoMemory>
+        ensures { IfOk result (λ shared. shared ≡ written) }
+    {
+        if written.id.names().is_empty() {
+            return Ok(SharedId::default());
+        }
+        let written = Some(Arc::new(alloc, written)?);
+        Ok(SharedId { written })
+    }
+
+    /// The same identifier, with one more owner.
+    ///
+    /// # Errors
+    ///
+    /// `NoMemory` if the count of owners is at its maximum.
+    pub fn share(&self) -> Result<SharedId, NoMemory>
+        ensures { IfOk result (λ shared. shared ≡ self.now) }
+    {
+        let written = match &self.written {
+            Some(written) => Some(written.clone()?),
+            None => None,
+        };
+        Ok(SharedId { written })
+    }
+
+    /// The names, in increasing order.
+    pub fn names(&self) -> &[OpName]
+        ensures { result.now ≡ self.now }
+    {
+        match &self.written {
+            Some(written) => written.id.names(),
+            None => &[],
+        }
+    }
+
+    /// The text, if the identifier has it.
+    pub(crate) fn text(&self) -> Option<&str>
+        ensures { IfSome result (λ text. text.now ≡ compact_text (names_form self.now)) }
+    {
+        match &self.written.as_ref()?.text {
+            Some(text) => Some(text.as_str()),
+            None => None,
+        }
+    }
+}
+
+/// The identifier of no names.
+impl Default for SharedId {
+    ghost use Rattle.std.specs.Prelude.{◌≡◌, []};
+
+    ghost is_default = { λ id. id ≡ [] };
+
+    fn default() -> SharedId {
+        SharedId { written: None }
+    }
+}
+
+impl PartialEq for SharedId {
+    ghost use Rattle.std.specs.Cmp.{partial_equiv_from_equiv};
+    ghost use Rattle.base_types.specs.VersionIds.{same_names};
+    ghost use Rattle.wire.specs.steps.Equality.{same_id-equivalence};
+
+    ghost eq = { same_names };
+
+    ghost laws = { partial_equiv_from_equiv same_id-equivalence };
+
+    fn eq(&self, other: &SharedId) -> bool {
+        self.names() == other.names()
+    }
+}
+
+impl Eq for SharedId {
+    ghost use Rattle.wire.specs.steps.Equality.{same_id-equivalence};
+
+    ghost laws = { same_id-equivalence };
+}

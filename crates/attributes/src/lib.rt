@@ -1,9 +1,8 @@
 //! The attributes of a version.
 #![tactic(auto)]
 
-ghost use Rattle.std.specs.Prelude.{◌≡◌, ◌<◌, [], true, length, map, bytes_eq, All, IfOk, OnOk};
-ghost use Rattle.std.specs.List.{list_any};
-ghost use Rattle.std.specs.List.Sorted.{IsPermutation, IsSorted};
+ghost use Rattle.std.specs.Prelude.{◌≡◌, ◌<◌, [], true, length, map, All, IfOk, OnOk};
+ghost use Rattle.std.specs.List.Sorted.{IsSorted};
 ghost use Rattle.base_types.specs.Names.{Name};
 ghost use Rattle.rules.specs.Groups.{is_compatible};
 ghost use Rattle.rules.specs.Conflicts.{conflict};
@@ -13,7 +12,7 @@ ghost use Rattle.attributes.specs.steps.Pairs.{given_backwards, with_new_attrs, 
 
 use base_types::{Key, NoMemory, Value};
 use places::PlaceSet;
-use rules::{Attrs, SharedOp, has_key};
+use rules::{Attrs, SharedOp};
 use std::alloc::Global;
 
 /// For how many attributes memory is taken at once. Most versions have fewer.
@@ -23,8 +22,8 @@ const MOST_AT_FIRST: usize = 16;
 /// changes of its group, by their places in causal order. A key has the value of its last put, or
 /// else its initial value.
 ///
-/// Compares each pair of the puts and of the initial attributes with the keys found so far. Copies
-/// only what it returns.
+/// Searches each key of the puts and of the initial attributes by halving among those found so far.
+/// Copies only what it returns.
 ///
 /// # Errors
 ///
@@ -44,7 +43,6 @@ pub fn attributes_of(
     members.rises();
     let mut pairs = last_given(alloc, ops, members)?;
     add_missing(alloc, &mut pairs, initial.pairs())?;
-    sort_by_key(&mut pairs);
     Ok(pairs)
 }
 
@@ -56,8 +54,9 @@ fn last_given(
     members: &PlaceSet,
 ) -> Result<Vec<(Key, Value)>, NoMemory>
     requires { All (λ place. place < length ops.now) members.now }
-    ensures { IfOk result (λ pairs.
+    ensures pairs { IfOk result (λ pairs.
         pairs.items ≡ with_new_attrs [] (given_backwards (map (at ops.now) members.now))) }
+    ensures sorted { IfOk result (λ pairs. IsSorted key_cmp pairs.items) }
 {
     let places = members.list(alloc)?;
     let mut pairs = Vec::with_capacity(alloc, places.len().min(MOST_AT_FIRST))?;
@@ -68,13 +67,15 @@ fn last_given(
     Ok(pairs)
 }
 
-/// Adds those pairs whose keys aren't there yet.
+/// Adds those pairs whose keys aren't there yet. All are in order of key.
 fn add_missing(
     alloc: Global,
     pairs: &mut Vec<(Key, Value)>,
     others: &[(Key, Value)],
 ) -> Result<(), NoMemory>
-    ensures { OnOk result (pairs.new.items ≡ with_new_attrs pairs.old.items others.now) }
+    requires { IsSorted key_cmp pairs.old.items }
+    ensures pairs { OnOk result (pairs.new.items ≡ with_new_attrs pairs.old.items others.now) }
+    ensures sorted { OnOk result (IsSorted key_cmp pairs.new.items) }
 {
     for other in others {
         add_new(alloc, pairs, &other.0, &other.1)?;
@@ -82,25 +83,19 @@ fn add_missing(
     Ok(())
 }
 
-/// Adds a key with its value, if the key isn't there yet.
+/// Adds a key with its value, if the key isn't there yet. All are in order of key.
 fn add_new(
     alloc: Global,
     pairs: &mut Vec<(Key, Value)>,
     key: &Key,
     value: &Value,
 ) -> Result<(), NoMemory>
-    ensures { OnOk result (pairs.new.items ≡ with_new (key.now, value.now) pairs.old.items) }
+    requires { IsSorted key_cmp pairs.old.items }
+    ensures pairs { OnOk result (pairs.new.items ≡ with_new (key.now, value.now) pairs.old.items) }
+    ensures sorted { OnOk result (IsSorted key_cmp pairs.new.items) }
 {
-    if !has_key(pairs, key) {
-        pairs.push((key.copy(alloc)?, value.copy(alloc)?))?;
+    if let Err(place) = pairs.binary_search_by(|pair| pair.0.cmp(key)) {
+        pairs.insert(place, (key.copy(alloc)?, value.copy(alloc)?))?;
     }
     Ok(())
-}
-
-/// Puts the pairs in order of key.
-fn sort_by_key(pairs: &mut Vec<(Key, Value)>)
-    ensures permutation { IsPermutation pairs.old.items pairs.new.items }
-    ensures sorted { IsSorted key_cmp pairs.new.items }
-{
-    pairs.sort_unstable_by(|a, b| a.0.cmp(&b.0));
 }

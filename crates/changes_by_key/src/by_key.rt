@@ -88,11 +88,15 @@ impl ByKey {
         }
     }
 
-    /// The place of the key in the index, if it is there.
-    fn find(&self, key: &Key) -> Option<usize>
+    /// The place of the key in the index, if it is there. Looks at the guessed place first: puts
+    /// mostly give an object's keys in one order.
+    fn find(&self, guess: usize, key: &Key) -> Option<usize>
         ensures { let count = length self.now.keys
             in IsPlaceOf (λ i. (key_at self.now.keys i).key) count key.now result }
     {
+        if guess < self.keys.len() && self.keys[guess].key == *key {
+            return Some(guess);
+        }
         self.keys.iter().position(|puts| puts.key == *key)
     }
 
@@ -116,7 +120,13 @@ impl ByKey {
     }
 
     /// Adds the next change under one of its keys. One look-up.
-    fn insert(&mut self, alloc: Global, ops: &[SharedOp], key: &Key) -> Result<(), NoMemory>
+    fn insert(
+        &mut self,
+        alloc: Global,
+        ops: &[SharedOp],
+        guess: usize,
+        key: &Key,
+    ) -> Result<(), NoMemory>
         // What is put in.
         requires more { self.old.len < length ops.now }
         requires given { of_key ops.now key.now self.old.len ≡ true }
@@ -128,7 +138,7 @@ impl ByKey {
         ensures kept { (other : Bytes) (place : ℕ) → IsUnder self.old.keys other place
             → IsUnder self.new.keys other place }
     {
-        match self.find(key) {
+        match self.find(guess, key) {
             Some(i) => self.grow(i),
             None => self.begin(alloc, key),
         }
@@ -149,8 +159,8 @@ impl ByKey {
         ensures there { OnOk result ((key : Bytes) → of_key ops.now key self.old.len ≡ true
             → IsUnder self.new.keys key self.old.len) }
     {
-        for pair in pairs {
-            self.insert(alloc, ops, &pair.0)?;
+        for (at, pair) in pairs.iter().enumerate() {
+            self.insert(alloc, ops, at, &pair.0)?;
         }
         Ok(())
     }
@@ -245,13 +255,14 @@ impl ByKey {
         false
     }
 
-    /// Does a change give the key a value?
-    pub fn has(&self, ops: &[SharedOp], key: &Key) -> bool
+    /// Does a change give the key a value? The search begins at the guessed place of the index,
+    /// such as that of the key in its put. The guess changes the time alone.
+    pub fn has(&self, ops: &[SharedOp], guess: usize, key: &Key) -> bool
         requires few { length ops.now < 2 ^ 32 }
         requires keys { AreByKey ops.now self.now }
         ensures { result ≡ list_any (λ op. body_gives key.now op.body) ops.now }
     {
-        self.find(key).is_some() || self.is_key_of_unindexed(ops, key)
+        self.find(guess, key).is_some() || self.is_key_of_unindexed(ops, key)
     }
 
     /// Is a change that is not in the index yet a drop at one of these places?
@@ -282,14 +293,14 @@ impl ByKey {
 
     /// Adds the places under the key to a set: the indexed changes that give the key a value, and
     /// perhaps the next change. One look-up.
-    fn insert_puts(&self, key: &Key, members: &mut PlaceSet) -> Result<(), NoMemory>
+    fn insert_puts(&self, guess: usize, key: &Key, members: &mut PlaceSet) -> Result<(), NoMemory>
         ensures puts { OnOk result ((ops : List Op) (place : ℕ) → AreByKey ops self.now
             → place < self.now.len
             → has members.new place ≡ (has members.old place || of_key ops key.now place)) }
         ensures within { OnOk result ((ops : List Op) → AreByKey ops self.now
             → AreBelow (length ops) members.old → AreBelow (length ops) members.new) }
     {
-        match self.find(key) {
+        match self.find(guess, key) {
             Some(i) => members.insert_all(&self.keys[i].places),
             None => Ok(()),
         }
@@ -304,8 +315,8 @@ impl ByKey {
             → AreBelow (length ops) found) }
     {
         let mut found = self.drops.copy(alloc)?;
-        for pair in pairs {
-            self.insert_puts(&pair.0, &mut found)?;
+        for (at, pair) in pairs.iter().enumerate() {
+            self.insert_puts(at, &pair.0, &mut found)?;
         }
         Ok(found)
     }

@@ -138,13 +138,13 @@ impl ObjectChanges {
         self.sites.known_places(alloc, self.rows.ops(), seen)
     }
 
-    /// Does a change give the key a value? Compares the different keys, and the changes since the
-    /// last `plan`.
-    pub fn has_key(&self, key: &Key) -> bool
+    /// Does a change give the key a value? Compares the different keys, the guessed one first, and
+    /// the changes since the last `plan`. The guess changes the time alone.
+    pub fn has_key(&self, guess: usize, key: &Key) -> bool
         ensures { result
             ≡ list_any (λ op. list_any (bytes_eq key.now) (keys_of_body op.body)) self.now.ops }
     {
-        self.keys.has(self.rows.ops(), key)
+        self.keys.has(self.rows.ops(), guess, key)
     }
 
     /// Is a change at one of these places a drop? Takes 64 places of the drops at a time, and each

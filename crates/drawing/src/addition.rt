@@ -11,7 +11,7 @@ use shape::{PlannedChange, Shape};
 use std::alloc::Global;
 use std::marker::Model;
 use std::sync::Arc;
-use wire::SharedId;
+use wire::SharedIds;
 
 /// What an entry adds to a drawing beside itself.
 #[derive(Drop)]
@@ -65,7 +65,7 @@ impl Addition {
 
     /// Takes out the identifiers of the object's versions after the change. Other entries have
     /// none. What is planned stays as it is.
-    pub fn take_ids(&mut self, alloc: Global) -> Option<Vec<SharedId>>
+    pub fn take_ids(&mut self, alloc: Global) -> Option<SharedIds>
         ensures ids { option_map (λ ids. ids.items) result ≡ ids_of self.old.part }
         ensures entry { self.new.entry ≡ self.old.entry }
         ensures ready { (s : DrawingState) → IsReady s self.old → IsReady s self.new }

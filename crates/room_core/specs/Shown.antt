@@ -1,4 +1,4 @@
--- What a room shows of an object: the maximal compatible groups of its operations.
+-- What a room shows of an object: the maximal compatible groups of its changes.
 use Rattle.std.specs.Prelude.{◌≡◌, ◌↔◌, ℕ, List, length, map, Contains, Some}
 use Rattle.std.specs.List.Sorted.{IsPermutation, IsStrictlySortedBy}
 use Rattle.base_types.specs.Names.{Name}

@@ -2,38 +2,35 @@
 use Rattle.std.proofs.Common.{◌≡◌, ℕ, ◌<◌, Bool, true, false, List, [], ◌∷◌, ◌++◌, length, map, not, refl, sym, ap, ◌∙◌, subst, arith, ◌⊎◌, inl, inr}
 use Rattle.std.specs.Prelude.{All, filter, slice_index_or}
 use Rattle.std.specs.List.{list_any}
-use Rattle.std.proofs.lemmas.Bool.{cases_Bool, false_from_ne_true, true≢false}
+use Rattle.std.proofs.lemmas.Bool.{and_parts, cases_Bool, false_from_ne_true, true≢false}
 use Rattle.base_types.specs.Names.{Name, name_cmp}
 use Rattle.rules.specs.declared.history.Op.{Op}
 use Rattle.rules.specs.Groups.{identifier, in_conflict_with}
 use Rattle.rules.specs.Lists.{sort_by}
 use Rattle.rules.proofs.Lists.{In, In-filter, In-filter_back, any_from, any_back, any_none, filter_agree, map_agree, In-append_left, In-append_right}
-use Rattle.places.specs.steps.PlaceSet.{has, places}
+use Rattle.places.specs.steps.PlaceSet.{has, is_within, places}
 use Rattle.places.specs.steps.Changes.{at, conflicting_places, is_conflict_of}
 use Rattle.places.proofs.Places.{In-places, below, has-filter, has-filter_past, has_if_in, in_all}
-use Rattle.std.proofs.lemmas.List.{length-map}
+use Rattle.std.proofs.lemmas.List.{append-nil, get_or-map, length-map}
+use Rattle.std.proofs.lemmas.List.Elements.{filter-append}
 use Rattle.std.specs.List.Sorted.{IsPermutation}
 use Rattle.rules.proofs.Groups.{groups_agree}
 use Rattle.version_groups.specs.steps.Kept.{AreGroups, HaveGrown}
 use Rattle.shape.specs.steps.Kept.{id_at, AreNamedOf, GoesOn, Named}
-use Rattle.shape.proofs.Listing.{at_map, kept_below}
+use Rattle.shape.proofs.Listing.{kept_below}
+
+-- where all of these are among the others, none is outside
+pub none_outside : (a b : List ℕ) → is_within a b ≡ true → [] ≡ filter (λ x. not (has b x)) a
+none_outside [] b t = refl
+none_outside (x ∷ a) b t =
+    let parts = and_parts (has b x) (is_within a b) t in
+    rw parts.0 (none_outside a b parts.1)
 
 -- the groups, by the relation with one change more
 pub groups_go_on : (k l : List Op) → GoesOn k l → (gs : List (List ℕ)) (n : ℕ) → n ≡ length k → AreGroups (is_conflict_of k) (places (length k)) gs → AreGroups (is_conflict_of l) (places n) gs
 groups_go_on k l w gs n e are =
     subst (λ m. AreGroups (is_conflict_of l) (places m) gs) (sym e)
     (subst (λ s. IsPermutation gs s) (groups_agree (is_conflict_of k) (is_conflict_of l) (places (length k)) (λ i j m n. w.conflicts i j (below (length k) i m) (below (length k) j n))) are)
-
-filter_append : {X : Type 0} (p : X → Bool) (xs ys : List X) → filter p (xs ++ ys) ≡ filter p xs ++ filter p ys
-filter_append p [] ys = refl
-filter_append p (x ∷ xs) ys = elim (cases_Bool (p x)) [
-  | inl t ↦ rw t (ap (λ l. x ∷ l) (filter_append p xs ys))
-  | inr f ↦ rw f (filter_append p xs ys)
-]
-
-append_none : {X : Type 0} (xs : List X) → xs ++ [] ≡ xs
-append_none [] = refl
-append_none (x ∷ xs) = ap (λ l. x ∷ l) (append_none xs)
 
 module _ (k l : List Op) (w : GoesOn k l) (newly : List ℕ) (e : newly ≡ filter (λ place. not (has (conflicting_places k) place)) (conflicting_places l)) where
   -- is the change at a place in conflict with some, before and after?
@@ -77,7 +74,7 @@ module _ (k l : List Op) (w : GoesOn k l) (newly : List ℕ) (e : newly ≡ filt
       ∙ map_agree (λ i. (at l i).name) (λ i. (at k i).name) (filter before g) (λ x m. ap (λ (o : Op). o.name) (w.same x (low x (In-filter_back before x g m).0)))
 
   with_last : (g : List ℕ) → has newly (length k) ≡ false → filter after (g ++ length k ∷ []) ≡ filter after g
-  with_last g n = filter_append after g (length k ∷ []) ∙ (let f = last n in ap (λ s. filter after g ++ s) (rw f refl)) ∙ append_none (filter after g)
+  with_last g n = filter-append after g (length k ∷ []) ∙ (let f = last n in ap (λ s. filter after g ++ s) (rw f refl)) ∙ append-nil (filter after g)
 
   pub id_stays : (g h : List ℕ) → All (λ p. p < length k) g → (h ≡ g) ⊎ (h ≡ g ++ length k ∷ []) → list_any (has newly) h ≡ false → id_at l h ≡ id_at k g
   unfolding identifier
@@ -99,6 +96,6 @@ module _ (k l : List Op) (w : GoesOn k l) (newly : List ℕ) (e : newly ≡ filt
       let count : length named.ids ≡ length kept = ap length are.ids_are ∙ length-map kept (id_at k) in
       let low : i < length kept = subst (λ m. i < m) count there in
       let g = slice_index_or kept i [] in
-      let was : id ≡ id_at k g = f ∙ ap (λ s. slice_index_or s i []) are.ids_are ∙ at_map (id_at k) kept i [] [] low in
+      let was : id ≡ id_at k g = f ∙ ap (λ s. slice_index_or s i []) are.ids_are ∙ get_or-map (id_at k) kept i [] [] low in
       let step : (h ≡ g) ⊎ (h ≡ g ++ length k ∷ []) = elim (grown i low) [ inl a ↦ inl (at_h ∙ a) | inr b ↦ inr (at_h ∙ b ∙ ap (λ m. g ++ m ∷ []) are.covered) ] in
       was ∙ sym (id_stays g h (kept_below (is_conflict_of k) (length k) kept are.groups_are i [] low) step n)

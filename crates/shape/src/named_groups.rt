@@ -1,36 +1,33 @@
 //! The groups of an object's changes with their identifiers. Both are kept between calls, since a
 //! change leaves most identifiers as they are.
 
-ghost use Rattle.std.specs.Prelude.{◌≡◌, ◌<◌, ◌≤◌, [], Err, false, All, IfOk, IfSome, OnOk, length, map, slice_index_or};
+ghost use Rattle.std.specs.Prelude.{◌≡◌, ◌+◌, ◌<◌, ◌≤◌, [], Err, false, All, IfOk, IfSome, OnOk, filter, length, map, not, slice_index_or};
 ghost use Rattle.std.specs.List.{list_any};
+ghost use Rattle.std.specs.List.Sorted.{IsSorted, IsSortedWithin};
 ghost use Rattle.base_types.specs.VersionIds.{id_cmp};
 ghost use Rattle.rules.specs.Groups.{group_named};
 ghost use Rattle.rules.specs.Lists.{sort_by};
 ghost use Rattle.places.specs.steps.PlaceSet.{has, places};
 ghost use Rattle.places.specs.steps.Lookups.{IsPlaceOf};
-ghost use Rattle.places.specs.steps.Changes.{at, is_conflict_of};
+ghost use Rattle.places.specs.steps.Changes.{at, conflicting_places, is_conflict_of};
 ghost use Rattle.version_groups.specs.declared.fault.AddFault.TheVariants as AddFault;
 ghost use Rattle.version_groups.specs.steps.Kept.{count_of_groups, HaveGrown};
-ghost use Rattle.shape.specs.steps.Kept.{id_at, AreGroupsOf, AreNamedOf, GoesOn};
+ghost use Rattle.shape.specs.steps.Kept.{id_at, is_less, named, AreGroupsOf, AreNamedOf, GoesOn, Reordered};
 
 use base_types::{NoMemory, VersionId};
 use conflict::{ObjectChanges, WithAddition};
 use places::{PlaceSet, Relation};
-use smallvec::SmallVec;
 use std::alloc::Global;
 use std::marker::Model;
 use version_groups::{AddFault, Groups};
 use version_ids::identifier_of;
-use wire::SharedId;
+use wire::{SharedId, SharedIds};
 
-/// Identifiers in the order of the groups. Most objects have one group.
-type Ids = SmallVec<SharedId, 1>;
-
-/// The groups of all changes of an object, each with its identifier.
+/// The groups of all changes of an object, each with its identifier, in order of identifier.
 #[derive(Drop)]
 pub(crate) struct NamedGroups {
     groups: Groups,
-    ids: Ids,
+    ids: SharedIds,
 }
 
 impl Model for NamedGroups {
@@ -39,6 +36,11 @@ impl Model for NamedGroups {
     ghost Value = { Named };
 
     ghost view = { λ named. record { groups = named.groups; ids = named.ids.items } };
+
+    ghost use Rattle.std.specs.List.Sorted.{IsSorted};
+    ghost use Rattle.base_types.specs.VersionIds.{id_cmp};
+
+    ghost invariant = { λ named. IsSorted id_cmp named.ids.items };
 }
 
 /// The identifier of a group, in memory of its own. The memory of `scratch` serves all groups.
@@ -53,6 +55,59 @@ fn new_id(
 {
     let id = identifier_of(alloc, changes, group, scratch)?;
     SharedId::with_text(alloc, id)
+}
+
+/// The places that come newly into conflict by a change more. Most changes bring none.
+fn newly_conflicting(
+    alloc: Global,
+    before: &ObjectChanges,
+    after: &WithAddition<'_>,
+) -> Result<PlaceSet, NoMemory>
+    ensures { IfOk result (λ newly. newly ≡ filter
+        (λ place. not (has (conflicting_places before.now.ops) place))
+        (conflicting_places after.now)) }
+{
+    let conflicting = after.in_conflict();
+    if conflicting.is_subset(before.in_conflict()) {
+        return Ok(PlaceSet::empty(alloc));
+    }
+    conflicting.without(alloc, before.in_conflict())
+}
+
+/// Is the first identifier less than the second?
+fn is_less(first: &SharedId, second: &SharedId) -> bool
+    ensures { result ≡ is_less first.now second.now }
+{
+    first.names().cmp(second.names()).is_lt()
+}
+
+/// Moves a group with its identifier before those with greater identifiers. These stand right before
+/// it, since the groups before it are in order.
+fn sink(groups: &mut Groups, ids: &mut SharedIds, group: usize)
+    requires group { group < length ids.old.items }
+    requires each { length ids.old.items ≡ length groups.old.groups }
+    requires sorted { IsSortedWithin is_less ids.old.items 0 group }
+    ensures reordered { Reordered (named groups.old ids.old.items) (named groups.new ids.new.items) }
+    ensures sorted { IsSortedWithin is_less ids.new.items 0 (group + 1) }
+{
+    let mut at = group;
+    while at > 0 && is_less(&ids[at], &ids[at - 1]) {
+        ids.as_mut_slice().swap(at - 1, at);
+        groups.swap(at - 1, at);
+        at -= 1;
+    }
+}
+
+/// Puts groups with their identifiers in order of identifier. A change leaves most of them where they
+/// are, at a comparison each.
+fn sort(groups: &mut Groups, ids: &mut SharedIds)
+    requires { length ids.old.items ≡ length groups.old.groups }
+    ensures reordered { Reordered (named groups.old ids.old.items) (named groups.new ids.new.items) }
+    ensures sorted { IsSorted id_cmp ids.new.items }
+{
+    for group in 1..ids.len() {
+        sink(groups, ids, group);
+    }
 }
 
 /// At which place an identifier stands, if it is one of these.
@@ -73,7 +128,7 @@ impl NamedGroups {
         ensures { IfOk result (AreNamedOf []) }
     {
         let groups = Groups::new(alloc)?;
-        let mut ids = Ids::new(alloc);
+        let mut ids = SharedIds::new(alloc);
         ids.push(SharedId::default())?;
         Ok(NamedGroups { groups, ids })
     }
@@ -104,8 +159,9 @@ impl NamedGroups {
         ensures too_many { result ≡ Err AddFault.TooMany
             → limit < count_of_groups (is_conflict_of after.now) (length after.now) }
     {
-        let groups = self.groups.plan(alloc, after, limit)?;
-        let ids = self.ids_after(alloc, before, after, &groups)?;
+        let mut groups = self.groups.plan(alloc, after, limit)?;
+        let mut ids = self.ids_after(alloc, before, after, &groups)?;
+        sort(&mut groups, &mut ids);
         Ok(NamedGroups { groups, ids })
     }
 
@@ -117,7 +173,7 @@ impl NamedGroups {
         before: &ObjectChanges,
         after: &WithAddition<'_>,
         groups: &Groups,
-    ) -> Result<Ids, NoMemory>
+    ) -> Result<SharedIds, NoMemory>
         requires before { AreNamedOf before.now.ops self.now }
         requires after { GoesOn before.now.ops after.now }
         requires groups { AreGroupsOf after.now groups.now.groups }
@@ -125,8 +181,8 @@ impl NamedGroups {
             in HaveGrown kept.ops kept.groups groups.now.groups }
         ensures { IfOk result (λ ids. ids.items ≡ map (id_at after.now) groups.now.groups) }
     {
-        let newly = after.in_conflict().without(alloc, before.in_conflict())?;
-        let mut ids = Ids::with_capacity(alloc, groups.count())?;
+        let newly = newly_conflicting(alloc, before, after)?;
+        let mut ids = SharedIds::with_capacity(alloc, groups.count())?;
         let mut scratch = Vec::new(alloc);
         for group in 0..groups.count() {
             let members = groups.members(group);
@@ -173,27 +229,26 @@ impl NamedGroups {
         Ok(Some(self.groups.members(group).copy(alloc)?))
     }
 
-    /// The identifiers in their own order, each with one more owner.
+    /// The identifiers in order, each with one more owner.
     pub(crate) fn sorted_ids(
         &self,
         alloc: Global,
         changes: &WithAddition<'_>,
-    ) -> Result<Vec<SharedId>, NoMemory>
+    ) -> Result<SharedIds, NoMemory>
         requires { AreNamedOf changes.now self.now }
         ensures { IfOk result (λ ids. ids.items ≡ sort_by id_cmp self.now.ids) }
     {
         // With the length of a relation comes what it keeps.
         let _ = changes.len();
-        let mut ids = self.shared_ids(alloc)?;
-        ids.sort_unstable_by(|a, b| a.names().cmp(b.names()));
-        Ok(ids)
+        self.shared_ids(alloc)
     }
 
     /// The identifiers in the order of the groups, each with one more owner.
-    fn shared_ids(&self, alloc: Global) -> Result<Vec<SharedId>, NoMemory>
-        ensures { IfOk result (λ ids. ids.items ≡ self.now.ids) }
+    fn shared_ids(&self, alloc: Global) -> Result<SharedIds, NoMemory>
+        ensures ids { IfOk result (λ ids. ids.items ≡ self.now.ids) }
+        ensures sorted { IsSorted id_cmp self.now.ids }
     {
-        let mut ids = Vec::with_capacity(alloc, self.ids.len())?;
+        let mut ids = SharedIds::with_capacity(alloc, self.ids.len())?;
         for id in self.ids.as_slice() {
             ids.push(id.share()?)?;
         }

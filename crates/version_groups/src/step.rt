@@ -1,11 +1,11 @@
 //! One more place. Each group takes the place in, or stays. What of a group that stays is
 //! compatible with the place becomes a candidate for a new group.
 
-ghost use Rattle.std.specs.Prelude.{◌≡◌, ◌&&◌, ◌-◌, ◌<◌, filter, map, true, IfOk, OnOk, All};
-ghost use Rattle.std.specs.List.{list_all, list_any};
+ghost use Rattle.std.specs.Prelude.{◌≡◌, ◌-◌, ◌<◌, filter, map, IfOk, IfSome, OnOk, All};
+ghost use Rattle.std.specs.List.{list_any};
 ghost use Rattle.places.specs.steps.PlaceSet.{is_within, places, with_place};
 ghost use Rattle.version_groups.specs.steps.Kept.{AreGroups, HaveGrown};
-ghost use Rattle.version_groups.specs.steps.Steps.{group_after, candidate, incompatible_groups, is_none_of, sift, next_groups, with_candidate};
+ghost use Rattle.version_groups.specs.steps.Steps.{group_after, candidate, incompatible_groups, is_none_of, sift, next_groups, with_candidate, IsLastWith};
 ghost use Rattle.places.specs.steps.PlaceSet.{AreBelow};
 
 use base_types::NoMemory;
@@ -33,7 +33,6 @@ pub(crate) fn groups_with_last<R: Relation>(
 }
 
 /// The groups with one place more.
-#[tactic(auto, using(crate::proofs::Covered::nothing_more))]
 fn step(
     alloc: Global,
     kept: &[PlaceSet],
@@ -45,49 +44,45 @@ fn step(
         next.items ≡ next_groups (is_none_of conflicting.now) place kept.now) }
 {
     let mut next = grown_groups(alloc, kept, conflicting, place)?;
-    if covers_all_candidates(alloc, kept, conflicting, place)? {
-        return Ok(next);
-    }
-    add_candidates(&mut next, candidates(alloc, kept, conflicting, place)?)?;
+    let sources = match last_with_all_free(alloc, kept, conflicting, place)? {
+        Some(group) => &kept[group..group + 1],
+        None => kept,
+    };
+    add_candidates(&mut next, candidates(alloc, sources, conflicting, place)?)?;
     Ok(next)
 }
 
-/// Is all that has no conflict with the place one of several groups? So it is where the author of a
-/// change knows all others. Each candidate then lies in that group with the place.
-fn covers_all_candidates(
+/// The last of several groups that has all places without a conflict with the place. Each candidate
+/// lies in that of this group. Where the author of a change knows all others, or none that conflicts
+/// with it, there is such a group.
+fn last_with_all_free(
     alloc: Global,
     groups: &[PlaceSet],
     conflicting: &PlaceSet,
     place: u32,
-) -> Result<bool, NoMemory>
-    ensures { let is_free = is_none_of conflicting.now in IfOk result (λ covers. covers ≡ true
-        → list_any (λ g. is_within (filter is_free (places place)) g && list_all is_free g)
-        groups.now ≡ true) }
+) -> Result<Option<usize>, NoMemory>
+    ensures { let free = filter (is_none_of conflicting.now) (places place)
+        in IfOk result (λ found. IfSome found (IsLastWith free groups.now)) }
 {
     if groups.len() < 2 {
-        return Ok(false);
+        return Ok(None);
     }
     let free = PlaceSet::first_places(alloc, place)?.without(alloc, conflicting)?;
-    Ok(is_one_group(groups, &free, conflicting))
+    Ok(last_with(groups, &free))
 }
 
-/// Has one of the groups all free places, and none in conflict with the place?
-fn is_one_group(groups: &[PlaceSet], free: &PlaceSet, conflicting: &PlaceSet) -> bool
-    ensures { let is_free = is_none_of conflicting.now
-        in result ≡ list_any (λ g. is_within free.now g && list_all is_free g) groups.now }
+/// The last group that has all of some places.
+fn last_with(groups: &[PlaceSet], members: &PlaceSet) -> Option<usize>
+    ensures { IfSome result (IsLastWith members.now groups.now) }
 {
-    groups
-        .iter()
-        .any(|group| is_all_free(group, free, conflicting))
-}
-
-/// Has a group all free places, and none in conflict with the place?
-#[tactic(auto, using(crate::proofs::Pieces::none_of_all))]
-fn is_all_free(group: &PlaceSet, free: &PlaceSet, conflicting: &PlaceSet) -> bool
-    ensures { let is_free = is_none_of conflicting.now
-        in result ≡ (is_within free.now group.now && list_all is_free group.now) }
-{
-    free.is_subset(group) && !group.intersects(conflicting)
+    let mut left = groups.len();
+    while left > 0 {
+        left -= 1;
+        if members.is_subset(&groups[left]) {
+            return Some(left);
+        }
+    }
+    None
 }
 
 /// A group with the place.

@@ -15,5 +15,5 @@ pub use note::NoteRequest;
 pub use reply::{EntryKind, Reply};
 pub use request::{MAX_FROM, MAX_REQUEST_LEN, Request};
 pub use rules::Refusal;
-pub use shared_id::SharedId;
+pub use shared_id::{SharedId, SharedIds};
 pub use write::{write_entry, write_reply, write_request};

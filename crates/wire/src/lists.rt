@@ -4,7 +4,7 @@ ghost use Rattle.std.specs.Prelude.{◌≡◌, IfOk, IfSome, map, string_bytes};
 ghost use Rattle.std.specs.Arc.{arc_value};
 ghost use Rattle.wire.specs.steps.Pages.{entries_text};
 
-use crate::shared_id::SharedId;
+use crate::shared_id::{SharedId, SharedIds};
 use base_types::{Kind, NoMemory, OpName, ValueText, VersionId};
 use rules::{Entry, Version};
 use std::alloc::Global;
@@ -14,7 +14,7 @@ use std::sync::Arc;
 /// The identifiers of an object's versions. Each is shared with the object.
 #[derive(Drop)]
 pub struct IdList {
-    ids: Vec<SharedId>,
+    ids: SharedIds,
 }
 
 impl Model for IdList {
@@ -28,7 +28,7 @@ impl Model for IdList {
 
 impl IdList {
     /// These identifiers, in their order. Takes no memory.
-    pub fn from_vec(ids: Vec<SharedId>) -> IdList
+    pub fn from_ids(ids: SharedIds) -> IdList
         ensures { result ≡ ids.items }
     {
         IdList { ids }
@@ -42,7 +42,7 @@ impl IdList {
     pub fn unwritten(alloc: Global, ids: Vec<VersionId>) -> Result<IdList, NoMemory>
         ensures { IfOk result (λ list. list ≡ ids.items) }
     {
-        let mut shared = Vec::with_capacity(alloc, ids.len())?;
+        let mut shared = SharedIds::with_capacity(alloc, ids.len())?;
         for id in ids {
             shared.push(SharedId::unwritten(alloc, id)?)?;
         }
@@ -53,7 +53,7 @@ impl IdList {
     pub fn as_slice(&self) -> &[SharedId]
         ensures { result.now ≡ self.now }
     {
-        &self.ids
+        self.ids.as_slice()
     }
 }
 

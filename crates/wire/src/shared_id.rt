@@ -7,6 +7,7 @@ ghost use Rattle.wire.specs.Form.{names_form};
 
 use crate::write::compact;
 use base_types::{NoMemory, OpName, VersionId};
+use smallvec::SmallVec;
 use std::alloc::Global;
 use std::marker::Model;
 use std::sync::Arc;
@@ -31,6 +32,9 @@ impl Model for Written {
     ghost invariant = { λ written. IfSome written.text
         (λ text. string_bytes text ≡ compact_text (names_form written.id)) };
 }
+
+/// Identifiers of versions. One takes no memory: most objects have one version.
+pub type SharedIds = SmallVec<SharedId, 1>;
 
 /// The identifier of a version, which owners share. It may have its text, which `write_reply` then
 /// copies. That of no names takes no memory. Contracts see the identifier.

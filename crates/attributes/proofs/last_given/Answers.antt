@@ -21,9 +21,11 @@ loop-index-preserved c =
     let below : i < length members = omega (arith, c.loop-index-test.true, c.loop-index.auto.index, c.len-index.ensures) in
     let there : place < length k = subst (λ p. p < length k) (sym c.index.ensures) (subst (All (λ p. p < length k)) (sym c.in_ok-places.ensures) c.requires i place below) in
     let op : c.deref.result.now ≡ at k place = c.deref.ensures ∙ c.index-ops-place.is ∙ get_or_default k place c.index-ops-place.result nothing there in
-    let earlier : List Attr = given_backwards (map (at k) (take i members)) in
-    ap (λ attrs. with_new_attrs attrs earlier) (c.in_ok-add_missing.ensures ∙ ap (with_new_attrs before) c.pairs.ensures ∙ ap (λ (o : Op). with_new_attrs before (pairs_of_body o.body)) op)
-    ∙ sym (with_all-append before (pairs_of_body (at k place).body) earlier)
-    ∙ ap (with_new_attrs before) (sym (given_more k members i place below c.index.ensures))
-    ∙ ap (λ n. with_new_attrs before (given_backwards (map (at k) (take n members)))) next
-    ∙ c.loop-index.invariant
+    let earlier : List Attr = given_backwards (map (at k) (take i members)) in (
+      ap (λ attrs. with_new_attrs attrs earlier) (c.in_ok-add_missing.ensures.pairs ∙ ap (with_new_attrs before) c.pairs.ensures ∙ ap (λ (o : Op). with_new_attrs before (pairs_of_body o.body)) op)
+          ∙ sym (with_all-append before (pairs_of_body (at k place).body) earlier)
+          ∙ ap (with_new_attrs before) (sym (given_more k members i place below c.index.ensures))
+          ∙ ap (λ n. with_new_attrs before (given_backwards (map (at k) (take n members)))) next
+          ∙ c.loop-index.invariant.0,
+      c.in_ok-add_missing.ensures.sorted,
+    )

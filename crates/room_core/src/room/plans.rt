@@ -137,7 +137,7 @@ impl RoomState {
         let reply = match addition.take_ids(alloc) {
             Some(ids) => Reply::Taken {
                 at,
-                ids: IdList::from_vec(ids),
+                ids: IdList::from_ids(ids),
             },
             None => Reply::Made { at, name },
         };

@@ -1,6 +1,8 @@
 -- What is kept beside the changes.
-use Rattle.std.specs.Prelude.{◌≡◌, ℕ, ◌+◌, ◌<◌, false, List, length, map}
+use Rattle.std.specs.Prelude.{◌≡◌, ℕ, ◌+◌, ◌<◌, Bool, false, List, length, map}
+use Rattle.std.specs.Ordering.{is_lt}
 use Rattle.base_types.specs.Names.{Name}
+use Rattle.base_types.specs.VersionIds.{id_cmp}
 use Rattle.rules.specs.declared.history.Op.{Op}
 use Rattle.rules.specs.declared.version.Version.{Version}
 use Rattle.rules.specs.Bodies.{initial_in, is_change_body}
@@ -23,11 +25,24 @@ pub record Named : Type 0 where
   pub groups : Kept
   pub ids : List (List Name)
 
+abbrev pub named : Kept → List (List Name) → Named
+named groups ids = record { groups = groups; ids = ids }
+
+-- is the first identifier less than the second?
+abbrev pub is_less : List Name → List Name → Bool
+is_less x y = is_lt (id_cmp x y)
+
 -- they are the groups of the places of all changes, each with its identifier
 pub record AreNamedOf (k : List Op) (named : Named) : Type 0 where
   pub covered : named.groups.ops ≡ length k
   pub groups_are : AreGroupsOf k named.groups.groups
   pub ids_are : named.ids ≡ map (id_at k) named.groups.groups
+
+-- the same groups with their identifiers, in some order
+pub record Reordered (old new : Named) : Type 0 where
+  pub count : length new.ids ≡ length old.ids
+  pub each : length new.ids ≡ length new.groups.groups
+  pub named : (k : List Op) → AreNamedOf k old → AreNamedOf k new
 
 -- the changes l go on from k by one, and the conflicts of k stay as they are
 pub record GoesOn (k l : List Op) : Type 0 where

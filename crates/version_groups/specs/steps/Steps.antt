@@ -1,6 +1,6 @@
 -- One place more, as the code goes: o is the place, and `compatible` tells which of those before it
 -- are not in conflict with it.
-use Rattle.std.specs.Prelude.{ℕ, Bool, not, ◌||◌, if◌then◌else◌, List, [], ◌∷◌}
+use Rattle.std.specs.Prelude.{◌≡◌, ℕ, ◌<◌, Bool, true, false, length, slice_index_or, not, ◌||◌, if◌then◌else◌, List, [], ◌∷◌}
 use Rattle.std.specs.Prelude.{◌++◌, map, filter}
 use Rattle.std.specs.List.{list_any, list_all}
 use Rattle.places.specs.steps.PlaceSet.{has, is_within}
@@ -36,3 +36,9 @@ abbrev pub next_groups : (ℕ → Bool) → ℕ → List (List ℕ) → List (Li
 next_groups compatible o gs =
     sift (map (group_after compatible o) gs)
     (map (candidate compatible o) (incompatible_groups compatible gs))
+
+-- the group at i has all of xs, and no later group has
+pub record IsLastWith (xs : List ℕ) (gs : List (List ℕ)) (i : ℕ) : Type 0 where
+  pub inside : i < length gs
+  pub has_all : is_within xs (slice_index_or gs i []) ≡ true
+  pub is_last : (j : ℕ) → i < j → j < length gs → is_within xs (slice_index_or gs j []) ≡ false

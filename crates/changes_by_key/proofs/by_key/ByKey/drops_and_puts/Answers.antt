@@ -6,8 +6,8 @@ use Rattle.places.specs.steps.PlaceSet.{AreBelow}
 use Rattle.changes_by_key.proofs.Keyed.{drops_there, drops_within}
 use Rattle.changes_by_key.proofs.by_key.ByKey.drops_and_puts.Goals as goal
 
-pub loop-pair-init : goal.loop-pair-init
-loop-pair-init c =
+pub loop-at-init : goal.loop-at-init
+loop-at-init c =
     let index = c.args.self.now in
     let found : c.in_ok-found.found ≡ index.drops = c.in_ok-found.ensures ∙ ap (λ (s : KeyIndex). s.drops) c.self.view_is in (
       λ ops place w below.

@@ -1,7 +1,6 @@
-use Rattle.std.proofs.Common.{◌≡◌, ◌<◌, ◌∙◌, [], not, arith, length, sym, subst}
-use Rattle.std.specs.Prelude.{All, filter}
-use Rattle.places.specs.steps.PlaceSet.{has}
-use Rattle.places.specs.steps.Changes.{conflicting_places, is_conflict_of}
+use Rattle.std.proofs.Common.{◌≡◌, ◌<◌, ◌∙◌, [], arith, length, sym, subst}
+use Rattle.std.specs.Prelude.{All}
+use Rattle.places.specs.steps.Changes.{is_conflict_of}
 use Rattle.shape.specs.steps.Kept.{id_at}
 use Rattle.shape.proofs.Listing.{kept_below, listed_more}
 use Rattle.shape.proofs.Stays.{kept_stays}
@@ -20,10 +19,8 @@ loop-group-preserved c =
     let gs = c.args.groups.now.groups in
     let g = c.members-members.result.now in
     let below : c.loop-group.group < length gs = omega (arith, c.loop-group-test.true, c.count-group-end.ensures, c.loop-group.auto.group-end) in
-    let newly : c.in_ok-newly.newly ≡ filter (λ place. not (has (conflicting_places c.args.before.now.ops) place)) (conflicting_places l) =
-    c.in_ok-newly.ensures ∙ (λ i. filter (λ place. not (has (c.in_conflict-2.ensures i) place)) (c.in_conflict.ensures i)) in
     let id : c.match-id_that_stays.id ≡ id_at l g = elim c.match-id_that_stays.branch [
-      | in-Some+in_ok-id-in-Some w ↦ w.id-is ∙ kept_stays c.args.before.now.ops l c.requires.after c.in_ok-newly.newly newly c.args.self.now c.requires.before c.loop-group.group w.in-Some.ensures.before gs c.requires.grown g c.members-members.ensures w.in-Some.ensures.stays w.in_ok-id-in-Some.id (w.in_ok-id-in-Some.ensures ∙ w.in-Some.ensures.id)
+      | in-Some+in_ok-id-in-Some w ↦ w.id-is ∙ kept_stays c.args.before.now.ops l c.requires.after c.in_ok-newly.newly c.in_ok-newly.ensures c.args.self.now c.requires.before c.loop-group.group w.in-Some.ensures.before gs c.requires.grown g c.members-members.ensures w.in-Some.ensures.stays w.in_ok-id-in-Some.id (w.in_ok-id-in-Some.ensures ∙ w.in-Some.ensures.id)
       | in-None+in_ok-id-in-None w ↦ w.id-is ∙ w.in_ok-id-in-None.ensures
     ] in
     listed_more (id_at l) gs [] g c.loop-group.group c.loop-group.ids.items c.push.new.self.items c.match-id_that_stays.id

@@ -65,7 +65,8 @@ pub trait Keeper<P: RoomHistories> {
     /// the keeper keeps the room's record next.
     ///
     /// # Errors
-    /// `NotKept` if the prefix is not kept, and the last attempt to keep the room's record failed.
+    /// `NotKept` if the prefix is not kept, and the last attempt to keep the room's record failed or
+    /// the room is no longer open.
     /// `NoMemory` if that attempt failed for want of memory.
     fn receipt(
         &self,
@@ -107,7 +108,7 @@ pub trait Keeper<P: RoomHistories> {
         ensures { IfOk result (λ found. IfSome found (IsLater name.now)) };
 
     /// A permit to let a new site into the room of this opening, or `None` if the last attempt to
-    /// keep the room's record failed.
+    /// keep the room's record failed or the room is no longer open.
     fn permit(&self, rt: &impl Wait, opening: &Opening<P>) -> Option<Self::Permit>
         ensures some { IfSome result (λ permit. permits permit opening.now.number) }
         ensures none { IsNone result → denies opening.now.number };

@@ -102,7 +102,8 @@ impl<P: RoomHistories, J: Journal> RoomFile<P, J> {
     /// # Errors
     /// What the file keeps is unchanged.
     /// `Full` if the disk is full; the next call tries again.
-    /// `Failed` if a write or a sync failed for another reason, now and for each later call.
+    /// `Failed` if a cut, a write or a sync failed for another reason, or an entry is out of range,
+    /// now and for each later call.
     /// `NoMemory` if an allocation failed.
     pub fn keep(&mut self, alloc: Global, news: &News<P>) -> Result<u64, JournalFault>
         requires news { self.old.kept.entries ++ news.now.entries ≡ news.now.whole.entries }

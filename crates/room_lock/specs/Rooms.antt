@@ -30,8 +30,7 @@ Serves rooms name = Contains rooms.names name ⊎ IsOffered rooms name
 abbrev pub IsOnDemand : RoomsView → Bytes → Type 0
 IsOnDemand rooms name = (¬ (Contains rooms.names name)) × IsOffered rooms name
 
--- These are the names of all rooms that were open: those from the start, and then others, of which
--- there are no more than may be open.
+-- these are the names of all rooms of the start, and then of others, no more than may be open
 abbrev pub IsListOf : RoomsView → List Bytes → Type 0
 IsListOf rooms names =
     (others : List Bytes) × (names ≡ rooms.names ++ others) × (length others ≤ rooms.others)

@@ -138,7 +138,7 @@ pub(crate) fn reply_to<S: Read + Write + Drop, K: MaskKeys + Drop>(
 
 /// What asking to enter a room gave.
 #[derive(Drop)]
-enum Entrance {
+enum EnterReply {
     /// The session is in the room.
     Entered,
     /// Each site of the room is in use.
@@ -152,12 +152,12 @@ fn come_back<S: Read + Write + Drop, K: MaskKeys + Drop>(
     alloc: Global,
     socket: &mut WebSocket<S, K>,
     room: &RoomName,
-) -> Result<Entrance, WatchFault> {
+) -> Result<EnterReply, WatchFault> {
     for site in 1..=MAX_SITE {
         let room = room.copy(alloc)?;
         match reply_to(alloc, socket, &Request::Back { room, site })? {
-            Reply::Returned { .. } => return Ok(Entrance::Entered),
-            Reply::Renewed { at: _, room } => return Ok(Entrance::Renewed(room)),
+            Reply::Returned { .. } => return Ok(EnterReply::Entered),
+            Reply::Renewed { at: _, room } => return Ok(EnterReply::Renewed(room)),
             Reply::No {
                 refusal: Refusal::SiteInUse,
                 ..
@@ -165,11 +165,11 @@ fn come_back<S: Read + Write + Drop, K: MaskKeys + Drop>(
             Reply::No {
                 refusal: Refusal::NoSuchSite,
                 ..
-            } => return Ok(Entrance::NoSite),
+            } => return Ok(EnterReply::NoSite),
             _ => return Err(WatchFault::Session),
         }
     }
-    Ok(Entrance::NoSite)
+    Ok(EnterReply::NoSite)
 }
 
 /// Joins the room of this name.
@@ -177,11 +177,11 @@ fn join<S: Read + Write + Drop, K: MaskKeys + Drop>(
     alloc: Global,
     socket: &mut WebSocket<S, K>,
     room: &RoomName,
-) -> Result<Entrance, WatchFault> {
+) -> Result<EnterReply, WatchFault> {
     let room = room.copy(alloc)?;
     match reply_to(alloc, socket, &Request::Join { room })? {
-        Reply::Joined { .. } => Ok(Entrance::Entered),
-        Reply::Renewed { at: _, room } => Ok(Entrance::Renewed(room)),
+        Reply::Joined { .. } => Ok(EnterReply::Entered),
+        Reply::Renewed { at: _, room } => Ok(EnterReply::Renewed(room)),
         _ => Err(WatchFault::Session),
     }
 }
@@ -194,13 +194,13 @@ fn enter<S: Read + Write + Drop, K: MaskKeys + Drop>(
     room: &RoomName,
 ) -> Result<Option<RoomName>, WatchFault> {
     let entrance = match come_back(alloc, socket, room)? {
-        Entrance::NoSite => join(alloc, socket, room)?,
+        EnterReply::NoSite => join(alloc, socket, room)?,
         entrance => entrance,
     };
     match entrance {
-        Entrance::Entered => Ok(None),
-        Entrance::Renewed(newest) => Ok(Some(newest)),
-        Entrance::NoSite => Err(WatchFault::Session),
+        EnterReply::Entered => Ok(None),
+        EnterReply::Renewed(newest) => Ok(Some(newest)),
+        EnterReply::NoSite => Err(WatchFault::Session),
     }
 }
 

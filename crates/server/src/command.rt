@@ -147,7 +147,8 @@ where
 /// Runs the program. `words` are the program's name and its arguments. Returns the exit status:
 ///
 /// - 0 on success;
-/// - 1 if a record or a transcript does not hold, or a record cannot be renewed;
+/// - 1 if a record or a transcript does not hold, a record cannot be renewed, or two records do not
+///   draw the same;
 /// - 2 for a mistake in the command line;
 /// - 3 if input, output, a connection, the rooms or the rooms' files failed;
 /// - 4 if an allocation failed.

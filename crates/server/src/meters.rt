@@ -51,9 +51,9 @@ pub(crate) struct Meters {
     syncs: SyncMeters,
 }
 
-/// What a server says of its sessions and rooms at one time.
+/// The sessions of a server at one time.
 #[derive(Clone, Copy, Debug)]
-pub(crate) struct Standing {
+pub(crate) struct SessionCounts {
     /// The sessions that have begun.
     pub(crate) begun: u64,
     /// The sessions that have ended.
@@ -145,13 +145,13 @@ impl Meters {
     /// `NoMemory` if an allocation failed.
     pub(crate) fn text(
         &self,
-        standing: Standing,
+        sessions: SessionCounts,
         rooms: &Tallies,
         added: EntrySums,
     ) -> Result<String, NoMemory> {
         let alloc = self.alloc;
         let mut families = Vec::new(alloc);
-        add_sessions(alloc, &mut families, standing)?;
+        add_sessions(alloc, &mut families, sessions)?;
         families.push(self.ends()?)?;
         let turned_away = load(&self.turned_away);
         families.push(counter(
@@ -264,13 +264,13 @@ fn gauge(
 fn add_sessions(
     alloc: Global,
     families: &mut Vec<Family>,
-    standing: Standing,
+    sessions: SessionCounts,
 ) -> Result<(), NoMemory> {
-    let Standing {
+    let SessionCounts {
         begun,
         ended,
         clients,
-    } = standing;
+    } = sessions;
     let now = begun.saturating_sub(ended);
     families.push(gauge(alloc, "grace_sessions", "Sessions now.", now)?)?;
     let most = u64::from(clients);

@@ -2,7 +2,7 @@
 
 ghost use Rattle.std.specs.Prelude.{◌≡◌, ◌↔◌, IsNone};
 
-use crate::meters::{Meters, Standing};
+use crate::meters::{Meters, SessionCounts};
 use crate::tallies::Tallies;
 use crate::turnstile::Turnstile;
 use base_types::RoomName;
@@ -226,12 +226,12 @@ impl<R: Wait + Log> Observer for ServerObserver<'_, R> {
     }
 
     fn metrics(&self) -> Option<String> {
-        let standing = Standing {
+        let sessions = SessionCounts {
             begun: self.begun.load(Ordering::SeqCst),
             ended: self.ended.load(Ordering::SeqCst),
             clients: self.limits.clients,
         };
         let added = self.rooms.added(self.rt);
-        self.meters.text(standing, self.rooms, added).ok()
+        self.meters.text(sessions, self.rooms, added).ok()
     }
 }

@@ -50,7 +50,7 @@ pub record IsTurnedAway
       → (turn.reply ≡ No 0 NoSuchRoom) × (turn.reported ≡ None)
   pub same : turn.new.pass ≡ None
 
--- the room refuses a coming back as a site, whether or not a session is in as it
+-- the room refuses a coming back as a site: as one in use if it has joined, otherwise as none of its
 abbrev pub IsBackRefusal : LimitValues → ℕ → List Entry → Reply → Type 0
 IsBackRefusal limits site r reply = (in_use : Bool) × IsBackRefusalOver limits r site in_use reply
 

@@ -25,7 +25,8 @@ abbrev pub all_lines : List NamedRecord → List ℕ
 all_lines [] = []
 all_lines (room ∷ rooms) = record_lines room ++ all_lines rooms
 
--- A writer got the lines of the records of all rooms that were open, in order. Each record is legal.
+-- A writer got the lines of the records of all rooms of the start, in order, and then of others. Each
+-- record is legal.
 pub record PrintsRecords
     (limits : LimitValues) (rooms : RoomsView) (before after : Option (List ℕ)) : Type 0 where
   pub records : List NamedRecord

@@ -180,10 +180,11 @@ impl<P: RoomHistories> Session<P> {
     /// holds the message: then it is `None`, and nothing has changed.
     /// The session itself refuses five things. These are bytes that are no request, `join` and
     /// `back` in a room, all others in no room, rooms that do not exist or are not in its
-    /// scope, and rooms that cannot be opened now, or for which the keeper has no permit. It tells
-    /// who asks for a room whose chain goes on elsewhere of the newest room. Every other request is
-    /// carried out by one call of the rooms: `join` and `back` may give a pass, `leave` hands it
-    /// back, and the rest call the room by it.
+    /// scope, and rooms that cannot be opened now, or for which the keeper has no permit. Where the
+    /// chain of a room goes on elsewhere, it names the newest room to who joins, and to who comes
+    /// back once the room is no longer among the rooms. Every other request is carried out by one
+    /// call of the rooms: `join` and `back` may give a pass, `leave` hands it back, and the rest
+    /// call the room by it.
     /// With `may_hold` it holds a `wait` in a room whose record has exactly the number of entries
     /// that the request names. It also holds a `join` or `back` of a room that is being opened.
     /// Without, a `wait` is a pull, and such a room is not served. A session that has asked for the

@@ -7,7 +7,7 @@ use Rattle.world.specs.Alone.{Message, Alone, alone_reply, alone_after, alone_te
 use Rattle.world.specs.Rooms.{Rooms, owner_of, reply_at, after_at, reply_to, rooms_after, lone_reply, owners, texts, rooms_end, at_room, at_none}
 use Rattle.world.specs.State.{WorldState, names_of, rooms_of}
 use Rattle.world.specs.Shown.{ShowsGroups, AllShowGroups}
-use Rattle.world.specs.Run.{answered_messages, answer_texts, IsAnswer, IsRun, AnswersSomeOf}
+use Rattle.world.specs.Run.{answered_messages, answer_texts, IsStep, IsRun, AnswersSomeOf}
 
 -- ---- one more message
 
@@ -134,7 +134,7 @@ pub record SoFar (old : WorldState) (all : List Message) (answers : List (Option
   pub rooms : rooms_of new ≡ rooms_end (names_of old) (rooms_of old) (answered_messages all answers)
 
 pub so_far_answered : (old mid new : WorldState) (all : List Message) (answers : List (Option (List ℕ))) (message : Message) (text : List ℕ) → SoFar old all answers mid
-    → IsAnswer mid message text new → SoFar old (all ++ message ∷ []) (answers ++ Some text ∷ []) new
+    → IsStep mid message text new → SoFar old (all ++ message ∷ []) (answers ++ Some text ∷ []) new
 so_far_answered old mid new all answers message text h answer =
     let names = names_of old in
     let start = rooms_of old in

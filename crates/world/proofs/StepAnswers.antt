@@ -26,7 +26,7 @@ use Rattle.world.specs.Rooms.{Rooms, named_place, lone_answer, notes_refusal, ow
 use Rattle.world.specs.State.{WorldState, names_of, no_room, rooms_in, room_at, uses_in, use_at, notes_of_rooms, notes_of, seat_of, site_at, alone_at, rooms_of}
 use Rattle.world.specs.steps.Steps.{place_answer, asker_of, IsTextFor, RepliesTo}
 use Rattle.world.specs.Shown.{OwnerHasObject, ShowsGroups}
-use Rattle.world.specs.Run.{IsAnswer}
+use Rattle.world.specs.Run.{IsStep}
 use Rattle.world.proofs.Places.{set_same}
 use Rattle.world.proofs.Changed.{owner_is, answer_is, asked_after, rooms_of-changed}
 use Rattle.world.proofs.LongLines.{IsBad, bad_reply, bad_after}
@@ -79,7 +79,7 @@ refusal_shows names rooms message why text is_read at object kind vs e = absurd 
 
 refusal_answer : (state : WorldState) (message : Message) (why : Refusal) (text : List ℕ)
     → reply_to (names_of state) (rooms_of state) message ≡ No 0 why → rooms_after (names_of state) (rooms_of state) message ≡ rooms_of state
-    → IsTextFor text (No 0 why) → IsAnswer state message text state
+    → IsTextFor text (No 0 why) → IsStep state message text state
 refusal_answer state message why text is_reply is_rooms t = record {
   is_text = t.is_text ∙ ap reply_text (sym is_reply);
   is_read = t.is_read ∙ ap Some (sym is_reply);
@@ -89,7 +89,7 @@ refusal_answer state message why text is_reply is_rooms t = record {
 }
 
 -- the bytes are a request of no kind
-pub bad_answer : (state : WorldState) (message : Message) (text : List ℕ) → IsBad message.bytes → IsTextFor text (No 0 BadMessage) → IsAnswer state message text state
+pub bad_answer : (state : WorldState) (message : Message) (text : List ℕ) → IsBad message.bytes → IsTextFor text (No 0 BadMessage) → IsStep state message text state
 bad_answer state message text e t =
     refusal_answer state message BadMessage text (bad_reply (names_of state) (rooms_of state) message e) (bad_after (names_of state) (rooms_of state) message e) t
 
@@ -104,7 +104,7 @@ pub room_answer : (state : WorldState) (message : Message) (request : Request) (
     → rooms_in new.rooms ≡ set (rooms_in state.rooms) asker.place (with_entry (room_at state.rooms asker.place) (place_answer state.rooms asker.place asker.site request).1)
     → uses_in new.rooms ≡ set (uses_in state.rooms) asker.place (use_after (place_answer state.rooms asker.place asker.site request).0 asker.site (use_at state.rooms asker.place))
     → notes_of_rooms new.rooms ≡ set (notes_of_rooms state.rooms) asker.place (notes_after_move (move_of (place_answer state.rooms asker.place asker.site request).0) asker.site (notes_of state.rooms asker.place))
-    → IsAnswer state message text new
+    → IsStep state message text new
 room_answer state message request is_request asker found new text within legal names replies rooms uses notes =
     let owner = owner_is state message request is_request asker found in
     let answer = answer_is state message request is_request asker found in
@@ -135,7 +135,7 @@ module _ (state : WorldState) (message : Message) (request : NoteRequest)
         ∙ ap (λ r. owner_from (option_map (λ (s : Seat). s.place) seat) (named_place (names_of state) r)) no_request
 
     -- of a session that is in no room
-    pub outside_note : (text : List ℕ) → seat_of state.seats message.session ≡ None → IsTextFor text (No 0 NotJoined) → IsAnswer state message text state
+    pub outside_note : (text : List ℕ) → seat_of state.seats message.session ≡ None → IsTextFor text (No 0 NotJoined) → IsStep state message text state
     outside_note text out t =
         let owner = owner_by None out in
         refusal_answer state message NotJoined text
@@ -168,7 +168,7 @@ module _ (state : WorldState) (message : Message) (request : NoteRequest)
       pub inside_note : (new : WorldState) (text : List ℕ) → seat.place < length state.rooms → IsTextFor text (notes_reply state seat request)
           → names_of new ≡ names_of state → new.seats ≡ state.seats → rooms_in new.rooms ≡ rooms_in state.rooms → uses_in new.rooms ≡ uses_in state.rooms
           → notes_of_rooms new.rooms ≡ set (notes_of_rooms state.rooms) seat.place (notes_after seat.site request (notes_of state.rooms seat.place))
-          → IsAnswer state message text new
+          → IsStep state message text new
       inside_note new text within t names seats rooms uses notes =
           let owner = owner_by (Some seat) inside in
           let is_reply : reply_to (names_of state) (rooms_of state) message ≡ notes_reply state seat request =

@@ -8,7 +8,7 @@ use Rattle.world.specs.State.{WorldState, names_of, alone_at, rooms_of}
 use Rattle.world.specs.Shown.{ShowsGroups, AllShowGroups}
 
 -- In this state a message is answered by this text, and the state is then the new one.
-pub record IsAnswer (old : WorldState) (message : Message) (text : List ℕ)
+pub record IsStep (old : WorldState) (message : Message) (text : List ℕ)
     (new : WorldState) : Type 0 where
   -- the text is written for the reply, and is read as it
   pub is_text : text ≡ reply_text (reply_to (names_of old) (rooms_of old) message)
@@ -34,7 +34,7 @@ pub record IsRun (old : WorldState) (messages : List Message) (texts : List (Lis
       at_none whose texts
       ≡ map (λ message. reply_text (lone_reply message)) (at_none whose messages)
   -- wherever an answer shows an object, its versions are the maximal compatible groups of its
-  -- operations
+  -- changes
   pub shown : AllShowGroups (names_of old) (rooms_of old) messages texts
   -- each room is then what it is alone after its messages
   pub after : (place : ℕ)

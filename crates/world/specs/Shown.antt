@@ -1,4 +1,4 @@
--- What a reply shows of an object: the maximal compatible groups of its operations.
+-- What a reply shows of an object: the maximal compatible groups of its changes.
 use Rattle.std.specs.Prelude.{◌≡◌, ℕ, List, [], ◌∷◌, Some}
 use Rattle.base_types.specs.Names.{Name}
 use Rattle.base_types.specs.Texts.{Bytes}

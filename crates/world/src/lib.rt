@@ -11,7 +11,7 @@ ghost use Rattle.world.specs.Alone.{Message, message_of};
 ghost use Rattle.world.specs.Rooms.{place_of, lone_refusal, notes_refusal};
 ghost use Rattle.world.specs.State.{WorldState, names_in, names_of, new_world};
 ghost use Rattle.world.specs.steps.Steps.{asker_of, IsTextFor};
-ghost use Rattle.world.specs.Run.{IsAnswer, AnswersSomeOf};
+ghost use Rattle.world.specs.Run.{IsStep, AnswersSomeOf};
 
 mod fault;
 pub mod laws;
@@ -145,14 +145,14 @@ impl World {
 
     /// Answers a message of a session with the text of the reply. The reply is that of the room
     /// which the session is in or asks to enter. If it shows an object, the versions are the
-    /// maximal compatible groups of its operations in that room's record.
+    /// maximal compatible groups of its changes in that room's record.
     ///
     /// # Errors
     ///
     /// `NoMemory` if an allocation failed. Nothing changes.
     pub fn step(&mut self, alloc: Global, session: u32, bytes: &[u8]) -> Result<String, NoMemory>
         ensures answer { let message = message_of session bytes.now in
-            IfOk result (λ text. IsAnswer self.old message (string_bytes text) self.new) }
+            IfOk result (λ text. IsStep self.old message (string_bytes text) self.new) }
         ensures names { names_of self.new ≡ names_of self.old }
         ensures err { OnErr result (self.new ≡ self.old) }
     {
@@ -169,7 +169,7 @@ impl World {
         bytes: &[u8],
     ) -> Result<String, NoMemory>
         ensures answer { let message = message_of session bytes.now in
-            IfOk result (λ text. IsAnswer self.old message (string_bytes text) self.new) }
+            IfOk result (λ text. IsStep self.old message (string_bytes text) self.new) }
         ensures names { names_of self.new ≡ names_of self.old }
         ensures err { OnErr result (self.new ≡ self.old) }
     {
@@ -193,7 +193,7 @@ impl World {
     ) -> Result<String, NoMemory>
         ensures answer { (message : Message) → message.session ≡ session
             → request_read message.bytes ≡ None → note_request_read message.bytes ≡ asked
-            → IfOk result (λ text. IsAnswer self.old message (string_bytes text) self.new) }
+            → IfOk result (λ text. IsStep self.old message (string_bytes text) self.new) }
         ensures names { names_of self.new ≡ names_of self.old }
         ensures err { OnErr result (self.new ≡ self.old) }
     {
@@ -210,7 +210,7 @@ impl World {
 
     /// Answers messages in order: for each the text of its reply, or `None` if an allocation failed
     /// for it and it changed nothing. Each room's replies are those of that room alone. Wherever a
-    /// reply shows an object, its versions are the maximal compatible groups of its operations.
+    /// reply shows an object, its versions are the maximal compatible groups of its changes.
     ///
     /// # Errors
     ///

@@ -285,7 +285,7 @@ impl World {
     /// Answers a script. A line that is a session's number, a space and a message is answered by
     /// the session, a space and the text of the reply. Any other line is answered by `?`. Each
     /// room's replies are those of that room alone. Wherever a reply shows an object, its versions
-    /// are the maximal compatible groups of its operations.
+    /// are the maximal compatible groups of its changes.
     ///
     /// All whole lines of a read are answered and flushed before the next read. The last line may
     /// lack its line feed. A signal that interrupts a call makes it fail: pass

@@ -11,6 +11,7 @@ use Rattle.std.proofs.lemmas.Bool.{cases_lt, true≢false}
 use Rattle.std.proofs.lemmas.List.Edits.{get_or-insert_above, get_or-insert_at, get_or-insert_below, length-insert}
 use Rattle.rules.specs.Lists.{insert_by}
 use Rattle.rules.proofs.Lists.{In, Contains-from_In}
+use Rattle.rules.proofs.Sorting.{back_of}
 
 module _ {X : Type 0} (cmp : X → X → Ordering) (o : IsTotalOrder cmp) (y : X) where
   -- those before the place are less, and those from there on greater
@@ -19,17 +20,14 @@ module _ {X : Type 0} (cmp : X → X → Ordering) (o : IsTotalOrder cmp) (y : X
     pub less : AllWithin (λ x. cmp x y ≡ Less) xs 0 i
     pub greater : AllWithin (λ x. cmp x y ≡ Greater) xs i (length xs)
 
-  reversed : (x : X) (r : Ordering) → cmp x y ≡ r → cmp y x ≡ ordering_reverse r
-  reversed x r e = o.antisymm y x ∙ ap ordering_reverse e
-
   pub inserted : (xs : List X) (i : ℕ) → IsPlaceFor xs i → insert xs i y ≡ insert_by cmp y xs
   inserted [] zero p = refl
   inserted [] (suc i) p = absurd (omega (arith, p.within))
   inserted (x ∷ xs) zero p =
-      let t : is_lt (cmp y x) ≡ true = ap is_lt (reversed x Greater (p.greater 0 y (omega arith) (omega arith))) in
+      let t : is_lt (cmp y x) ≡ true = ap is_lt (back_of cmp o Greater x y (p.greater 0 y (omega arith) (omega arith))) in
       sym (ap (λ b. cond b (y ∷ x ∷ xs) (x ∷ insert_by cmp y xs)) t)
   inserted (x ∷ xs) (suc i) p =
-      let f : is_lt (cmp y x) ≡ false = ap is_lt (reversed x Less (p.less 0 y (omega arith) (omega arith))) in
+      let f : is_lt (cmp y x) ≡ false = ap is_lt (back_of cmp o Less x y (p.less 0 y (omega arith) (omega arith))) in
       let rest : IsPlaceFor xs i = record {
         within = omega (arith, p.within);
         less = λ k d a b. p.less (suc k) d (omega arith) (omega (arith, b));
@@ -50,7 +48,7 @@ module _ {X : Type 0} (cmp : X → X → Ordering) (o : IsTotalOrder cmp) (y : X
               let here : slice_index_or (insert xs i y) (k + 1) d ≡ y = subst (λ n. slice_index_or (insert xs i y) n d ≡ y) same (get_or-insert_at xs i y d p.within) in
               ap (λ x. is_lt (cmp x (slice_index_or (insert xs i y) k d))) here
               ∙ ap (λ x. is_lt (cmp y x)) (get_or-insert_below xs i y d k l p.within)
-              ∙ ap is_lt (reversed (slice_index_or xs k d) Less (p.less k d from l)))
+              ∙ ap is_lt (back_of cmp o Less (slice_index_or xs k d) y (p.less k d from l)))
           | inr h ↦ elim (cases_lt i k) [
             | inr e ↦ (let same : i ≡ k = omega (arith, e, h) in
                 let here : slice_index_or (insert xs i y) k d ≡ y = subst (λ n. slice_index_or (insert xs i y) n d ≡ y) same (get_or-insert_at xs i y d p.within) in
@@ -73,9 +71,9 @@ module _ {X : Type 0} (cmp : X → X → Ordering) (o : IsTotalOrder cmp) (y : X
   itself = go (cmp y y) refl
     where
       go : (r : Ordering) → cmp y y ≡ r → cmp y y ≡ Equal
-      go Less e = absurd (true≢false (sym (ap is_lt e) ∙ ap is_lt (reversed y Less e)))
+      go Less e = absurd (true≢false (sym (ap is_lt e) ∙ ap is_lt (back_of cmp o Less y y e)))
       go Equal e = e
-      go Greater e = absurd (true≢false (sym (ap is_lt (reversed y Greater e)) ∙ ap is_lt e))
+      go Greater e = absurd (true≢false (sym (ap is_lt (back_of cmp o Greater y y e)) ∙ ap is_lt e))
 
   -- it ties with none
   pub ties_with_none : (xs : List X) (i : ℕ) → IsPlaceFor xs i → (x : X) → In x xs → cmp x y ≡ Equal → ⊥

@@ -1,4 +1,5 @@
-//! Faults: failed allocations, texts and lists that are out of range, and names of rooms that are repeated.
+//! Faults: failed allocations, texts and lists that are out of range, and names of rooms that are
+//! repeated.
 
 ghost use Rattle.std.specs.Prelude.{◌≡◌};
 ghost use Rattle.base_types.specs.declared.fault.NameFault.TheVariants as name_fault;

@@ -27,8 +27,8 @@ pub const MAX_ROOM_NUMBER: u32 = 999_999;
 const MAX_DIGITS: usize = 6;
 
 /// The name of a room: NAME for the first room of a chain, and NAME.N for its N-th, of 64 bytes at
-/// most. NAME is 1 byte or more, each one of a-z, 0-9 and `-`. N is from 2 to 999999, without leading
-/// zeros. Names are ordered by their bytes.
+/// most. NAME is 1 byte or more, each one of a-z, 0-9 and `-`. N is from 2 to 999999, without
+/// leading zeros. Names are ordered by their bytes.
 #[derive(Debug, Drop, PartialEq, Eq, PartialOrd, Ord, Hash)]
 pub struct RoomName {
     text: Text,
@@ -171,8 +171,8 @@ impl RoomName {
     /// - `BadNumber` if they have a dot, and what follows the first one is no number from 2 to
     ///   `MAX_ROOM_NUMBER` without leading zeros.
     /// - `Empty` if nothing stands before the first dot.
-    /// - `BadByte` with the place of the first byte that is none of a-z, 0-9 and `-` and stands before
-    ///   the first dot.
+    /// - `BadByte` with the place of the first byte that is none of a-z, 0-9 and `-` and stands
+    ///   before the first dot.
     /// - `NoMemory` if an allocation failed.
     pub fn parse(alloc: Global, bytes: &[u8]) -> Result<RoomName, NameFault>
         ensures ok { IfOk result (λ name. (name ≡ bytes.now) × (is_room_name bytes.now ≡ true)) }
@@ -187,8 +187,8 @@ impl RoomName {
     ///
     /// # Errors
     ///
-    /// Those of a label of at most `MAX_ROOM_LEN` bytes: `Empty`, `TooLong`, `BadByte`, and `NoMemory` if
-    /// an allocation failed.
+    /// Those of a label of at most `MAX_ROOM_LEN` bytes: `Empty`, `TooLong`, `BadByte`, and
+    /// `NoMemory` if an allocation failed.
     pub fn parse_first(alloc: Global, bytes: &[u8]) -> Result<RoomName, NameFault>
         ensures ok { IfOk result (λ name. (name ≡ bytes.now) × (is_first_name bytes.now ≡ true)) }
         ensures fault { FailsBy NameFault.NoMemory (label_fault MAX_ROOM_LEN bytes.now) result }

@@ -54,8 +54,8 @@ impl From<NotAdmitted> for Refusal {
 pub struct Past {
     alloc: Global,
     operations: Vec<SharedOp>,
-    /// For each site, from site 1 on, the places of its operations, by their numbers. Sites behind the
-    /// last list have none yet.
+    /// For each site, from site 1 on, the places of its operations, by their numbers. Sites behind
+    /// the last list have none yet.
     places: Vec<Vec<usize>>,
 }
 
@@ -94,8 +94,8 @@ fn places_of_site(lists: &[Vec<usize>], site: u32) -> &[usize]
     }
 }
 
-/// The count of a site in a vector. Where the vector has all sites up to this one, its pair stands at
-/// the site's number. Else a binary search.
+/// The count of a site in a vector. Where the vector has all sites up to this one, its pair stands
+/// at the site's number. Else a binary search.
 fn count_in(seen: &StateVector, site: u32) -> u32
     ensures { result ≡ count_of seen.now site }
 {

@@ -1,6 +1,6 @@
 //! The commands `script`, `check`, `migrate`, `renew` and `renewed`, which need only readers and
-//! writers. Also what `serve` shares with them: parsing the names of rooms, and the fault when rooms
-//! cannot be made.
+//! writers. Also what `serve` shares with them: parsing the names of rooms, and the fault when
+//! rooms cannot be made.
 #![tactic(auto)]
 
 mod checking;

@@ -84,7 +84,8 @@ impl<S, D: Drop> Connection<S, D> {
         self.dialogue.is_held()
     }
 
-    /// Returns whether a message is held that blocks: no later frame is served before it is answered.
+    /// Returns whether a message is held that blocks: no later frame is served before it is
+    /// answered.
     pub fn is_blocked<T: Talk<Session = S, Reported = D>>(&self, talk: &T) -> bool
         ensures { IsTrue result ↔ IsBlocked (T.blocks talk.now) self.now.standing }
     {
@@ -122,10 +123,11 @@ impl<S, D: Drop> Connection<S, D> {
     }
 
     /// Serves the whole frames among the bytes that came, in order, until `MAX_WAITING` frames or
-    /// `MAX_WAITING_LEN` bytes wait, or a message is held that blocks. The talk answers each text and each binary message by one turn,
-    /// or may hold one of at most `MAX_HELD_LEN` bytes; the next message has that one answered
-    /// first. The frames of the answers and the replies of the protocol wait in this order behind
-    /// those that waited. A close drops the message that is held.
+    /// `MAX_WAITING_LEN` bytes wait, or a message is held that blocks. The talk answers each text
+    /// and each binary message by one turn, or may hold one of at most `MAX_HELD_LEN` bytes; the
+    /// next message has that one answered first. The frames of the answers and the replies of the
+    /// protocol wait in this order behind those that waited. A close drops the message that is
+    /// held.
     ///
     /// # Errors
     /// Why the connection ends. What was answered before waits still. The connection then serves no
@@ -232,9 +234,9 @@ impl<S, D: Drop> Connection<S, D> {
         self.dialogue.release_first(talk, output)
     }
 
-    /// Puts a close frame with the code that says why behind the frames that wait, unless a close was
-    /// sent or read. The connection then serves no more, also after an error:
-    /// `receive` gives the error that it gave before, or `Closed`.
+    /// Puts a close frame with the code that says why behind the frames that wait, unless a close
+    /// was sent or read. The connection then serves no more, also after an error: `receive` gives
+    /// the error that it gave before, or `Closed`.
     ///
     /// # Errors
     /// `NoMemory` if an allocation failed. What waits is unchanged.

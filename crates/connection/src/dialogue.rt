@@ -390,7 +390,8 @@ impl<S, D: Drop> Dialogue<S, D> {
             || waiting_len(&self.waiting, MAX_WAITING_LEN) >= MAX_WAITING_LEN
     }
 
-    /// Returns whether a message is held that blocks: no later frame is served before it is answered.
+    /// Returns whether a message is held that blocks: no later frame is served before it is
+    /// answered.
     pub(crate) fn is_blocked<T: Talk<Session = S, Reported = D>>(&self, talk: &T) -> bool
         ensures { IsTrue result ↔ IsBlocked (T.blocks talk.now) self.now }
     {

@@ -51,8 +51,9 @@ impl Page {
 pub enum Head {
     /// The head is not whole.
     Partial,
-    /// A WebSocket. `accept_key` is the value of `Sec-WebSocket-Accept`, `target` spans the target of
-    /// the request (RFC 9112, section 3.2), and the head has `len` bytes. Those behind it are frames.
+    /// A WebSocket. `accept_key` is the value of `Sec-WebSocket-Accept`, `target` spans the target
+    /// of the request (RFC 9112, section 3.2), and the head has `len` bytes. Those behind it are
+    /// frames.
     Upgrade {
         accept_key: [u8; 28],
         target: Span,

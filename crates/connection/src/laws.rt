@@ -38,8 +38,8 @@ pub fn blocked_session_is_not_served<T: Talk>()
         (after.standing ≡ before.standing) × (after.input ≡ before.input ++ bytes) }
 {}
 
-/// No more than `MAX_WAITING + 2` frames wait, whatever comes: the last frame that is served can add
-/// the answer of a held message, that of its own, and a reply of the protocol.
+/// No more than `MAX_WAITING + 2` frames wait, whatever comes: the last frame that is served can
+/// add the answer of a held message, that of its own, and a reply of the protocol.
 pub fn few_frames_wait<T: Talk>()
     ensures { (talk : T) (before after : ConnectionState T.Session T.Reported) (bytes : List ℕ) →
         Receives (T.turn talk) (T.waits talk) (T.blocks talk) before bytes after →

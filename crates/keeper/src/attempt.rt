@@ -6,7 +6,8 @@ use std::time::Duration;
 /// one.
 #[derive(Drop)]
 pub struct Attempt {
-    /// The places at which there is news: that of the room, and that at which who asked for it waits.
+    /// The places at which there is news: that of the room, and that at which who asked for it
+    /// waits.
     pub news: [Option<usize>; 2],
     /// What it changed for people, if it did.
     pub change: Option<Change>,

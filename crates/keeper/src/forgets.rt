@@ -36,8 +36,8 @@ impl<P: RoomHistories> Keeper<P> for Forgets {
         Ok(Some(()))
     }
 
-    /// The room begins with the empty record, and is the first of its chain: no other has ended here.
-    /// Who asks for it never has to wait.
+    /// The room begins with the empty record, and is the first of its chain: no other has ended
+    /// here. Who asks for it never has to wait.
     fn open(
         &self,
         rt: &impl Wait,

@@ -7,9 +7,9 @@ use base_types::{NoMemory, RoomName};
 use indexmap::IndexMap;
 use std::alloc::Global;
 
-/// The chains of which a room is open, if they have a second room, by the name of the first room. Rooms
-/// that were opened before the second one was known do not count, so a chain may leave while one of
-/// them is open. The next opening of one of its rooms adds it again.
+/// The chains of which a room is open, if they have a second room, by the name of the first room.
+/// Rooms that were opened before the second one was known do not count, so a chain may leave while
+/// one of them is open. The next opening of one of its rooms adds it again.
 #[derive(Drop)]
 pub(crate) struct Chains {
     chains: IndexMap<RoomName, Chain>,
@@ -31,7 +31,8 @@ impl Chains {
         }
     }
 
-    /// The room of this name is opened. `later` is the newest room of its chain, if it is an earlier one.
+    /// The room of this name is opened. `later` is the newest room of its chain, if it is an
+    /// earlier one.
     ///
     /// # Errors
     /// `NoMemory` if an allocation failed.
@@ -76,8 +77,8 @@ impl Chains {
         self.add(alloc, next, None)
     }
 
-    /// The room of this name is closed. Where an allocation fails the chain stays, which does no harm:
-    /// who asks for an earlier room is sent to a room that was the newest.
+    /// The room of this name is closed. Where an allocation fails the chain stays, which does no
+    /// harm: who asks for an earlier room is sent to a room that was the newest.
     pub(crate) fn remove(&mut self, alloc: Global, room: &RoomName) {
         let Ok(first) = room.first(alloc) else {
             return;

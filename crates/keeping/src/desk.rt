@@ -67,8 +67,8 @@ impl<P: RoomHistories, J: Journal> Desk<P, J> {
         Some(self.file?.into_journal())
     }
 
-    /// Returns whether nobody is in the room, its file keeps all of its record, and no thread has the
-    /// file. The room is open on demand.
+    /// Returns whether nobody is in the room, its file keeps all of its record, and no thread has
+    /// the file. The room is open on demand.
     fn is_idle(&self, rt: &impl Wait, rooms: &Rooms<P>) -> bool {
         self.state.is_ok()
             && self.file.is_some()
@@ -142,8 +142,8 @@ impl<P: RoomHistories, J: Journal + Drop> Place<P, J> {
         *self.desk.lock(rt) = Some(Desk::new(name, file));
     }
 
-    /// What is known of this prefix of the room's record. Where it gives `New`, the caller orders an
-    /// attempt, and nobody else does until that is begun.
+    /// What is known of this prefix of the room's record. Where it gives `New`, the caller orders
+    /// an attempt, and nobody else does until that is begun.
     ///
     /// # Errors
     /// Why the last attempt failed, if the prefix is not kept.
@@ -182,7 +182,8 @@ impl<P: RoomHistories, J: Journal + Drop> Place<P, J> {
         }
     }
 
-    /// The proof that the file is clean, or why the last attempt failed. `None` if no room is open here.
+    /// The proof that the file is clean, or why the last attempt failed. `None` if no room is open
+    /// here.
     pub(crate) fn state(&self, rt: &impl Wait) -> Option<Result<Clean, KeepFault>> {
         match &self.desk.lock(rt).as_ref()?.state {
             Ok(clean) => Some(Ok(clean.copy())),
@@ -190,8 +191,8 @@ impl<P: RoomHistories, J: Journal + Drop> Place<P, J> {
         }
     }
 
-    /// The opening of the room, if it is to be looked whether the room is nearly full: its file keeps so
-    /// many entries, and the last attempt did not fail.
+    /// The opening of the room, if it is to be looked whether the room is nearly full: its file
+    /// keeps so many entries, and the last attempt did not fail.
     pub(crate) fn to_look_at(&self, rt: &impl Wait) -> Option<Opening<P>> {
         match &*self.desk.lock(rt) {
             Some(desk) if desk.state.is_ok() && desk.kept.prefix().len() >= desk.look_at => {
@@ -243,8 +244,8 @@ impl<P: RoomHistories, J: Journal + Drop> Place<P, J> {
         }
     }
 
-    /// A tick: counts how long nobody has been in the room. Returns whether that is a multiple of so
-    /// many ticks.
+    /// A tick: counts how long nobody has been in the room. Returns whether that is a multiple of
+    /// so many ticks.
     pub(crate) fn is_to_close(&self, rt: &impl Wait, rooms: &Rooms<P>, after: u32) -> bool {
         match &mut *self.desk.lock(rt) {
             Some(desk) if desk.is_idle(rt, rooms) => {
@@ -267,9 +268,9 @@ impl<P: RoomHistories, J: Journal + Drop> Place<P, J> {
         }
     }
 
-    /// Whether nobody is in the room, which its file does not keep yet. If so, a room waits for space
-    /// until the next attempt ends. Where it gives `New`, the caller orders that attempt. Linear in the
-    /// entries that the file lacks.
+    /// Whether nobody is in the room, which its file does not keep yet. If so, a room waits for
+    /// space until the next attempt ends. Where it gives `New`, the caller orders that attempt.
+    /// Linear in the entries that the file lacks.
     pub(crate) fn left(&self, rt: &impl Wait, alloc: Global, rooms: &Rooms<P>) -> Left {
         let mut place = self.desk.lock(rt);
         let Some(desk) = &mut *place else {
@@ -279,7 +280,8 @@ impl<P: RoomHistories, J: Journal + Drop> Place<P, J> {
             return Left::No;
         }
         desk.is_awaited = true;
-        // Whoever waits looks again after an attempt that is being made, and orders another if need be.
+        // Whoever waits looks again after an attempt that is being made, and orders another if need
+        // be.
         if desk.is_ordered || desk.file.is_none() {
             return Left::Ordered;
         }
@@ -287,9 +289,9 @@ impl<P: RoomHistories, J: Journal + Drop> Place<P, J> {
         Left::New
     }
 
-    /// Closes the room if nobody has been in it for so many ticks and its file keeps all of its record.
-    /// Gives what is to be closed of it. `None` if it stays open. From then on the receipt for the
-    /// record, and the name as one that moves, stand among the doors.
+    /// Closes the room if nobody has been in it for so many ticks and its file keeps all of its
+    /// record. Gives what is to be closed of it. `None` if it stays open. From then on the receipt
+    /// for the record, and the name as one that moves, stand among the doors.
     ///
     /// # Errors
     /// `NoMemory` if an allocation failed. The room stays open.
@@ -343,8 +345,8 @@ impl<P: RoomHistories, J: Journal + Drop> Place<P, J> {
         Some(file)
     }
 
-    /// Puts the file back after an attempt. `None` if no room is open here, which never occurs: a room
-    /// whose file a thread has is not closed.
+    /// Puts the file back after an attempt. `None` if no room is open here, which never occurs: a
+    /// room whose file a thread has is not closed.
     fn put_back(
         &self,
         rt: &impl Wait,

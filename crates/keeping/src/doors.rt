@@ -1,4 +1,5 @@
-//! The rooms on demand that are neither open nor closed, and what is kept of those that were closed.
+//! The rooms on demand that are neither open nor closed, and what is kept of those that were
+//! closed.
 
 ghost use Rattle.std.specs.Prelude.{IfSome};
 ghost use Rattle.keeping.specs.Kept.{IsKeptIn};
@@ -23,8 +24,9 @@ pub(crate) enum Obstacle {
     Failed(Reason),
 }
 
-/// The names of rooms on demand that are being opened or closed, or could not be opened. And receipts
-/// for what is kept of rooms that were closed: a reply of such a room may still have to be sent.
+/// The names of rooms on demand that are being opened or closed, or could not be opened. And
+/// receipts for what is kept of rooms that were closed: a reply of such a room may still have to be
+/// sent.
 #[derive(Drop)]
 pub(crate) struct Doors<P: RoomHistories> {
     moving: IndexSet<RoomName>,
@@ -117,8 +119,8 @@ impl<P: RoomHistories> Doors<P> {
         self.closed.add(kept.prefix().opening().number(), kept)
     }
 
-    /// The receipt for this prefix of the record of a room that was closed a short time ago, if it is
-    /// kept.
+    /// The receipt for this prefix of the record of a room that was closed a short time ago, if it
+    /// is kept.
     pub(crate) fn receipt(&self, reported: &Prefix<P>) -> Option<Kept<P>>
         ensures { IfSome result (λ kept. IsKeptIn kept reported.now) }
     {

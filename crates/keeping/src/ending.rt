@@ -19,8 +19,8 @@ const LOOK_AGAIN: u64 = 8;
 /// The number of entries after which a room is tried again that no other one can go on with.
 const TRY_AGAIN: u64 = 256;
 
-/// The number of entries of a room that this one can go on as, if there is one that has joins left for
-/// so many sessions. Otherwise it would soon be nearly full itself.
+/// The number of entries of a room that this one can go on as, if there is one that has joins left
+/// for so many sessions. Otherwise it would soon be nearly full itself.
 fn count_of_successor(
     alloc: Global,
     room: &RoomState,
@@ -68,9 +68,9 @@ fn is_due<P: RoomHistories>(
 }
 
 impl<P: RoomHistories, J: Journal + Drop, F: RoomFiles<J> + Drop> Keeping<P, J, F> {
-    /// Ends the record of the room at this place, if the room is nearly full and another one can go on
-    /// with it. Gives the name of that one then. It is made when it is opened, which needs a place for
-    /// a room on demand. Looks only after every few entries.
+    /// Ends the record of the room at this place, if the room is nearly full and another one can go
+    /// on with it. Gives the name of that one then. It is made when it is opened, which needs a
+    /// place for a room on demand. Looks only after every few entries.
     pub(crate) fn end_at(
         &self,
         rt: &impl Wait,

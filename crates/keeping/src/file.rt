@@ -148,8 +148,8 @@ impl<P: RoomHistories, J: Journal + Drop> RoomFile<P, J> {
         begun: &[Prefix<P>],
         files: Vec<RestoredFile<J>>,
     ) -> Result<Vec<RoomFile<P, J>>, NoMemory>
-        // There is a file for each room in order, with the room's name, and the room begins with the
-        // file's record:
+        // There is a file for each room in order, with the room's name, and the room begins with
+        // the file's record:
         requires names { map opening_name (openings_of begun.now)
             ≡ map (λ file. file.name) files.items }
         requires begun { map (λ begun. begun.entries) begun.now
@@ -165,8 +165,8 @@ impl<P: RoomHistories, J: Journal + Drop> RoomFile<P, J> {
     }
 }
 
-/// Appends entries behind the kept bytes and syncs them. Cuts off what may follow those first. Gives
-/// the number of bytes that were appended. `Failed` if the file accepts no more.
+/// Appends entries behind the kept bytes and syncs them. Cuts off what may follow those first.
+/// Gives the number of bytes that were appended. `Failed` if the file accepts no more.
 fn put_behind<J: Journal>(
     alloc: Global,
     journal: &mut J,

@@ -12,7 +12,8 @@ use std::alloc::Global;
 /// What asking for the file of a room gave.
 #[derive(Drop)]
 pub enum FileFound<J: Journal> {
-    /// The room with the record that the file has. Nobody else has a file of its chain until it is closed.
+    /// The room with the record that the file has. Nobody else has a file of its chain until it is
+    /// closed.
     Here {
         state: RoomState,
         file: RestoredFile<J>,
@@ -29,8 +30,8 @@ pub enum FileFound<J: Journal> {
 
 /// The files of rooms, by the names of the rooms. One value serves all threads.
 pub trait RoomFiles<J: Journal> {
-    /// Opens the file of the room of this name, or creates it. Ends the record of a room that is nearly
-    /// full, if another room can go on with it. May wait for a disk.
+    /// Opens the file of the room of this name, or creates it. Ends the record of a room that is
+    /// nearly full, if another room can go on with it. May wait for a disk.
     ///
     /// # Errors
     /// `NoMemory` if an allocation failed.
@@ -39,8 +40,8 @@ pub trait RoomFiles<J: Journal> {
         ensures { IfOk result (IfHere (λ state file.
             file ≡ record { name = name.now; entries = state.room.entries })) };
 
-    /// Returns whether nothing lies where the file of the room of this name is to be. May wait for a
-    /// disk.
+    /// Returns whether nothing lies where the file of the room of this name is to be. May wait for
+    /// a disk.
     fn is_free(&self, alloc: Global, name: &RoomName) -> bool;
 
     /// Closes the file of the room of this name, so that others may have it. May wait for a disk.

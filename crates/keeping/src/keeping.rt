@@ -27,10 +27,11 @@ const MAX_THREADS: usize = 16;
 /// The number of places at which who asked for a room may have to wait.
 const WAITING_PLACES: usize = 64;
 
-/// The files of all rooms, by the places of the rooms. A thread writes and syncs all that a room has
-/// by then for all that wait for it. No two threads write for one room. Rooms on demand are opened and
-/// closed by these threads too, with their files. Locks are taken in this order: the doors, a place,
-/// then what `Rooms` locks, and that of the orders last. The lock of the chains is taken alone.
+/// The files of all rooms, by the places of the rooms. A thread writes and syncs all that a room
+/// has by then for all that wait for it. No two threads write for one room. Rooms on demand are
+/// opened and closed by these threads too, with their files. Locks are taken in this order: the
+/// doors, a place, then what `Rooms` locks, and that of the orders last. The lock of the chains is
+/// taken alone.
 #[derive(Drop)]
 pub struct Keeping<P: RoomHistories, J: Journal, F> {
     pub(crate) places: Vec<Place<P, J>>,
@@ -58,8 +59,8 @@ pub struct OnDemand<F> {
 
 impl<P: RoomHistories, J: Journal + Drop, F: RoomFiles<J> + Drop> Keeping<P, J, F> {
     /// Keeps the rooms that are open from the start in these files, which are in the order of the
-    /// rooms, and rooms on demand in files that are opened with them. Who asks for an earlier room of
-    /// a chain than the newest of those that are open is sent to that one.
+    /// rooms, and rooms on demand in files that are opened with them. Who asks for an earlier room
+    /// of a chain than the newest of those that are open is sent to that one.
     ///
     /// # Errors
     /// `NoMemory` if an allocation failed.
@@ -108,8 +109,8 @@ impl<P: RoomHistories, J: Journal + Drop, F: RoomFiles<J> + Drop> Keeping<P, J, 
         }
     }
 
-    /// Keeps what the record of the room at this place has. If the room is nearly full then, ends its
-    /// record and keeps the end. From then on, whoever joins is sent on to the next room.
+    /// Keeps what the record of the room at this place has. If the room is nearly full then, ends
+    /// its record and keeps the end. From then on, whoever joins is sent on to the next room.
     fn keep_at(
         &self,
         rt: &(impl Wait + Clock),
@@ -132,8 +133,8 @@ impl<P: RoomHistories, J: Journal + Drop, F: RoomFiles<J> + Drop> Keeping<P, J, 
         }
     }
 
-    /// Keeps what the record of the room at this place has. Rooms that wait for the end of this attempt are
-    /// opened next.
+    /// Keeps what the record of the room at this place has. Rooms that wait for the end of this
+    /// attempt are opened next.
     fn attempt_at(
         &self,
         rt: &(impl Wait + Clock),
@@ -162,9 +163,9 @@ impl<P: RoomHistories, J: Journal + Drop, F: RoomFiles<J> + Drop> Keeping<P, J, 
         attempt
     }
 
-    /// What is known of this prefix of a room's record, and the receipt if the room was closed a short
-    /// time ago. A room is opened and closed under the lock of the doors, so it is looked for once more
-    /// under that.
+    /// What is known of this prefix of a room's record, and the receipt if the room was closed a
+    /// short time ago. A room is opened and closed under the lock of the doors, so it is looked for
+    /// once more under that.
     fn receipt_elsewhere(
         &self,
         rt: &impl Wait,

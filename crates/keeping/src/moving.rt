@@ -60,8 +60,8 @@ struct NewRoom<J: Journal> {
 }
 
 impl<P: RoomHistories, J: Journal + Drop, F: RoomFiles<J> + Drop> Keeping<P, J, F> {
-    /// Opens the room of this name with its file, as it was ordered. Where as many rooms are open as may
-    /// be, closes one that nobody is in, and has this one opened next.
+    /// Opens the room of this name with its file, as it was ordered. Where as many rooms are open
+    /// as may be, closes one that nobody is in, and has this one opened next.
     pub(crate) fn open_room(
         &self,
         rt: &impl Wait,
@@ -96,8 +96,8 @@ impl<P: RoomHistories, J: Journal + Drop, F: RoomFiles<J> + Drop> Keeping<P, J, 
         }
     }
 
-    /// Closes the room that nobody has been in for longest, and has the room of this name opened next.
-    /// Where no room can be closed yet, waits for one.
+    /// Closes the room that nobody has been in for longest, and has the room of this name opened
+    /// next. Where no room can be closed yet, waits for one.
     fn make_space(
         &self,
         rt: &impl Wait,
@@ -117,8 +117,8 @@ impl<P: RoomHistories, J: Journal + Drop, F: RoomFiles<J> + Drop> Keeping<P, J, 
         attempt
     }
 
-    /// Has the room of this name opened once there is space for it. Notes that it cannot be opened now
-    /// if there is none soon.
+    /// Has the room of this name opened once there is space for it. Notes that it cannot be opened
+    /// now if there is none soon.
     fn wait_for_space(
         &self,
         rt: &impl Wait,
@@ -150,8 +150,8 @@ impl<P: RoomHistories, J: Journal + Drop, F: RoomFiles<J> + Drop> Keeping<P, J, 
         }
     }
 
-    /// When there is space for one more room. Has a room kept that nobody is in where that makes space.
-    /// Linear in the number of rooms that may be open.
+    /// When there is space for one more room. Has a room kept that nobody is in where that makes
+    /// space. Linear in the number of rooms that may be open.
     fn space(&self, rt: &impl Wait, alloc: Global, rooms: &Rooms<P>) -> Space {
         if !rooms.is_full(rt) || self.longest_idle(rt, rooms).is_some() {
             return Space::Now;
@@ -169,8 +169,8 @@ impl<P: RoomHistories, J: Journal + Drop, F: RoomFiles<J> + Drop> Keeping<P, J, 
         Space::None
     }
 
-    /// Orders that each room is opened that waits for space. The thread that calls this takes the first
-    /// order next.
+    /// Orders that each room is opened that waits for space. The thread that calls this takes the
+    /// first order next.
     pub(crate) fn order_parked(&self, rt: &impl Wait, alloc: Global) {
         let parked = self.doors.lock(rt).take_parked(alloc);
         for name in parked.iter() {
@@ -180,8 +180,8 @@ impl<P: RoomHistories, J: Journal + Drop, F: RoomFiles<J> + Drop> Keeping<P, J, 
         }
     }
 
-    /// Orders that the room of this name is opened. The thread that calls this takes the order next.
-    /// Returns false if an allocation failed.
+    /// Orders that the room of this name is opened. The thread that calls this takes the order
+    /// next. Returns false if an allocation failed.
     fn open_next(&self, rt: &impl Wait, alloc: Global, name: &RoomName) -> bool {
         match name.copy(alloc) {
             Ok(name) => self.orders.add_next(rt, Order::Open(name)),
@@ -227,8 +227,8 @@ impl<P: RoomHistories, J: Journal + Drop, F: RoomFiles<J> + Drop> Keeping<P, J, 
         self.enter(rt, alloc, rooms, new)
     }
 
-    /// Opens a room with its file. Whoever looks for the room finds it with its file, since all of this
-    /// is done under the lock of the doors, and finds where its chain goes on.
+    /// Opens a room with its file. Whoever looks for the room finds it with its file, since all of
+    /// this is done under the lock of the doors, and finds where its chain goes on.
     fn enter(&self, rt: &impl Wait, alloc: Global, rooms: &Rooms<P>, new: NewRoom<J>) -> Moved
         requires limits { new.state.room.limits ≡ P.limits }
         requires file { new.file ≡ record { name = new.name; entries = new.state.room.entries } }
@@ -267,8 +267,8 @@ impl<P: RoomHistories, J: Journal + Drop, F: RoomFiles<J> + Drop> Keeping<P, J, 
         unopened
     }
 
-    /// Closes the room at this place with its file, if nobody has been in it for so long and its file
-    /// keeps all that it has.
+    /// Closes the room at this place with its file, if nobody has been in it for so long and its
+    /// file keeps all that it has.
     pub(crate) fn close_room(
         &self,
         rt: &impl Wait,

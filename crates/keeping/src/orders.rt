@@ -51,9 +51,10 @@ pub(crate) struct Orders {
 }
 
 impl Orders {
-    /// No orders for so many threads, with space to keep the rooms at so many places: an order to keep
-    /// one, of which there is at most one for each place, is never lost. At most half of the threads
-    /// open and close rooms at a time, and one of these closes. `NoMemory` if an allocation failed.
+    /// No orders for so many threads, with space to keep the rooms at so many places: an order to
+    /// keep one, of which there is at most one for each place, is never lost. At most half of the
+    /// threads open and close rooms at a time, and one of these closes. `NoMemory` if an allocation
+    /// failed.
     pub(crate) fn new(alloc: Global, places: usize, threads: usize) -> Result<Orders, NoMemory> {
         let mut alarms = Vec::with_capacity(alloc, threads)?;
         for _ in 0..threads {
@@ -72,8 +73,8 @@ impl Orders {
         })
     }
 
-    /// Adds an order, and wakes a thread that waits if it may be taken out and none looks. False if an
-    /// allocation failed.
+    /// Adds an order, and wakes a thread that waits if it may be taken out and none looks. False if
+    /// an allocation failed.
     pub(crate) fn add(&self, rt: &impl Wait, order: Order) -> bool {
         let mut roster = self.roster.lock(rt);
         let before = roster.queue.count_ready();
@@ -85,9 +86,9 @@ impl Orders {
         is_added
     }
 
-    /// Adds an order, and wakes nobody: the thread that calls this carries out another order, and takes
-    /// the next one itself. The fewer threads open rooms, the less memory the allocator keeps for them.
-    /// False if an allocation failed.
+    /// Adds an order, and wakes nobody: the thread that calls this carries out another order, and
+    /// takes the next one itself. The fewer threads open rooms, the less memory the allocator keeps
+    /// for them. False if an allocation failed.
     pub(crate) fn add_next(&self, rt: &impl Wait, order: Order) -> bool {
         let mut roster = self.roster.lock(rt);
         let is_added = roster.queue.push(order);
@@ -113,8 +114,8 @@ impl Orders {
         }
     }
 
-    /// Looks for the next order for a while where orders come soon, unless another thread does. A thread
-    /// that sleeps is woken late, and to wake it costs who adds the order as much.
+    /// Looks for the next order for a while where orders come soon, unless another thread does. A
+    /// thread that sleeps is woken late, and to wake it costs who adds the order as much.
     fn look(&self, rt: &(impl Wait + Clock)) {
         if !self.comes_soon.load(Ordering::SeqCst) || self.is_looking.swap(true, Ordering::SeqCst) {
             return;
@@ -130,9 +131,9 @@ impl Orders {
         self.is_looking.store(false, Ordering::SeqCst);
     }
 
-    /// Waits for the next order, and takes it out. If more may be taken, wakes another thread. `None`
-    /// once all is over and no order is left for this thread, or if more threads wait than were
-    /// announced.
+    /// Waits for the next order, and takes it out. If more may be taken, wakes another thread.
+    /// `None` once all is over and no order is left for this thread, or if more threads wait than
+    /// were announced.
     pub(crate) fn next(&self, rt: &(impl Wait + Clock)) -> Option<Order> {
         self.look(rt);
         let mut roster = self.roster.lock(rt);
@@ -156,8 +157,8 @@ impl Orders {
         unreachable!()
     }
 
-    /// A thread has opened a room, as it was ordered to. It asks for its next order itself, so nobody
-    /// is woken.
+    /// A thread has opened a room, as it was ordered to. It asks for its next order itself, so
+    /// nobody is woken.
     pub(crate) fn end_opening(&self, rt: &impl Wait) {
         let mut roster = self.roster.lock(rt);
         roster.queue.end_opening();

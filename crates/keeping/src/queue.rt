@@ -34,8 +34,8 @@ pub(crate) struct Queue {
     moving: usize,
     /// How many threads may open and close rooms at a time.
     most_moving: usize,
-    /// A thread closes a room. No other does meanwhile: nobody waits for it, and the allocator keeps
-    /// memory for each thread that closes rooms.
+    /// A thread closes a room. No other does meanwhile: nobody waits for it, and the allocator
+    /// keeps memory for each thread that closes rooms.
     is_closing: bool,
     /// No room is opened or closed any more.
     is_over: bool,
@@ -62,8 +62,8 @@ impl Model for Queue {
 }
 
 impl Queue {
-    /// No orders, with space to keep the rooms at so many places. At most `most_moving` threads open
-    /// and close rooms at a time.
+    /// No orders, with space to keep the rooms at so many places. At most `most_moving` threads
+    /// open and close rooms at a time.
     ///
     /// # Errors
     /// `NoMemory` if an allocation failed.

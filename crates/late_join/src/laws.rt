@@ -43,8 +43,8 @@ pub fn takeable_lists_are_histories()
         → IsFounded (operations t) }
 {}
 
-/// Consider an operation after a takeable list without an end that is neither a repeat nor early. It is refused
-/// where a room with these entries refuses it, by the same refusal.
+/// Consider an operation after a takeable list without an end that is neither a repeat nor early.
+/// It is refused where a room with these entries refuses it, by the same refusal.
 pub fn an_operation_is_refused_as_a_room_refuses_it()
     ensures { (b : LimitValues) (t : List Entry) (op : Op) → IsTakeable b t
         → is_vector op.seen ≡ true

@@ -66,7 +66,8 @@ fn no_watchers(alloc: Global, places: usize) -> Result<Vec<AtomicU64>, AllocErro
 }
 
 impl Bell {
-    /// A bell for so many loops and places of rooms, and for each loop the sockets that it waits for.
+    /// A bell for so many loops and places of rooms, and for each loop the sockets that it waits
+    /// for.
     ///
     /// # Errors
     /// `NoLoop` unless `loops` is from 1 to `MAX_LOOPS`.

@@ -8,8 +8,8 @@ const CROWDED_LEN: usize = 268_435_456;
 /// Where all lines hold more bytes, nothing more is taken from clients.
 const FULL_LEN: usize = 536_870_912;
 
-/// How many bytes all lines hold: what waits to be sent, what waits to be kept, and what came and is
-/// no whole message. Also how many lines wait for something to be kept.
+/// How many bytes all lines hold: what waits to be sent, what waits to be kept, and what came and
+/// is no whole message. Also how many lines wait for something to be kept.
 #[derive(Drop)]
 pub(crate) struct Burden {
     bytes: AtomicUsize,

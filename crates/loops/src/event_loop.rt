@@ -101,9 +101,9 @@ where
 }
 
 impl<S, D: Drop, C: Drop> EventLoop<S, D, C> {
-    /// Waits for the next reports: a second at most, and not at all while lines have more to do. Nor
-    /// for a moment after a line began to wait for a disk, if no other line of any loop does: a thread
-    /// that sleeps is woken late. Returns false if all is done, or waiting fails.
+    /// Waits for the next reports: a second at most, and not at all while lines have more to do.
+    /// Nor for a moment after a line began to wait for a disk, if no other line of any loop does: a
+    /// thread that sleeps is woken late. Returns false if all is done, or waiting fails.
     fn wait<R, V>(&mut self, shared: &Shared<'_, R, V>, events: &mut Events) -> bool {
         if self.is_done() {
             return false;
@@ -120,7 +120,8 @@ impl<S, D: Drop, C: Drop> EventLoop<S, D, C> {
             .is_ok()
     }
 
-    /// Returns whether all is done: no line is left and none comes, or the server went away long ago.
+    /// Returns whether all is done: no line is left and none comes, or the server went away long
+    /// ago.
     fn is_done(&self) -> bool {
         match self.outlook {
             Outlook::More => false,
@@ -131,9 +132,9 @@ impl<S, D: Drop, C: Drop> EventLoop<S, D, C> {
         }
     }
 
-    /// One round: the lines that are reported, those that had more to do and those that arrived, then
-    /// the answers of all of these, the news of rooms, and once a second all lines. So what has to be
-    /// kept for the answers is asked for once they are made.
+    /// One round: the lines that are reported, those that had more to do and those that arrived,
+    /// then the answers of all of these, the news of rooms, and once a second all lines. So what
+    /// has to be kept for the answers is asked for once they are made.
     fn round<R: Wait, V: Service<Session = S, Reported = D, Scratch = C>>(
         &mut self,
         shared: &Shared<'_, R, V>,
@@ -207,8 +208,8 @@ impl<S, D: Drop, C: Drop> EventLoop<S, D, C> {
         }
     }
 
-    /// The answers of a line leave, and it waits for news if it has to. Its session was at the place
-    /// `before` its turn.
+    /// The answers of a line leave, and it waits for news if it has to. Its session was at the
+    /// place `before` its turn.
     pub(crate) fn deliver<R: Wait, V: Service<Session = S, Reported = D, Scratch = C>>(
         &mut self,
         shared: &Shared<'_, R, V>,

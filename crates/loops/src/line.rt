@@ -15,8 +15,8 @@ use std::io::{ErrorKind, Read};
 use std::net::Shutdown;
 use std::sync::Wait;
 
-/// Where what a line holds has changed by fewer bytes, the burden of all lines does not count it anew:
-/// all loops share that.
+/// Where what a line holds has changed by fewer bytes, the burden of all lines does not count it
+/// anew: all loops share that.
 const WEIGHED_LEN: usize = 4_096;
 
 /// A socket, and what is served on it. It cannot be dropped: `end` gives its session back.
@@ -184,8 +184,8 @@ impl<S, D: Drop> Line<S, D> {
         }
     }
 
-    /// Returns whether it waits for a room that its session is not in: before it is let in, or with a
-    /// held message that blocks.
+    /// Returns whether it waits for a room that its session is not in: before it is let in, or with
+    /// a held message that blocks.
     pub(crate) fn awaits_room<V: Service<Session = S, Reported = D>>(&self, service: &V) -> bool {
         match &self.stage {
             Stage::Opening(_) => true,
@@ -233,9 +233,9 @@ impl<S, D: Drop> Line<S, D> {
         ))
     }
 
-    /// A turn: sends what waits, and reads once or serves more of what was read. The burden counts what
-    /// it holds then, before the next line has its turn. Returns false if the stream has failed, or has
-    /// ended and nothing is left to do.
+    /// A turn: sends what waits, and reads once or serves more of what was read. The burden counts
+    /// what it holds then, before the next line has its turn. Returns false if the stream has
+    /// failed, or has ended and nothing is left to do.
     pub(crate) fn turn<R: Wait, V: Service<Session = S, Reported = D>>(
         &mut self,
         shared: &Shared<'_, R, V>,
@@ -460,8 +460,8 @@ impl<S, D: Drop> Line<S, D> {
         self.enter(shared, Stage::Leaving { is_sent: false }, ending);
     }
 
-    /// The server goes away: the session is closed behind the answers that wait. Returns false if it
-    /// has not begun.
+    /// The server goes away: the session is closed behind the answers that wait. Returns false if
+    /// it has not begun.
     pub(crate) fn go_away(&mut self, now: u64) -> bool {
         match &mut self.stage {
             Stage::Opening(_) => return false,

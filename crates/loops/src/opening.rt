@@ -16,7 +16,8 @@ use std::alloc::{AllocError, Global};
 use std::sync::Wait;
 
 impl<S, D: Drop> Line<S, D> {
-    /// Answers the head of the request, if it is whole. If the client is let in later, the head is kept.
+    /// Answers the head of the request, if it is whole. If the client is let in later, the head is
+    /// kept.
     pub(crate) fn open<R: Wait, V: Service<Session = S, Reported = D>>(
         &mut self,
         shared: &Shared<'_, R, V>,
@@ -89,8 +90,8 @@ impl<S, D: Drop> Line<S, D> {
         );
     }
 
-    /// Begins the session of a request for this target, if a seat is free. Else the client is turned
-    /// away. Returns whether the session has begun.
+    /// Begins the session of a request for this target, if a seat is free. Else the client is
+    /// turned away. Returns whether the session has begun.
     fn admit<R: Wait, V: Service<Session = S, Reported = D>>(
         &mut self,
         shared: &Shared<'_, R, V>,
@@ -143,7 +144,8 @@ impl<S, D: Drop> Line<S, D> {
     }
 }
 
-/// The answer to a probe of a page, or `None` if the server has no such page or an allocation failed.
+/// The answer to a probe of a page, or `None` if the server has no such page or an allocation
+/// failed.
 fn probe_answer<R, V: Service>(shared: &Shared<'_, R, V>, page: Page) -> Option<String> {
     match page {
         Page::Health => {

@@ -31,7 +31,7 @@ impl Openings {
     }
 
     /// Adds a line. Returns the line that has to open before this one, if it has not: the oldest of
-    /// `MAX_OPENINGS`.
+    /// `MAX_OPENINGS`. Or this line, if an allocation failed.
     pub(crate) fn add(&mut self, line: Begun) -> Option<Begun>
         ensures { Follows MAX_OPENINGS line self.old.lines.items self.new.lines.items result }
     {

@@ -16,7 +16,8 @@ use mio::{Interest, Token};
 use std::sync::Wait;
 
 impl<S, D: Drop, C: Drop> EventLoop<S, D, C> {
-    /// Takes what came, and begins the lines that arrived. Closes all lines once the server goes away.
+    /// Takes what came, and begins the lines that arrived. Closes all lines once the server goes
+    /// away.
     pub(crate) fn take_mail<R: Wait, V: Service<Session = S, Reported = D, Scratch = C>>(
         &mut self,
         shared: &Shared<'_, R, V>,

@@ -65,8 +65,8 @@ impl<'a, R, S> Loops<'a, R, S> {
 
 /// Serves what arrives, by a loop for each of these polls, which came with the bell. Sessions are
 /// numbered as their arrivals, from 1. Returns once there are no more arrivals, or the server goes
-/// away, and the last connection has ended. The arrival after `Bell::go_away` ends the arrivals, and
-/// is dropped.
+/// away, and the last connection has ended. The arrival after `Bell::go_away` ends the arrivals,
+/// and is dropped.
 ///
 /// # Errors
 /// `NoLoop` if no thread could be started.
@@ -133,8 +133,8 @@ fn parts_of(alloc: Global, polls: Vec<Poll>, places: usize) -> Result<Vec<Parts>
     Ok(parts)
 }
 
-/// Hands what arrives to the first `count` loops, one after the other, numbered from 1. What arrives
-/// once the server goes away is dropped.
+/// Hands what arrives to the first `count` loops, one after the other, numbered from 1. What
+/// arrives once the server goes away is dropped.
 fn hand_over<R: Wait, S: Service, I: Iterator<Item = Arrival> + Drop>(
     shared: &Shared<'_, R, S>,
     count: usize,

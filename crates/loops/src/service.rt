@@ -31,8 +31,8 @@ pub trait Service: Talk {
         Admission::Now
     }
 
-    /// The session of a new connection, whose request had this target (RFC 9112, section 3.2). `None`
-    /// if an allocation failed.
+    /// The session of a new connection, whose request had this target (RFC 9112, section 3.2).
+    /// `None` if an allocation failed.
     fn new_session(&self, target: &[u8]) -> Option<Self::Session>
         ensures { IfSome result (λ session. Self.begins self.now target.now session) };
 

@@ -1,5 +1,5 @@
-//! Values at keys. The crate `slab` would not do: its slab can be let go only where its values can be
-//! dropped, and a line cannot. Here `into_values` gives all of them back.
+//! Values at keys. The crate `slab` would not do: its slab can be let go only where its values can
+//! be dropped, and a line cannot. Here `into_values` gives all of them back.
 
 ghost use Rattle.std.specs.Prelude.{◌≡◌, ◌<◌, ◌≤◌, [], ◌↔◌, All, IsTrue, None, Some, slice_get};
 ghost use Rattle.std.specs.Prelude.{slice_set, vec_len};

@@ -195,8 +195,8 @@ fn release_all<S, D: Drop, V: Service<Session = S, Reported = D>>(
 pub(crate) struct Opening {
     /// What has come of its head.
     pub(crate) head: Vec<u8>,
-    /// The place at whose news the service is asked again to let the client in. Nothing is read until
-    /// then.
+    /// The place at whose news the service is asked again to let the client in. Nothing is read
+    /// until then.
     pub(crate) awaited: Option<usize>,
 }
 

@@ -74,8 +74,8 @@ impl Model for Label {
 }
 
 impl Label {
-    /// A label. The name is written as it is: it has to be a letter or `_`, then letters, digits and
-    /// `_`. The value may be any text.
+    /// A label. The name is written as it is: it has to be a letter or `_`, then letters, digits
+    /// and `_`. The value may be any text.
     pub fn new(name: &'static str, value: String) -> Label
         ensures { result ≡ record { name = name.now; value = string_bytes value } }
     {

@@ -17,10 +17,10 @@ pub struct Bucket {
     pub count: u64,
 }
 
-/// The samples of a histogram: those of the buckets, one of all times, the sum and the number of the
-/// times. The bounds of the buckets have to rise; `above` counts the times above the last, and `sum`
-/// is the sum of all times in microseconds. A sample of a bucket counts the times of the buckets
-/// before it too. A count above `u64::MAX` is told as `u64::MAX`.
+/// The samples of a histogram: those of the buckets, one of all times, the sum and the number of
+/// the times. The bounds of the buckets have to rise; `above` counts the times above the last, and
+/// `sum` is the sum of all times in microseconds. A sample of a bucket counts the times of the
+/// buckets before it too. A count above `u64::MAX` is told as `u64::MAX`.
 ///
 /// # Errors
 ///

@@ -11,8 +11,8 @@ use base_types::NoMemory;
 use std::alloc::Global;
 use std::fmt::Write;
 
-/// The text of these families, in their order, in Prometheus' text form, version 0.0.4. Each has two
-/// lines and one for each sample. Linear in the text.
+/// The text of these families, in their order, in Prometheus' text form, version 0.0.4. Each has
+/// two lines and one for each sample. Linear in the text.
 ///
 /// # Errors
 ///

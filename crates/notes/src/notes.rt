@@ -1,5 +1,5 @@
-//! The notes of the sites of a room. Their owner removes the note of a site that nobody is in as any
-//! more.
+//! The notes of the sites of a room. Their owner removes the note of a site that nobody is in as
+//! any more.
 
 ghost use Rattle.std.specs.Prelude.{◌≡◌, ◌<◌, [], IfOk, OnErr, OnOk, None, Some, length, option_map};
 ghost use Rattle.std.specs.Prelude.{if◌then◌else◌};
@@ -44,8 +44,8 @@ impl Notes {
         self.changes
     }
 
-    /// All notes after a request of a site, in order of site. Nothing changes. Linear in the greatest
-    /// number of sites.
+    /// All notes after a request of a site, in order of site. Nothing changes. Linear in the
+    /// greatest number of sites.
     ///
     /// # Errors
     /// `NoMemory` if an allocation failed.

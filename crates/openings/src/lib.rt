@@ -1,5 +1,6 @@
 //! The register of a server: the openings of its rooms, in order. Two holders of an opening of one
-//! number know one room. At run time the register is a counter, and an opening its number and place.
+//! number know one room. At run time the register is a counter, and an opening its number and
+//! place.
 #![tactic(auto)]
 
 mod histories;

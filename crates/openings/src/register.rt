@@ -90,8 +90,8 @@ impl<P: RoomHistories> Register<P> {
     }
 
     /// Enters a room behind those that were opened, and gives its opening. `None` if there are 2^62
-    /// openings. Constant time. Does not return if the counter had another count, which never occurs,
-    /// but no clause of a counter says so.
+    /// openings. Constant time. Does not return if the counter had another count, which never
+    /// occurs, but no clause of a counter says so.
     pub fn try_enter<R: Wait>(&mut self, rt: &R, room: &NewOpening) -> Option<Opening<P>>
         ensures full { IsNone result ↔ (2 ^ 62 ≤ length self.old) }
         ensures opening { IfSome result (λ opening.

@@ -202,10 +202,6 @@ bits_of_minus w a b e x =
 
 -- ---- what the functions of the words give
 
--- words written back over as many
-pub written : (old new : List ℕ) → length new ≡ length old → refill (length old) old new ≡ new
-written old new e = take-append-le (length old) new (drop (length new) old) (omega arith) ∙ take_all (length old) new (omega arith)
-
 -- a place put in
 module _ (w u : List ℕ) (p v : ℕ) (same : (k : ℕ) → get_or u k 0 ≡ get_or w k 0) (inside : p / 64 < length u) (here : v ≡ get_or u (p / 64) 0) where
   abbrev put : List ℕ

@@ -47,8 +47,8 @@ pub(crate) enum Newest {
     Renewed(Succeeded),
 }
 
-/// The newest room of a chain, and the file of the room before it, if there is one and the newest is
-/// in its own file.
+/// The newest room of a chain, and the file of the room before it, if there is one and the newest
+/// is in its own file.
 #[derive(Drop)]
 pub(crate) struct Chain {
     pub(crate) newest: Newest,
@@ -90,10 +90,10 @@ impl<'a> Folder<'a> {
         Ok(None)
     }
 
-    /// Reads the newest room of the chain of this first room: the one behind the room that ended last.
-    /// Writes nothing. If the newest room is nearly full, it ends, and a new one is the newest. If the
-    /// file of the newest does not have what the end of the room before names, the newest is made
-    /// again.
+    /// Reads the newest room of the chain of this first room: the one behind the room that ended
+    /// last. Writes nothing. If the newest room is nearly full, it ends, and a new one is the
+    /// newest. If the file of the newest does not have what the end of the room before names, the
+    /// newest is made again.
     pub(crate) fn chain_behind<R: Files<File = File> + Log + Wait>(
         &self,
         rt: &R,
@@ -258,8 +258,8 @@ impl<'a> Folder<'a> {
         })
     }
 
-    /// The chain whose newest room is made from the one before it, which has ended. Its file may have the
-    /// beginning of its record. Anything else there is not lost: its line is bad.
+    /// The chain whose newest room is made from the one before it, which has ended. Its file may
+    /// have the beginning of its record. Anything else there is not lost: its line is bad.
     fn make_again<R: Log + Wait>(
         &self,
         rt: &R,
@@ -332,8 +332,8 @@ impl<'a> Folder<'a> {
         }
     }
 
-    /// Returns whether nothing lies where the file of this room is to be. The log says why not if that
-    /// cannot be told.
+    /// Returns whether nothing lies where the file of this room is to be. The log says why not if
+    /// that cannot be told.
     pub fn is_free<R: Files<File = File> + Log>(
         &self,
         rt: &R,
@@ -421,8 +421,8 @@ fn has_lines(read: &ReadFile, count: u32) -> bool {
     read.file.is_some() && count_lines(&read.bytes) >= count as usize
 }
 
-/// The number of entries that the end of a record names, by the last whole line of its file: `None` if
-/// that is no end.
+/// The number of entries that the end of a record names, by the last whole line of its file: `None`
+/// if that is no end.
 fn count_at_last_line(alloc: Global, bytes: &[u8]) -> Result<Option<u32>, NoMemory> {
     match read_entry(alloc, last_line(bytes)) {
         Ok(Entry::Next(count)) => Ok(Some(count)),

@@ -1,7 +1,7 @@
 //! The locks of chains: who has a room of a chain has the lock of the chain.
 //!
-//! The lock of a chain is that of the file of its first room. So the process that has a room has the
-//! rooms that follow it, too.
+//! The lock of a chain is that of the file of its first room. So the process that has a room has
+//! the rooms that follow it, too.
 
 use crate::fault::FolderFault;
 use crate::folder::{Folder, cannot_keep};
@@ -69,8 +69,8 @@ impl ChainLocks {
 }
 
 impl<'a> Folder<'a> {
-    /// Takes the lock of the chain of this room for one more room. Creates the file of a first room.
-    /// Returns false if the room is not the first, and the first has no file.
+    /// Takes the lock of the chain of this room for one more room. Creates the file of a first
+    /// room. Returns false if the room is not the first, and the first has no file.
     pub(crate) fn lock_chain<R: Files<File = File> + Log + Wait>(
         &self,
         rt: &R,
@@ -100,8 +100,8 @@ impl<'a> Folder<'a> {
         }
     }
 
-    /// Gives the lock of the chain of this room back for one room. If no room of the chain is open then,
-    /// gives the file of the first room, which has the lock until it is dropped.
+    /// Gives the lock of the chain of this room back for one room. If no room of the chain is open
+    /// then, gives the file of the first room, which has the lock until it is dropped.
     pub(crate) fn unlock_chain(
         &self,
         rt: &impl Wait,

@@ -16,8 +16,8 @@ pub enum FolderFault<'a> {
     /// Another process has the room's file, at this path.
     #[error("kept by another: {path}")]
     RoomKeptByAnother { path: String },
-    /// This line of the room's file, at this path, is no entry that may come next, or ends the record
-    /// with another number of entries than its renewal has. Nothing was changed.
+    /// This line of the room's file, at this path, is no entry that may come next, or ends the
+    /// record with another number of entries than its renewal has. Nothing was changed.
     #[error("bad record: {path} line {line}; after a loss of power all that clients were told stands before it: keep a copy, and then the lines before {line} alone")]
     BadRecord { path: String, line: usize },
     /// An allocation failed.

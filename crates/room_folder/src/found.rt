@@ -20,8 +20,9 @@ use std::io::Read;
 use std::marker::Model;
 use std::sync::{Arc, Wait};
 
-/// A room's file as it was found, and what is to be written to it. Contracts see the room's name and
-/// its record: the entries that the whole lines are, and those that are to be written behind them.
+/// A room's file as it was found, and what is to be written to it. Contracts see the room's name
+/// and its record: the entries that the whole lines are, and those that are to be written behind
+/// them.
 #[derive(Drop)]
 pub(crate) struct Found<F> {
     pub(crate) name: String,

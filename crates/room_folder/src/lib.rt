@@ -1,5 +1,5 @@
-//! The folder of `grace serve --keep`: its lock, the files of rooms in it with their locks, the rooms
-//! that are restored from them, and the renewal of rooms that are nearly full.
+//! The folder of `grace serve --keep`: its lock, the files of rooms in it with their locks, the
+//! rooms that are restored from them, and the renewal of rooms that are nearly full.
 #![tactic(auto)]
 
 mod chain;

@@ -47,16 +47,17 @@ pub enum RoomFound {
 }
 
 impl<'a> Folder<'a> {
-    /// Opens the file of a room and takes the lock of its chain. Creates the file if there is none and
-    /// the room is the first of its chain, or the one before it has ended. Cuts the file to its whole
-    /// lines, with a warning in the log, and syncs it, and the folder if the file may be new. If the
-    /// room is the newest of its chain and nearly full, ends its record if a renewal helps: then another
-    /// room is the newest, and begins when it is opened. Never waits for another process. Its cost is
-    /// that of reading the file of the room before, of adding the entries one by one, of a renewal,
-    /// and of the syncs.
+    /// Opens the file of a room and takes the lock of its chain. Creates the file if there is none
+    /// and the room is the first of its chain, or the one before it has ended. Cuts the file to its
+    /// whole lines, with a warning in the log, and syncs it, and the folder if the file may be new.
+    /// If the room is the newest of its chain and nearly full, ends its record if a renewal helps:
+    /// then another room is the newest, and begins when it is opened. Never waits for another
+    /// process. Its cost is that of reading the file of the room before, of adding the entries one
+    /// by one, of a renewal, and of the syncs.
     ///
-    /// `Unusable` stands for a folder, a pipe, a link to no file, a file that can't be opened, read,
-    /// cut, written or synced or has more than 1,073,741,824 bytes, and a folder of rooms that is gone.
+    /// `Unusable` stands for a folder, a pipe, a link to no file, a file that can't be opened,
+    /// read, cut, written or synced or has more than 1,073,741,824 bytes, and a folder of rooms
+    /// that is gone.
     ///
     /// # Errors
     /// `NoMemory` if an allocation failed. The file may have been created, cut to its whole lines, or
@@ -84,8 +85,8 @@ impl<'a> Folder<'a> {
         }
     }
 
-    /// Opens the file of a room, as `open_room` does, and keeps the lock of its chain if the room is
-    /// here.
+    /// Opens the file of a room, as `open_room` does, and keeps the lock of its chain if the room
+    /// is here.
     fn open_locked<R: Files<File = File> + Log + Wait>(
         &self,
         rt: &R,
@@ -186,8 +187,8 @@ impl<'a> Folder<'a> {
     /// Opens the file of the room of this name, which was the newest of its chain when its file was
     /// read. `Absent` if the newest room has another name.
     ///
-    /// Only the file of this room is written: another thread may have the room before it, or open the
-    /// one that follows it.
+    /// Only the file of this room is written: another thread may have the room before it, or open
+    /// the one that follows it.
     fn open_newest<R: Files<File = File> + Log + Wait>(
         &self,
         rt: &R,
@@ -267,9 +268,9 @@ impl<'a> Folder<'a> {
         })
     }
 
-    /// Closes the file of a room, and frees the lock of its chain if no other room of the chain is open.
-    /// If so, and the file of a first room is still empty, removes it, so names that were only tried
-    /// leave nothing. Logs a warning if that fails.
+    /// Closes the file of a room, and frees the lock of its chain if no other room of the chain is
+    /// open. If so, and the file of a first room is still empty, removes it, so names that were
+    /// only tried leave nothing. Logs a warning if that fails.
     ///
     /// # Errors
     /// `NoMemory` if an allocation failed. The file is closed, and stays if it is empty. The lock may
@@ -292,8 +293,8 @@ impl<'a> Folder<'a> {
         Ok(())
     }
 
-    /// Removes the file of a first room, whose lock this open file has, if it is empty and there is no
-    /// file of the next room. Whoever opens it meanwhile finds it gone once it has the lock.
+    /// Removes the file of a first room, whose lock this open file has, if it is empty and there is
+    /// no file of the next room. Whoever opens it meanwhile finds it gone once it has the lock.
     fn remove_empty<R: Files<File = File> + Log>(
         &self,
         rt: &R,

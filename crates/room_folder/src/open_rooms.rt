@@ -74,16 +74,16 @@ struct SettledChain {
 impl<'a> Folder<'a> {
     ghost use Rattle.room_folder.specs.steps.Chains.{newest_name};
 
-    /// Opens the rooms that a server of these names begins with: for each name the newest room of its
-    /// chain, and behind these, for each chain that has one, the room before the newest. They have the
-    /// records that their files have, under full limits.
+    /// Opens the rooms that a server of these names begins with: for each name the newest room of
+    /// its chain, and behind these, for each chain that has one, the room before the newest. They
+    /// have the records that their files have, under full limits.
     ///
     /// A newest room that is nearly full is renewed if that helps. All files are read before one is
     /// changed. Then absent files are created, each file is cut to its whole lines, and all of them
-    /// and the folder are synced. If other processes may have the folder, each chain is locked until
-    /// the folder is dropped, which creates the file of its first room. The log has a line for each
-    /// room that begins with a record, for each file that is cut, and for each room that is renewed
-    /// or cannot be renewed.
+    /// and the folder are synced. If other processes may have the folder, each chain is locked
+    /// until the folder is dropped, which creates the file of its first room. The log has a line
+    /// for each room that begins with a record, for each file that is cut, and for each room that
+    /// is renewed or cannot be renewed.
     ///
     /// # Errors
     /// `CannotKeep` if a file cannot be opened, read, locked, written, cut or synced, or has more than

@@ -113,8 +113,8 @@ pub(crate) fn lock_file<R: Files<File = File>>(rt: &R, path: &str) -> io::Result
     }
 }
 
-/// Opens the file at a path for reading and appending, or creates it, and locks it. Fails if the path
-/// is a link to no file, or if others removed or replaced the file at each attempt.
+/// Opens the file at a path for reading and appending, or creates it, and locks it. Fails if the
+/// path is a link to no file, or if others removed or replaced the file at each attempt.
 pub(crate) fn lock_or_create<R: Files<File = File>>(rt: &R, path: &str) -> io::Result<LockedFile> {
     for _ in 0..MAX_ATTEMPTS {
         let locked = match create_file(rt, path)? {

@@ -93,8 +93,8 @@ impl<'a> Folder<'a> {
         Ok(SettledRoom { name, state, file })
     }
 
-    /// Writes a new file of these entries, and puts it at the path, in place of any that is there. So
-    /// a file at the path of a room is never the beginning of one alone.
+    /// Writes a new file of these entries, and puts it at the path, in place of any that is there.
+    /// So a file at the path of a room is never the beginning of one alone.
     fn replace<R: Files<File = File> + Log>(
         &self,
         rt: &R,

@@ -147,7 +147,8 @@ impl NewRooms {
         })
     }
 
-    /// The same rooms, where so many others of those that are offered may be open at a time besides.
+    /// The same rooms, where so many others of those that are offered may be open at a time
+    /// besides.
     pub fn and_on_demand(self, others: u32, offered: Offered) -> NewRooms
         ensures { result ≡ record self { others = others; offered = offered } }
     {
@@ -173,8 +174,8 @@ fn check_names(names: &[RoomName]) -> Result<(), RoomsFault>
 
 impl<P: RoomHistories> Rooms<P> {
     /// Creates the planned rooms: opens those that have a name in order, each at the place of its
-    /// name. Returns them with the record that each begins with, in order. Linear in each record for
-    /// each of its sites, and in the number of others.
+    /// name. Returns them with the record that each begins with, in order. Linear in each record
+    /// for each of its sites, and in the number of others.
     ///
     /// # Errors
     /// `NoMemory` if an allocation failed.

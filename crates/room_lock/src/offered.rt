@@ -17,8 +17,8 @@ pub enum Offered {
 }
 
 impl Offered {
-    /// Returns whether the room of this name is one of them. Constant time for every room, and linear in
-    /// the number of chains otherwise.
+    /// Returns whether the room of this name is one of them. Constant time for every room, and
+    /// linear in the number of chains otherwise.
     pub(crate) fn has(&self, name: &RoomName) -> bool
         ensures { result ≡ is_offered self.now name.now }
     {

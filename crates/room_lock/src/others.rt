@@ -1,7 +1,7 @@
 //! Rooms that are opened on demand. Each is in a slot of its own while it is open. A directory owns
 //! the openings by name, the indices of the slots that are free, and the register. Between calls
-//! each opening stands under the name of its room. Rooms are opened and closed under the lock of the
-//! directory, which is taken before that of a slot.
+//! each opening stands under the name of its room. Rooms are opened and closed under the lock of
+//! the directory, which is taken before that of a slot.
 
 ghost use Rattle.std.specs.Prelude.{◌≡◌, ◌↔◌, ◌∷◌, ◌++◌, ◌<◌, [], IfOk, IfSome, IsNone, None};
 ghost use Rattle.std.specs.Prelude.{OnErr, OnOk, Some, bytes_eq, false, true, vec_len};
@@ -120,8 +120,8 @@ impl<P: RoomHistories> Directory<P> {
         true
     }
 
-    /// Closes the room of a slot, if it is open under this name, no session is in it, and its record
-    /// is the prefix. Returns whether it is closed.
+    /// Closes the room of a slot, if it is open under this name, no session is in it, and its
+    /// record is the prefix. Returns whether it is closed.
     fn close_idle(&mut self, stage: &mut Stage<P>, name: &RoomName, whole: &Prefix<P>) -> bool
         ensures closed { (result ≡ true) ↔ (IsIdleAs whole.now stage.old
             × (lookup (bytes_eq name.now) self.old ≡ Some whole.now.opening)) }

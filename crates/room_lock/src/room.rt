@@ -77,9 +77,9 @@ impl<P: RoomHistories> Room<P> {
     ghost use Rattle.room_lock.specs.steps.Entrances.{IfEntered, IfInUse, IfRefused};
     ghost use Rattle.room_lock.specs.declared.entrance.Entrance.TheVariants.{NoRoom};
 
-    /// Opens a room: enters it into the register. It begins with its record. No session is in as any
-    /// of its sites: their parts are on the shelf, and have seen the whole record. Linear in the
-    /// record for each site. `NoMemory` if an allocation failed, or if the register is full.
+    /// Opens a room: enters it into the register. It begins with its record. No session is in as
+    /// any of its sites: their parts are on the shelf, and have seen the whole record. Linear in
+    /// the record for each site. `NoMemory` if an allocation failed, or if the register is full.
     pub(crate) fn open(
         rt: &impl Wait,
         alloc: Global,
@@ -166,8 +166,8 @@ impl<P: RoomHistories> Room<P> {
         count_away(self.shelf.as_slice())
     }
 
-    /// Returns whether no session is in the room and its record is this prefix. Linear in the number
-    /// of sites.
+    /// Returns whether no session is in the room and its record is this prefix. Linear in the
+    /// number of sites.
     pub(crate) fn is_idle(&self, whole: &Prefix<P>) -> bool
         requires { whole.now.opening ≡ self.now.opening }
         ensures idle { (result ≡ true) ↔ ((whole.now.entries ≡ self.now.entries)
@@ -293,8 +293,9 @@ impl<P: RoomHistories> Room<P> {
         Ok(reply)
     }
 
-    /// Ends the record where `count_of` gives for it the number of entries that the next record begins
-    /// with. Gives the whole record then. It stays open if that gives none, or if no entry may be added.
+    /// Ends the record where `count_of` gives for it the number of entries that the next record
+    /// begins with. Gives the whole record then. It stays open if that gives none, or if no entry
+    /// may be added.
     pub(crate) fn end_by<F>(
         &mut self,
         rt: &impl Wait,
@@ -309,8 +310,8 @@ impl<P: RoomHistories> Room<P> {
             self.old.entries whole.entries)) }
         ensures whole { IfOk result (λ found. IfSome found (λ whole.
             whole ≡ record { opening = self.old.opening; entries = self.new.entries })) }
-        // The room's opening, its shelf and its notes are unchanged, and all of it if the record stays
-        // open:
+        // The room's opening, its shelf and its notes are unchanged, and all of it if the record
+        // stays open:
         ensures shelf { self.new.shelf ≡ self.old.shelf }
         ensures opening { self.new.opening ≡ self.old.opening }
         ensures notes { self.new.notes ≡ self.old.notes }

@@ -43,10 +43,10 @@ use std::marker::Model;
 use std::sync::{MutexGuard, Wait};
 use wire::{NoteRequest, Reply, Request};
 
-/// Rooms, each behind a lock of its own: those that are open from the start, by name, and those that
-/// are opened on demand. Each lock has its own cache line, so threads in different rooms do not
-/// contend for one. Contracts see the names of the first, in order, how many others may be open, and
-/// which.
+/// Rooms, each behind a lock of its own: those that are open from the start, by name, and those
+/// that are opened on demand. Each lock has its own cache line, so threads in different rooms do
+/// not contend for one. Contracts see the names of the first, in order, how many others may be
+/// open, and which.
 #[derive(Drop)]
 pub struct Rooms<P: RoomHistories> {
     pub(crate) rooms: IndexMap<RoomName, CachePadded<Slot<P>>>,
@@ -77,7 +77,8 @@ impl<P: RoomHistories> Rooms<P> {
     ghost use Rattle.room_lock.specs.steps.Entrances.{IfEntered, IfInUse, IfRefused};
     ghost use Rattle.room_lock.specs.declared.entrance.Entrance.TheVariants.{NoRoom};
 
-    /// Takes the lock of the room of this opening. `None` if it is none of these rooms, or not open.
+    /// Takes the lock of the room of this opening. `None` if it is none of these rooms, or not
+    /// open.
     fn lock(&self, rt: &impl Wait, opening: &Opening<P>) -> Option<MutexGuard<'_, Stage<P>>>
         ensures open { IfSome result (λ stage. IsOpenAs opening.now (mutex_guard_value stage)) }
         ensures first { opening.now.number < length self.now.names → IsSome result }
@@ -100,7 +101,8 @@ impl<P: RoomHistories> Rooms<P> {
         opening.number() < self.rooms.len() as u64
     }
 
-    /// Returns whether the room of this name may be opened on demand, unless it is open from the start.
+    /// Returns whether the room of this name may be opened on demand, unless it is open from the
+    /// start.
     fn may_open(&self, name: &RoomName) -> bool
         ensures { (result ≡ true) ↔ IsOffered self.now name.now }
     {
@@ -122,8 +124,8 @@ impl<P: RoomHistories> Rooms<P> {
         self.rooms.len() + self.others.most()
     }
 
-    /// The name of the room at a place, from 0, that is open from the start, or `None` if there is no
-    /// such room.
+    /// The name of the room at a place, from 0, that is open from the start, or `None` if there is
+    /// no such room.
     pub fn name_at(&self, place: usize) -> Option<&RoomName>
         ensures { option_map (λ name. name.now) result ≡ slice_get self.now.names place }
     {
@@ -131,9 +133,9 @@ impl<P: RoomHistories> Rooms<P> {
         Some(name)
     }
 
-    /// Looks up the room of this name. Where it is open, gives its opening. Waits for the lock of the
-    /// directory if the room is opened on demand. Constant time, but for the number of chains where only
-    /// the rooms of some are offered and the room is not open from the start.
+    /// Looks up the room of this name. Where it is open, gives its opening. Waits for the lock of
+    /// the directory if the room is opened on demand. Constant time, but for the number of chains
+    /// where only the rooms of some are offered and the room is not open from the start.
     pub fn opening_of(&self, rt: &impl Wait, name: &RoomName) -> Lookup<P>
         ensures open { IfOpen (λ opening. Serves self.now name.now
             × IsOpeningFor self.now name.now opening) result }
@@ -192,9 +194,9 @@ impl<P: RoomHistories> Rooms<P> {
 
     /// Closes the room of this name and prefix, if it is open on demand, no session is in it, and
     /// its record is the prefix. Returns whether it is closed. Its name is then free for another
-    /// opening, and its place too, unless an allocation failed. Waits for the locks of the directory
-    /// and of the room. Linear in the number of its sites. That a room with more entries, or with a
-    /// session in it, stays open is a clause of the room under its lock.
+    /// opening, and its place too, unless an allocation failed. Waits for the locks of the
+    /// directory and of the room. Linear in the number of its sites. That a room with more entries,
+    /// or with a session in it, stays open is a clause of the room under its lock.
     pub fn close_idle(&self, rt: &impl Wait, name: &RoomName, whole: &Prefix<P>) -> bool
         ensures name { result ≡ true → whole.now.opening.room.name ≡ name.now }
         ensures first { whole.now.opening.number < length self.now.names → result ≡ false }
@@ -203,8 +205,8 @@ impl<P: RoomHistories> Rooms<P> {
         !self.is_first(whole.opening()) && self.others.close_idle(rt, name, whole)
     }
 
-    /// How much has been done in the pass's room, or `None` if the pass belongs to other rooms. Waits
-    /// for the room's lock. Constant time.
+    /// How much has been done in the pass's room, or `None` if the pass belongs to other rooms.
+    /// Waits for the room's lock. Constant time.
     pub fn progress(&self, rt: &impl Wait, pass: &Pass<P>) -> Option<Progress>
         ensures first { pass.now.part.opening.number < length self.now.names → IsSome result }
         ensures none { ¬ (MayBeOf self.now pass.now.part.opening) → IsNone result }
@@ -218,8 +220,8 @@ impl<P: RoomHistories> Rooms<P> {
         }
     }
 
-    /// The number of sessions in the room of this opening; 0 if it is none of these rooms. Waits for the
-    /// room's lock. Linear in the number of its sites.
+    /// The number of sessions in the room of this opening; 0 if it is none of these rooms. Waits
+    /// for the room's lock. Linear in the number of its sites.
     pub fn count_sessions(&self, rt: &impl Wait, opening: &Opening<P>) -> usize
         ensures { ¬ (MayBeOf self.now opening.now) → result ≡ 0 }
     {
@@ -232,9 +234,9 @@ impl<P: RoomHistories> Rooms<P> {
         }
     }
 
-    /// Lets the next site into the room of this opening if the room's limits allow it. Gives its pass
-    /// and the reply. Where the room refuses, gives the record at that time and the reply. Waits
-    /// for the room's lock. The time does not depend on the size of the record.
+    /// Lets the next site into the room of this opening if the room's limits allow it. Gives its
+    /// pass and the reply. Where the room refuses, gives the record at that time and the reply.
+    /// Waits for the room's lock. The time does not depend on the size of the record.
     ///
     /// # Errors
     /// `NoMemory` if an allocation failed. That no room has changed is a clause of the room under
@@ -267,11 +269,12 @@ impl<P: RoomHistories> Rooms<P> {
         }
     }
 
-    /// Lets a site into the room of this opening again, if the site has joined and no session is in as
-    /// it. Gives its pass and the reply. The pass has then seen the whole record, which begins with
-    /// what the site had seen. Where a session is in as the site, gives the proof of that and the
-    /// reply. Where the site has not joined, gives the record at that time and the reply. Allocates
-    /// nothing. Waits for the room's lock. The time does not depend on the size of the record.
+    /// Lets a site into the room of this opening again, if the site has joined and no session is in
+    /// as it. Gives its pass and the reply. The pass has then seen the whole record, which begins
+    /// with what the site had seen. Where a session is in as the site, gives the proof of that and
+    /// the reply. Where the site has not joined, gives the record at that time and the reply.
+    /// Allocates nothing. Waits for the room's lock. The time does not depend on the size of the
+    /// record.
     pub fn back(&self, rt: &impl Wait, opening: &Opening<P>, site: u32) -> Entrance<P>
         ensures entered { IfEntered (λ pass reply.
             IsBack P.limits site pass reply × (pass.room ≡ opening.now.room.name)) result }
@@ -384,10 +387,10 @@ impl<P: RoomHistories> Rooms<P> {
         }
     }
 
-    /// Ends the record of the room of this opening, where `count_of` gives for the room the number of
-    /// entries that the next record begins with. Gives the whole record then. The record stays open if
-    /// `count_of` gives none, if no entry may be added, or if it is none of these rooms. Waits for the
-    /// room's lock, and holds it while `count_of` runs.
+    /// Ends the record of the room of this opening, where `count_of` gives for the room the number
+    /// of entries that the next record begins with. Gives the whole record then. The record stays
+    /// open if `count_of` gives none, if no entry may be added, or if it is none of these rooms.
+    /// Waits for the room's lock, and holds it while `count_of` runs.
     ///
     /// # Errors
     /// `NoMemory` if an allocation failed. That no room has changed is a clause of the room under
@@ -451,8 +454,8 @@ impl<P: RoomHistories> Rooms<P> {
 
 impl<P: RoomHistories> Rooms<P> {
     /// Consumes the rooms for their records, each with the parts of its sites: those that were open
-    /// from the start, in order, and then those that were opened. Each record is legal. Linear in the
-    /// number of sites.
+    /// from the start, in order, and then those that were opened. Each record is legal. Linear in
+    /// the number of sites.
     ///
     /// # Errors
     /// `Missing` for the first room of which a pass was not handed back, which tests show.

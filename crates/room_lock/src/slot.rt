@@ -79,8 +79,8 @@ impl<P: RoomHistories> Slot<P> {
         &self.opening
     }
 
-    /// Takes the lock of the room. Does not return if the lock guards no room of this opening, which
-    /// never occurs, but no clause of a lock says so.
+    /// Takes the lock of the room. Does not return if the lock guards no room of this opening,
+    /// which never occurs, but no clause of a lock says so.
     pub(crate) fn lock(&self, rt: &impl Wait) -> MutexGuard<'_, Stage<P>>
         ensures { IsOpenAs self.now (mutex_guard_value result) }
     {

@@ -98,8 +98,8 @@ fn news<S: Read + Write + Drop, K: MaskKeys + Drop>(
     Ok(Some(lines_of_entries(alloc, replica, entries.as_slice())?))
 }
 
-/// Leaves the room, which has ended. Returns the newest one of the chain of this room, once the server
-/// knows it.
+/// Leaves the room, which has ended. Returns the newest one of the chain of this room, once the
+/// server knows it.
 fn leave_for_newest<C, S, K>(
     clock: &C,
     alloc: Global,
@@ -121,8 +121,8 @@ where
     Err(WatchFault::Session)
 }
 
-/// Writes the lines of news until the session or the output fails. Where the room ends, writes the lines
-/// of the one that goes on with it. Returns the fault.
+/// Writes the lines of news until the session or the output fails. Where the room ends, writes the
+/// lines of the one that goes on with it. Returns the fault.
 fn follow<C, S, K, W>(
     clock: &C,
     alloc: Global,
@@ -152,9 +152,10 @@ where
 
 /// Enters the room of this name over a stream, and writes the lines that `watch_over` writes. Then
 /// it waits for each new entry, and takes it. For an entry that creates or changes an object it
-/// writes the object's line again, as the record up to this entry shows it. Where the record ends, it
-/// enters the newest room of the chain, writes the lines of its objects, and goes on there. Writes
-/// the lines of each page by one call. It goes on until something fails, so the result is never `Ok`.
+/// writes the object's line again, as the record up to this entry shows it. Where the record ends,
+/// it enters the newest room of the chain, writes the lines of its objects, and goes on there.
+/// Writes the lines of each page by one call. It goes on until something fails, so the result is
+/// never `Ok`.
 ///
 /// # Errors
 /// `Session` if the stream ended or failed, or the server sent an unexpected message.

@@ -186,8 +186,8 @@ fn join<S: Read + Write + Drop, K: MaskKeys + Drop>(
     }
 }
 
-/// Enters the room of this name: as a site that no session is in as, or else as the next site. Gives
-/// the room in which its chain goes on, if it was not entered for that.
+/// Enters the room of this name: as a site that no session is in as, or else as the next site.
+/// Gives the room in which its chain goes on, if it was not entered for that.
 fn enter<S: Read + Write + Drop, K: MaskKeys + Drop>(
     alloc: Global,
     socket: &mut WebSocket<S, K>,
@@ -321,8 +321,9 @@ pub(crate) fn write_lines<W: Write>(output: &mut W, lines: &str) -> Result<(), W
     Ok(())
 }
 
-/// Opens a session over the stream. The path of its request is a slash and the name of the first room of
-/// the chain, so it may enter the room also where sessions are confined to the chain of their path.
+/// Opens a session over the stream. The path of its request is a slash and the name of the first
+/// room of the chain, so it may enter the room also where sessions are confined to the chain of
+/// their path.
 pub(crate) fn session_over<'a, R, S>(
     rt: &'a R,
     alloc: Global,
@@ -344,8 +345,8 @@ where
     }
 }
 
-/// Enters the room of this name, or the newest of its chain if it has ended, and writes the lines of all
-/// its objects. Returns the replica that it read.
+/// Enters the room of this name, or the newest of its chain if it has ended, and writes the lines
+/// of all its objects. Returns the replica that it read.
 pub(crate) fn show_room<S, K, W>(
     alloc: Global,
     socket: &mut WebSocket<S, K>,
@@ -368,8 +369,8 @@ where
     Ok(replica)
 }
 
-/// Enters the room of this name over a stream, or the newest room of its chain if that room has ended and
-/// the server knows a later one, and reads its record into a replica. Writes what the
+/// Enters the room of this name over a stream, or the newest room of its chain if that room has
+/// ended and the server knows a later one, and reads its record into a replica. Writes what the
 /// replica shows of each object, one line each in the order of the record. Then leaves the room and
 /// closes the session. Comes back as the first site that no session is in as, or joins if there is
 /// none. Writes all lines by one call.

@@ -1,8 +1,9 @@
 -- Membership by recursion on the list, and what maps, tests and searches keep.
-use Rattle.std.proofs.Common.{◌≡◌, ℕ, zero, suc, ◌+◌, ◌<◌, ◌≤◌, Bool, true, false, List, [], ◌∷◌, ◌++◌, length, get_or, map, refl, sym, ap, ◌∙◌, subst, arith, ◌⊎◌, inl, inr, Some, None}
+use Rattle.std.proofs.Common.{◌≡◌, ℕ, zero, suc, ◌+◌, ◌<◌, ◌≤◌, Bool, true, false, List, [], ◌∷◌, ◌++◌, length, get_or, map, drop, refl, sym, ap, ◌∙◌, subst, arith, ◌⊎◌, inl, inr, Some, None}
 use Rattle.std.specs.Prelude.{Contains, filter, filter_map, flat_map, find, Option}
-use Rattle.std.specs.List.{AllByRecursion, list_any, list_all, range_with_len, cons_option}
+use Rattle.std.specs.List.{AllByRecursion, list_any, list_all, range_with_len, cons_option, refill}
 use Rattle.std.proofs.lemmas.Bool.{cases_Bool, true≢false, or_cases, and_parts, and_from, or_left, or_right, cases_eq}
+use Rattle.std.proofs.lemmas.List.{take-append-le, take_all}
 
 abbrev pub In : {X : Type 0} → X → List X → Type 0
 In x [] = ⊥
@@ -175,3 +176,7 @@ any_none p x xs e m = elim (cases_Bool (p x)) [ inl t ↦ absurd (true≢false (
 
 pub find_none : {X : Type 0} (p : X → Bool) (x : X) (xs : List X) → find p xs ≡ None → In x xs → p x ≡ false
 find_none p x xs e m = elim (cases_Bool (p x)) [ inl t ↦ (let c = find_some p x xs m t in let z : None ≡ Some c.0 = sym e ∙ c.1 in cc) | inr f ↦ f ]
+
+-- members written back over as many
+pub written : {X : Type 0} (old new : List X) → length new ≡ length old → refill (length old) old new ≡ new
+written old new e = take-append-le (length old) new (drop (length new) old) (omega (arith, e)) ∙ take_all (length old) new (omega (arith, e))

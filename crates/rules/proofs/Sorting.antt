@@ -78,7 +78,7 @@ module _ {X : Type 0} (cmp : X → X → Ordering) (o : IsTotalOrder cmp) where
       go Equal p = absurd (d p)
       go Greater p = back_of Greater x y p
 
-  less_if : (x y : X) → is_lt (cmp x y) ≡ true → cmp x y ≡ Less
+  pub less_if : (x y : X) → is_lt (cmp x y) ≡ true → cmp x y ≡ Less
   less_if x y e = go (cmp x y) refl
     where
       go : (r : Ordering) → cmp x y ≡ r → cmp x y ≡ Less

@@ -18,9 +18,10 @@ pub enum Scope {
 }
 
 impl Scope {
-    /// The scope of a session by the target of its request (RFC 9112, section 3.2). For `/NAME` it is
-    /// the room NAME and its successors, whatever query follows. For any other target it is no room, so
-    /// also for `/NAME.2`. Nothing is decoded: a room's name needs no escape. Linear in the target.
+    /// The scope of a session by the target of its request (RFC 9112, section 3.2). For `/NAME` it
+    /// is the room NAME and its successors, whatever query follows. For any other target it is no
+    /// room, so also for `/NAME.2`. Nothing is decoded: a room's name needs no escape. Linear in
+    /// the target.
     ///
     /// # Errors
     /// `NoMemory` if an allocation failed.

@@ -22,8 +22,8 @@ const NO_DESCRIPTOR: [i32; 2] = [23, 24];
 /// The error number of a connection that was gone before it was accepted (`ECONNABORTED`).
 const ABORTED: i32 = 103;
 
-/// The next connections of a listener. Ends once there may be no more sessions, the server goes away,
-/// or accepting fails.
+/// The next connections of a listener. Ends once there may be no more sessions, the server goes
+/// away, or accepting fails.
 #[derive(Drop)]
 pub(crate) struct Accepted<'a, 'f, R> {
     pub(crate) listener: &'a TcpListener,
@@ -80,8 +80,8 @@ impl<R: Wait + Clock + Log> Iterator for Accepted<'_, '_, R> {
     }
 }
 
-/// The next connection, or `None` if accepting fails or the server goes away. Waits where no descriptor
-/// is left, and warns of it unless `is_told`, which it sets to whether it waited.
+/// The next connection, or `None` if accepting fails or the server goes away. Waits where no
+/// descriptor is left, and warns of it unless `is_told`, which it sets to whether it waited.
 fn accept<R: Wait + Clock + Log>(
     observer: &ServerObserver<'_, R>,
     listener: &TcpListener,

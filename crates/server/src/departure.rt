@@ -133,8 +133,8 @@ pub(crate) struct Ending {
 }
 
 impl Ending {
-    /// Standard input, and what ends the wait for its end. `None` if it is closed or cannot be waited
-    /// for, as a file: then it is at its end.
+    /// Standard input, and what ends the wait for its end. `None` if it is closed or cannot be
+    /// waited for, as a file: then it is at its end.
     pub(crate) fn of_input(rt: &impl Platform, alloc: Global) -> Option<(Ending, Waker)> {
         let input = File::open(rt, INPUT_PATH).ok()?;
         let (watch, waker) = Watch::over(rt, alloc, input.as_raw_fd()).ok()?;
@@ -223,9 +223,9 @@ impl<'a, R: Platform> Parts<'a, R> {
 }
 
 impl<R: Wait + Log> Departure<'_, R> {
-    /// Waits for the end of standard input, and then has the server go away. Returns without that if
-    /// the waker is woken before. An input that cannot be read is at its end. Gives the waker of the
-    /// door, whose news would be lost with it.
+    /// Waits for the end of standard input, and then has the server go away. Returns without that
+    /// if the waker is woken before. An input that cannot be read is at its end. Gives the waker of
+    /// the door, whose news would be lost with it.
     pub(crate) fn run(self) -> Waker {
         let Departure {
             rt,

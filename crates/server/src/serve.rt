@@ -77,8 +77,8 @@ pub(crate) struct Service<'a, 'w, R, W> {
     pub(crate) dir: Option<&'w str>,
     /// A session may enter only the room of its request's path.
     pub(crate) is_confining: bool,
-    /// The number of rooms that may be opened on demand, 1 to 100,000; 0 for none but the next rooms of
-    /// chains that are kept.
+    /// The number of rooms that may be opened on demand, 1 to 100,000; 0 for none but the next
+    /// rooms of chains that are kept.
     pub(crate) on_demand: u32,
     /// After how many seconds a room is closed that nobody is in and that is kept, from 1.
     pub(crate) close_after: u32,
@@ -266,8 +266,8 @@ struct Attendants<'a, R> {
     over: Option<Waker>,
 }
 
-/// Serves these connections to their end. Reports once each period if there is one, and waits for the
-/// end of standard input if the server is to go away then.
+/// Serves these connections to their end. Reports once each period if there is one, and waits for
+/// the end of standard input if the server is to go away then.
 fn serve_attended<P, R, K, W>(
     served: Served<'_, R, ServerObserver<'_, R>, K>,
     rooms: Rooms<P>,
@@ -422,8 +422,8 @@ impl<'w, R: Platform, W: Write> Service<'_, 'w, R, W> {
         }
     }
 
-    /// Serves with full limits, in rooms that this folder keeps: the newest rooms of the chains of these
-    /// names, the rooms before them, and rooms on demand.
+    /// Serves with full limits, in rooms that this folder keeps: the newest rooms of the chains of
+    /// these names, the rooms before them, and rooms on demand.
     fn serve_kept(self, dir: &'w str, names: &[&'w str]) -> Result<(), EarlyEnd<'w>> {
         let alloc = self.alloc;
         let named = room_names(alloc, names)?;
@@ -447,8 +447,8 @@ impl<'w, R: Platform, W: Write> Service<'_, 'w, R, W> {
         }
     }
 
-    /// How many rooms of the folder may be open beside those of the start, and which: any, or only the next
-    /// rooms of these first rooms.
+    /// How many rooms of the folder may be open beside those of the start, and which: any, or only
+    /// the next rooms of these first rooms.
     fn offer(&self, firsts: Vec<RoomName>) -> (u32, Offered) {
         if self.on_demand > 0 {
             return (self.on_demand, Offered::Every);

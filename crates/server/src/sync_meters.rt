@@ -8,7 +8,8 @@ use std::alloc::{AllocError, Global};
 use std::sync::atomic::{AtomicU64, Ordering};
 use std::time::Duration;
 
-/// The bounds of the buckets, in microseconds: by 1, 2 and 5 from half a millisecond to ten seconds.
+/// The bounds of the buckets, in microseconds: by 1, 2 and 5 from half a millisecond to ten
+/// seconds.
 const BOUNDS: [u64; 14] = [
     500, 1_000, 2_000, 5_000, 10_000, 20_000, 50_000, 100_000, 200_000, 500_000, 1_000_000,
     2_000_000, 5_000_000, 10_000_000,
@@ -17,7 +18,8 @@ const BOUNDS: [u64; 14] = [
 /// Counters that begin at 0 with the server.
 #[derive(Drop)]
 pub(crate) struct SyncMeters {
-    /// How many times are at most the bound at the same place of `BOUNDS`, and above the one before.
+    /// How many times are at most the bound at the same place of `BOUNDS`, and above the one
+    /// before.
     within: Vec<AtomicU64>,
     /// How many times are above the last bound.
     above: AtomicU64,

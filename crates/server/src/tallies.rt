@@ -66,8 +66,8 @@ impl Tallies {
         Ok(Tallies::new(copies(alloc, names)?, rooms))
     }
 
-    /// The tallies of rooms of these names that begin with these records, in the same order, and of so
-    /// many on demand.
+    /// The tallies of rooms of these names that begin with these records, in the same order, and of
+    /// so many on demand.
     ///
     /// # Errors
     /// `NoMemory` if an allocation failed.
@@ -111,8 +111,8 @@ impl Tallies {
         }
     }
 
-    /// A room was opened on demand with a record. Warns if it begins nearly full, and nothing goes on
-    /// with it.
+    /// A room was opened on demand with a record. Warns if it begins nearly full, and nothing goes
+    /// on with it.
     pub(crate) fn begin_room<R: Wait + Log>(&self, rt: &R, beginning: &Beginning) {
         self.add_opening();
         if let Some(room) = self.rooms.get(beginning.place) {

@@ -32,8 +32,8 @@ fn plan_rooms(rt: &(impl Abort + AllocGlobal), names: &str) -> NewRooms {
     NewRooms::plan(rt.alloc(), parsed, Limits::full()).expect(rt, "rooms")
 }
 
-/// Appends a text message as a frame (RFC 6455, section 5.2). `masked` is the mask bit of its second
-/// byte, whose other bits hold the length.
+/// Appends a text message as a frame (RFC 6455, section 5.2). `masked` is the mask bit of its
+/// second byte, whose other bits hold the length.
 fn add_frame(
     rt: &(impl Abort + AllocGlobal),
     frames: &mut Vec<u8>,

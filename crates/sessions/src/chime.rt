@@ -29,8 +29,8 @@ struct Rings {
     count: AtomicU64,
 }
 
-/// Rings the bell of the rooms whose notes have changed. Each change is followed by a ring. A room has
-/// at most one stroke in the queue.
+/// Rings the bell of the rooms whose notes have changed. Each change is followed by a ring. A room
+/// has at most one stroke in the queue.
 #[derive(Drop)]
 pub struct Chime {
     rooms: Vec<Rings>,
@@ -62,8 +62,8 @@ impl Chime {
         }
     }
 
-    /// A note has changed in the room at this place. Where an allocation fails, the next change tells
-    /// of this one.
+    /// A note has changed in the room at this place. Where an allocation fails, the next change
+    /// tells of this one.
     pub(crate) fn strike(&self, rt: &impl Wait, place: usize) {
         if let Some(rings) = self.rooms.get(place)
             && !rings.is_due.swap(true, Ordering::SeqCst)

@@ -40,8 +40,8 @@ pub fn a_session_stays_in_its_room<P: RoomHistories, K: Keeper<P>>()
         (now.room ≡ was.room) × (now.part.opening ≡ was.part.opening) }
 {}
 
-/// A session whose scope is that of its request's target enters a room only if the target is a slash
-/// and the name of the first room of its chain, and then nothing or a query.
+/// A session whose scope is that of its request's target enters a room only if the target is a
+/// slash and the name of the first room of its chain, and then nothing or a query.
 pub fn a_session_enters_only_the_chain_of_its_path<P: RoomHistories, K: Keeper<P>>()
     ensures { (limits : LimitValues) (rooms : RoomsView) (target bytes : Bytes)
         (turn : SessionTurn) (pass : PassView) → turn.old.scope ≡ scope_of_target target →

@@ -9,8 +9,8 @@ use wire::{EntryKind, Refusal};
 /// Hears of replies, entries, probes, sessions and the keeping of rooms, in the thread that serves
 /// them. A method may block its thread, and must change nothing else.
 pub trait Observer {
-    /// There is a reply: on the room at this place, from 0, or `None` if it reports on no room. It may
-    /// be a refusal.
+    /// There is a reply: on the room at this place, from 0, or `None` if it reports on no room. It
+    /// may be a refusal.
     fn after_reply(&self, _place: Option<usize>, _refusal: Option<Refusal>) {}
 
     /// The room of this name, at this place from 0, has added an entry of this kind.

@@ -23,9 +23,9 @@ impl<P: RoomHistories, R: Wait, O: Observer, K: Keeper<P>> Service for Host<'_, 
         Some(Session::new(scope))
     }
 
-    /// A client that is confined to a chain waits until its first room is open, unless a later one is
-    /// known. Where the room cannot be opened now, the client is not let in, so that a proxy can ask
-    /// another server.
+    /// A client that is confined to a chain waits until its first room is open, unless a later one
+    /// is known. Where the room cannot be opened now, the client is not let in, so that a proxy can
+    /// ask another server.
     fn admission(&self, target: &[u8]) -> Admission {
         if self.is_confining
             && let Ok(Scope::Only(name)) = Scope::of_target(self.alloc, target)

@@ -65,8 +65,8 @@ impl<P: RoomHistories> Model for Inside<P> {
     ghost invariant = { λ inside. inside.room ≡ inside.pass.room };
 }
 
-/// A session: which rooms it may enter, and its pass if it is in a room. It cannot be dropped: `end`
-/// hands the pass back.
+/// A session: which rooms it may enter, and its pass if it is in a room. It cannot be dropped:
+/// `end` hands the pass back.
 pub struct Session<P: RoomHistories> {
     scope: Scope,
     inside: Option<Inside<P>>,
@@ -83,7 +83,8 @@ impl<P: RoomHistories> Model for Session<P> {
 }
 
 impl<P: RoomHistories> Inside<P> {
-    /// Returns whether the room's record has exactly this many entries, and there is no news of notes.
+    /// Returns whether the room's record has exactly this many entries, and there is no news of
+    /// notes.
     fn waits_at<R: Wait, O, K>(&mut self, host: &Host<'_, P, R, O, K>, from: u32) -> bool
         ensures { self.new ≡ self.old }
     {
@@ -97,8 +98,8 @@ impl<P: RoomHistories> Inside<P> {
         progress.entries == from as usize && !self.hears_of_notes(now)
     }
 
-    /// Returns whether there is news of notes: one has changed, and the room was rung since. The session
-    /// has heard of it then. For one that has not asked for notes there is none.
+    /// Returns whether there is news of notes: one has changed, and the room was rung since. The
+    /// session has heard of it then. For one that has not asked for notes there is none.
     fn hears_of_notes(&mut self, now: Heard) -> bool
         ensures { self.new ≡ self.old }
     {
@@ -277,8 +278,8 @@ impl<P: RoomHistories> Session<P> {
         }
     }
 
-    /// Returns whether the request waits for the entry behind all that the room's record has, and there
-    /// is no news of notes.
+    /// Returns whether the request waits for the entry behind all that the room's record has, and
+    /// there is no news of notes.
     fn waits<R: Wait, O, K>(&mut self, host: &Host<'_, P, R, O, K>, request: &Request) -> bool
         ensures wait { IsTrue result → IsWaitInRoom self.old.pass request.now }
         ensures same { self.new ≡ self.old }
@@ -368,8 +369,8 @@ impl<P: RoomHistories> Session<P> {
         }
     }
 
-    /// The newest room of the chain of the room of this name, if the session may enter that room and
-    /// its chain goes on elsewhere.
+    /// The newest room of the chain of the room of this name, if the session may enter that room
+    /// and its chain goes on elsewhere.
     fn later_room<R: Wait, O: Observer, K: Keeper<P>>(
         &self,
         host: &Host<'_, P, R, O, K>,
@@ -418,8 +419,9 @@ impl<P: RoomHistories> Session<P> {
         Ok(self.enter(name, entrance))
     }
 
-    /// Comes back as this site of the room of this name, unless the session is in a room. So a room that
-    /// has ended is read on. If it is no longer among the rooms, the reply tells where its chain goes on.
+    /// Comes back as this site of the room of this name, unless the session is in a room. So a room
+    /// that has ended is read on. If it is no longer among the rooms, the reply tells where its
+    /// chain goes on.
     fn back<R: Wait, O: Observer, K: Keeper<P>>(
         &mut self,
         host: &Host<'_, P, R, O, K>,
@@ -511,8 +513,8 @@ impl<P: RoomHistories> Session<P> {
         }
     }
 
-    /// Takes the pass of who was let into the room of this name. Gives the answer to who asked to be
-    /// let in.
+    /// Takes the pass of who was let into the room of this name. Gives the answer to who asked to
+    /// be let in.
     fn enter(&mut self, name: RoomName, entrance: Entrance<P>) -> SessionReply<P>
         requires outside { self.old.pass ≡ None }
         requires name { IfEntered (λ pass reply. pass.room ≡ name) entrance }
@@ -622,8 +624,8 @@ fn call_by<P: RoomHistories, R: Wait, O, K>(
     Ok(SessionReply::of_room(pass.part().prefix(), reply))
 }
 
-/// Carries out a request about notes by this pass, and strikes the chime if one has changed. Gives what
-/// the session has heard of notes then. On `Err` the pass is as it was.
+/// Carries out a request about notes by this pass, and strikes the chime if one has changed. Gives
+/// what the session has heard of notes then. On `Err` the pass is as it was.
 fn note_by<P: RoomHistories, R: Wait, O, K>(
     host: &Host<'_, P, R, O, K>,
     pass: &mut Pass<P>,

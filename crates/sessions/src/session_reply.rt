@@ -54,8 +54,9 @@ impl<P: RoomHistories> SessionReply<P> {
         }
     }
 
-    /// The observer hears of the reply, and of the entry that the room has added with it, if there is
-    /// one. The loops in which sessions wait for that entry are woken. The session is in this room.
+    /// The observer hears of the reply, and of the entry that the room has added with it, if there
+    /// is one. The loops in which sessions wait for that entry are woken. The session is in this
+    /// room.
     fn tell<R: Wait, O: Observer, K>(&self, host: &Host<'_, P, R, O, K>, room: Option<&RoomName>) {
         let place = match &self.reported {
             Some(reported) => Some(reported.place()),

@@ -23,10 +23,6 @@ map_swap f (d ∷ ys) i j low high =
     ∙ ap (λ y. slice_set (slice_set (map f xs) i y) j (f (slice_index_or xs i d))) (sym (get_or-map f xs j d (f d) high))
     ∙ ap (λ y. slice_set (slice_set (map f xs) i (slice_index_or (map f xs) j (f d))) j y) (sym (get_or-map f xs i d (f d) low))
 
--- members written back over as many
-pub written : {X : Type 0} (old new : List X) → length new ≡ length old → refill (length old) old new ≡ new
-written old new e = take-append-le (length old) new (drop (length new) old) (omega (arith, e)) ∙ take_all (length old) new (omega (arith, e))
-
 pub reordered_swap : (old new : Named) (i j : ℕ) → i < length old.ids → j < length old.ids → length old.ids ≡ length old.groups.groups
     → new.groups.ops ≡ old.groups.ops → new.groups.groups ≡ swap old.groups.groups i j → new.ids ≡ swap old.ids i j → Reordered old new
 reordered_swap old new i j low high each o g e =

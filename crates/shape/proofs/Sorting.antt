@@ -8,6 +8,7 @@ use Rattle.std.proofs.lemmas.List.Edits.{Swapped}
 use Rattle.base_types.specs.Names.{Name}
 use Rattle.base_types.specs.VersionIds.{id_cmp}
 use Rattle.rules.proofs.Orders.{id_cmp_total}
+use Rattle.rules.proofs.Sorting.{back_of, less_if}
 use Rattle.shape.specs.steps.Kept.{is_less}
 
 module _ {X : Type 0} (lt : X → X → Bool) where
@@ -54,10 +55,5 @@ module _ {X : Type 0} (lt : X → X → Bool) where
       }
 
 -- of two identifiers at most one is less than the other
-reversed : (a b : Ordering) → a ≡ ordering_reverse b → is_lt a ≡ true → is_lt b ≡ false
-reversed a Less e t = absurd (true≢false (sym t ∙ ap is_lt e))
-reversed a Equal e t = refl
-reversed a Greater e t = refl
-
 pub apart : (x y : List Name) → is_less x y ≡ true → is_less y x ≡ false
-apart x y t = reversed (id_cmp x y) (id_cmp y x) (id_cmp_total.antisymm x y) t
+apart x y t = ap is_lt (back_of id_cmp id_cmp_total Less x y (less_if id_cmp id_cmp_total x y t))

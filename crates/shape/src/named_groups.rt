@@ -81,8 +81,8 @@ fn is_less(first: &SharedId, second: &SharedId) -> bool
     first.names().cmp(second.names()).is_lt()
 }
 
-/// Moves a group with its identifier before those with greater identifiers. These stand right before
-/// it, since the groups before it are in order.
+/// Moves a group with its identifier before those with greater identifiers. These stand right
+/// before it, since the groups before it are in order.
 fn sink(groups: &mut Groups, ids: &mut SharedIds, group: usize)
     requires group { group < length ids.old.items }
     requires each { length ids.old.items ≡ length groups.old.groups }
@@ -98,8 +98,8 @@ fn sink(groups: &mut Groups, ids: &mut SharedIds, group: usize)
     }
 }
 
-/// Puts groups with their identifiers in order of identifier. A change leaves most of them where they
-/// are, at a comparison each.
+/// Puts groups with their identifiers in order of identifier. A change leaves most of them where
+/// they are, at a comparison each.
 fn sort(groups: &mut Groups, ids: &mut SharedIds)
     requires { length ids.old.items ≡ length groups.old.groups }
     ensures reordered { Reordered (named groups.old ids.old.items) (named groups.new ids.new.items) }

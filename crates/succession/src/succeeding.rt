@@ -45,8 +45,8 @@ pub enum Succession {
     Declined(RoomState, Obstacle),
 }
 
-/// A room that this one can go on as: it draws the same, and has a quarter left of each limit. Its cost
-/// is that of `renewed`.
+/// A room that this one can go on as: it draws the same, and has a quarter left of each limit. Its
+/// cost is that of `renewed`.
 ///
 /// # Errors
 /// `NoMemory` if an allocation failed.
@@ -63,8 +63,9 @@ pub fn successor_for(
     }
 }
 
-/// Ends a room that goes on as another one, by `successor_for`: the record gets one more entry, with the
-/// number of entries of the other. Declines if no such room is found, or if the record is full.
+/// Ends a room that goes on as another one, by `successor_for`: the record gets one more entry,
+/// with the number of entries of the other. Declines if no such room is found, or if the record is
+/// full.
 ///
 /// # Errors
 /// `NoMemory` if an allocation failed.

@@ -53,8 +53,8 @@ fn step(
 }
 
 /// The last of several groups that has all places without a conflict with the place. Each candidate
-/// lies in that of this group. Where the author of a change knows all others, or none that conflicts
-/// with it, there is such a group.
+/// lies in that of this group. Where the author of a change knows all others, or none that
+/// conflicts with it, there is such a group.
 fn last_with_all_free(
     alloc: Global,
     groups: &[PlaceSet],

@@ -1,7 +1,7 @@
-//! Requests from compact text, the form in which clients mostly send them. Reading it takes a third of
-//! the time of a JSON reader. Each part says that what it takes is the compact text of what it gives. Any
-//! other text is left to the JSON reader: with white space, escapes, or a number of more than nine digits.
-//! So are all but changes, pulls and waits.
+//! Requests from compact text, the form in which clients mostly send them. Reading it takes a third
+//! of the time of a JSON reader. Each part says that what it takes is the compact text of what it
+//! gives. Any other text is left to the JSON reader: with white space, escapes, or a number of more
+//! than nine digits. So are all but changes, pulls and waits.
 
 ghost use Rattle.std.specs.Prelude.{◌≡◌, ◌+◌, ◌<◌, ◌≤◌, ◌∷◌, [], ◌++◌, codes, true, false, length, map, take, IfOk, IsTrue, MatchOption, OnOk};
 ghost use Rattle.std.specs.Fmt.{decimal};

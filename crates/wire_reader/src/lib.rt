@@ -1,5 +1,5 @@
-//! Requests, requests about notes, replies and entries of a record from JSON. A put of one pair is also read from its old
-//! form, which begins with the word `set`.
+//! Requests, requests about notes, replies and entries of a record from JSON. A put of one pair is
+//! also read from its old form, which begins with the word `set`.
 #![tactic(auto)]
 
 mod body;

@@ -72,8 +72,8 @@ impl Drawing {
     ///
     /// # Errors
     ///
-    /// - `Refused` with the first refusal that applies. For a creation it is `TooManyObjects`. For a
-    ///   change it is `NoSuchObject`, `NoSuchVersion`, `Gone`, `ObjectFull`, `TooManyKeys` or
+    /// - `Refused` with the first refusal that applies. For a creation it is `TooManyObjects`. For
+    ///   a change it is `NoSuchObject`, `NoSuchVersion`, `Gone`, `ObjectFull`, `TooManyKeys` or
     ///   `TooManyVersions`, in this order.
     /// - `NoMemory` if an allocation failed.
     pub fn plan(&mut self, alloc: Global, op: Op) -> Result<Addition, AddFault>

@@ -54,8 +54,8 @@ impl Door {
         self.refused.load(Ordering::SeqCst)
     }
 
-    /// Waits until so many sessions have begun, and it was asked twice about `/later`, the second time
-    /// after the loop has said that it wants to hear of news. Ten seconds at most.
+    /// Waits until so many sessions have begun, and it was asked twice about `/later`, the second
+    /// time after the loop has said that it wants to hear of news. Ten seconds at most.
     pub(super) fn wait_until_asked(&self, rt: &impl Clock, begun: u64) {
         for _ in 0..2_000 {
             if self.asked.load(Ordering::SeqCst) >= 2 && self.begun() >= begun {

@@ -16,8 +16,8 @@ use std::alloc::Global;
 impl RoomState {
     /// Adds an entry if it may come next, and tells whether it may. It may if it is a join of the
     /// next site, an operation of a site that has joined or the record's end, and the room wouldn't
-    /// refuse it. Takes the time of the answer to a request for the entry. If the entry may not come
-    /// next, the room stays as it is.
+    /// refuse it. Takes the time of the answer to a request for the entry. If the entry may not
+    /// come next, the room stays as it is.
     ///
     /// # Errors
     ///

@@ -173,8 +173,8 @@ where
     serve_in::<Brand, R, S, W>(rt, plan_rooms(rt, "r s"), streams, reported, output)
 }
 
-/// An observer that counts the entries that rooms have added, and notes why the first session ended;
-/// and a keeper that counts the replies that it is asked for.
+/// An observer that counts the entries that rooms have added, and notes why the first session
+/// ended; and a keeper that counts the replies that it is asked for.
 #[derive(Drop)]
 pub(super) struct Reported {
     entries: AtomicU64,

@@ -24,8 +24,8 @@ pub(super) fn push_number(text: &mut String, number: u32) -> Result<(), NoMemory
     Ok(())
 }
 
-/// Puts a list of two numbers behind a text. The bytes are made first, from the last to the first, so
-/// that the text grows once.
+/// Puts a list of two numbers behind a text. The bytes are made first, from the last to the first,
+/// so that the text grows once.
 pub(super) fn push_pair(text: &mut String, first: u32, second: u32) -> Result<(), NoMemory>
     ensures { OnOk result (string_bytes text.new
         ≡ string_bytes text.old ++ compact_text (name_form (first, second))) }

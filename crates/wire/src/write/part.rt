@@ -1,5 +1,5 @@
-//! Values that have a JSON form, and their texts. Brackets and commas are put behind a text at once:
-//! a writer of tokens takes twice the time.
+//! Values that have a JSON form, and their texts. Brackets and commas are put behind a text at
+//! once: a writer of tokens takes twice the time.
 
 ghost use Rattle.std.specs.Prelude.{◌≡◌, ◌∷◌, [], ◌++◌, map, pos, IfOk, OnOk, string_bytes};
 ghost use Rattle.std.specs.List.{list_all};

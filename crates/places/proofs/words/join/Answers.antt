@@ -1,7 +1,8 @@
 use Rattle.std.proofs.Common.{◌≡◌, ◌+◌, ◌∙◌, sym, ap, subst, length, get_or, set, List, ℕ, arith}
 use Rattle.std.proofs.Math.ListN.{length-set}
 use Rattle.std.specs.Prelude.{bit_or}
-use Rattle.places.proofs.WordPlaces.{JoinedBelow, joined_more, joined_all, places_in_joined, written}
+use Rattle.rules.proofs.Lists.{written}
+use Rattle.places.proofs.WordPlaces.{JoinedBelow, joined_more, joined_all, places_in_joined}
 use Rattle.places.proofs.words.join.Goals as goal
 
 pub loop-at-preserved : goal.loop-at-preserved

@@ -4,7 +4,7 @@ use Rattle.std.specs.Prelude.{OnOk, bit_and, bit_or}
 use Rattle.places.specs.steps.PlaceSet.{with_places}
 use Rattle.places.specs.steps.Words.{places_in}
 use Rattle.places.proofs.Below.{all_below_bound, mask_is, put_below}
-use Rattle.places.proofs.WordPlaces.{written}
+use Rattle.rules.proofs.Lists.{written}
 use Rattle.places.proofs.words.join_below.Goals as goal
 
 pub returns-then-whole-others-clause-ok : goal.returns-then-whole-others-clause-ok

@@ -2,7 +2,8 @@ use Rattle.std.proofs.Common.{◌≡◌, ◌<◌, ◌/◌, ◌%◌, ◌*◌, ◌
 use Rattle.std.proofs.Math.ListN.{length-set}
 use Rattle.std.specs.Prelude.{bit_or}
 use Rattle.places.specs.steps.Words.{places_in}
-use Rattle.places.proofs.WordPlaces.{put_places_in, written}
+use Rattle.rules.proofs.Lists.{written}
+use Rattle.places.proofs.WordPlaces.{put_places_in}
 use Rattle.places.proofs.words.set_bit.Goals as goal
 
 pub returns-clause-ok : goal.returns-clause-ok

@@ -4,7 +4,8 @@ use Rattle.std.proofs.lemmas.List.{get_or_default}
 use Rattle.std.proofs.lemmas.List.Edits.{swapped_from_swap}
 use Rattle.base_types.specs.Names.{Name}
 use Rattle.shape.specs.steps.Kept.{is_less, named}
-use Rattle.shape.proofs.Reordered.{reordered_more, reordered_swap, written}
+use Rattle.rules.proofs.Lists.{written}
+use Rattle.shape.proofs.Reordered.{reordered_more, reordered_swap}
 use Rattle.shape.proofs.Sorting.{AlmostSorted, almost_down, apart, sorted_all}
 use Rattle.shape.proofs.named_groups.sink.Goals as goal
 

@@ -2,6 +2,7 @@ pub mod Sorting
 pub mod Records
 pub mod Conditions
 pub mod Lists
+pub mod Marks
 pub mod Bodies
 pub mod Once
 pub mod Counted

@@ -1,4 +1,5 @@
 pub mod HeldPairs
+pub mod Marks
 pub mod Shared
 pub mod Equality
 pub mod Examples

@@ -8,11 +8,15 @@ ghost use Rattle.std.specs.Cmp.Rules.{comparing};
 ghost use Rattle.std.proofs.Common.{rules};
 ghost use Rattle.base_types.specs.Values.{same_value-equivalence};
 ghost use Rattle.rules.specs.AttrLists.{Attr, same_attrs, same_key, attrs_fault, are_attrs};
+ghost use Rattle.rules.specs.steps.Marks.{mark_of};
 
 use base_types::{Key, NoMemory, Value};
 use std::alloc::Global;
 use std::marker::Model;
 use thiserror::Error;
+
+/// How many marks of keys there are.
+const MARKS: usize = 64;
 
 /// Why a list is not a list of initial attributes: the first variant that applies, in this order.
 #[derive(Clone, Copy, Debug, PartialEq, Eq, Error)]
@@ -52,14 +56,25 @@ fn is_repeated(pair: &(Key, Value), earlier: &[(Key, Value)]) -> bool
     earlier.iter().any(|one| one.0 == pair.0)
 }
 
-/// The first place whose key is also at an earlier place.
+/// The mark of a key, less than `MARKS`. Most different keys of an object have different marks.
+fn mark_of(key: &Key) -> usize
+    ensures { result ≡ mark_of key.now }
+{
+    let bytes = key.text().as_bytes();
+    bytes[bytes.len() - 1] as usize % MARKS
+}
+
+/// The first place whose key is also at an earlier place. Compares keys of the same mark.
 pub(crate) fn repeated_key(pairs: &[(Key, Value)]) -> Option<usize>
     ensures { result ≡ first_repeat same_key pairs.now }
 {
+    let mut marks = [false; MARKS];
     for (place, pair) in pairs.iter().enumerate() {
-        if is_repeated(pair, &pairs[..place]) {
+        let mark = mark_of(&pair.0);
+        if marks[mark] && is_repeated(pair, &pairs[..place]) {
             return Some(place);
         }
+        marks[mark] = true;
     }
     None
 }
@@ -80,7 +95,7 @@ pub(crate) fn copy_pairs(
 
 impl Attrs {
     /// Makes initial attributes of these pairs, in their order, without an allocation. Compares
-    /// each key with all before it.
+    /// each key with those before it that end as it does.
     ///
     /// # Errors
     ///

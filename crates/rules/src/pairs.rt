@@ -70,7 +70,7 @@ fn do_differ(first: &[(Key, Value)], second: &[(Key, Value)]) -> bool
 
 impl Pairs {
     /// Makes a put's attributes of these pairs, in their order, without an allocation. Compares
-    /// each key with all before it.
+    /// each key with those before it that end as it does.
     ///
     /// # Errors
     ///

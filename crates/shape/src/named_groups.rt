@@ -87,7 +87,8 @@ fn sink(groups: &mut Groups, ids: &mut SharedIds, group: usize)
     requires group { group < length ids.old.items }
     requires each { length ids.old.items ≡ length groups.old.groups }
     requires sorted { IsSortedWithin is_less ids.old.items 0 group }
-    ensures reordered { Reordered (named groups.old ids.old.items) (named groups.new ids.new.items) }
+    ensures reordered {
+        Reordered (named groups.old ids.old.items) (named groups.new ids.new.items) }
     ensures sorted { IsSortedWithin is_less ids.new.items 0 (group + 1) }
 {
     let mut at = group;
@@ -102,7 +103,8 @@ fn sink(groups: &mut Groups, ids: &mut SharedIds, group: usize)
 /// they are, at a comparison each.
 fn sort(groups: &mut Groups, ids: &mut SharedIds)
     requires { length ids.old.items ≡ length groups.old.groups }
-    ensures reordered { Reordered (named groups.old ids.old.items) (named groups.new ids.new.items) }
+    ensures reordered {
+        Reordered (named groups.old ids.old.items) (named groups.new ids.new.items) }
     ensures sorted { IsSorted id_cmp ids.new.items }
 {
     for group in 1..ids.len() {
@@ -138,6 +140,14 @@ impl NamedGroups {
         ensures { result.now ≡ self.now.groups }
     {
         &self.groups
+    }
+
+    /// The identifiers of the groups, in order.
+    pub(crate) fn ids(&self) -> &[SharedId]
+        ensures ids { result.now ≡ self.now.ids }
+        ensures sorted { IsSorted id_cmp self.now.ids }
+    {
+        &self.ids
     }
 
     /// The groups with one more change, in memory of their own. `TooMany` if there would be more
@@ -249,7 +259,7 @@ impl NamedGroups {
         ensures sorted { IsSorted id_cmp self.now.ids }
     {
         let mut ids = SharedIds::with_capacity(alloc, self.ids.len())?;
-        for id in self.ids.as_slice() {
+        for id in self.ids() {
             ids.push(id.share()?)?;
         }
         Ok(ids)

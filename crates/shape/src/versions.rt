@@ -7,16 +7,16 @@ ghost use Rattle.rules.specs.Groups.{groups_of};
 ghost use Rattle.rules.specs.Versions.{by_id, shown_of};
 ghost use Rattle.places.specs.steps.PlaceSet.{places};
 ghost use Rattle.places.specs.steps.Changes.{at, is_conflict_of};
-ghost use Rattle.shape.specs.steps.Kept.{version_at, AreGroupsOf};
+ghost use Rattle.shape.specs.steps.Kept.{id_at, version_at, AreNamedOf};
 
+use crate::named_groups::NamedGroups;
 use attributes::attributes_of;
 use base_types::NoMemory;
 use conflict::ObjectChanges;
 use places::PlaceSet;
 use rules::{AttrList, Body, Op, Shown, Version};
 use std::alloc::Global;
-use version_groups::Groups;
-use version_ids::identifier_of;
+use wire::SharedId;
 
 /// What is shown of a group: that it is gone where it holds a drop, and else its attributes.
 fn shown_of(
@@ -41,20 +41,21 @@ fn shown_of(
     Ok(Shown::Attrs(AttrList::from_vec(attrs)))
 }
 
-/// A group as it is shown.
+/// A group with this identifier as it is shown.
 fn version_of(
     alloc: Global,
     creation: &Op,
     changes: &ObjectChanges,
     group: &PlaceSet,
-    scratch: &mut Vec<u32>,
+    id: &SharedId,
 ) -> Result<Version, NoMemory>
     requires creation { is_change_body creation.now.body ≡ false }
     requires group { let all = places (length changes.now.ops)
         in Contains (groups_of (is_conflict_of changes.now.ops) all) group.now }
+    requires id { id.now ≡ id_at changes.now.ops group.now }
     ensures { IfOk result (λ version. version ≡ version_at creation.now changes.now.ops group.now) }
 {
-    let id = identifier_of(alloc, changes, group, scratch)?;
+    let id = id.to_id(alloc)?;
     let shown = shown_of(alloc, creation, changes, group)?;
     Ok(Version { id, shown })
 }
@@ -64,22 +65,22 @@ fn listed_versions(
     alloc: Global,
     creation: &Op,
     changes: &ObjectChanges,
-    groups: &Groups,
+    named: &NamedGroups,
 ) -> Result<Vec<Version>, NoMemory>
     requires creation { is_change_body creation.now.body ≡ false }
-    requires groups { AreGroupsOf changes.now.ops groups.now.groups }
+    requires named { AreNamedOf changes.now.ops named.now }
     ensures { IfOk result (λ versions. versions.items
-        ≡ map (version_at creation.now changes.now.ops) groups.now.groups) }
+        ≡ map (version_at creation.now changes.now.ops) named.now.groups.groups) }
 {
+    let (groups, ids) = (named.groups(), named.ids());
     let mut versions = Vec::with_capacity(alloc, groups.count())?;
-    let mut scratch = Vec::new(alloc);
     for group in 0..groups.count() {
         versions.push(version_of(
             alloc,
             creation,
             changes,
             groups.members(group),
-            &mut scratch,
+            &ids[group],
         )?)?;
     }
     Ok(versions)
@@ -90,17 +91,16 @@ pub(crate) fn sorted_versions(
     alloc: Global,
     creation: &Op,
     changes: &ObjectChanges,
-    groups: &Groups,
+    named: &NamedGroups,
 ) -> Result<Vec<Version>, NoMemory>
     requires creation { is_change_body creation.now.body ≡ false }
     requires object { changes.now.object ≡ creation.now.name }
-    requires groups { AreGroupsOf changes.now.ops groups.now.groups }
+    requires named { AreNamedOf changes.now.ops named.now }
     ensures { IfOk result (λ versions. versions.items
-        ≡ sort_by by_id (map (version_at creation.now changes.now.ops) groups.now.groups)) }
+        ≡ sort_by by_id (map (version_at creation.now changes.now.ops) named.now.groups.groups)) }
 {
-    // That the changes are some history's is part of what stays true of them.
-    let _ = changes.ops();
-    let mut versions = listed_versions(alloc, creation, changes, groups)?;
-    versions.sort_unstable_by(|a, b| a.id.cmp(&b.id));
-    Ok(versions)
+    // That the changes are some history's, and that the identifiers are in order, is part of what
+    // stays true of them.
+    let _ = (changes.ops(), named.ids());
+    listed_versions(alloc, creation, changes, named)
 }

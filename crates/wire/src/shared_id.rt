@@ -116,6 +116,20 @@ impl SharedId {
         }
     }
 
+    /// An equal identifier with memory of its own. Linear in its names.
+    ///
+    /// # Errors
+    ///
+    /// `NoMemory` if an allocation failed.
+    pub fn to_id(&self, alloc: Global) -> Result<VersionId, NoMemory>
+        ensures { IfOk result (λ id. id ≡ self.now) }
+    {
+        match &self.written {
+            Some(written) => written.id.copy(alloc),
+            None => Ok(VersionId::empty(alloc)),
+        }
+    }
+
     /// The text, if the identifier has it.
     pub(crate) fn text(&self) -> Option<&str>
         ensures { IfSome result (λ text. text.now ≡ compact_text (names_form self.now)) }

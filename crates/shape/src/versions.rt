@@ -75,13 +75,7 @@ fn listed_versions(
     let (groups, ids) = (named.groups(), named.ids());
     let mut versions = Vec::with_capacity(alloc, groups.count())?;
     for group in 0..groups.count() {
-        versions.push(version_of(
-            alloc,
-            creation,
-            changes,
-            groups.members(group),
-            &ids[group],
-        )?)?;
+        versions.push(version_of(alloc, creation, changes, groups.members(group), &ids[group])?)?;
     }
     Ok(versions)
 }

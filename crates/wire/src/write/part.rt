@@ -20,7 +20,7 @@ use rules::{Shown, Version};
 use std::alloc::Global;
 
 /// How many bytes are reserved for a text at first.
-const FIRST_ROOM: usize = 128;
+pub(super) const FIRST_ROOM: usize = 128;
 
 /// A value with a JSON form. This is not serde's `Serialize`, which can't state the form of a tuple
 /// or of another crate's type.
@@ -37,7 +37,18 @@ pub(crate) trait Written {
 pub(crate) fn compact<W: Written>(alloc: Global, part: &W) -> Result<String, NoMemory>
     ensures { IfOk result (λ text. string_bytes text ≡ compact_text (W.form part.now)) }
 {
-    let mut text = String::with_capacity(alloc, FIRST_ROOM)?;
+    compact_within(alloc, part, FIRST_ROOM)
+}
+
+/// The compact text of a part, for which this many bytes are reserved at first.
+pub(super) fn compact_within<W: Written>(
+    alloc: Global,
+    part: &W,
+    room: usize,
+) -> Result<String, NoMemory>
+    ensures { IfOk result (λ text. string_bytes text ≡ compact_text (W.form part.now)) }
+{
+    let mut text = String::with_capacity(alloc, room)?;
     part.write(alloc, &mut text)?;
     Ok(text)
 }

@@ -4,11 +4,17 @@ ghost use Rattle.std.specs.Prelude.{◌≡◌, map, IfOk, string_bytes};
 ghost use Rattle.wire.specs.Form.{list_form, entry_form, reply_form, IsReply, IsReplyText};
 ghost use Rattle.wire.specs.Texts.{reply_text};
 
-use super::part::{Written, compact};
+use super::part::{FIRST_ROOM, Written, compact_within};
 use crate::lists::EntryList;
 use crate::reply::Reply;
 use base_types::NoMemory;
 use std::alloc::Global;
+
+/// How many bytes are reserved for each object and each version of a list.
+const ROOM_OF_AN_ITEM: usize = 128;
+
+/// For how many of these at most.
+const MOST_ITEMS: usize = 64;
 
 impl Written for EntryList {
     ghost form = { λ entries. list_form (map entry_form entries) };
@@ -58,6 +64,16 @@ impl Written for Reply {
     }
 }
 
+/// How many bytes are reserved for the text of a reply at first. Long lists need more.
+fn room_for(reply: &Reply) -> usize {
+    let items = match reply {
+        Reply::Versions { versions, .. } => versions.as_slice().len(),
+        Reply::Objects { objects, .. } => objects.as_slice().len(),
+        _ => 0,
+    };
+    FIRST_ROOM + items.min(MOST_ITEMS) * ROOM_OF_AN_ITEM
+}
+
 /// The compact text of a reply: its form without white space. `read_reply` reads it back if the
 /// reply is in range. Linear in the text.
 ///
@@ -70,5 +86,5 @@ pub fn write_reply(alloc: Global, reply: &Reply) -> Result<String, NoMemory>
     ensures is_read { IfOk result (λ text. IsReply reply.now
         → IsReplyText (string_bytes text) reply.now) }
 {
-    compact(alloc, reply)
+    compact_within(alloc, reply, room_for(reply))
 }

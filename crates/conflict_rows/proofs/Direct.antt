@@ -73,14 +73,29 @@ module _ {object : Name} (k : List Op) (o : Op) (w : AreChangesOf object (k ++ o
       ∙ ap (λ b. b && at_odds x) (has-kept unknown (places (length k)) x)
       ∙ each x
 
-  pub direct_conflicts_are : (candidates listed result : List ℕ) → filter at_odds candidates ≡ filter at_odds (places_outside (places_counted k o.seen) (length k)) → listed ≡ candidates
-      → result ≡ with_those at_odds [] listed → result ≡ filter is_direct (places (length k))
-  direct_conflicts_are candidates listed result c l r =
-      r ∙ with_those-filter at_odds [] listed ∙ ap (with_places []) (ap (filter at_odds) l ∙ c)
-      ∙ same_set (with_places [] unknown_at_odds) (filter is_direct (places (length k)))
-      (up_with_all [] unknown_at_odds tt)
-      (up_filter is_direct (places (length k)) (up_range 0 (length k)))
-      same_each
+  -- the direct conflicts that are not among some places
+  pub direct_conflicts_beside : (candidates listed result beside : List ℕ) → filter at_odds candidates ≡ filter at_odds (places_outside (places_counted k o.seen) (length k)) → listed ≡ filter (λ place. not (has beside place)) candidates
+      → result ≡ with_those at_odds [] listed → result ≡ filter (λ place. not (has beside place)) (filter is_direct (places (length k)))
+  direct_conflicts_beside candidates listed result beside c l r =
+      let other : ℕ → Bool = λ place. not (has beside place) in
+      r ∙ with_those-filter at_odds [] listed ∙ ap (λ (xs : List ℕ). with_places [] (filter at_odds xs)) l
+      ∙ same_set (with_places [] (filter at_odds (filter other candidates))) (filter other (filter is_direct (places (length k))))
+      (up_with_all [] (filter at_odds (filter other candidates)) tt)
+      (up_filter other (filter is_direct (places (length k))) (up_filter is_direct (places (length k)) (up_range 0 (length k))))
+      (λ x.
+      has-with_all [] (filter at_odds (filter other candidates)) x
+      ∙ has-kept at_odds (filter other candidates) x
+      ∙ ap (λ b. b && at_odds x) (has-kept other candidates x)
+      ∙ turned (has candidates x) (other x) (at_odds x)
+      ∙ ap (λ b. b && other x) (sym (has-kept at_odds candidates x) ∙ ap (λ (xs : List ℕ). has xs x) c ∙ sym (has-with_all [] unknown_at_odds x) ∙ same_each x)
+      ∙ sym (has-kept other (filter is_direct (places (length k))) x))
+    where
+      turned : (a b c : Bool) → ((a && b) && c) ≡ ((a && c) && b)
+      turned true true true = refl
+      turned true true false = refl
+      turned true false true = refl
+      turned true false false = refl
+      turned false b c = refl
 
 -- where all are known, there are no others
 pub none_unknown : (k : List Op) (o : Op) (known : List ℕ) → known ≡ places_counted k o.seen → length known ≡ length k → places_outside known (length k) ≡ []

@@ -1,3 +1,4 @@
 pub mod Rows
 pub mod InConflict
 pub mod Direct
+pub mod Inherited

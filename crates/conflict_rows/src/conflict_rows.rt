@@ -1,12 +1,12 @@
 //! The changes of one object with their bases and their conflicts.
 
-ghost use Rattle.std.specs.Prelude.{◌≡◌, true, ◌<◌, ◌^◌, [], ◌∷◌, ◌++◌, length, filter, nat_lt, if◌then◌else◌, vec_capacity, vec_len, All, IfOk, OnOk};
+ghost use Rattle.std.specs.Prelude.{◌≡◌, true, ◌<◌, ◌^◌, [], ◌∷◌, ◌++◌, length, filter, nat_lt, not, if◌then◌else◌, vec_capacity, vec_len, All, IfOk, IfSome, OnOk};
 ghost use Rattle.std.specs.List.{list_any};
-ghost use Rattle.places.specs.steps.PlaceSet.{has, places, with_place};
-ghost use Rattle.conflict_rows.specs.steps.Rows.{at_odds_at, conflicts_below, direct_places, earlier_conflicts, is_in_row, places_unknown, with_conflicts, with_those};
+ghost use Rattle.places.specs.steps.PlaceSet.{has, is_within, places, with_place};
+ghost use Rattle.conflict_rows.specs.steps.Rows.{at_odds_at, conflicts_below, direct_places, earlier_conflicts, places_unknown, with_conflicts, with_those};
 ghost use Rattle.places.specs.steps.Changes.{at, base_places, conflicting_places, is_conflict_of, new_conflicts, AreChangesOn, IsAddition};
 
-use crate::joins::union_of_rows;
+use crate::joins::{last_place, places_from, union_of_rows};
 use crate::{Addition, WithAddition};
 use base_types::{NoMemory, OpName};
 use places::{PlaceSet, Relation};
@@ -212,6 +212,43 @@ impl ConflictRows {
         &self.rows[place as usize]
     }
 
+    /// The last place of a base, if its change is based on those at all others.
+    fn last_of_base(&self, alloc: Global, based: &PlaceSet) -> Result<Option<u32>, NoMemory>
+        requires { All (λ other. other < length self.now.ops) based.now }
+        ensures last { IfOk result (λ found. IfSome found (λ last. has based.now last ≡ true)) }
+        ensures all { IfOk result (λ found. IfSome found (λ last.
+            is_within based.now (with_place last (base_places self.now.ops (at self.now.ops last)))
+            ≡ true)) }
+    {
+        let Some(last) = last_place(based, self.ops.len() as u32) else {
+            return Ok(None);
+        };
+        let mut with_base = self.base(last).copy(alloc)?;
+        with_base.insert(last)?;
+        if based.is_subset(&with_base) {
+            Ok(Some(last))
+        } else {
+            Ok(None)
+        }
+    }
+
+    /// The places of the changes that conflict with one of a base. A change conflicts with all that
+    /// its base conflicts with, so the last of the base may stand for all.
+    fn conflicts_of_base(&self, alloc: Global, based: &PlaceSet) -> Result<PlaceSet, NoMemory>
+        requires { All (λ other. other < length self.now.ops) based.now }
+        ensures { let count = length self.now.ops in IfOk result (λ conflicting. conflicting
+            ≡ filter (conflicts_below (is_conflict_of self.now.ops) based.now count)
+            (places count)) }
+    {
+        let Some(last) = self.last_of_base(alloc, based)? else {
+            return self.conflicting_places(alloc, based);
+        };
+        // That the changes are some history's is part of what stays true of them.
+        let _ = &self.ops;
+        let scope = PlaceSet::from_places(alloc, &[last])?;
+        self.conflicting_places(alloc, &scope)
+    }
+
     /// Those of the places whose changes are at odds with a change.
     fn those_at_odds(&self, alloc: Global, op: &Op, places: &[u32]) -> Result<PlaceSet, NoMemory>
         requires { All (λ place. place < length self.now.ops) places.now }
@@ -226,22 +263,25 @@ impl ConflictRows {
         Ok(all)
     }
 
-    /// The places of the changes that conflict directly with a change to be added: of the changes
-    /// that it doesn't know those at odds with it.
+    /// The places of the changes that conflict directly with a change to be added, but for those of
+    /// `conflicting`: of the changes that it doesn't know those at odds with it.
     fn direct_conflicts(
         &self,
         alloc: Global,
         op: &Op,
         candidates: &PlaceSet,
+        conflicting: &PlaceSet,
     ) -> Result<PlaceSet, NoMemory>
         requires changes { AreChangesOn self.now.object (self.now.ops ++ op.now ∷ []) }
         requires within { All (λ place. place < length self.now.ops) candidates.now }
         requires at_odds { filter (at_odds_at self.now.ops op.now.body) candidates.now
             ≡ filter (at_odds_at self.now.ops op.now.body) (places_unknown self.now.ops op.now) }
-        ensures { IfOk result (λ direct. direct ≡ direct_places self.now.ops op.now) }
+        ensures { IfOk result (λ direct. direct ≡ filter (λ place. not (has conflicting.now place))
+            (direct_places self.now.ops op.now)) }
     {
-        let others = candidates.list(alloc)?;
-        self.those_at_odds(alloc, op, &others)
+        let others = candidates.without(alloc, conflicting)?;
+        let listed = others.list(alloc)?;
+        self.those_at_odds(alloc, op, &listed)
     }
 
     /// The places of the changes that conflict with a change at one of the given places.
@@ -260,7 +300,7 @@ impl ConflictRows {
         if lowest >= self.ops.len() as u32 {
             return Ok(PlaceSet::empty(alloc));
         }
-        union_of_rows(alloc, &self.rows, &self.late, scope)
+        union_of_rows(alloc, &self.rows, places_from(&self.late, lowest), scope)
     }
 
     /// The places of all changes that conflict with some change, once one is added that conflicts
@@ -286,32 +326,10 @@ impl ConflictRows {
         direct.has(place) || direct.intersects(self.base(place))
     }
 
-    /// The places of the changes that conflict with a change to be added, by its direct conflicts
-    /// and its base. No change is based on a later one. So below the lowest direct conflict only
-    /// those conflict that its base conflicts with.
-    fn row_from(
-        &self,
-        alloc: Global,
-        direct: &PlaceSet,
-        based: &PlaceSet,
-    ) -> Result<PlaceSet, NoMemory>
-        requires { All (λ other. other < length self.now.ops) based.now }
-        ensures { let all = places (length self.now.ops) in IfOk result (λ row.
-            row ≡ filter (is_in_row self.now.ops direct.now based.now) all) }
-    {
-        let mut row = self.conflicting_places(alloc, based)?;
-        let Some(lowest) = direct.lowest_place() else {
-            return Ok(row);
-        };
-        for place in lowest..self.ops.len() as u32 {
-            let has_direct = self.has_direct_conflict(direct, place);
-            insert_if(&mut row, place, has_direct)?;
-        }
-        Ok(row)
-    }
-
     /// The places of the changes that conflict with a change to be added, by its base and what it
-    /// doesn't know. Those that it knows outside its base conflict with the base.
+    /// doesn't know. Those that it knows outside its base conflict with the base, and so does what
+    /// is based on a conflict of the base. No change is based on a later one. So below the lowest
+    /// other direct conflict only those conflict that its base conflicts with.
     fn row(
         &self,
         alloc: Global,
@@ -326,8 +344,18 @@ impl ConflictRows {
             ≡ filter (at_odds_at self.now.ops op.now.body) (places_unknown self.now.ops op.now) }
         ensures { IfOk result (λ row. row ≡ new_conflicts self.now.ops op.now) }
     {
-        let direct = self.direct_conflicts(alloc, op, candidates)?;
-        self.row_from(alloc, &direct, based)
+        // That the changes are some history's is part of what stays true of them.
+        let _ = &self.ops;
+        let mut row = self.conflicts_of_base(alloc, based)?;
+        let direct = &self.direct_conflicts(alloc, op, candidates, &row)?;
+        let Some(lowest) = direct.lowest_place() else {
+            return Ok(row);
+        };
+        for place in lowest..self.ops.len() as u32 {
+            let has_direct = self.has_direct_conflict(direct, place);
+            insert_if(&mut row, place, has_direct)?;
+        }
+        Ok(row)
     }
 }
 

@@ -8,10 +8,10 @@ use Rattle.std.proofs.lemmas.List.Sorted.{IsPermutation-swap, IsPermutation-sym,
 use Rattle.shape.specs.steps.Kept.{id_at, Named, Reordered}
 
 pub reordered_none : (named : Named) → length named.ids ≡ length named.groups.groups → Reordered named named
-reordered_none named each = record { count = refl; each = each; named = λ k are. are }
+reordered_none named each = record { count = refl; each = each; stay = λ k are. are }
 
 pub reordered_more : (a b c : Named) → Reordered a b → Reordered b c → Reordered a c
-reordered_more a b c r s = record { count = s.count ∙ r.count; each = s.each; named = λ k are. s.named k (r.named k are) }
+reordered_more a b c r s = record { count = s.count ∙ r.count; each = s.each; stay = λ k are. s.stay k (r.stay k are) }
 
 -- the values of a list with two of its members in each other's place
 map_swap : {X Y : Type 0} (f : X → Y) (xs : List X) (i j : ℕ) → i < length xs → j < length xs → map f (swap xs i j) ≡ swap (map f xs) i j
@@ -31,7 +31,7 @@ reordered_swap old new i j low high each o g e =
     record {
       count = ap length e ∙ length-swap old.ids i j;
       each = ap length e ∙ length-swap old.ids i j ∙ each ∙ sym (length-swap gs i j) ∙ sym (ap length g);
-      named = λ k are. record {
+      stay = λ k are. record {
         covered = o ∙ are.covered;
         groups_are = IsPermutation-trans new.groups.groups gs _ (IsPermutation-sym gs new.groups.groups (IsPermutation-swap gs new.groups.groups i j (in_groups i low) (in_groups j high) g)) are.groups_are;
         ids_are = e ∙ ap (λ ids. swap ids i j) are.ids_are ∙ sym (map_swap (id_at k) gs i j (in_groups i low) (in_groups j high)) ∙ ap (map (id_at k)) (sym g);

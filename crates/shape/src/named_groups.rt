@@ -87,7 +87,7 @@ fn sink(groups: &mut Groups, ids: &mut SharedIds, group: usize)
     requires group { group < length ids.old.items }
     requires each { length ids.old.items ≡ length groups.old.groups }
     requires sorted { IsSortedWithin is_less ids.old.items 0 group }
-    ensures reordered { Reordered (named groups.old ids.old.items) (named groups.new ids.new.items) }
+    ensures order { Reordered (named groups.old ids.old.items) (named groups.new ids.new.items) }
     ensures sorted { IsSortedWithin is_less ids.new.items 0 (group + 1) }
 {
     let mut at = group;
@@ -102,7 +102,7 @@ fn sink(groups: &mut Groups, ids: &mut SharedIds, group: usize)
 /// they are, at a comparison each.
 fn sort(groups: &mut Groups, ids: &mut SharedIds)
     requires { length ids.old.items ≡ length groups.old.groups }
-    ensures reordered { Reordered (named groups.old ids.old.items) (named groups.new ids.new.items) }
+    ensures order { Reordered (named groups.old ids.old.items) (named groups.new ids.new.items) }
     ensures sorted { IsSorted id_cmp ids.new.items }
 {
     for group in 1..ids.len() {

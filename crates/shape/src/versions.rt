@@ -95,6 +95,7 @@ pub(crate) fn sorted_versions(
 {
     // That the changes are some history's, and that the identifiers are in order, is part of what
     // stays true of them.
-    let _ = (changes.ops(), named.ids());
+    let _ = changes.ops();
+    let _ = named.ids();
     listed_versions(alloc, creation, changes, named)
 }

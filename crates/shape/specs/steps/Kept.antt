@@ -42,7 +42,7 @@ pub record AreNamedOf (k : List Op) (named : Named) : Type 0 where
 pub record Reordered (old new : Named) : Type 0 where
   pub count : length new.ids ≡ length old.ids
   pub each : length new.ids ≡ length new.groups.groups
-  pub named : (k : List Op) → AreNamedOf k old → AreNamedOf k new
+  pub stay : (k : List Op) → AreNamedOf k old → AreNamedOf k new
 
 -- the changes l go on from k by one, and the conflicts of k stay as they are
 pub record GoesOn (k l : List Op) : Type 0 where

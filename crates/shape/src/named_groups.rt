@@ -1,10 +1,10 @@
 //! The groups of an object's changes with their identifiers. Both are kept between calls, since a
 //! change leaves most identifiers as they are.
 
-ghost use Rattle.std.specs.Prelude.{◌≡◌, ◌+◌, ◌<◌, ◌≤◌, [], Err, false, All, IfOk, IfSome, OnOk, filter, length, map, not, slice_index_or};
-ghost use Rattle.std.specs.List.{list_any};
-ghost use Rattle.std.specs.List.Sorted.{IsSorted, IsSortedWithin};
-ghost use Rattle.base_types.specs.VersionIds.{id_cmp};
+ghost use Rattle.std.specs.Prelude.{◌≡◌, ◌+◌, ◌<◌, ◌≤◌, ◌++◌, List, [], Err, true, All, IfOk, IfSome, OnOk, filter, length, map, not, slice_index_or};
+ghost use Rattle.std.specs.List.Sorted.{IsPermutation, IsSorted, IsSortedWithin};
+ghost use Rattle.base_types.specs.Names.{Name};
+ghost use Rattle.base_types.specs.VersionIds.{id_cmp, names_rise};
 ghost use Rattle.rules.specs.Groups.{group_named};
 ghost use Rattle.rules.specs.Lists.{sort_by};
 ghost use Rattle.places.specs.steps.PlaceSet.{has, places};
@@ -55,6 +55,59 @@ fn new_id(
 {
     let id = identifier_of(alloc, changes, group, scratch)?;
     SharedId::with_text(alloc, id)
+}
+
+/// An identifier with the names at these places more, or `None` if it has one of them.
+fn with_names(
+    alloc: Global,
+    changes: &WithAddition<'_>,
+    id: &SharedId,
+    added: &[u32],
+) -> Result<Option<VersionId>, NoMemory>
+    requires { All (λ place. place < length changes.now) added.now }
+    ensures names { IfOk result (λ found. IfSome found
+        (IsPermutation (map (λ place. (at changes.now place).name) added.now ++ id.now))) }
+    ensures rise { IfOk result (λ found. IfSome found (λ id. names_rise id ≡ true)) }
+{
+    let mut names = Vec::from_slice(alloc, id.names())?;
+    for place in added {
+        let name = changes.name(*place);
+        let Err(at) = names.binary_search(&name) else {
+            return Ok(None);
+        };
+        names.insert(at, name)?;
+    }
+    let Ok(id) = VersionId::from_vec(names) else {
+        return Ok(None);
+    };
+    let _ = id.names();
+    Ok(Some(id))
+}
+
+/// The identifier of a group that had another one before: that with the names at the added places
+/// more. The memory of `added` then serves other groups.
+fn grown_id(
+    alloc: Global,
+    changes: &WithAddition<'_>,
+    id: &SharedId,
+    members: &PlaceSet,
+    added: &mut Vec<u32>,
+) -> Result<SharedId, NoMemory>
+    requires members { All (λ place. place < length changes.now) members.now }
+    requires added { All (λ place. place < length changes.now) added.old.items }
+    requires stays { added.old.items ≡ [] → id.now ≡ id_at changes.now members.now }
+    requires grows { (grown : List Name) → names_rise grown ≡ true → IsPermutation
+        (map (λ place. (at changes.now place).name) added.old.items ++ id.now) grown
+        → grown ≡ id_at changes.now members.now }
+    ensures { IfOk result (λ id. id ≡ id_at changes.now members.now) }
+{
+    if added.is_empty() {
+        return Ok(id.share()?);
+    }
+    match with_names(alloc, changes, id, added)? {
+        Some(id) => SharedId::with_text(alloc, id),
+        None => new_id(alloc, changes, members, added),
+    }
 }
 
 /// The places that come newly into conflict by a change more. Most changes bring none.
@@ -173,8 +226,8 @@ impl NamedGroups {
         Ok(NamedGroups { groups, ids })
     }
 
-    /// The identifiers of the groups with one more change. That of a group in which no place comes
-    /// newly into conflict is the one before.
+    /// The identifiers of the groups with one more change. That of a group of before has the names
+    /// more of its places that come newly into conflict.
     fn ids_after(
         &self,
         alloc: Global,
@@ -189,32 +242,22 @@ impl NamedGroups {
             in HaveGrown kept.ops kept.groups groups.now.groups }
         ensures { IfOk result (λ ids. ids.items ≡ map (id_at after.now) groups.now.groups) }
     {
+        // With the length of a relation comes what it keeps.
+        let _ = after.len();
         let newly = newly_conflicting(alloc, before, after)?;
         let mut ids = SharedIds::with_capacity(alloc, groups.count())?;
-        let mut scratch = Vec::new(alloc);
+        let mut added = Vec::new(alloc);
         for group in 0..groups.count() {
             let members = groups.members(group);
-            let id = match self.id_that_stays(group, members, &newly) {
-                Some(id) => id.share()?,
-                None => new_id(alloc, after, members, &mut scratch)?,
+            members.rises();
+            members.list_common(&newly, &mut added)?;
+            let id = match self.ids.get(group) {
+                Some(id) => grown_id(alloc, after, id, members, &mut added)?,
+                None => new_id(alloc, after, members, &mut added)?,
             };
             ids.push(id)?;
         }
         Ok(ids)
-    }
-
-    /// The identifier of a group, unless one of its members now comes newly into conflict, or the
-    /// group is new.
-    fn id_that_stays(&self, group: usize, members: &PlaceSet, newly: &PlaceSet) -> Option<&SharedId>
-        ensures id { IfSome result (λ id. id.now ≡ slice_index_or self.now.ids group []) }
-        ensures before { IfSome result (λ id. group < length self.now.ids) }
-        ensures stays { IfSome result (λ id. list_any (has newly.now) members.now ≡ false) }
-    {
-        let id = self.ids.get(group)?;
-        if members.intersects(newly) {
-            return None;
-        }
-        Some(id)
     }
 
     /// The group with an identifier, in memory of its own, or `None` if no group has it. Compares

@@ -102,7 +102,7 @@ fn grown_id(
     ensures { IfOk result (λ id. id ≡ id_at changes.now members.now) }
 {
     if added.is_empty() {
-        return Ok(id.share()?);
+        return id.share();
     }
     match with_names(alloc, changes, id, added)? {
         Some(id) => SharedId::with_text(alloc, id),

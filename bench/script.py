@@ -183,15 +183,31 @@ def compatible(size, lag):
     return script
 
 
-def fans(size):
-    """On each object 32 sites that have seen only its creation give one key 32 values."""
+def fans(size, turns):
+    """On each object 32 sites that have seen only its creation and their own puts give one key values, in so many
+    turns. No two values are the same."""
     script = Script()
     room = script.room(32)
     for _ in range(size):
         target = room.new(1, room.own(1, 0))
         created = room.done[1]
-        for site in room.done:
-            room.put_key(site, room.own(site, created), target, "x", site)
+        for turn in range(turns):
+            for site in room.done:
+                room.put_key(site, room.own(site, created), target, "x", 100 * turn + site)
+    return script
+
+
+def unseen_pairs(size, turns):
+    """On each object ten sites that have seen only its creation and their own puts give five keys two values each, in
+    so many turns, which makes 32 versions."""
+    script = Script()
+    room = script.room(10)
+    for _ in range(size):
+        target = room.new(1, room.own(1, 0))
+        created = room.done[1]
+        for turn in range(turns):
+            for site in room.done:
+                room.put_key(site, room.own(site, created), target, f"key{(site - 1) // 2}", 100 * turn + site)
     return script
 
 
@@ -307,7 +323,9 @@ CASES = [
     ("a chain of 1,024 puts, 16 rooms", chains, 1024),
     ("compatible puts, unseen, 1,024 an object", lambda size: compatible(size, size), 1024),
     ("compatible puts, seen late, 1,024 an object", lambda size: compatible(size, 8), 1024),
-    ("32 versions by a fan", fans, 200),
+    ("32 versions by a fan", lambda size: fans(size, 1), 200),
+    ("32 versions by a fan, 16 puts each", lambda size: fans(size, 16), 10),
+    ("32 versions by five pairs, 8 puts each", lambda size: unseen_pairs(size, 8), 50),
     ("32 versions by five pairs, puts in all", pairs, 200),
     ("32 versions by five pairs, puts on one", built_on_pairs, 100),
     ("500 rooms", many_rooms, 500),

@@ -58,10 +58,11 @@ impl ObjectChanges {
     /// The change precedes none of these in causal order, and knows no other changes of the object.
     /// The caller gives the places of its base and of the changes that it knows.
     ///
-    /// Looks at each change that conflicts with an earlier one, and at all changes from its first
-    /// direct conflict on. Of the changes that it doesn't know, it compares a put with the drops
-    /// and with the puts of its keys, and a drop with all. Everything else takes 64 places at a
-    /// time, for a put once a key.
+    /// Looks at each change that conflicts with an earlier one. Where the last change of the base
+    /// is based on the others, it begins there. It also looks at all changes from the first unknown
+    /// one on that conflicts with the change and not with its base. Of the unknown changes that
+    /// don't conflict with the base, it compares a put with the drops and with the puts of its
+    /// keys, and a drop with all. Everything else takes 64 places at a time, for a put once a key.
     ///
     /// # Errors
     ///
@@ -235,15 +236,11 @@ impl Relation for ObjectChanges {
         self.rows.name(i)
     }
 
-    fn conflicts_of_last(&self) -> &PlaceSet {
-        self.rows.conflicts_of_last()
+    fn earlier_conflicts(&self, i: u32) -> &PlaceSet {
+        self.rows.earlier_conflicts(i)
     }
 
     fn in_conflict(&self) -> &PlaceSet {
         self.rows.in_conflict()
-    }
-
-    fn in_conflict_with(&self, alloc: Global, scope: &PlaceSet) -> Result<PlaceSet, NoMemory> {
-        self.rows.in_conflict_with(alloc, scope)
     }
 }

@@ -15,22 +15,15 @@ use Rattle.rules.specs.Conflicts.{base, conflict, direct_conflict, members}
 use Rattle.rules.proofs.Counted.{same_name-true}
 use Rattle.rules.proofs.Lists.{any_back, filter_agree}
 use Rattle.rules.proofs.Changes.{in_known_back}
-use Rattle.places.specs.steps.PlaceSet.{has, with_place, places, with_places}
-use Rattle.conflict_rows.specs.steps.Rows.{conflicts_below, is_in_row, places_outside, with_those}
+use Rattle.places.specs.steps.PlaceSet.{has, with_place, places, with_places, with_those}
+use Rattle.conflict_rows.specs.steps.Rows.{conflicts_below, is_in_row, places_outside}
 use Rattle.places.specs.steps.Changes.{AreChangesOf, at, is_conflict_of, base_places, places_counted}
 use Rattle.places.proofs.Places.{In-places, below, has_if_in, in_if_has, has-filter, has-filter_past, in_all}
 use Rattle.places.proofs.ChangesAt.{has-places_of}
-use Rattle.places.proofs.WordPlaces.{Up, same_set, up_range, up_filter, up_with_place, up_with_all, has-with_place, has-with_all, has-kept, or_turned}
+use Rattle.places.proofs.WordPlaces.{Up, same_set, up_range, up_filter, up_with_place, up_with_all, has-with_place, has-with_all, has-kept, or_turned, with_those-filter}
 use Rattle.places.proofs.Growth.{base_within, never_before}
 use Rattle.conflict_rows.proofs.Rows.{direct_if_known, direct_if_unknown}
 use Rattle.conflict_rows.proofs.InConflict.{conflicting_at}
-
-with_those-filter : (test : ℕ → Bool) (direct ps : List ℕ) → with_those test direct ps ≡ with_places direct (filter test ps)
-with_those-filter test direct [] = refl
-with_those-filter test direct (p ∷ ps) = elim (cases_Bool (test p)) [
-  | inl t ↦ rw t (with_those-filter test (with_place p direct) ps)
-  | inr t ↦ rw t (with_those-filter test direct ps)
-]
 
 module _ {object : Name} (k : List Op) (o : Op) (w : AreChangesOf object (k ++ o ∷ [])) where
   abbrev is_direct : ℕ → Bool

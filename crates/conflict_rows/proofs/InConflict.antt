@@ -226,7 +226,11 @@ module _ {object : Name} (k : List Op) (a : Added) (w : IsAddition object k a) (
       sym (ap (λ (r : List ℕ). has r j) w.row ∙ has-filter (λ p. conflict (k ++ a.op ∷ []) a.op (at k p)) (length k) j l)
       ∙ last_in_row k a w ops e (length k) j refl l)
 
-  pub conflicts_with_addition : (scope row first found : List ℕ) (last : ℕ) → All (λ place. place < length ops) scope → last ≡ length k → row ≡ a.row
+  -- the earlier conflicts of a change stay
+  pub row_stays : (i : ℕ) → i < length k → earlier_conflicts k i ≡ earlier_conflicts ops i
+  row_stays i l = filter_agree (is_conflict_of k i) (is_conflict_of ops i) (places i) (λ j m. let b = below i j m in conflict_stays k a w ops e i j l (omega (arith, l, b)))
+
+  conflicts_with_addition : (scope row first found : List ℕ) (last : ℕ) → All (λ place. place < length ops) scope → last ≡ length k → row ≡ a.row
       → first ≡ filter (conflicts_below (is_conflict_of k) scope (length k)) (places (length k)) → found ≡ with_row scope row last first
       → found ≡ filter (in_conflict_with (is_conflict_of ops) scope) (places (length ops))
   conflicts_with_addition scope row first found last low q r f m =

@@ -5,11 +5,9 @@ ghost use Rattle.rules.specs.declared.history.Op.{Op};
 ghost use Rattle.places.specs.steps.Changes.{IsAddition};
 
 use crate::ConflictRows;
-use crate::joins::add_row;
-use base_types::{NoMemory, OpName};
+use base_types::OpName;
 use places::{PlaceSet, Relation};
 use rules::SharedOp;
-use std::alloc::Global;
 use std::marker::Model;
 
 /// A change that `ConflictRows::plan` made ready, with the places of its base and of the changes
@@ -137,22 +135,15 @@ impl<'a> Relation for WithAddition<'a> {
         }
     }
 
-    fn conflicts_of_last(&self) -> &PlaceSet {
-        self.addition.row()
+    fn earlier_conflicts(&self, i: u32) -> &PlaceSet {
+        if i < self.changes.len() {
+            self.changes.earlier_conflicts(i)
+        } else {
+            self.addition.row()
+        }
     }
 
     fn in_conflict(&self) -> &PlaceSet {
         self.addition.conflicting()
-    }
-
-    fn in_conflict_with(&self, alloc: Global, scope: &PlaceSet) -> Result<PlaceSet, NoMemory> {
-        let mut conflicting = self.changes.conflicting_places(alloc, scope)?;
-        add_row(
-            &mut conflicting,
-            scope,
-            self.addition.row(),
-            self.changes.len(),
-        )?;
-        Ok(conflicting)
     }
 }

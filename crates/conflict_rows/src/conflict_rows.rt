@@ -2,8 +2,8 @@
 
 ghost use Rattle.std.specs.Prelude.{◌≡◌, true, ◌<◌, ◌^◌, [], ◌∷◌, ◌++◌, length, filter, nat_lt, not, if◌then◌else◌, vec_capacity, vec_len, All, IfOk, IfSome, OnOk};
 ghost use Rattle.std.specs.List.{list_any};
-ghost use Rattle.places.specs.steps.PlaceSet.{has, is_within, places, with_place};
-ghost use Rattle.conflict_rows.specs.steps.Rows.{at_odds_at, conflicts_below, direct_places, earlier_conflicts, places_unknown, with_conflicts, with_those};
+ghost use Rattle.places.specs.steps.PlaceSet.{has, is_within, places, with_place, with_those};
+ghost use Rattle.conflict_rows.specs.steps.Rows.{at_odds_at, conflicts_below, direct_places, places_unknown, with_conflicts};
 ghost use Rattle.places.specs.steps.Changes.{at, base_places, conflicting_places, is_conflict_of, new_conflicts, AreChangesOn, IsAddition};
 
 use crate::joins::{last_place, places_from, union_of_rows};
@@ -60,17 +60,6 @@ fn push_if_late(late: &mut Vec<u32>, place: u32, conflicts: usize)
     }
 }
 
-/// Adds a place if `is_in` is true.
-fn insert_if(members: &mut PlaceSet, place: u32, is_in: bool) -> Result<(), NoMemory>
-    ensures { OnOk result (members.new
-        ≡ (if is_in then with_place place members.old else members.old)) }
-{
-    if is_in {
-        members.insert(place)?;
-    }
-    Ok(())
-}
-
 impl ConflictRows {
     /// No changes of an object, without an allocation.
     pub fn new(alloc: Global, object: OpName) -> ConflictRows
@@ -94,8 +83,10 @@ impl ConflictRows {
     /// The caller gives the places of its base. It also gives candidates: of the changes that it
     /// doesn't know at least those at odds with it.
     ///
-    /// Looks at each change that conflicts with an earlier one, at all changes from its first
-    /// direct conflict on, and at the candidates. Everything else takes 64 places at a time.
+    /// Looks at each change that conflicts with an earlier one. Where the last change of the base
+    /// is based on the others, it begins there. It also looks at all changes from the first
+    /// candidate on that conflicts with the change and not with its base. Everything else takes 64
+    /// places at a time.
     ///
     /// # Errors
     ///
@@ -203,16 +194,8 @@ impl ConflictRows {
         &self.ops[place as usize]
     }
 
-    /// The lower places whose changes conflict with the change at a place.
-    fn row_at(&self, place: u32) -> &PlaceSet
-        requires { place < length self.now.ops }
-        ensures row { result.now ≡ earlier_conflicts self.now.ops place }
-        ensures changes { AreChangesOn self.now.object self.now.ops }
-    {
-        &self.rows[place as usize]
-    }
-
-    /// The last place of a base, if its change is based on those at all others.
+    /// The last place of a base, if its change is based on those at all others. `None` where no
+    /// changes conflict, since then there are no rows to look at.
     fn last_of_base(&self, alloc: Global, based: &PlaceSet) -> Result<Option<u32>, NoMemory>
         requires { All (λ other. other < length self.now.ops) based.now }
         ensures last { IfOk result (λ found. IfSome found (λ last. has based.now last ≡ true)) }
@@ -220,6 +203,9 @@ impl ConflictRows {
             is_within based.now (with_place last (base_places self.now.ops (at self.now.ops last)))
             ≡ true)) }
     {
+        if self.late.is_empty() {
+            return Ok(None);
+        }
         let Some(last) = last_place(based, self.ops.len() as u32) else {
             return Ok(None);
         };
@@ -258,7 +244,7 @@ impl ConflictRows {
         let mut all = PlaceSet::empty(alloc);
         for place in places {
             let at_odds = op.body.is_at_odds(&self.change_at(*place).body);
-            insert_if(&mut all, *place, at_odds)?;
+            all.insert_if(*place, at_odds)?;
         }
         Ok(all)
     }
@@ -279,17 +265,16 @@ impl ConflictRows {
         ensures { IfOk result (λ direct. direct ≡ filter (λ place. not (has conflicting.now place))
             (direct_places self.now.ops op.now)) }
     {
+        if candidates.lowest_place().is_none() {
+            return Ok(PlaceSet::empty(alloc));
+        }
         let others = candidates.without(alloc, conflicting)?;
         let listed = others.list(alloc)?;
         self.those_at_odds(alloc, op, &listed)
     }
 
     /// The places of the changes that conflict with a change at one of the given places.
-    pub(crate) fn conflicting_places(
-        &self,
-        alloc: Global,
-        scope: &PlaceSet,
-    ) -> Result<PlaceSet, NoMemory>
+    fn conflicting_places(&self, alloc: Global, scope: &PlaceSet) -> Result<PlaceSet, NoMemory>
         ensures { let count = length self.now.ops in IfOk result (λ conflicting. conflicting
             ≡ filter (conflicts_below (is_conflict_of self.now.ops) scope.now count)
             (places count)) }
@@ -353,7 +338,7 @@ impl ConflictRows {
         };
         for place in lowest..self.ops.len() as u32 {
             let has_direct = self.has_direct_conflict(direct, place);
-            insert_if(&mut row, place, has_direct)?;
+            row.insert_if(place, has_direct)?;
         }
         Ok(row)
     }
@@ -378,16 +363,11 @@ impl Relation for ConflictRows {
         self.change_at(i).name
     }
 
-    fn conflicts_of_last(&self) -> &PlaceSet {
-        self.row_at(self.len() - 1)
+    fn earlier_conflicts(&self, i: u32) -> &PlaceSet {
+        &self.rows[i as usize]
     }
 
     fn in_conflict(&self) -> &PlaceSet {
         &self.conflicting
-    }
-
-    #[tactic(auto, using(crate::proofs::InConflict::all_in_conflict))]
-    fn in_conflict_with(&self, alloc: Global, scope: &PlaceSet) -> Result<PlaceSet, NoMemory> {
-        self.conflicting_places(alloc, scope)
     }
 }

@@ -29,7 +29,7 @@ pub(crate) fn places_from(places: &[u32], lowest: u32) -> &[u32]
 
 /// Adds the row of a place if the place is in the scope, and the place itself if its row has a
 /// place in the scope.
-pub(crate) fn add_row(
+fn add_row(
     members: &mut PlaceSet,
     scope: &PlaceSet,
     row: &PlaceSet,

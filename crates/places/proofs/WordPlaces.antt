@@ -18,7 +18,7 @@ use Rattle.std.proofs.lemmas.Nat.Bits.{bit_at_and, bit_at_or, bit_at_xor, bit_at
 use Rattle.rules.proofs.Lists.{In-filter, In-filter_back, In-range_back, any_from, any_back, all_from, all_back}
 use Rattle.rules.proofs.Relation.{same_answer}
 use Rattle.rules.proofs.Sorting.{Rises, rises_same}
-use Rattle.places.specs.steps.PlaceSet.{has, with_place, is_within, places, with_places}
+use Rattle.places.specs.steps.PlaceSet.{has, with_place, is_within, places, with_places, with_those}
 use Rattle.places.specs.steps.Words.{common_word, has_bit, places_in, rest_word}
 use Rattle.places.proofs.Places.{has_if_in, in_if_has, has-filter, has-filter_past}
 
@@ -114,6 +114,17 @@ has-with_all xs (y ∷ ys) x = has-with_all (with_place y xs) ys x ∙ rw (has-w
 pub up_with_all : (xs ys : List ℕ) → Up xs → Up (with_places xs ys)
 up_with_all xs [] u = u
 up_with_all xs (y ∷ ys) u = up_with_all (with_place y xs) ys (up_with_place y xs u)
+
+pub with_those-filter : (test : ℕ → Bool) (set xs : List ℕ) → with_those test set xs ≡ with_places set (filter test xs)
+with_those-filter test set [] = refl
+with_those-filter test set (x ∷ xs) = elim (cases_Bool (test x)) [
+  | inl t ↦ rw t (with_those-filter test (with_place x set) xs)
+  | inr t ↦ rw t (with_those-filter test set xs)
+]
+
+-- what a rising list has of those that pass a test
+pub those_kept : (test : ℕ → Bool) (xs : List ℕ) → Up xs → with_those test [] xs ≡ filter test xs
+those_kept test xs u = with_those-filter test [] xs ∙ same_set (with_places [] (filter test xs)) (filter test xs) (up_with_all [] (filter test xs) tt) (up_filter test xs u) (λ x. has-with_all [] (filter test xs) x)
 
 pub has-kept : (p : ℕ → Bool) (xs : List ℕ) (x : ℕ) → has (filter p xs) x ≡ (has xs x && p x)
 has-kept p xs x = same_answer (has (filter p xs) x) (has xs x && p x)

@@ -1,6 +1,6 @@
 //! Sets of places.
 
-ghost use Rattle.std.specs.Prelude.{◌≡◌, [], length, not, IfOk, OnOk, OnErr, filter};
+ghost use Rattle.std.specs.Prelude.{◌≡◌, [], length, not, if◌then◌else◌, IfOk, OnOk, OnErr, filter};
 ghost use Rattle.std.specs.List.{list_any};
 ghost use Rattle.std.specs.List.Sorted.{IsStrictlyIncreasing};
 ghost use Rattle.places.specs.steps.PlaceSet.{has, is_within, with_place, places, set_of, with_places, IsLowest};
@@ -119,6 +119,22 @@ impl PlaceSet {
         ensures err { OnErr result (self.new ≡ self.old) }
     {
         set_bit(&mut self.words, place)
+    }
+
+    /// Adds a place if `is_in` is true.
+    ///
+    /// # Errors
+    ///
+    /// `NoMemory` if an allocation failed. The set stays as it is.
+    pub fn insert_if(&mut self, place: u32, is_in: bool) -> Result<(), NoMemory>
+        ensures ok { OnOk result (self.new
+            ≡ (if is_in then with_place place self.old else self.old)) }
+        ensures err { OnErr result (self.new ≡ self.old) }
+    {
+        if is_in {
+            self.insert(place)?;
+        }
+        Ok(())
     }
 
     /// Adds the places of another set. Takes 64 places at a time.

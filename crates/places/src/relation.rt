@@ -1,14 +1,12 @@
 //! Relations of conflict between places.
 
-ghost use Rattle.std.specs.Prelude.{◌≡◌, ◌-◌, ℕ, ◌<◌, Bool, filter, All, IfOk};
+ghost use Rattle.std.specs.Prelude.{◌≡◌, ℕ, ◌<◌, Bool, filter};
 ghost use Rattle.base_types.specs.Names.{Name};
-ghost use Rattle.rules.specs.Groups.{in_conflict_with};
 ghost use Rattle.places.specs.steps.PlaceSet.{places};
 ghost use Rattle.places.specs.steps.Relations.{places_in_conflict, IsRelation};
 
 use crate::PlaceSet;
-use base_types::{NoMemory, OpName};
-use std::alloc::Global;
+use base_types::OpName;
 
 /// Operations by their places, which count from 0, and which two of them conflict.
 pub trait Relation {
@@ -32,23 +30,12 @@ pub trait Relation {
         requires { i < size self.now }
         ensures { result ≡ name_at self.now i };
 
-    /// The places of the operations that conflict with the last one.
-    fn conflicts_of_last(&self) -> &PlaceSet
-        requires { 0 < size self.now }
-        ensures { let last = size self.now - 1
-            in result.now ≡ filter (conflicts self.now last) (places last) };
+    /// The lower places whose operations conflict with the one at a place.
+    fn earlier_conflicts(&self, i: u32) -> &PlaceSet
+        requires { i < size self.now }
+        ensures { result.now ≡ filter (conflicts self.now i) (places i) };
 
     /// The places of the operations that conflict with some operation.
     fn in_conflict(&self) -> &PlaceSet
         ensures { result.now ≡ places_in_conflict (conflicts self.now) (size self.now) };
-
-    /// The places of the operations that conflict with an operation at one of the given places.
-    ///
-    /// # Errors
-    ///
-    /// `NoMemory` if an allocation failed.
-    fn in_conflict_with(&self, alloc: Global, scope: &PlaceSet) -> Result<PlaceSet, NoMemory>
-        requires { All (λ place. place < size self.now) scope.now }
-        ensures { IfOk result (λ conflicting. conflicting
-            ≡ filter (in_conflict_with (conflicts self.now) scope.now) (places (size self.now))) };
 }

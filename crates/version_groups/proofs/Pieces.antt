@@ -58,3 +58,15 @@ candidates_more p f xs ys new i x y l s t e h n =
 pub candidates_stay : (p : ℕ → Bool) (f : List ℕ → List ℕ) (xs ys new : List (List ℕ)) (i : ℕ) (x : List ℕ) → i < length xs → x ≡ get_or xs i x → list_all p x ≡ true
     → ys ≡ map f (incompatible_groups p (take i xs)) → new ≡ ys → new ≡ map f (incompatible_groups p (take (i + 1) xs))
 candidates_stay p f xs ys new i x l s t e n = n ∙ e ∙ sym (ap (map f) (incompatible_skip p xs i x l s t))
+
+-- where no place conflicts, there are no candidates
+pub none_incompatible : (conflicting : List ℕ) (gs : List (List ℕ)) → conflicting ≡ [] → incompatible_groups (is_none_of conflicting) gs ≡ []
+none_incompatible conflicting gs e = ap (λ (l : List ℕ). incompatible_groups (is_none_of l) gs) e ∙ none_of gs
+  where
+    all : (g : List ℕ) → list_all (is_none_of []) g ≡ true
+    all [] = refl
+    all (x ∷ xs) = all xs
+
+    none_of : (gs : List (List ℕ)) → incompatible_groups (is_none_of []) gs ≡ []
+    none_of [] = refl
+    none_of (g ∷ gs) = rw (all g) (none_of gs)

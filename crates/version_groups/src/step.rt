@@ -29,7 +29,7 @@ pub(crate) fn groups_with_last<R: Relation>(
         HaveGrown (R.size relation.now - 1) kept.now next.items) }
 {
     let place = relation.len() - 1;
-    step(alloc, kept, relation.conflicts_of_last(), place)
+    step(alloc, kept, relation.earlier_conflicts(place), place)
 }
 
 /// The groups with one place more.
@@ -44,6 +44,9 @@ fn step(
         next.items ≡ next_groups (is_none_of conflicting.now) place kept.now) }
 {
     let mut next = grown_groups(alloc, kept, conflicting, place)?;
+    if conflicting.lowest_place().is_none() {
+        return Ok(next);
+    }
     let sources = match last_with_all_free(alloc, kept, conflicting, place)? {
         Some(group) => &kept[group..group + 1],
         None => kept,

@@ -1,13 +1,13 @@
 //! The identifiers of groups, and the group that an identifier names.
 #![tactic(auto)]
 
-ghost use Rattle.std.specs.Prelude.{◌≡◌, ◌<◌, map, filter, not, All, IfOk, OnOk};
+ghost use Rattle.std.specs.Prelude.{◌≡◌, ◌<◌, [], map, filter, not, All, IfOk, OnOk};
 ghost use Rattle.base_types.specs.Names.{name_cmp};
 ghost use Rattle.rules.specs.Groups.{in_conflict_with, identifier, group_named, is_named};
 ghost use Rattle.rules.specs.Lists.{sort_by, HasNoRepeats};
-ghost use Rattle.places.specs.steps.PlaceSet.{has, places};
-ghost use Rattle.places.specs.steps.Relations.{IsRelation};
-ghost use Rattle.version_ids.specs.steps.Scopes.{AreAmong};
+ghost use Rattle.places.specs.steps.PlaceSet.{has, places, with_those};
+ghost use Rattle.places.specs.steps.Relations.{places_in_conflict, IsRelation};
+ghost use Rattle.version_ids.specs.steps.Scopes.{is_conflicting, with_earlier_conflicts, AreAmong};
 
 use base_types::{NoMemory, OpName, VersionId};
 use places::{PlaceSet, Relation};
@@ -83,7 +83,7 @@ fn identifier_among<R: Relation>(
     if scope.count() == len as usize {
         return id_of_conflicting(alloc, relation, relation.in_conflict(), group, &mut scratch);
     }
-    let conflicting = relation.in_conflict_with(alloc, scope)?;
+    let conflicting = conflicting_among(alloc, relation, scope, group)?;
     id_of_conflicting(alloc, relation, &conflicting, group, &mut scratch)
 }
 
@@ -123,7 +123,11 @@ fn names_in_conflict<R: Relation>(
 }
 
 /// The names at some places.
-fn names_at<R: Relation>(
+///
+/// # Errors
+///
+/// `NoMemory` if an allocation failed.
+pub fn names_at<R: Relation>(
     alloc: Global,
     relation: &R,
     places: &[u32],
@@ -148,7 +152,6 @@ fn id_of_names(mut names: Vec<OpName>) -> VersionId
 }
 
 /// The known places that an identifier names.
-#[tactic(auto, using(places::proofs::Places::put_next, crate::proofs::Scopes::leave, crate::proofs::Scopes::sifted))]
 fn places_named<R: Relation>(
     alloc: Global,
     relation: &R,
@@ -163,10 +166,10 @@ fn places_named<R: Relation>(
     if id.names().is_empty() {
         return Ok(named);
     }
-    for place in 0..relation.len() {
-        if known.has(place) && is_name_in(id, relation.name(place)) {
-            named.insert(place)?;
-        }
+    let places = &known.list(alloc)?;
+    for place in places {
+        let is_named = is_name_in(id, relation.name(*place));
+        named.insert_if(*place, is_named)?;
     }
     Ok(named)
 }
@@ -191,6 +194,79 @@ fn compatible_places<R: Relation>(
         ≡ filter (λ place. not (in_conflict_with (R.conflicts relation.now) named.now place))
         known.now) }
 {
-    let conflicting = relation.in_conflict_with(alloc, named)?;
+    let conflicting = conflicting_among(alloc, relation, named, known)?;
     known.without(alloc, &conflicting)
+}
+
+/// Those places that conflict with some place.
+fn list_in_conflict<R: Relation>(
+    alloc: Global,
+    relation: &R,
+    places: &PlaceSet,
+) -> Result<Vec<u32>, NoMemory>
+    ensures { let all = places_in_conflict (R.conflicts relation.now) (R.size relation.now)
+        in IfOk result (λ list. list.items ≡ filter (has all) places.now) }
+{
+    let mut list = Vec::new(alloc);
+    places.list_common(relation.in_conflict(), &mut list)?;
+    Ok(list)
+}
+
+/// The lower places that conflict with one of these.
+fn earlier_conflicts<R: Relation>(
+    alloc: Global,
+    relation: &R,
+    places: &[u32],
+) -> Result<PlaceSet, NoMemory>
+    requires { All (λ place. place < R.size relation.now) places.now }
+    ensures { IfOk result (λ all.
+        all ≡ with_earlier_conflicts (R.conflicts relation.now) [] places.now) }
+{
+    let mut all = PlaceSet::empty(alloc);
+    for place in places {
+        all.insert_all(relation.earlier_conflicts(*place))?;
+    }
+    Ok(all)
+}
+
+/// Those of a list of places that conflict with one of the scope, where `earlier` has the lower
+/// places that those of the scope conflict with.
+fn those_conflicting<R: Relation>(
+    alloc: Global,
+    relation: &R,
+    scope: &PlaceSet,
+    earlier: &PlaceSet,
+    places: &[u32],
+) -> Result<PlaceSet, NoMemory>
+    requires { All (λ place. place < R.size relation.now) places.now }
+    ensures { IfOk result (λ conflicting. conflicting ≡ with_those
+        (is_conflicting (R.conflicts relation.now) scope.now earlier.now) [] places.now) }
+{
+    let mut conflicting = PlaceSet::empty(alloc);
+    for place in places {
+        let row = relation.earlier_conflicts(*place);
+        conflicting.insert_if(*place, earlier.has(*place) || row.intersects(scope))?;
+    }
+    Ok(conflicting)
+}
+
+/// Those places that conflict with one of the scope. For each of both that conflicts with some
+/// place, it looks at the row of that, 64 places at a time.
+fn conflicting_among<R: Relation>(
+    alloc: Global,
+    relation: &R,
+    scope: &PlaceSet,
+    among: &PlaceSet,
+) -> Result<PlaceSet, NoMemory>
+    requires scope { All (λ place. place < R.size relation.now) scope.now }
+    requires among { AreAmong (R.size relation.now) among.now }
+    ensures { IfOk result (λ conflicting. conflicting
+        ≡ filter (in_conflict_with (R.conflicts relation.now) scope.now) among.now) }
+{
+    // With the length of a relation comes what it keeps.
+    let _ = relation.len();
+    let others = list_in_conflict(alloc, relation, scope)?;
+    let earlier = earlier_conflicts(alloc, relation, &others)?;
+    let places = list_in_conflict(alloc, relation, among)?;
+    those_conflicting(alloc, relation, scope, &earlier, &places)
 }

@@ -72,8 +72,3 @@ with_rows scope rows set (p ∷ ps) =
 abbrev pub with_conflicts : List ℕ → ℕ → List ℕ → List ℕ
 with_conflicts [] place set = set
 with_conflicts (p ∷ ps) place set = with_place place (with_places set (p ∷ ps))
-
--- places with those of a list that pass a test
-abbrev pub with_those : (ℕ → Bool) → List ℕ → List ℕ → List ℕ
-with_those test set [] = set
-with_those test set (p ∷ ps) = with_those test (if test p then with_place p set else set) ps

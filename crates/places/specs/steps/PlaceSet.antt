@@ -37,3 +37,8 @@ set_of xs = with_places [] xs
 -- the lowest place of a list, or none where it is empty
 abbrev pub IsLowest : Option ℕ → List ℕ → Type 0
 IsLowest lowest xs = MatchOption lowest (xs ≡ []) (λ x. (has xs x ≡ true) × All (λ y. x ≤ y) xs)
+
+-- a rising list with those of another list that pass a test
+abbrev pub with_those : (ℕ → Bool) → List ℕ → List ℕ → List ℕ
+with_those test set [] = set
+with_those test set (x ∷ xs) = with_those test (if test x then with_place x set else set) xs

@@ -5,6 +5,5 @@ use Rattle.version_ids.proofs.compatible_places.Goals as goal
 
 pub returns : goal.returns
 returns g c =
-    let n = g.R.Relation.size c.args.relation.now in
     let test = in_conflict_with (g.R.Relation.conflicts c.args.relation.now) c.args.named.now in
-    IfOk-weaker c.without.result _ _ (λ kept e. left_compatible n c.args.known.now c.in_ok-conflicting.conflicting kept test c.requires.known c.in_ok-conflicting.ensures e) c.without.ensures
+    IfOk-weaker c.without.result _ _ (λ kept e. left_compatible c.args.known.now c.in_ok-conflicting.conflicting kept test c.in_ok-conflicting.ensures e) c.without.ensures

@@ -1,9 +1,18 @@
-use Rattle.std.proofs.Common.{ℕ, List, ap, filter, map, subst, IfSome, ◌∙◌}
+use Rattle.std.proofs.Common.{◌≡◌, ℕ, List, [], ap, filter, map, rules, subst, sym, IfSome, ◌∙◌}
+use Rattle.version_groups.proofs.Pieces.{none_incompatible}
 use Rattle.places.specs.steps.PlaceSet.{places}
 use Rattle.version_groups.specs.steps.Steps.{candidate, group_after, incompatible_groups, is_none_of, sift, IsLastWith}
 use Rattle.version_groups.proofs.Covered.{one_of, one_source}
 use Rattle.version_groups.proofs.step.step.Goals.{in-Some, in-None}
 use Rattle.version_groups.proofs.step.step.Goals as goal
+
+pub returns-then-is_none : goal.returns-then-is_none
+returns-then-is_none c =
+    let p = is_none_of c.args.conflicting.now in
+    let o = c.args.place in
+    let gs = c.args.kept.now in
+    let none : c.args.conflicting.now ≡ [] = search rules in
+    c.in_ok-next.ensures ∙ ap (λ (s : List (List ℕ)). sift (map (group_after p o) gs) (map (candidate p o) s)) (sym (none_incompatible c.args.conflicting.now gs none))
 
 pub returns : goal.returns
 returns c =

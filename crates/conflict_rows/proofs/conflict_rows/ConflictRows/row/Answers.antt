@@ -51,8 +51,8 @@ loop-place-preserved c =
     let p = c.loop-place.place in
     let changes : AreChangesOf c.self.inside.object k = subst (λ (s : Changes). AreChangesOf c.self.inside.object s.ops) c.self.view_is c.self.invariant.changes.listed in
     let size : c.len-place-end.result ≡ length k = omega (arith, c.len-place-end.ensures, c.self.inside.ops.ok, ap (λ (s : Changes). length s.ops) c.self.view_is) in
-    row_more k changes c.in_ok-direct.field-0 c.args.based.now p c.loop-place.row c.insert_if.new.members (omega (arith, size)) c.loop-place.invariant
-    (c.in_ok-insert_if.ensures ∙ ap (λ b. cond b (with_place p c.loop-place.row) c.loop-place.row) c.has_direct_conflict-has_direct.ensures)
+    row_more k changes c.in_ok-direct.field-0 c.args.based.now p c.loop-place.row c.insert_if.new.self (omega (arith, size)) c.loop-place.invariant
+    (c.in_ok-insert_if.ensures.ok ∙ ap (λ b. cond b (with_place p c.loop-place.row) c.loop-place.row) c.has_direct_conflict-has_direct.ensures)
 
 pub returns : goal.returns
 returns c =

@@ -1,6 +1,6 @@
 use Rattle.std.proofs.Common.{◌≡◌, [], drop}
 use Rattle.rules.specs.Bodies.{are_at_odds}
-use Rattle.conflict_rows.specs.steps.Rows.{with_those}
+use Rattle.places.specs.steps.PlaceSet.{with_those}
 use Rattle.places.specs.steps.Changes.{at}
 use Rattle.conflict_rows.proofs.conflict_rows.ConflictRows.those_at_odds.Given as goal
 

@@ -64,7 +64,8 @@ fn mark_of(key: &Key) -> usize
     bytes[bytes.len() - 1] as usize % MARKS
 }
 
-/// The first place whose key is also at an earlier place. Compares keys of the same mark.
+/// The first place whose key is also at an earlier place. Compares a key with those before it only
+/// where one of them has its mark.
 pub(crate) fn repeated_key(pairs: &[(Key, Value)]) -> Option<usize>
     ensures { result ≡ first_repeat same_key pairs.now }
 {
@@ -94,8 +95,8 @@ pub(crate) fn copy_pairs(
 }
 
 impl Attrs {
-    /// Makes initial attributes of these pairs, in their order, without an allocation. Compares
-    /// each key with those before it that end as it does.
+    /// Makes initial attributes of these pairs, in their order, without an allocation. Compares a
+    /// key with those before it only where one of them has its mark.
     ///
     /// # Errors
     ///

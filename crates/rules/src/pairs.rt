@@ -69,8 +69,8 @@ fn do_differ(first: &[(Key, Value)], second: &[(Key, Value)]) -> bool
 }
 
 impl Pairs {
-    /// Makes a put's attributes of these pairs, in their order, without an allocation. Compares
-    /// each key with those before it that end as it does.
+    /// Makes a put's attributes of these pairs, in their order, without an allocation. Compares a
+    /// key with those before it only where one of them has its mark.
     ///
     /// # Errors
     ///

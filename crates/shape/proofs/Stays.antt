@@ -1,8 +1,6 @@
 -- The identifier of a group stays where none of its places comes newly into conflict.
 use Rattle.std.proofs.Common.{◌≡◌, ℕ, ◌<◌, Bool, true, false, List, [], ◌∷◌, ◌++◌, length, map, not, refl, sym, ap, ◌∙◌, subst, arith, ◌⊎◌, inl, inr}
 use Rattle.std.specs.Prelude.{All, filter, slice_index_or}
-use Rattle.std.specs.Ordering.{is_lt}
-use Rattle.std.specs.declared.cmp.Ordering.TheVariants.{Less}
 use Rattle.std.specs.List.{list_any}
 use Rattle.std.proofs.lemmas.Bool.{and_parts, cases_Bool, false_from_ne_true, true≢false}
 use Rattle.base_types.specs.Names.{Name, name_cmp}
@@ -10,19 +8,20 @@ use Rattle.base_types.specs.VersionIds.{names_rise}
 use Rattle.rules.specs.declared.history.Op.{Op}
 use Rattle.rules.specs.Groups.{identifier, in_conflict_with}
 use Rattle.rules.specs.Lists.{sort_by}
+use Rattle.rules.proofs.Names.{rise_if_names_rise}
 use Rattle.rules.proofs.Lists.{In, In-filter, In-filter_back, any_from, any_back, any_none, filter_agree, map_agree, In-append_cases, In-append_left, In-append_right, In-map, In-map_back}
 use Rattle.rules.proofs.Once.{Once-from_HasNoRepeats}
 use Rattle.rules.proofs.Orders.{name_cmp_total, tied}
 use Rattle.rules.proofs.Permutations.{in_permutation}
 use Rattle.rules.proofs.Sorted.{untied_if_once}
-use Rattle.rules.proofs.Sorting.{Rises, less_if, sort_back, sort_in, sort_is}
+use Rattle.rules.proofs.Sorting.{sort_back, sort_in, sort_is}
 use Rattle.places.specs.steps.PlaceSet.{has, is_within, places}
 use Rattle.places.specs.steps.Changes.{at, conflicting_places, is_conflict_of}
 use Rattle.places.proofs.Places.{In-places, below, has-filter, has-filter_past, has_if_in, in_all, in_if_has}
 use Rattle.places.proofs.Rising.{among_places}
 use Rattle.places.specs.steps.Relations.{IsRelation}
 use Rattle.version_ids.proofs.Found.{names_once}
-use Rattle.std.proofs.lemmas.List.{append-nil, get_or-map, length-map}
+use Rattle.std.proofs.lemmas.List.{append-nil, get_or-map, get_or_default, length-map, same_lists}
 use Rattle.std.proofs.lemmas.List.Elements.{filter-append}
 use Rattle.std.specs.List.Sorted.{IsPermutation, IsStrictlyIncreasing}
 use Rattle.std.proofs.lemmas.List.Sorted.{IsPermutation-sym}
@@ -43,17 +42,6 @@ pub groups_go_on : (k l : List Op) → GoesOn k l → (gs : List (List ℕ)) (n 
 groups_go_on k l w gs n e are =
     subst (λ m. AreGroups (is_conflict_of l) (places m) gs) (sym e)
     (subst (λ s. IsPermutation gs s) (groups_agree (is_conflict_of k) (is_conflict_of l) (places (length k)) (λ i j m n. w.conflicts i j (below (length k) i m) (below (length k) j n))) are)
-
--- names in rising order, by recursion on the list
-rises_if : (ns : List Name) → names_rise ns ≡ true → Rises name_cmp name_cmp_total ns
-unfolding names_rise
-rises_if [] e = tt
-rises_if (m ∷ []) e = ((λ y none. absurd none), tt)
-rises_if (m ∷ n ∷ ns) e =
-    let parts = and_parts (is_lt (name_cmp m n)) (names_rise (n ∷ ns)) e in
-    let rest = rises_if (n ∷ ns) parts.1 in
-    let first : name_cmp m n ≡ Less = less_if name_cmp name_cmp_total m n parts.0 in
-    ((λ y a. elim a [ inl q ↦ ap (name_cmp m) q ∙ first | inr r ↦ name_cmp_total.trans m n y first (rest.0 y r) ]), rest)
 
 module _ (k l : List Op) (w : GoesOn k l) (newly : List ℕ) (e : newly ≡ filter (λ place. not (has (conflicting_places k) place)) (conflicting_places l)) where
   -- is the change at a place in conflict with some, before and after?
@@ -123,6 +111,17 @@ module _ (k l : List Op) (w : GoesOn k l) (newly : List ℕ) (e : newly ≡ filt
       let step : (h ≡ g) ⊎ (h ≡ g ++ length k ∷ []) = elim (grown i low) [ inl a ↦ inl (at_h ∙ a) | inr b ↦ inr (at_h ∙ b ∙ ap (λ m. g ++ m ∷ []) are.covered) ] in
       was ∙ sym (id_stays g h (kept_below (is_conflict_of k) (length k) kept are.groups_are i [] low) step n)
 
+  -- where none comes newly into conflict, and there are as many groups, all stay
+  pub all_kept : (named : Named) → AreNamedOf k named → (gs : List (List ℕ)) → HaveGrown named.groups.ops named.groups.groups gs → length gs ≡ length named.ids → newly ≡ [] → named.ids ≡ map (id_at l) gs
+  all_kept named are gs grown size none = same_lists named.ids (map (id_at l) gs) (sym size ∙ sym (length-map gs (id_at l))) (λ i d there.
+      let low : i < length gs = subst (λ n. i < n) (sym size) there in
+      get_or_default named.ids i d [] there
+      ∙ kept_stays named are i there gs grown (slice_index_or gs i []) refl (no_new (slice_index_or gs i [])) (slice_index_or named.ids i []) refl
+      ∙ sym (get_or-map (id_at l) gs i [] d low))
+    where
+      no_new : (h : List ℕ) → list_any (has newly) h ≡ false
+      no_new h = false_from_ne_true (list_any (has newly) h) (λ t. let a = any_back (has newly) h t in true≢false (sym a.2 ∙ ap (λ s. has s a.0) none))
+
   -- the places of a group that are those of before stand in it
   stood : (g h : List ℕ) → (h ≡ g) ⊎ (h ≡ g ++ length k ∷ []) → (x : ℕ) → In x g → In x h
   stood g h (inl f) x m = subst (λ s. In x s) (sym f) m
@@ -151,7 +150,7 @@ module _ (k l : List Op) (w : GoesOn k l) (newly : List ℕ) (e : newly ≡ filt
       let added = map name (filter (has newly) h) in
       let old = map name_before (filter before g) in
       let once = Once-from_HasNoRepeats names (names_once (length l) name (is_conflict_of l) h after names r (among_places (length l) h up within) refl) in
-      sort_is name_cmp name_cmp_total names grown (untied_if_once name_cmp name_cmp_total names once (λ m n a b e. tied m n e)) (rises_if grown rise)
+      sort_is name_cmp name_cmp_total names grown (untied_if_once name_cmp name_cmp_total names once (λ m n a b e. tied m n e)) (rise_if_names_rise grown rise)
       (λ z m.
       let c = In-map_back name z (filter after h) m in
       let d = In-filter_back after c.0 h c.1 in

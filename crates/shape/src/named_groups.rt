@@ -20,7 +20,7 @@ use places::{PlaceSet, Relation};
 use std::alloc::Global;
 use std::marker::Model;
 use version_groups::{AddFault, Groups};
-use version_ids::identifier_of;
+use version_ids::{identifier_of, names_at};
 use wire::{SharedId, SharedIds};
 
 /// The groups of all changes of an object, each with its identifier, in order of identifier.
@@ -63,25 +63,14 @@ fn with_names(
     changes: &WithAddition<'_>,
     id: &SharedId,
     added: &[u32],
-) -> Result<Option<VersionId>, NoMemory>
+) -> Result<Option<SharedId>, NoMemory>
     requires { All (λ place. place < length changes.now) added.now }
     ensures names { IfOk result (λ found. IfSome found
         (IsPermutation (map (λ place. (at changes.now place).name) added.now ++ id.now))) }
     ensures rise { IfOk result (λ found. IfSome found (λ id. names_rise id ≡ true)) }
 {
-    let mut names = Vec::from_slice(alloc, id.names())?;
-    for place in added {
-        let name = changes.name(*place);
-        let Err(at) = names.binary_search(&name) else {
-            return Ok(None);
-        };
-        names.insert(at, name)?;
-    }
-    let Ok(id) = VersionId::from_vec(names) else {
-        return Ok(None);
-    };
-    let _ = id.names();
-    Ok(Some(id))
+    let names = names_at(alloc, changes, added)?;
+    id.with_names(alloc, &names)
 }
 
 /// The identifier of a group that had another one before: that with the names at the added places
@@ -105,7 +94,7 @@ fn grown_id(
         return id.share();
     }
     match with_names(alloc, changes, id, added)? {
-        Some(id) => SharedId::with_text(alloc, id),
+        Some(id) => Ok(id),
         None => new_id(alloc, changes, members, added),
     }
 }
@@ -221,36 +210,45 @@ impl NamedGroups {
             → limit < count_of_groups (is_conflict_of after.now) (length after.now) }
     {
         let mut groups = self.groups.plan(alloc, after, limit)?;
-        let mut ids = self.ids_after(alloc, before, after, &groups)?;
+        let newly = newly_conflicting(alloc, before, after)?;
+        if newly.lowest_place().is_none() && groups.count() == self.ids.len() {
+            // Each group has its identifier of before.
+            let ids = self.shared_ids(alloc)?;
+            return Ok(NamedGroups { groups, ids });
+        }
+        let mut ids = self.ids_after(alloc, before, after, &groups, &newly)?;
         sort(&mut groups, &mut ids);
         Ok(NamedGroups { groups, ids })
     }
 
     /// The identifiers of the groups with one more change. That of a group of before has the names
-    /// more of its places that come newly into conflict.
+    /// more of its places that come newly into conflict, which the caller gives.
     fn ids_after(
         &self,
         alloc: Global,
         before: &ObjectChanges,
         after: &WithAddition<'_>,
         groups: &Groups,
+        newly: &PlaceSet,
     ) -> Result<SharedIds, NoMemory>
         requires before { AreNamedOf before.now.ops self.now }
         requires after { GoesOn before.now.ops after.now }
         requires groups { AreGroupsOf after.now groups.now.groups }
         requires grown { let kept = self.now.groups
             in HaveGrown kept.ops kept.groups groups.now.groups }
+        requires newly { newly.now ≡ filter
+            (λ place. not (has (conflicting_places before.now.ops) place))
+            (conflicting_places after.now) }
         ensures { IfOk result (λ ids. ids.items ≡ map (id_at after.now) groups.now.groups) }
     {
         // With the length of a relation comes what it keeps.
         let _ = after.len();
-        let newly = newly_conflicting(alloc, before, after)?;
         let mut ids = SharedIds::with_capacity(alloc, groups.count())?;
         let mut added = Vec::new(alloc);
         for group in 0..groups.count() {
             let members = groups.members(group);
             members.rises();
-            members.list_common(&newly, &mut added)?;
+            members.list_common(newly, &mut added)?;
             let id = match self.ids.get(group) {
                 Some(id) => grown_id(alloc, after, id, members, &mut added)?,
                 None => new_id(alloc, after, members, &mut added)?,
@@ -299,9 +297,10 @@ impl NamedGroups {
         ensures ids { IfOk result (λ ids. ids.items ≡ self.now.ids) }
         ensures sorted { IsSorted id_cmp self.now.ids }
     {
-        let mut ids = SharedIds::with_capacity(alloc, self.ids.len())?;
-        for id in self.ids() {
-            ids.push(id.share()?)?;
+        let known = self.ids();
+        let mut ids = SharedIds::with_capacity(alloc, known.len())?;
+        for id in known {
+            ids.push_reserved(id.share()?);
         }
         Ok(ids)
     }

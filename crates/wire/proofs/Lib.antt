@@ -7,3 +7,4 @@ pub mod Again
 pub mod Written
 pub mod OwnTexts
 pub mod Pairs
+pub mod Growing

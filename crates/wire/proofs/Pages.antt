@@ -46,7 +46,7 @@ of_texts text (x ∷ xs) = ap (λ s. text x ++ s) (after_first text xs)
 -- ---- lists of forms
 
 -- the items after others
-later_items : {X : Type 0} (form : X → Data) (xs : List X) → items_text true (items_of (map form xs)) ≡ flat_map (λ x. 44 ∷ compact_text (form x)) xs ++ 93 ∷ []
+pub later_items : {X : Type 0} (form : X → Data) (xs : List X) → items_text true (items_of (map form xs)) ≡ flat_map (λ x. 44 ∷ compact_text (form x)) xs ++ 93 ∷ []
 later_items form [] = refl
 later_items form (x ∷ xs) =
     ap (λ s. 44 ∷ (compact_text (form x) ++ s)) (later_items form xs)

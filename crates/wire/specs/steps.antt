@@ -2,3 +2,4 @@ pub mod Equality
 pub mod Pages
 pub mod OneLine
 pub mod Quoting
+pub mod Growing

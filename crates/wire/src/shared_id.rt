@@ -1,16 +1,25 @@
 //! Identifiers that are shared with their texts. Of an object with many versions a change leaves
 //! most identifiers as they are, and so each text is written once.
 
-ghost use Rattle.std.specs.Prelude.{◌≡◌, [], IfOk, IfSome, string_bytes};
+ghost use Rattle.std.specs.Prelude.{◌≡◌, ◌++◌, [], true, IfOk, IfSome, string_bytes};
+ghost use Rattle.std.specs.List.Sorted.{IsPermutation};
+ghost use Rattle.base_types.specs.VersionIds.{names_rise};
 ghost use Rattle.serde_json.specs.Written.{compact_text};
 ghost use Rattle.wire.specs.Form.{names_form};
 
-use crate::write::compact;
+use crate::write::{MOST_BYTES_MORE, compact, compact_within, insert_name};
 use base_types::{NoMemory, OpName, VersionId};
 use smallvec::SmallVec;
 use std::alloc::Global;
 use std::marker::Model;
 use std::sync::Arc;
+
+/// How many bytes are reserved for a name: two numbers of up to four digits, two brackets and two
+/// commas.
+const ROOM_OF_A_NAME: usize = 12;
+
+/// For how many of these at most.
+const MOST_NAMES: usize = 1024;
 
 /// An identifier, which may have its text.
 #[derive(Drop)]
@@ -53,6 +62,11 @@ impl Model for SharedId {
     ghost view = { λ id. unwrap_or (option_map arc_value id.written) [] };
 }
 
+/// How many bytes are reserved for the text of so many names at first.
+fn room_for(names: usize) -> usize {
+    names.min(MOST_NAMES) * ROOM_OF_A_NAME
+}
+
 impl SharedId {
     /// The identifier with its text. Linear in its names.
     ///
@@ -65,7 +79,7 @@ impl SharedId {
         let text = if id.names().is_empty() {
             None
         } else {
-            Some(compact(alloc, &id)?)
+            Some(compact_within(alloc, &id, room_for(id.names().len()))?)
         };
         SharedId::of_written(alloc, Written { id, text })
     }
@@ -89,6 +103,30 @@ impl SharedId {
         }
         let written = Some(Arc::new(alloc, written)?);
         Ok(SharedId { written })
+    }
+
+    /// The identifier with names more, or `None` if it would have one twice. The names are put into
+    /// the text that it has. For each that is linear in the names and the text.
+    ///
+    /// # Errors
+    ///
+    /// `NoMemory` if an allocation failed.
+    pub fn with_names(&self, alloc: Global, added: &[OpName]) -> Result<Option<SharedId>, NoMemory>
+        ensures names { IfOk result (λ found. IfSome found (IsPermutation (added.now ++ self.now))) }
+        ensures rise { IfOk result (λ found. IfSome found (λ id. names_rise id ≡ true)) }
+    {
+        let known = self.names();
+        let mut names = Vec::with_capacity(alloc, known.len() + added.len())?;
+        names.extend_from_slice(known)?;
+        let mut text = self.text_to_grow(alloc)?;
+        for name in added {
+            let Err(at) = names.binary_search(name) else {
+                return Ok(None);
+            };
+            insert_name(alloc, &mut text, &names, at, *name)?;
+            names.insert(at, *name)?;
+        }
+        SharedId::of_rising(alloc, names, text)
     }
 
     /// The same identifier, with one more owner.
@@ -128,6 +166,36 @@ impl SharedId {
             Some(written) => written.id.copy(alloc),
             None => Ok(VersionId::empty(alloc)),
         }
+    }
+
+    /// The identifier of names with their text, or `None` if they don't rise.
+    fn of_rising(
+        alloc: Global,
+        names: Vec<OpName>,
+        text: String,
+    ) -> Result<Option<SharedId>, NoMemory>
+        requires { string_bytes text ≡ compact_text (names_form names.items) }
+        ensures id { IfOk result (λ found. IfSome found (λ id. id ≡ names.items)) }
+        ensures rise { IfOk result (λ found. IfSome found (λ id. names_rise id ≡ true)) }
+    {
+        let Ok(id) = VersionId::from_vec(names) else {
+            return Ok(None);
+        };
+        let _ = id.names();
+        let text = Some(text);
+        Ok(Some(SharedId::of_written(alloc, Written { id, text })?))
+    }
+
+    /// A copy of the text, with room for one name more.
+    fn text_to_grow(&self, alloc: Global) -> Result<String, NoMemory>
+        ensures { IfOk result (λ text. string_bytes text ≡ compact_text (names_form self.now)) }
+    {
+        let Some(known) = self.text() else {
+            return compact(alloc, self);
+        };
+        let mut text = String::with_capacity(alloc, known.len() + MOST_BYTES_MORE)?;
+        text.push_str(known)?;
+        Ok(text)
     }
 
     /// The text, if the identifier has it.

@@ -41,7 +41,7 @@ pub(crate) fn compact<W: Written>(alloc: Global, part: &W) -> Result<String, NoM
 }
 
 /// The compact text of a part, for which this many bytes are reserved at first.
-pub(super) fn compact_within<W: Written>(
+pub(crate) fn compact_within<W: Written>(
     alloc: Global,
     part: &W,
     room: usize,

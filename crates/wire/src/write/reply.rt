@@ -10,7 +10,7 @@ use crate::reply::Reply;
 use base_types::NoMemory;
 use std::alloc::Global;
 
-/// How many bytes are reserved for each object and each version of a list.
+/// How many bytes are reserved for each identifier, object and version of a list.
 const ROOM_OF_AN_ITEM: usize = 128;
 
 /// For how many of these at most.
@@ -67,6 +67,8 @@ impl Written for Reply {
 /// How many bytes are reserved for the text of a reply at first. Long lists need more.
 fn room_for(reply: &Reply) -> usize {
     let items = match reply {
+        // An answer with one identifier is short.
+        Reply::Taken { ids, .. } => ids.as_slice().len().saturating_sub(1),
         Reply::Versions { versions, .. } => versions.as_slice().len(),
         Reply::Objects { objects, .. } => objects.as_slice().len(),
         _ => 0,

@@ -32,18 +32,18 @@ grown_id-requires-clause-added c =
     let h = c.members-members.result.now in
     let below : c.loop-group.group < length gs = omega (arith, c.loop-group-test.true, c.count-group-end.ensures, c.loop-group.auto.group-end) in
     let within : All (λ p. p < length l) h = subst (λ g. All (λ p. p < length l) g) (sym c.members-members.ensures) (kept_below (is_conflict_of l) (length l) gs c.requires.groups c.loop-group.group [] below) in
-    subst (All (λ p. p < length l)) (sym c.in_ok-list_common.ensures) (all_in (λ p. p < length l) _ (λ p m. in_all (λ p. p < length l) h within p (In-filter_back (has c.in_ok-newly.newly) p h m).0))
+    subst (All (λ p. p < length l)) (sym c.in_ok-list_common.ensures) (all_in (λ p. p < length l) _ (λ p m. in_all (λ p. p < length l) h within p (In-filter_back (has c.args.newly.now) p h m).0))
 
 pub grown_id-requires-clause-stays : goal.grown_id-requires-clause-stays
 grown_id-requires-clause-stays c none =
-    let newly = c.in_ok-newly.newly in
+    let newly = c.args.newly.now in
     let h = c.members-members.result.now in
     let kept : c.deref.result.now ≡ c.args.self.now.ids = c.deref.ensures ∙ ap (λ (named : Named). named.ids) c.self.view_is in
     let found = there c.in-Some.id.now kept c.in-Some.ensures.lookup.3 in
     let no_new : list_any (has newly) h ≡ false = false_from_ne_true (list_any (has newly) h) (λ t.
     let a = any_back (has newly) h t in
     subst (In a.0) (sym c.in_ok-list_common.ensures ∙ none) (In-filter (has newly) a.0 h a.1 a.2)) in
-    kept_stays c.args.before.now.ops c.args.after.now c.requires.after newly c.in_ok-newly.ensures c.args.self.now c.requires.before c.loop-group.group found.0 c.args.groups.now.groups c.requires.grown h c.members-members.ensures no_new c.in-Some.id.now found.1
+    kept_stays c.args.before.now.ops c.args.after.now c.requires.after newly c.requires.newly c.args.self.now c.requires.before c.loop-group.group found.0 c.args.groups.now.groups c.requires.grown h c.members-members.ensures no_new c.in-Some.id.now found.1
 
 pub grown_id-requires-clause-grows : goal.grown_id-requires-clause-grows
 grown_id-requires-clause-grows c grown rise p =
@@ -52,7 +52,7 @@ grown_id-requires-clause-grows c grown rise p =
     let below : c.loop-group.group < length gs = omega (arith, c.loop-group-test.true, c.count-group-end.ensures, c.loop-group.auto.group-end) in
     let kept : c.deref.result.now ≡ c.args.self.now.ids = c.deref.ensures ∙ ap (λ (named : Named). named.ids) c.self.view_is in
     let found = there c.in-Some.id.now kept c.in-Some.ensures.lookup.3 in
-    kept_grows c.args.before.now.ops l c.requires.after c.in_ok-newly.newly c.in_ok-newly.ensures c.len.ensures.relation c.args.self.now c.requires.before c.loop-group.group found.0 gs c.requires.groups c.requires.grown below
+    kept_grows c.args.before.now.ops l c.requires.after c.args.newly.now c.requires.newly c.len.ensures.relation c.args.self.now c.requires.before c.loop-group.group found.0 gs c.requires.groups c.requires.grown below
     c.members-members.result.now c.members-members.ensures c.rises.ensures c.in-Some.id.now grown found.1 rise
     (subst (λ added. IsPermutation (map (λ i. (at l i).name) added ++ c.in-Some.id.now) grown) c.in_ok-list_common.ensures p)
 

@@ -8,3 +8,4 @@ pub mod Shown
 pub mod ObjectKinds
 pub mod Replay
 pub mod Refused
+pub mod OnPlans

@@ -211,7 +211,7 @@ impl Drawing {
         ensures { self.new.room ≡ with_entry self.old.room (Some addition.entry) }
     {
         let Addition { entry, part } = addition;
-        match part {
+        match Box::into_inner(part) {
             Part::Alone => self.add_alone(entry),
             Part::Creation(op, shape) => self.add_creation(entry, op, shape),
             Part::Change(place, op, planned) => self.add_change(entry, place, op, planned),

@@ -62,10 +62,7 @@ impl Drawing {
     {
         self.record.reserve_one()?;
         let entry = Arc::new(alloc, entry)?;
-        Ok(Addition {
-            entry,
-            part: Part::Alone,
-        })
+        Addition::new(alloc, entry, Part::Alone)
     }
 
     /// Prepares an operation that may come next in causal order. The drawing stays as it is.
@@ -118,10 +115,8 @@ impl Drawing {
         self.objects.reserve(1)?;
         let entry = op.entry()?;
         let shape = Shape::create(alloc, op.share()?, self.limits)?;
-        Ok(Addition {
-            entry,
-            part: Part::Creation(op, shape),
-        })
+        let addition = Addition::new(alloc, entry, Part::Creation(op, shape))?;
+        Ok(addition)
     }
 
     /// Plans to add a change that may come next.
@@ -140,10 +135,7 @@ impl Drawing {
         let (entry, shared) = (op.entry()?, op.share()?);
         self.reserve_operation(op.name.site())?;
         let (place, planned) = self.plan_at_object(alloc, shared)?;
-        Ok(Addition {
-            entry,
-            part: Part::Change(place, op, planned),
-        })
+        Ok(Addition::new(alloc, entry, Part::Change(place, op, planned))?)
     }
 
     /// Takes memory for one more operation of this site.

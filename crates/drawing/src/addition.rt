@@ -19,8 +19,9 @@ use wire::SharedIds;
 pub(crate) enum Part {
     /// An entry that is no operation adds nothing.
     Alone,
-    /// A creation adds the operation and its object.
-    Creation(SharedOp, Shape),
+    /// A creation adds the operation and its object. This is larger than what a change adds, so it
+    /// has memory of its own.
+    Creation(SharedOp, Box<Shape>),
     /// A change adds the operation, and what is planned for its object, which stands at this place.
     Change(usize, SharedOp, PlannedChange),
 }

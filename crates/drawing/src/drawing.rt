@@ -213,7 +213,9 @@ impl Drawing {
         let Addition { entry, part } = addition;
         match Box::into_inner(part) {
             Part::Alone => self.add_alone(entry),
-            Part::Creation(op, shape) => self.add_creation(entry, op, shape),
+            Part::Creation(op, shape) => {
+                self.add_creation(entry, op, Box::into_inner(shape));
+            }
             Part::Change(place, op, planned) => self.add_change(entry, place, op, planned),
         }
     }

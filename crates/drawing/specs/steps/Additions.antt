@@ -79,7 +79,7 @@ pub record CanChange (s : DrawingState) (place : ℕ) (op : Op) (planned : Chang
 -- this part of an entry can be added, and takes no memory
 abbrev pub IsReadyPart : DrawingState → Entry → Part → Type 0
 IsReadyPart s entry part.Alone = CanStandAlone s entry
-IsReadyPart s entry (part.Creation op shape) = CanAdd s entry op × CanCreate s op shape
+IsReadyPart s entry (part.Creation op shape) = CanAdd s entry op × CanCreate s op shape.value
 IsReadyPart s entry (part.Change place op planned) =
     CanAdd s entry op × CanChange s place op planned
 

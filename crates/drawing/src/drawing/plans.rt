@@ -114,7 +114,7 @@ impl Drawing {
         self.reserve_operation(op.name.site())?;
         self.objects.reserve(1)?;
         let entry = op.entry()?;
-        let shape = Shape::create(alloc, op.share()?, self.limits)?;
+        let shape = Box::new(alloc, Shape::create(alloc, op.share()?, self.limits)?)?;
         let addition = Addition::new(alloc, entry, Part::Creation(op, shape))?;
         Ok(addition)
     }

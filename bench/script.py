@@ -273,18 +273,27 @@ def refusals(size):
     return script
 
 
-def long_messages(size):
-    """Creations of 10,000 bytes: sixteen texts of 256 bytes, some of these as escapes, and spaces."""
+def long_messages(size, text, length):
+    """Creations with this text for each of sixteen keys, with spaces behind up to this length."""
     script = Script()
     rooms = [script.room(1) for _ in range(4)]
-    text = "\\u0061" * 70 + "b" * 186
     attrs = ",".join(f'["key{place}","{text}"]' for place in range(16))
     for turn in range(size // 4):
         seen = f"[[1,{turn}]]" if turn else "[]"
         message = f'["new",{turn + 1},{seen},"rect",[{attrs}]]'
         for room in rooms:
-            room.ask(1, message.ljust(10000))
+            room.ask(1, message.ljust(length))
     return script
+
+
+def long_texts(size):
+    """Creations of sixteen texts of 256 bytes, without escapes or spaces."""
+    return long_messages(size, "b" * 256, 0)
+
+
+def long_escapes(size):
+    """Creations of 10,000 bytes: sixteen texts of 256 bytes, some of these as escapes, and spaces."""
+    return long_messages(size, "\\u0061" * 70 + "b" * 186, 10000)
 
 
 def puts_of(size, count):
@@ -331,7 +340,8 @@ CASES = [
     ("500 rooms", many_rooms, 500),
     ("shows and pages", shows_and_pulls, 3000),
     ("refusals", refusals, 100000),
-    ("messages of 10,000 bytes", long_messages, 2000),
+    ("sixteen texts of 256 bytes", long_texts, 2000),
+    ("messages of 10,000 bytes, with escapes", long_escapes, 2000),
     ("puts of one key", lambda size: puts_of(size, 1), 15000),
     ("puts of 16 keys", lambda size: puts_of(size, 16), 15000),
     ("a put to each of 500 objects, 16 rooms", lambda size: one_each(size, put_one), 16),

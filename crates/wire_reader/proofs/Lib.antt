@@ -19,6 +19,7 @@ pub mod EntrySteps
 pub mod ReplySteps
 pub mod NoteSteps
 pub mod Pairs
+pub mod Plain
 pub mod Shown
 pub mod Exchanges
 pub mod Scanned

@@ -25,6 +25,9 @@ use wire::{MAX_FROM, Request};
 /// A number with more digits is left to the JSON reader.
 const MAX_SHORTER: u32 = 99_999_999;
 
+/// How many bytes of a long text are tested together.
+const TOGETHER: usize = 16;
+
 /// The bytes of a message that are not read yet.
 #[derive(Drop)]
 struct Cursor<'a> {
@@ -126,8 +129,20 @@ fn is_plain_byte(byte: u8) -> bool
     0x20 <= byte && byte != b'"' && byte != b'\\'
 }
 
-/// How many bytes at the front stand for themselves between quotes.
-fn plain_len(bytes: &[u8]) -> usize
+/// Do all of these bytes stand for themselves between quotes? It looks at each, so a compiler can
+/// test several at once.
+fn are_plain(bytes: &[u8]) -> bool
+    ensures { result ≡ list_all is_plain_byte bytes.now }
+{
+    let mut are_plain = true;
+    for byte in bytes {
+        are_plain &= is_plain_byte(*byte);
+    }
+    are_plain
+}
+
+/// As `plain_len`, one byte after the other.
+fn plain_len_by_one(bytes: &[u8]) -> usize
     ensures plain { list_all is_plain_byte (take result bytes.now) ≡ true }
     ensures within { result ≤ length bytes.now }
 {
@@ -137,6 +152,31 @@ fn plain_len(bytes: &[u8]) -> usize
         }
     }
     bytes.len()
+}
+
+/// As `plain_len`, many bytes at once.
+fn plain_len_by_many(bytes: &[u8]) -> usize
+    ensures plain { list_all is_plain_byte (take result bytes.now) ≡ true }
+    ensures within { result ≤ length bytes.now }
+{
+    let mut len = 0;
+    while TOGETHER <= bytes.len() - len && are_plain(&bytes[len..len + TOGETHER]) {
+        len += TOGETHER;
+    }
+    len + plain_len_by_one(&bytes[len..])
+}
+
+/// How many bytes at the front stand for themselves between quotes. Most texts are short. In a long
+/// one this takes most of the time of reading.
+fn plain_len(bytes: &[u8]) -> usize
+    ensures plain { list_all is_plain_byte (take result bytes.now) ≡ true }
+    ensures within { result ≤ length bytes.now }
+{
+    let len = plain_len_by_one(&bytes[..TOGETHER.min(bytes.len())]);
+    if len < TOGETHER {
+        return len;
+    }
+    len + plain_len_by_many(&bytes[len..])
 }
 
 /// The bytes at the front that stand for themselves between quotes, and those after them.

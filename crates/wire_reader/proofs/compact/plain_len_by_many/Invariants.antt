@@ -1,0 +1,13 @@
+use Rattle.std.proofs.Common.{◌≡◌, ◌≤◌, true, length, take, ◌-◌}
+use Rattle.std.specs.List.{list_all}
+use Rattle.wire.specs.steps.Quoting.{is_plain_byte}
+use Rattle.wire_reader.proofs.compact.plain_len_by_many.Given as goal
+
+abbrev pub invariant-loop-len : goal.invariant-loop-len
+invariant-loop-len l = record {
+  plain : list_all is_plain_byte (take l.len l.bytes) ≡ true;
+  within : l.len ≤ length l.bytes;
+}
+
+abbrev pub decreases-loop-len : goal.decreases-loop-len
+decreases-loop-len l = length l.bytes - l.len

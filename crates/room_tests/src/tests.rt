@@ -1,6 +1,7 @@
 //! Rooms, replicas and renewals of them, records in journals, scripts and commands.
 
 mod checks;
+mod identifiers;
 mod interrupted;
 mod kept;
 mod names;

@@ -198,7 +198,7 @@ fn compatible_places<R: Relation>(
     known.without(alloc, &conflicting)
 }
 
-/// Those places that conflict with some place.
+/// Those of the given places that conflict with some place.
 fn list_in_conflict<R: Relation>(
     alloc: Global,
     relation: &R,
@@ -229,8 +229,8 @@ fn earlier_conflicts<R: Relation>(
     Ok(all)
 }
 
-/// Those of a list of places that conflict with one of the scope, where `earlier` has the lower
-/// places that those of the scope conflict with.
+/// Those of the listed places that conflict with one of the scope. `earlier` has the lower places
+/// in conflict with the scope.
 fn those_conflicting<R: Relation>(
     alloc: Global,
     relation: &R,

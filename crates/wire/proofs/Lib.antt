@@ -6,5 +6,6 @@ pub mod Quoting
 pub mod Again
 pub mod Written
 pub mod OwnTexts
+pub mod Numbers
 pub mod Pairs
 pub mod Growing

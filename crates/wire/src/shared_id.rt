@@ -63,7 +63,7 @@ impl Model for SharedId {
 }
 
 /// How many bytes are reserved for the text of so many names at first.
-fn room_for(names: usize) -> usize {
+fn bytes_for_names(names: usize) -> usize {
     names.min(MOST_NAMES) * ROOM_OF_A_NAME
 }
 
@@ -79,7 +79,7 @@ impl SharedId {
         let text = if id.names().is_empty() {
             None
         } else {
-            Some(compact_within(alloc, &id, room_for(id.names().len()))?)
+            Some(compact_within(alloc, &id, bytes_for_names(id.names().len()))?)
         };
         SharedId::of_written(alloc, Written { id, text })
     }
@@ -106,13 +106,14 @@ impl SharedId {
     }
 
     /// The identifier with names more, or `None` if it would have one twice. The names are put into
-    /// the text that it has. For each that is linear in the names and the text.
+    /// the text that it has. Linear in the names and the text for each.
     ///
     /// # Errors
     ///
     /// `NoMemory` if an allocation failed.
     pub fn with_names(&self, alloc: Global, added: &[OpName]) -> Result<Option<SharedId>, NoMemory>
-        ensures names { IfOk result (λ found. IfSome found (IsPermutation (added.now ++ self.now))) }
+        ensures names { IfOk result (λ found.
+            IfSome found (IsPermutation (added.now ++ self.now))) }
         ensures rise { IfOk result (λ found. IfSome found (λ id. names_rise id ≡ true)) }
     {
         let known = self.names();

@@ -1,5 +1,4 @@
-//! Names that are put into the text of others. An identifier that grows by a name is so written from
-//! the text that it had.
+//! Puts a name into the text of other names. So an identifier that grows keeps the text that it had.
 
 ghost use Rattle.std.specs.Prelude.{◌≡◌, ◌<◌, ◌≤◌, ◌^◌, ◌∷◌, length, take, OnOk, string_bytes};
 ghost use Rattle.std.specs.Fmt.{decimal};

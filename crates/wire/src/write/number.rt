@@ -41,9 +41,9 @@ pub(super) fn push_pair(text: &mut String, first: u32, second: u32) -> Result<()
 
 /// Writes a byte and a number so that they end at `end`. Returns where they begin.
 fn put_before(bytes: &mut [u8], end: usize, byte: u8, number: u32) -> usize
-    requires room { 11 ≤ end }
+    requires room { MOST_DIGITS + 1 ≤ end }
     requires within { end ≤ length bytes.old }
-    ensures start { end ≤ result + 11 }
+    ensures start { end ≤ result + (MOST_DIGITS + 1) }
     ensures inside { result < end }
     ensures written { drop result bytes.new ≡ byte ∷ decimal number ++ drop end bytes.old }
     ensures len { length bytes.new ≡ length bytes.old }

@@ -65,7 +65,7 @@ impl Written for Reply {
 }
 
 /// How many bytes are reserved for the text of a reply at first. Long lists need more.
-fn room_for(reply: &Reply) -> usize {
+fn bytes_for(reply: &Reply) -> usize {
     let items = match reply {
         // An answer with one identifier is short.
         Reply::Taken { ids, .. } => ids.as_slice().len().saturating_sub(1),
@@ -88,5 +88,5 @@ pub fn write_reply(alloc: Global, reply: &Reply) -> Result<String, NoMemory>
     ensures is_read { IfOk result (λ text. IsReply reply.now
         → IsReplyText (string_bytes text) reply.now) }
 {
-    compact_within(alloc, reply, room_for(reply))
+    compact_within(alloc, reply, bytes_for(reply))
 }

@@ -1,11 +1,8 @@
-use Rattle.std.proofs.Common.{◌<◌, ◌≤◌, ◌^◌, ◌∙◌, ℕ, ap, arith, length}
+use Rattle.std.proofs.Common.{◌∙◌, ap, arith, length}
 use Rattle.std.specs.Fmt.{decimal}
-use Rattle.std.proofs.lemmas.Fmt.{length-decimal-le}
 use Rattle.wire.proofs.Growing.{len_of_pair}
+use Rattle.wire.proofs.Numbers.{short}
 use Rattle.wire.proofs.write.names.len_of.Goals as goal
-
-short : (n : ℕ) → n < 2 ^ 32 → length (decimal n) ≤ 10
-short n h = length-decimal-le 10 n (omega arith) (omega arith) (omega arith)
 
 pub overflow_add-result : goal.overflow_add-result
 overflow_add-result c =

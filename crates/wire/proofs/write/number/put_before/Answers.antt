@@ -1,11 +1,8 @@
-use Rattle.std.proofs.Common.{◌≡◌, ◌≤◌, ◌<◌, ◌-◌, ◌+◌, ◌∷◌, ◌++◌, ◌^◌, ℕ, ap, ◌∙◌, length, drop, arith}
+use Rattle.std.proofs.Common.{◌≡◌, ◌-◌, ◌+◌, ◌∷◌, ◌++◌, ap, ◌∙◌, drop, arith}
 use Rattle.std.specs.Fmt.{decimal}
-use Rattle.std.proofs.lemmas.Fmt.{length-decimal-le}
 use Rattle.std.proofs.lemmas.List.{drop-set}
+use Rattle.wire.proofs.Numbers.{short}
 use Rattle.wire.proofs.write.number.put_before.Goals as goal
-
-short : (n : ℕ) → n < 2 ^ 32 → length (decimal n) ≤ 10
-short n h = length-decimal-le 10 n (omega arith) (omega arith) (omega arith)
 
 pub write_digits-first-requires : goal.write_digits-first-requires
 write_digits-first-requires c =

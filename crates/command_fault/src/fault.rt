@@ -48,7 +48,7 @@ pub enum Fault {
 }
 
 impl Fault {
-    ghost use Rattle.command_fault.specs.Faults.{status_of};
+    ghost use Rattle.command_fault.specs.steps.Faults.{status_of};
 
     /// The exit status: 2 for the command line, 4 for memory, 3 for anything else.
     pub fn status(self) -> u8
@@ -101,7 +101,7 @@ impl From<NoMemory> for Fault {
 
 impl From<NameFault> for Fault {
     ghost use Rattle.std.specs.Prelude.{◌≡◌};
-    ghost use Rattle.command_fault.specs.Faults.{of_name};
+    ghost use Rattle.command_fault.specs.steps.Faults.{of_name};
 
     ghost from_gives = { λ fault gives. gives ≡ of_name fault };
 

@@ -11,9 +11,9 @@ use Rattle.base_types.specs.declared.fault.RoomsFault.{RoomsFault}
 use Rattle.base_types.specs.declared.fault.RoomsFault.TheVariants as rooms
 use Rattle.command_fault.specs.declared.fault.Fault.{Fault}
 use Rattle.command_fault.specs.declared.fault.Fault.TheVariants.{BadRoomName, RoomNamedTwice, NoMemory}
-use Rattle.command_fault.specs.Faults.{of_name}
+use Rattle.command_fault.specs.steps.Faults.{of_name}
 use Rattle.commands.specs.steps.Faults.{of_rooms}
-use Rattle.commands.specs.Service.{MayEnd}
+use Rattle.commands.specs.steps.Statuses.{MayEnd}
 
 -- one member fails
 pub one_fails : {X Y : Type 0} (p : Y → Bool) (f : X → Y) (xs : List X) (i : ℕ) (x : X) → i < length xs → p (f (get_or xs i x)) ≡ false → list_all p (map f xs) ≡ false

@@ -1,15 +1,6 @@
 -- How a command ends that reads its whole input and then writes.
 use Rattle.std.specs.Prelude.{◌≡◌, ◌⊎◌, ℕ, List, Option}
 use Rattle.std.specs.Io.KnownBytes.{Keeps}
-use Rattle.command_fault.specs.declared.fault.Fault.{Fault}
-use Rattle.command_fault.specs.declared.fault.Fault.TheVariants.{Input, Output, NoMemory}
-
--- what was written before a fault: nothing, unless the output failed
-abbrev pub EndsEarly : Type 0 → Option (List ℕ) → Option (List ℕ) → Fault → Type 0
-EndsEarly Prefix before after Input = Keeps before after
-EndsEarly Prefix before after NoMemory = Keeps before after
-EndsEarly Prefix before after Output = Prefix
-EndsEarly Prefix before after _ = ⊥
 
 -- the possible statuses, and what was written before each
 pub record Ends

@@ -1,9 +1,7 @@
 -- How a command ends that reads its input whole, and writes one result of it.
-use Rattle.std.specs.Prelude.{◌≡◌, ◌⊎◌, ℕ, List, Option, Result, Ok, Err, IfSome}
+use Rattle.std.specs.Prelude.{◌≡◌, ℕ, List, Option, IfSome}
 use Rattle.std.specs.Io.KnownBytes.{Appends}
 use Rattle.byte_streams.specs.Prefixes.{AppendsPrefix}
-use Rattle.command_fault.specs.declared.fault.Fault.{Fault}
-use Rattle.command_fault.specs.Faults.{status_of}
 use Rattle.commands.specs.Ends.{Ends}
 
 -- what a command writes: which results are right of an input, their texts, and their exit statuses
@@ -27,16 +25,12 @@ pub record TellsPrefix {Input Found : Type 0} (report : Report Input Found)
   pub right : report.IsRight input found
   pub prefix : AppendsPrefix before after (report.text found)
 
--- The input of which a statement is made: all that one or two readers give, if it is known,
+-- The input of which a statement is made: all that one or two readers give, if it is known.
 abbrev pub OfReader : Option (List ℕ) → (List ℕ → Type 0) → Type 0
 OfReader bytes P = IfSome bytes P
 
 abbrev pub OfReaders : Option (List ℕ) → Option (List ℕ) → (List ℕ × List ℕ → Type 0) → Type 0
 OfReaders first second P = IfSome first (λ old. IfSome second (λ new. P (old, new)))
-
--- or some input.
-abbrev pub OfSome : {Input : Type 0} → (Input → Type 0) → Type 0
-OfSome {Input} P = (input : Input) × P input
 
 -- the effect of the command on its input
 abbrev pub Reports : {Input Found : Type 0} → Report Input Found → ((Input → Type 0) → Type 0)
@@ -44,12 +38,3 @@ abbrev pub Reports : {Input Found : Type 0} → Report Input Found → ((Input �
 Reports report Of before after =
     Ends (λ status. Of (Tells report before after status)) (Of (TellsPrefix report before after))
     before after
-
--- an exit status after a result
-abbrev pub IsOfResult : ℕ → Type 0
-IsOfResult status = (status ≡ 0) ⊎ (status ≡ 1)
-
--- the exit status after a result's status or a fault
-abbrev pub end_status : Result ℕ Fault → ℕ
-end_status (Ok status) = status
-end_status (Err fault) = status_of fault

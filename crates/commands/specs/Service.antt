@@ -1,11 +1,9 @@
 -- The effect of a script.
-use Rattle.std.specs.Prelude.{ℕ, ◌≡◌, ◌⊎◌, List, Option, Some, None, IsSome}
+use Rattle.std.specs.Prelude.{ℕ, ◌≡◌, ◌⊎◌, List, Option, IsSome}
 use Rattle.rules.specs.Limits.{full_limits}
 use Rattle.world.specs.State.{WorldState, new_world}
 use Rattle.byte_streams.specs.Prefixes.{AppendsPrefix}
 use Rattle.world.specs.Script.{AnswersScript, output_of}
-use Rattle.command_fault.specs.declared.fault.Fault.{Fault}
-use Rattle.command_fault.specs.declared.fault.Fault.TheVariants.{Input, Output, NoMemory}
 use Rattle.commands.specs.Names.{mistake_in}
 
 -- rooms of these names with full limits and empty records
@@ -22,14 +20,6 @@ pub record Serves
 -- a prefix of that text is appended
 abbrev pub ServesPrefix : Option (List ℕ) → Option (List ℕ) → List (List ℕ) → List ℕ → Type 0
 ServesPrefix before after names bytes = AppendsPrefix before after (output_of (start names) bytes)
-
--- Why a script in rooms of these names may end early: a mistake in the names; if there is none,
--- failed input or output; or a failed allocation.
-abbrev pub MayEnd : List (List ℕ) → Fault → Type 0
-MayEnd names Input = mistake_in names ≡ None
-MayEnd names Output = mistake_in names ≡ None
-MayEnd names NoMemory = Unit {0}
-MayEnd names fault = mistake_in names ≡ Some fault
 
 -- the possible statuses
 pub record IsStatus (names : List (List ℕ)) (status : ℕ) : Type 0 where

@@ -5,8 +5,8 @@ ghost use Rattle.std.specs.Prelude.{string_bytes};
 ghost use Rattle.std.specs.Io.KnownBytes.{Appends, IsAtEnd};
 ghost use Rattle.byte_streams.specs.Prefixes.{AppendsPrefix};
 ghost use Rattle.commands.specs.Checks.{check_report, verdict_line, verdict_status};
-ghost use Rattle.commands.specs.Ends.{EndsEarly};
-ghost use Rattle.commands.specs.Reports.{IsOfResult, OfReaders, OfSome, Reports, Tells, TellsPrefix};
+ghost use Rattle.commands.specs.steps.Statuses.{EndsEarly, IsOfResult, OfSome};
+ghost use Rattle.commands.specs.Reports.{OfReaders, Reports, Tells, TellsPrefix};
 
 use crate::reporting::end_with;
 use byte_streams::{Uninterrupted, write_out};

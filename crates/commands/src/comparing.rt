@@ -1,9 +1,9 @@
 //! `grace renewed OLD NEW`: compares what two records draw.
 
 ghost use Rattle.std.specs.Prelude.{◌≡◌, IfErr, IfOk, string_bytes};
-ghost use Rattle.commands.specs.Ends.{EndsEarly};
+ghost use Rattle.commands.specs.steps.Statuses.{EndsEarly, IsOfResult, OfSome};
 ghost use Rattle.commands.specs.Renewals.{comparison_line, comparison_status, renewed_report};
-ghost use Rattle.commands.specs.Reports.{IsOfResult, OfReaders, OfSome, Reports, Tells, TellsPrefix};
+ghost use Rattle.commands.specs.Reports.{OfReaders, Reports, Tells, TellsPrefix};
 
 use crate::checking::{read_at, read_whole, write_line};
 use crate::reporting::end_with;

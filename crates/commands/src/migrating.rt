@@ -1,9 +1,9 @@
 //! `grace migrate RECORD`: rewrites a room's record in the current forms.
 
 ghost use Rattle.std.specs.Prelude.{◌≡◌, IfErr, IfOk, string_bytes};
-ghost use Rattle.commands.specs.Ends.{EndsEarly};
+ghost use Rattle.commands.specs.steps.Statuses.{EndsEarly, IsOfResult, OfSome};
 ghost use Rattle.commands.specs.Migrations.{migrate_report, migrated_status, migrated_text};
-ghost use Rattle.commands.specs.Reports.{IsOfResult, OfReader, OfSome, Reports, Tells, TellsPrefix};
+ghost use Rattle.commands.specs.Reports.{OfReader, Reports, Tells, TellsPrefix};
 
 use crate::checking::{read_at, read_whole, write_line};
 use crate::reporting::end_with;

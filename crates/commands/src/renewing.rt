@@ -1,9 +1,9 @@
 //! `grace renew RECORD`: prints a short record that draws what a room's record draws.
 
 ghost use Rattle.std.specs.Prelude.{◌≡◌, IfErr, IfOk, string_bytes};
-ghost use Rattle.commands.specs.Ends.{EndsEarly};
+ghost use Rattle.commands.specs.steps.Statuses.{EndsEarly, IsOfResult, OfSome};
 ghost use Rattle.commands.specs.Renewals.{renew_report, renewed_status, renewed_text};
-ghost use Rattle.commands.specs.Reports.{IsOfResult, OfReader, OfSome, Reports, Tells, TellsPrefix};
+ghost use Rattle.commands.specs.Reports.{OfReader, Reports, Tells, TellsPrefix};
 
 use crate::checking::{read_at, read_whole, write_line};
 use crate::reporting::end_with;

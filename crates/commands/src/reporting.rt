@@ -1,7 +1,7 @@
 //! The exit status of a command that writes one result.
 
 ghost use Rattle.std.specs.Prelude.{◌≡◌};
-ghost use Rattle.commands.specs.Reports.{end_status};
+ghost use Rattle.commands.specs.steps.Statuses.{end_status};
 
 use command_fault::Fault;
 use std::io::Write;

@@ -4,7 +4,8 @@ ghost use Rattle.std.specs.Prelude.{◌≡◌, ◌≢◌, IfErr, IfOk, IfSome, N
 ghost use Rattle.std.specs.List.{list_all};
 ghost use Rattle.base_types.specs.RoomNames.{is_first_name};
 ghost use Rattle.commands.specs.Names.{texts_of, mistake_in};
-ghost use Rattle.commands.specs.Service.{IsStatus, MayEnd, Serves, ServesPrefix};
+ghost use Rattle.commands.specs.Service.{IsStatus, Serves, ServesPrefix};
+ghost use Rattle.commands.specs.steps.Statuses.{MayEnd};
 
 use crate::fault::{fault_of_rooms, fault_of_script};
 use base_types::RoomName;

@@ -10,7 +10,7 @@ use Rattle.rules.specs.Limits.{full_limits}
 use Rattle.rules.specs.Records.{admits, IsLegal}
 use Rattle.rules.proofs.Records.{admitted_at}
 use Rattle.room_core.specs.Room.{with_entry, full_room}
-use Rattle.room_core.specs.Answers.{admitted}
+use Rattle.room_core.specs.steps.Plans.{admitted}
 
 -- each entry of a legal record is admitted by those before it
 pub admitted_in_place : (b : LimitValues) (r : List Entry) (k : ℕ) (d : Entry) → IsLegal b r → k < length r → admits b (take k r) (get_or r k d) ≡ true

@@ -3,7 +3,6 @@ use Rattle.std.specs.Prelude.{Bool, true, false}
 use Rattle.journal.specs.declared.fault.JournalFault.{JournalFault}
 use Rattle.journal.specs.declared.fault.JournalFault.TheVariants.{NoMemory, Full, Failed}
 use Rattle.room_lock.specs.Passes.{PrefixView}
-use Rattle.keeper.specs.declared.keeper.KeepFault.{KeepFault}
 use Rattle.keeper.specs.declared.keeper.KeepFault.TheVariants as keep_fault
 use Rattle.keeping.specs.declared.file.Tail.{Tail}
 use Rattle.keeping.specs.declared.file.Tail.TheVariants.{Nothing, Scraps, Broken}
@@ -24,9 +23,3 @@ abbrev pub tail_after : JournalFault → Tail
 tail_after NoMemory = Scraps
 tail_after Full = Scraps
 tail_after Failed = Broken
-
--- the fault of keeping for a fault of the file
-abbrev pub keep_fault_of : JournalFault → KeepFault
-keep_fault_of NoMemory = keep_fault.NoMemory
-keep_fault_of Full = keep_fault.NotKept
-keep_fault_of Failed = keep_fault.NotKept

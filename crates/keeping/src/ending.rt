@@ -1,7 +1,8 @@
 //! Ending the record of a room that is nearly full, while people are in it.
 
 ghost use Rattle.std.specs.Prelude.{◌≡◌, IfOk, IfSome};
-ghost use Rattle.keeping.specs.Ended.{HasSuccessor, IsCountOfSuccessor};
+ghost use Rattle.keeping.specs.Ended.{HasSuccessor};
+ghost use Rattle.keeping.specs.steps.Successors.{IsCountOfSuccessor};
 
 use crate::files::RoomFiles;
 use crate::keeping::Keeping;

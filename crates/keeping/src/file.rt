@@ -6,7 +6,8 @@ ghost use Rattle.std.specs.Arc.{arc_value};
 ghost use Rattle.record_file.specs.RecordText.{AreLines, record_text};
 ghost use Rattle.room_lock.specs.InOrder.{opening_name, openings_of};
 ghost use Rattle.keeping.specs.declared.file.Tail.TheVariants.{Nothing, Broken};
-ghost use Rattle.keeping.specs.Tails.{keep_fault_of, is_clean, tail_after};
+ghost use Rattle.keeping.specs.Tails.{is_clean, tail_after};
+ghost use Rattle.keeping.specs.steps.Faults.{keep_fault_of};
 
 mod clean;
 mod kept;

@@ -8,10 +8,6 @@ pub record ReplicaState : Type 0 where
   pub limits : LimitValues
   pub taken : List Entry
 
--- a replica that has taken nothing
-abbrev pub empty_replica : LimitValues → ReplicaState
-empty_replica limits = record { limits = limits; taken = [] }
-
 -- the replica after these further entries
 abbrev pub with_entries : ReplicaState → List Entry → ReplicaState
 with_entries s entries = record { limits = s.limits; taken = s.taken ++ entries }

@@ -13,8 +13,8 @@ ghost use Rattle.drawing.specs.Shown.{shown};
 ghost use Rattle.late_join.specs.declared.fault.TakeFault.TheVariants.{NoMemory as WantOfMemory};
 ghost use Rattle.late_join.specs.Taking.{has_joined, is_early, is_repeat, lacks_another};
 ghost use Rattle.late_join.specs.Taking.{take_fault, IsTakeable};
-ghost use Rattle.late_join.specs.Replica.{with_entries, with_taken, empty_replica};
-ghost use Rattle.late_join.specs.steps.Steps.{arrival_fault};
+ghost use Rattle.late_join.specs.Replica.{with_entries, with_taken};
+ghost use Rattle.late_join.specs.steps.Steps.{empty_replica, arrival_fault};
 ghost use Rattle.late_join.specs.steps.Feeding.{IsFed, StaysBy, Stops};
 
 use crate::fault::{FeedFault, TakeFault};

@@ -6,7 +6,7 @@ use Rattle.rules.specs.Limits.{full_limits}
 use Rattle.rules.specs.Records.{admits, IsLegal}
 use Rattle.rules.proofs.Records.{legal_push, admitted_at}
 use Rattle.room_core.specs.Room.{Room, empty_room, full_room, with_entry}
-use Rattle.room_core.specs.Answers.{admitted}
+use Rattle.room_core.specs.steps.Plans.{admitted}
 
 -- the room has the first k of the entries, which are a legal record
 pub record HasReplayed (entries : List Entry) (k : ℕ) (room : Room) : Type 0 where

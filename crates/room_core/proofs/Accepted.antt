@@ -10,7 +10,8 @@ use Rattle.rules.specs.Records.{refusal, is_placed, admits, sites}
 use Rattle.wire.specs.declared.reply.Reply.{Reply}
 use Rattle.wire.specs.declared.reply.Reply.TheVariants.{Joined}
 use Rattle.room_core.specs.Room.{Room}
-use Rattle.room_core.specs.Answers.{admitted, entry_answer, entry_or_refusal, join_answer, operation_answer, operation_reply}
+use Rattle.room_core.specs.Answers.{entry_answer, entry_or_refusal, join_answer, operation_answer, operation_reply}
+use Rattle.room_core.specs.steps.Plans.{admitted}
 
 added_by : (room : Room) (q : Option Refusal) (entry : Entry) (reply : Reply) (p : Bool) → p ≡ true → (entry_or_refusal room q entry reply).1 ≡ cond (p && is_none q) (Some entry) None
 added_by room None entry reply p e = ap (λ b. cond (b && true) (Some entry) None) (sym e)

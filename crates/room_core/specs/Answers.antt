@@ -12,7 +12,7 @@ use Rattle.rules.specs.declared.refusal.Refusal.TheVariants.{NotJoined, AlreadyJ
 use Rattle.rules.specs.declared.refusal.Refusal.TheVariants.{SiteInUse, TooFar}
 use Rattle.rules.specs.Bodies.{is_change_body}
 use Rattle.rules.specs.Admission.{count_at_site}
-use Rattle.rules.specs.Records.{objects, operations, sites, refusal, admits}
+use Rattle.rules.specs.Records.{objects, operations, sites, refusal}
 use Rattle.drawing.specs.Room.{Room, all_objects, with_entry}
 use Rattle.drawing.specs.Shown.{ids_with, shown}
 use Rattle.wire.specs.declared.request.Request.{Request}
@@ -109,7 +109,3 @@ back_reply room in_use site = let at = length room.entries in
 unfoldable pub answer : Room → ℕ → Request → Outcome
 answer room site request =
     if has_site room site then site_answer room site request else reply_alone (No 0 NotJoined)
-
--- the entry itself, if it may come next
-abbrev pub admitted : Room → Entry → Option Entry
-admitted room entry = if admits room.limits room.entries entry then Some entry else None

@@ -11,9 +11,10 @@ use Rattle.rules.specs.Records.{sites, IsLegal}
 use Rattle.openings.specs.Openings.{OpeningView}
 use Rattle.room_lock.specs.Passes.{PartView}
 use Rattle.room_lock.specs.Sites.{count_of_sites}
-use Rattle.room_lock.specs.Kept.{count_of_site}
+use Rattle.room_lock.specs.Sites.{count_of_site}
 use Rattle.room_lock.specs.Shelves.{Shelf, IsPartFor, IsShelfOf, part_of}
-use Rattle.room_lock.specs.Closing.{HasItsEntries, IsClosed, IsComplete, IsOfRecord, added_of, site_of}
+use Rattle.room_lock.specs.Closing.{IsClosed, IsOfRecord, added_of, site_of}
+use Rattle.room_lock.specs.steps.Closing.{HasItsEntries, IsComplete}
 use Rattle.room_lock.proofs.Answers.{count_of_front}
 use Rattle.room_lock.proofs.Shares.{counts_within, each_same, sum_mapped}
 

@@ -8,7 +8,8 @@ use Rattle.wire.specs.Notes.{Notes, note_of, notes_after, with_note}
 use Rattle.notes.specs.Notes.{NotePlaces, notes_at}
 use Rattle.room_lock.specs.Shelves.{AreOfSitesIn}
 use Rattle.room_lock.specs.Passes.{PartView}
-use Rattle.room_lock.specs.Shelves.{Shelf, is_away, part_of, with_at}
+use Rattle.room_lock.specs.Shelves.{Shelf, is_away, part_of}
+use Rattle.room_lock.specs.steps.Shelves.{with_at}
 use Rattle.room_lock.proofs.Shelves.{part_with, push_found, same_length}
 
 -- ---- sites that are away

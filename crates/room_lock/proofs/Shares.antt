@@ -8,7 +8,7 @@ use Rattle.rules.specs.declared.history.Entry.{Entry}
 use Rattle.rules.specs.declared.history.Entry.TheVariants.{Join, Next, Operation}
 use Rattle.rules.specs.Records.{is_end}
 use Rattle.room_lock.specs.Sites.{is_of_site, count_of_sites}
-use Rattle.room_lock.specs.Kept.{count_of_site}
+use Rattle.room_lock.specs.Sites.{count_of_site}
 
 -- 1 at the number
 abbrev is_here : ℕ → ℕ → ℕ

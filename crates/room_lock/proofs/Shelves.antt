@@ -10,7 +10,8 @@ use Rattle.rules.specs.Records.{sites}
 use Rattle.shared_history.proofs.Prefixes.{prefix_trans}
 use Rattle.openings.specs.Openings.{OpeningView}
 use Rattle.room_lock.specs.Passes.{PartView}
-use Rattle.room_lock.specs.Shelves.{Shelf, IsPartFor, IsShelfOf, full_shelf, part_of, whole_part, with_at}
+use Rattle.room_lock.specs.Shelves.{Shelf, IsPartFor, IsShelfOf, part_of}
+use Rattle.room_lock.specs.steps.Shelves.{full_shelf, whole_part, with_at}
 
 -- ---- what is at a place
 

@@ -1,14 +1,13 @@
 -- A closed room.
-use Rattle.std.specs.Prelude.{◌≡◌, ◌≤◌, ℕ, All, List, Some, map, sum_by}
+use Rattle.std.specs.Prelude.{◌≡◌, ℕ, All, List, map, sum_by}
 use Rattle.std.specs.List.{range_with_len}
 use mathlib.Core.List.{IsPrefix}
 use Rattle.rules.specs.declared.history.Entry.{Entry}
 use Rattle.rules.specs.declared.limits.LimitValues.{LimitValues}
 use Rattle.rules.specs.Records.{sites, IsLegal}
 use Rattle.room_lock.specs.Sites.{count_of_sites}
-use Rattle.room_lock.specs.Kept.{count_of_site}
+use Rattle.room_lock.specs.Sites.{count_of_site}
 use Rattle.room_lock.specs.Passes.{PartView}
-use Rattle.room_lock.specs.Shelves.{Shelf}
 
 abbrev pub site_of : PartView → ℕ
 site_of part = part.site
@@ -16,20 +15,10 @@ site_of part = part.site
 abbrev pub added_of : PartView → ℕ
 added_of part = part.added
 
--- the part has seen at least as many entries of its site as it added
-abbrev pub HasItsEntries : PartView → Type 0
-HasItsEntries part = part.added ≤ count_of_site part.site part.seen
-
 -- the part has seen a prefix of the record, and added all entries of its site there
 pub record IsOfRecord (r : List Entry) (part : PartView) : Type 0 where
   pub seen : IsPrefix part.seen r
   pub added : part.added ≡ count_of_site part.site r
-
--- The parts of all sites are on the shelf. Together they added all entries of the record but its
--- end.
-abbrev pub IsComplete : List Entry → Shelf → Type 0
-IsComplete r shelf =
-    (parts : List PartView) × (map Some parts ≡ shelf) × (sum_by added_of parts ≡ count_of_sites r)
 
 -- A closed room: its record is legal, and these are the parts of all its sites, in order. Together
 -- they added all its entries but its end, so each other entry belongs to one of them.

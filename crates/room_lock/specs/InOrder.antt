@@ -1,5 +1,5 @@
 -- Rooms that were opened in the order of their names.
-use Rattle.std.specs.Prelude.{◌≡◌, ℕ, All, Contains, List, Some, bytes_eq, length, map, position}
+use Rattle.std.specs.Prelude.{◌≡◌, ℕ, Contains, List, Some, bytes_eq, length, map, position}
 use Rattle.std.specs.List.{range_with_len}
 use Rattle.crossbeam_utils.specs.Padded.{padded_value}
 use Rattle.crossbeam_utils.specs.declared.cache_padded.CachePadded.{CachePadded}
@@ -39,7 +39,3 @@ openings_of prefixes = map (λ (prefix : PrefixView). prefix.opening) prefixes
 -- the openings of rooms by name
 abbrev pub openings_in : List (Bytes × CachePadded OpeningView) → List OpeningView
 openings_in rooms = map (λ (room : Bytes × CachePadded OpeningView). padded_value room.1) rooms
-
--- each opening stands under the name of its room
-abbrev pub AreNamed : List (Bytes × OpeningView) → Type 0
-AreNamed openings = All (λ (named : Bytes × OpeningView). opening_name named.1 ≡ named.0) openings

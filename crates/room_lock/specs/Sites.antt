@@ -18,3 +18,7 @@ is_of_site site (Next count) = false
 -- the number of entries that sites have added: all but the end
 abbrev pub count_of_sites : List Entry → ℕ
 count_of_sites r = count_by (λ entry. not (is_end entry)) r
+
+-- the number of the site's entries
+abbrev pub count_of_site : ℕ → List Entry → ℕ
+count_of_site site r = count_by (is_of_site site) r

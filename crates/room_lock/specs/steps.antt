@@ -3,3 +3,7 @@ pub mod Ends
 pub mod Entrances
 pub mod Differences
 pub mod Stages
+pub mod Kept
+pub mod Shelves
+pub mod Views
+pub mod Closing

@@ -17,7 +17,7 @@ pub struct InUse<P: RoomHistories> {
 }
 
 impl<P: RoomHistories> Model for InUse<P> {
-    ghost use Rattle.room_lock.specs.Passes.{InUseView};
+    ghost use Rattle.room_lock.specs.steps.Views.{InUseView};
 
     ghost Value = { InUseView };
 

@@ -25,7 +25,7 @@ pub struct News<P: RoomHistories> {
 impl<P: RoomHistories> Model for News<P> {
     ghost use Rattle.std.specs.Prelude.{map};
     ghost use Rattle.std.specs.Arc.{arc_value};
-    ghost use Rattle.room_lock.specs.Passes.{NewsView};
+    ghost use Rattle.room_lock.specs.steps.Views.{NewsView};
 
     ghost Value = { NewsView };
 

@@ -2,7 +2,7 @@
 
 ghost use Rattle.std.specs.Prelude.{◌≡◌, ◌↔◌, ◌≤◌, true, length};
 ghost use mathlib.Core.List.{IsPrefix};
-ghost use Rattle.room_lock.specs.Kept.{count_of_site};
+ghost use Rattle.room_lock.specs.Sites.{count_of_site};
 ghost use Rattle.room_lock.specs.Passes.{prefix_of};
 
 use crate::prefix::Prefix;
@@ -21,7 +21,7 @@ pub struct Part<P: RoomHistories> {
 impl<P: RoomHistories> Model for Part<P> {
     ghost use Rattle.std.specs.Prelude.{◌≤◌};
     ghost use Rattle.room_lock.specs.Passes.{PartView};
-    ghost use Rattle.room_lock.specs.Kept.{count_of_site};
+    ghost use Rattle.room_lock.specs.Sites.{count_of_site};
 
     ghost Value = { PartView };
 

@@ -5,7 +5,7 @@ ghost use Rattle.std.specs.Prelude.{count_by, drop};
 ghost use Rattle.std.specs.Arc.{arc_value};
 ghost use Rattle.rules.specs.declared.limits.TheConstants.Limits.{MAX_ENTRIES};
 ghost use Rattle.room_lock.specs.Sites.{is_of_site};
-ghost use Rattle.room_lock.specs.Shelves.{full_shelf, whole_part};
+ghost use Rattle.room_lock.specs.steps.Shelves.{full_shelf, whole_part};
 
 use crate::part::Part;
 use crate::prefix::Prefix;

@@ -13,10 +13,12 @@ ghost use Rattle.room_core.specs.Room.{room_of};
 ghost use Rattle.room_core.specs.Answers.{join_answer, answer, room_after};
 ghost use Rattle.room_lock.specs.steps.Differences.{first_difference};
 ghost use Rattle.room_lock.specs.Sites.{count_of_sites, none_or_one};
-ghost use Rattle.room_lock.specs.Closing.{IsClosed, IsComplete};
+ghost use Rattle.room_lock.specs.Closing.{IsClosed};
+ghost use Rattle.room_lock.specs.steps.Closing.{IsComplete};
 ghost use Rattle.room_lock.specs.steps.Ends.{IsEndOver};
 ghost use Rattle.room_lock.specs.declared.fault.CloseFault.TheVariants as close_fault;
-ghost use Rattle.room_lock.specs.Shelves.{count_away, full_shelf, is_away, part_of, with_at};
+ghost use Rattle.room_lock.specs.Shelves.{is_away, part_of};
+ghost use Rattle.room_lock.specs.steps.Shelves.{count_away, full_shelf, with_at};
 ghost use Rattle.room_lock.specs.Calls.{IsBackOver, IsBackRefusalOver, IsCallOver, IsJoinOver};
 ghost use Rattle.room_lock.specs.Calls.{IsLeaveOver, IsNotesCallOver, IsRefusalOver};
 ghost use Rattle.wire.specs.Notes.{notes_after, with_note};
@@ -57,7 +59,7 @@ pub(crate) struct Room<P: RoomHistories> {
 }
 
 impl<P: RoomHistories> Model for Room<P> {
-    ghost use Rattle.room_lock.specs.Kept.{IsRoomKept, RoomView};
+    ghost use Rattle.room_lock.specs.steps.Kept.{IsRoomKept, RoomView};
     ghost use Rattle.room_lock.specs.Shelves.{AreOfSitesIn};
 
     ghost Value = { RoomView };

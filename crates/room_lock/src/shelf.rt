@@ -3,7 +3,8 @@
 
 ghost use Rattle.std.specs.Prelude.{◌≡◌, ◌↔◌, None, Some, true, false, IfErr, IfOk, OnErr, OnOk};
 ghost use Rattle.std.specs.Prelude.{MatchOption, Contains, map, vec_capacity};
-ghost use Rattle.room_lock.specs.Shelves.{count_away, is_away, part_of, with_at};
+ghost use Rattle.room_lock.specs.Shelves.{is_away, part_of};
+ghost use Rattle.room_lock.specs.steps.Shelves.{count_away, with_at};
 
 use crate::part::Part;
 use base_types::NoMemory;

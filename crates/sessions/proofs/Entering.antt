@@ -17,7 +17,8 @@ use Rattle.room_lock.specs.declared.entrance.Entrance.{Entrance}
 use Rattle.room_lock.specs.declared.entrance.Entrance.TheVariants.{Entered, Refused, InUse, NoRoom}
 use Rattle.room_lock.specs.steps.Entrances.{IfEntered, IfInUse, IfRefused}
 use Rattle.room_lock.specs.InOrder.{IsOpeningFor}
-use Rattle.room_lock.specs.Passes.{InUseView, PassView, PrefixView}
+use Rattle.room_lock.specs.Passes.{PassView, PrefixView}
+use Rattle.room_lock.specs.steps.Views.{InUseView}
 use Rattle.room_lock.specs.Rooms.{IsOffered, IsOnDemand, RoomsView, Serves}
 use Rattle.room_lock.specs.Calls.{IsBack, IsJoin, IsRefusalOver}
 use Rattle.sessions.specs.Sessions.{HostView, IsPermitted, SessionTurn}

@@ -39,7 +39,7 @@ pub struct Front {
 
 impl Model for Front {
     ghost use Rattle.std.specs.Prelude.{◌≡◌, length};
-    ghost use Rattle.shared_history.specs.Fronts.{FrontView};
+    ghost use Rattle.shared_history.specs.steps.Fronts.{FrontView};
 
     ghost Value = { FrontView };
 

@@ -16,7 +16,8 @@ use Rattle.drawing.specs.Shown.{shown_by}
 use Rattle.room_core.specs.Room.{Room, full_room}
 use Rattle.renewal.specs.Drawn.{Drawn, drawn, drawn_if, live_versions, picture_in}
 use Rattle.renewal.specs.Renewed.{IsShortRenewal}
-use Rattle.succession.specs.Succession.{EndsWith, Follows}
+use Rattle.succession.specs.Succession.{Follows}
+use Rattle.succession.specs.steps.Ends.{EndsWith}
 
 -- a list with a last element
 last-split : {A : Type 0} (xs : List A) (x : A) → slice_get xs (length xs - 1) ≡ Some x → xs ≡ take (length xs - 1) xs ++ x ∷ []

@@ -1,5 +1,5 @@
 -- How a room goes on as another one.
-use Rattle.std.specs.Prelude.{◌≡◌, ℕ, List, [], ◌∷◌, ◌++◌, length, true}
+use Rattle.std.specs.Prelude.{◌≡◌, List, [], ◌∷◌, ◌++◌, length, true}
 use Rattle.rules.specs.declared.history.Entry.{Entry}
 use Rattle.rules.specs.declared.history.Entry.TheVariants.{Next}
 use Rattle.room_core.specs.Room.{Room, full_room}
@@ -7,11 +7,6 @@ use Rattle.renewal.specs.Renewed.{IsRenewal}
 use Rattle.succession.specs.Usage.{is_roomy}
 use Rattle.succession.specs.declared.succeeding.Succession.{Succession}
 use Rattle.succession.specs.declared.succeeding.Succession.TheVariants as succession
-
--- the last entry of the record is its end, with this number of entries of the next one
-pub record EndsWith (r : List Entry) (count : ℕ) : Type 0 where
-  pub before : List Entry
-  pub ended : r ≡ before ++ Next count ∷ []
 
 -- The old record is one that goes on in the new record: it ends with the number of entries of the
 -- new one, which is legal and draws what the entries before this end draw.

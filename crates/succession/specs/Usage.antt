@@ -1,21 +1,11 @@
 -- How much of a room's limits is used.
-use Rattle.std.specs.Prelude.{ℕ, ◌*◌, Bool, ◌&&◌, ◌||◌, nat_le, length}
+use Rattle.std.specs.Prelude.{ℕ, ◌*◌, Bool, ◌&&◌, nat_le, length}
 use Rattle.rules.specs.Records.{objects, sites}
 use Rattle.room_core.specs.Room.{Room}
-
--- nine tenths of a limit are used
-abbrev pub is_nearly_used : ℕ → ℕ → Bool
-is_nearly_used limit used = nat_le (limit * 9) (used * 10)
 
 -- a quarter of a limit is left
 abbrev pub has_quarter : ℕ → ℕ → Bool
 has_quarter limit used = nat_le (used * 4) (limit * 3)
-
--- nine tenths of the room's entries, joins or objects are used
-abbrev pub is_nearly_full : Room → Bool
-is_nearly_full room = is_nearly_used room.limits.entries (length room.entries)
-    || is_nearly_used room.limits.joins (sites room.entries)
-    || is_nearly_used room.limits.objects (length (objects room.entries))
 
 -- a quarter of the room's entries, joins and objects is left
 abbrev pub is_roomy : Room → Bool

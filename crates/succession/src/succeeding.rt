@@ -1,7 +1,8 @@
 //! How a room that is nearly full goes on as another one.
 
 ghost use Rattle.std.specs.Prelude.{IfOk, IfSome};
-ghost use Rattle.succession.specs.Succession.{EndsWith, Follows, IsSuccession, IsSuccessor};
+ghost use Rattle.succession.specs.Succession.{Follows, IsSuccession, IsSuccessor};
+ghost use Rattle.succession.specs.steps.Ends.{EndsWith};
 
 use crate::usage::is_roomy;
 use base_types::NoMemory;

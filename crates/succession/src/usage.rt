@@ -2,7 +2,8 @@
 
 ghost use Rattle.std.specs.Prelude.{◌≡◌, ◌≤◌, ◌<◌, ◌+◌, ◌*◌};
 ghost use Rattle.rules.specs.Records.{sites};
-ghost use Rattle.succession.specs.Usage.{has_quarter, is_nearly_full, is_roomy};
+ghost use Rattle.succession.specs.Usage.{has_quarter, is_roomy};
+ghost use Rattle.succession.specs.steps.Usage.{is_nearly_full};
 
 use room_core::RoomState;
 

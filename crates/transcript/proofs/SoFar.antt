@@ -3,8 +3,7 @@ use Rattle.std.proofs.Common.{◌≡◌, ℕ, true, false, List, [], ◌∷◌, 
 use Rattle.std.proofs.lemmas.List.{map-append}
 use Rattle.transcript.specs.declared.line.TranscriptLine.{TranscriptLine}
 use Rattle.transcript.specs.steps.Reads.{line_read}
-use Rattle.transcript.specs.Order.{AreInOrder}
-use Rattle.transcript.specs.steps.OrderedParts.{IsNoNext, IsOrderedPart}
+use Rattle.transcript.specs.steps.OrderedParts.{AreInOrder, IsNoNext, IsOrderedPart}
 use Rattle.transcript.specs.steps.Tables.{OrderedLines}
 
 -- the first lines of the file are read, and these are left

@@ -12,7 +12,8 @@ use Rattle.base_types.specs.declared.op_name.TheConstants.{MAX_SITE}
 use Rattle.transcript.specs.declared.line.TranscriptLine.{TranscriptLine}
 use Rattle.transcript.specs.Lines.{IsLine, entries_after}
 use Rattle.wire.specs.Replies.{adds, at_of}
-use Rattle.transcript.specs.Order.{IsInOrder, IsNext, AreInOrder}
+use Rattle.transcript.specs.Order.{IsInOrder, IsNext}
+use Rattle.transcript.specs.steps.OrderedParts.{AreInOrder}
 use Rattle.transcript.specs.steps.Tables.{OrderedLines, IsReached, IsFree, AreTables}
 
 pub site_fits : (line : TranscriptLine) → IsLine line → line.site ≤ MAX_SITE

@@ -1,6 +1,5 @@
 -- The order of a transcript's lines.
 use Rattle.std.specs.Prelude.{◌≡◌, ◌≢◌, ◌≤◌, ℕ, true, List, All}
-use Rattle.std.specs.List.{AllPairs}
 use Rattle.transcript.specs.declared.line.TranscriptLine.{TranscriptLine}
 use Rattle.transcript.specs.Lines.{entries_after}
 use Rattle.wire.specs.Replies.{at_of, adds}
@@ -16,8 +15,3 @@ pub record IsInOrder (earlier later : TranscriptLine) : Type 0 where
 pub record IsNext (count : ℕ) (before : List TranscriptLine) (line : TranscriptLine) : Type 0 where
   pub within : at_of line.reply ≤ count
   pub order : All (λ earlier. IsInOrder earlier line) before
-
--- these lines are in order, in a transcript of a record with `count` entries
-pub record AreInOrder (count : ℕ) (lines : List TranscriptLine) : Type 0 where
-  pub within : All (λ line. at_of line.reply ≤ count) lines
-  pub order : AllPairs IsInOrder lines

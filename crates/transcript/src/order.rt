@@ -2,7 +2,8 @@
 
 ghost use Rattle.std.specs.Prelude.{◌≡◌, ◌↔◌, ◌++◌, ◌∷◌, [], IfOk, OnOk, OnErr, IsTrue};
 ghost use Rattle.transcript.specs.Lines.{IsLine};
-ghost use Rattle.transcript.specs.Order.{IsNext, AreInOrder};
+ghost use Rattle.transcript.specs.Order.{IsNext};
+ghost use Rattle.transcript.specs.steps.OrderedParts.{AreInOrder};
 
 use crate::line::{TranscriptLine, entries_after};
 use base_types::{MAX_SITE, NoMemory};

@@ -4,10 +4,12 @@ use Rattle.std.proofs.lemmas.Bool.{eqb-true}
 use Rattle.std.proofs.lemmas.List.{length_push, take_more, map-append}
 use Rattle.wire.specs.Texts.{reply_text}
 use Rattle.world.specs.Alone.{Message, Alone, alone_reply, alone_after, alone_texts, alone_end}
-use Rattle.world.specs.Rooms.{Rooms, owner_of, reply_at, after_at, reply_to, rooms_after, lone_reply, owners, texts, rooms_end, at_room, at_none}
+use Rattle.world.specs.Rooms.{Rooms, owner_of, reply_at, after_at, reply_to, rooms_after, lone_reply, owners, at_room, at_none}
+use Rattle.world.specs.steps.Ends.{texts, rooms_end}
 use Rattle.world.specs.State.{WorldState, names_of, rooms_of}
 use Rattle.world.specs.Shown.{ShowsGroups, AllShowGroups}
-use Rattle.world.specs.Run.{answered_messages, answer_texts, IsStep, IsRun, AnswersSomeOf}
+use Rattle.world.specs.Run.{IsRun}
+use Rattle.world.specs.steps.Runs.{answered_messages, answer_texts, IsStep, AnswersSomeOf}
 
 -- ---- one more message
 

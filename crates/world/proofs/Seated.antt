@@ -10,7 +10,8 @@ use Rattle.wire_reader.specs.steps.Reads.{request_read, note_request_read}
 use Rattle.room_core.specs.Room.{Room, with_entry}
 use Rattle.room_core.specs.Answers.{Outcome, has_site}
 use Rattle.world.specs.Alone.{Alone, Message, after_move, use_after_move, move_of, no_site, noted_by, notes_after_move, alone_answer, alone_after, alone_end}
-use Rattle.world.specs.Rooms.{owners, at_room, rooms_end}
+use Rattle.world.specs.Rooms.{owners, at_room}
+use Rattle.world.specs.steps.Ends.{rooms_end}
 use Rattle.world.specs.State.{uses_in, notes_of_rooms, empty_rooms, alone_at, rooms_of, new_world}
 use Rattle.world.specs.steps.Seated.{IsSeated, empty_alone}
 use Rattle.world.proofs.Moves.{Moves, answer_moves, still_joined}

@@ -26,7 +26,7 @@ use Rattle.world.specs.Rooms.{Rooms, named_place, lone_answer, notes_refusal, ow
 use Rattle.world.specs.State.{WorldState, names_of, no_room, rooms_in, room_at, uses_in, use_at, notes_of_rooms, notes_of, seat_of, site_at, alone_at, rooms_of}
 use Rattle.world.specs.steps.Steps.{place_answer, asker_of, IsTextFor, RepliesTo}
 use Rattle.world.specs.Shown.{OwnerHasObject, ShowsGroups}
-use Rattle.world.specs.Run.{IsStep}
+use Rattle.world.specs.steps.Runs.{IsStep}
 use Rattle.world.proofs.Places.{set_same}
 use Rattle.world.proofs.Changed.{owner_is, answer_is, asked_after, rooms_of-changed}
 use Rattle.world.proofs.LongLines.{IsBad, bad_reply, bad_after}

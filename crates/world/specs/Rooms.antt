@@ -8,7 +8,6 @@ use Rattle.wire.specs.declared.note.NoteRequest.{NoteRequest}
 use Rattle.wire.specs.declared.reply.Reply.{Reply}
 use Rattle.wire.specs.declared.reply.Reply.TheVariants.{No}
 use Rattle.wire.specs.Entering.{room_to_enter}
-use Rattle.wire.specs.Texts.{reply_text}
 use Rattle.wire_reader.specs.steps.Reads.{request_read, note_request_read}
 use Rattle.world.specs.Alone.{Message, Alone, after_reply, alone_reply, alone_after}
 
@@ -80,17 +79,6 @@ abbrev pub owners : List (List ℕ) → Rooms → List Message → List (Option 
 owners names rooms [] = []
 owners names rooms (message ∷ messages) =
     owner_of names rooms message ∷ owners names (rooms_after names rooms message) messages
-
-abbrev pub texts : List (List ℕ) → Rooms → List Message → List (List ℕ)
-texts names rooms [] = []
-texts names rooms (message ∷ messages) =
-    reply_text (reply_to names rooms message)
-    ∷ texts names (rooms_after names rooms message) messages
-
-abbrev pub rooms_end : List (List ℕ) → Rooms → List Message → Rooms
-rooms_end names rooms [] = rooms
-rooms_end names rooms (message ∷ messages) =
-    rooms_end names (rooms_after names rooms message) messages
 
 -- what stands at the places of one room, and at those of no room
 abbrev pub is_place : ℕ → Option ℕ → Bool

@@ -1,5 +1,5 @@
 -- A world as contracts see it.
-use Rattle.std.specs.Prelude.{ℕ, ◌+◌, ◌<◌, IfSome, ◌==◌, Bool, false, List, [], map, Option, Some}
+use Rattle.std.specs.Prelude.{ℕ, ◌+◌, ◌==◌, Bool, false, List, [], map, Option, Some}
 use Rattle.std.specs.Prelude.{None, option_map, slice_index_or, replicate, if◌then◌else◌}
 use Rattle.std.specs.Map.{lookup}
 use Rattle.base_types.specs.declared.op_name.TheConstants.{MAX_SITE}
@@ -31,11 +31,6 @@ names_of state = names_in state.rooms
 
 abbrev pub seat_of : List (ℕ × Seat) → ℕ → Option Seat
 seat_of seats session = lookup (λ key. session == key) seats
-
--- each seat is in one of so many rooms
-abbrev pub SeatsWithin : List (ℕ × Seat) → ℕ → Type 0
-SeatsWithin seats count = (session : ℕ)
-    → IfSome (seat_of seats session) (λ seat. seat.place < count)
 
 -- what stands at a place past the last room
 abbrev pub no_room : Room

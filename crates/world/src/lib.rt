@@ -11,7 +11,7 @@ ghost use Rattle.world.specs.Alone.{Message, message_of};
 ghost use Rattle.world.specs.Rooms.{place_of, lone_refusal, notes_refusal};
 ghost use Rattle.world.specs.State.{WorldState, names_in, names_of, new_world};
 ghost use Rattle.world.specs.steps.Steps.{asker_of, IsTextFor};
-ghost use Rattle.world.specs.Run.{IsStep, AnswersSomeOf};
+ghost use Rattle.world.specs.steps.Runs.{IsStep, AnswersSomeOf};
 
 mod fault;
 pub mod laws;
@@ -40,7 +40,8 @@ pub struct World {
 
 impl Model for World {
     ghost use Rattle.std.specs.Prelude.{length};
-    ghost use Rattle.world.specs.State.{WorldState, SeatsWithin};
+    ghost use Rattle.world.specs.State.{WorldState};
+    ghost use Rattle.world.specs.steps.Seated.{SeatsWithin};
 
     ghost Value = { WorldState };
 

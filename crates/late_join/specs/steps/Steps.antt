@@ -1,5 +1,5 @@
 -- Steps of taking an entry.
-use Rattle.std.specs.Prelude.{List, Option, Some, option_map, if◌then◌else◌}
+use Rattle.std.specs.Prelude.{List, Option, Some, option_map, if◌then◌else◌, []}
 use Rattle.rules.specs.declared.history.Op.{Op}
 use Rattle.rules.specs.declared.history.Entry.{Entry}
 use Rattle.rules.specs.declared.history.Entry.TheVariants.{Operation}
@@ -10,6 +10,11 @@ use Rattle.drawing.specs.declared.fault.AddFault.TheVariants as add_fault
 use Rattle.late_join.specs.declared.fault.TakeFault.{TakeFault}
 use Rattle.late_join.specs.declared.fault.TakeFault.TheVariants.{Repeat, Early, Refused, NoMemory}
 use Rattle.late_join.specs.Taking.{is_repeat, is_early, arriving_conditions}
+use Rattle.late_join.specs.Replica.{ReplicaState}
+
+-- a replica that has taken nothing
+abbrev pub empty_replica : LimitValues → ReplicaState
+empty_replica limits = record { limits = limits; taken = [] }
 
 -- the replica's fault for a fault of the drawing
 abbrev pub of_adding : AddFault → TakeFault

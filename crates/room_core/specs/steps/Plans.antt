@@ -12,6 +12,7 @@ use Rattle.drawing.specs.steps.Additions.{Added, IsReady as CanBeAdded}
 use Rattle.drawing.specs.Room.{Room}
 use Rattle.drawing.specs.steps.State.{DrawingState}
 use Rattle.room_core.specs.Answers.{Outcome}
+use Rattle.std.specs.Prelude.{if◌then◌else◌}
 
 -- a reply, and what is added with it
 pub record Plan : Type 0 where
@@ -57,3 +58,7 @@ abbrev pub Plans : {E : Type 0} → DrawingState → DrawingState → Outcome �
 Plans old new answer result =
     IfOk result (λ plan. (outcome plan ≡ answer) × IsPlanReady new plan.addition)
     × (new.room ≡ old.room)
+
+-- the entry itself, if it may come next
+abbrev pub admitted : Room → Entry → Option Entry
+admitted room entry = if admits room.limits room.entries entry then Some entry else None

@@ -4,8 +4,7 @@ ghost use Rattle.std.specs.Prelude.{◌≡◌, ℕ, is_some, IfOk, OnOk, OnErr};
 ghost use Rattle.rules.specs.declared.history.Entry.TheVariants.{Join, Next, Operation};
 ghost use Rattle.rules.specs.Records.{is_placed, admits};
 ghost use Rattle.room_core.specs.Room.{with_entry};
-ghost use Rattle.room_core.specs.Answers.{admitted};
-ghost use Rattle.room_core.specs.steps.Plans.{entry_added, refusal_in, IsPlanReady};
+ghost use Rattle.room_core.specs.steps.Plans.{admitted, entry_added, refusal_in, IsPlanReady};
 
 use super::RoomState;
 use crate::planned::Planned;

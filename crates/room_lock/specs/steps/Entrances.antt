@@ -2,7 +2,8 @@
 use Rattle.wire.specs.declared.reply.Reply.{Reply}
 use Rattle.room_lock.specs.declared.entrance.Entrance.{Entrance}
 use Rattle.room_lock.specs.declared.entrance.Entrance.TheVariants.{Entered, Refused, InUse, NoRoom}
-use Rattle.room_lock.specs.Passes.{InUseView, PassView, PrefixView}
+use Rattle.room_lock.specs.Passes.{PassView, PrefixView}
+use Rattle.room_lock.specs.steps.Views.{InUseView}
 
 module _ {P : Type 0} where
   -- if a site was let in, this holds of its pass and the reply

@@ -1,6 +1,6 @@
 -- The exit status of `grace serve` when it ends early.
 use Rattle.std.specs.Prelude.{ℕ}
-use Rattle.command_fault.specs.Faults.{status_of}
+use Rattle.command_fault.specs.steps.Faults.{status_of}
 use Rattle.room_folder.specs.declared.fault.FolderFault.TheVariants as folder
 use Rattle.server.specs.declared.early_end.EarlyEnd.{EarlyEnd}
 use Rattle.server.specs.declared.early_end.EarlyEnd.TheVariants.{Fault, Folder, NotKept}

@@ -1,8 +1,15 @@
 -- The first lines of a transcript that are in form and in order.
-use Rattle.std.specs.Prelude.{◌≡◌, ℕ, Bool, true, false, List, [], ◌∷◌, ◌++◌, Some, map}
+use Rattle.std.specs.Prelude.{◌≡◌, ℕ, Bool, true, false, List, [], ◌∷◌, ◌++◌, Some, map, ◌≤◌, All}
 use Rattle.transcript.specs.declared.line.TranscriptLine.{TranscriptLine}
 use Rattle.transcript.specs.steps.Reads.{line_read}
-use Rattle.transcript.specs.Order.{IsNext, AreInOrder}
+use Rattle.transcript.specs.Order.{IsNext, IsInOrder}
+use Rattle.std.specs.List.{AllPairs}
+use Rattle.wire.specs.Replies.{at_of}
+
+-- these lines are in order, in a transcript of a record with `count` entries
+pub record AreInOrder (count : ℕ) (lines : List TranscriptLine) : Type 0 where
+  pub within : All (λ line. at_of line.reply ≤ count) lines
+  pub order : AllPairs IsInOrder lines
 
 -- the first lines of a transcript, and whether reading stopped before its end
 pub record OrderedPartView : Type 0 where

@@ -6,8 +6,8 @@ use Rattle.transcript.specs.declared.line.TranscriptLine.{TranscriptLine}
 use Rattle.transcript.specs.Lines.{entries_after}
 use Rattle.wire.specs.Replies.{at_of, adds}
 use Rattle.transcript.specs.steps.Reads.{line_read}
-use Rattle.transcript.specs.Order.{IsNext, AreInOrder}
-use Rattle.transcript.specs.steps.OrderedParts.{IsNoNext}
+use Rattle.transcript.specs.Order.{IsNext}
+use Rattle.transcript.specs.steps.OrderedParts.{AreInOrder, IsNoNext}
 
 -- lines in order, of a record with `count` entries
 pub record OrderedLines : Type 0 where

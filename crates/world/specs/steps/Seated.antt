@@ -5,6 +5,9 @@ use Rattle.wire.specs.Notes.{no_notes}
 use Rattle.room_core.specs.Room.{empty_room}
 use Rattle.room_core.specs.Answers.{has_site}
 use Rattle.world.specs.Alone.{Alone, no_site}
+use Rattle.std.specs.Prelude.{◌<◌, IfSome, List}
+use Rattle.world.specs.declared.seats.Seat.{Seat}
+use Rattle.world.specs.State.{seat_of}
 
 -- The sites of a room in use are those that sessions are in as, each by one session. No other site
 -- has a note.
@@ -28,3 +31,8 @@ empty_alone limits = record {
   in_use = no_site;
   notes = no_notes;
 }
+
+-- each seat is in one of so many rooms
+abbrev pub SeatsWithin : List (ℕ × Seat) → ℕ → Type 0
+SeatsWithin seats count = (session : ℕ)
+    → IfSome (seat_of seats session) (λ seat. seat.place < count)

@@ -1,7 +1,7 @@
 use Rattle.std.proofs.Common.{map, ◌∙◌, arith}
 use Rattle.std.specs.Arc.{arc_value}
 use Rattle.room_core.specs.Room.{with_entry}
-use Rattle.room_core.specs.Answers.{admitted}
+use Rattle.room_core.specs.steps.Plans.{admitted}
 use Rattle.room_core.proofs.Seen.{at_map}
 use Rattle.history_check.proofs.Played.{room_goes_on}
 use Rattle.history_check.proofs.replay.advance.Goals as goal

@@ -2,7 +2,7 @@ use Rattle.std.proofs.Common.{◌+◌, ◌++◌, ◌∷◌, [], Some, length, ap
 use Rattle.std.specs.Arc.{arc_value}
 use Rattle.std.proofs.lemmas.List.{length-map}
 use Rattle.std.proofs.lemmas.List.FromFn.{map-range_with_len_more}
-use Rattle.room_lock.specs.Shelves.{whole_part}
+use Rattle.room_lock.specs.steps.Shelves.{whole_part}
 use Rattle.room_lock.proofs.restoring.fill_shelf.Goals as goal
 
 pub whole_part-requires-clause-short : goal.whole_part-requires-clause-short

@@ -1,6 +1,6 @@
 use Rattle.std.proofs.Common.{◌≡◌, Some, map}
 use Rattle.std.specs.List.{range_with_len}
-use Rattle.room_lock.specs.Shelves.{whole_part}
+use Rattle.room_lock.specs.steps.Shelves.{whole_part}
 use Rattle.room_lock.proofs.restoring.fill_shelf.Given as goal
 
 abbrev pub invariant-loop-before : goal.invariant-loop-before

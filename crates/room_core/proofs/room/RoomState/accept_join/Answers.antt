@@ -4,8 +4,8 @@ use Rattle.std.proofs.lemmas.Bool.{eq-eqb}
 use Rattle.rules.specs.declared.history.Entry.TheVariants.{Join}
 use Rattle.rules.specs.Records.{is_placed}
 use Rattle.room_core.specs.Room.{with_entry}
-use Rattle.room_core.specs.Answers.{Outcome, admitted}
-use Rattle.room_core.specs.steps.Plans.{entry_added}
+use Rattle.room_core.specs.Answers.{Outcome}
+use Rattle.room_core.specs.steps.Plans.{admitted, entry_added}
 use Rattle.room_core.proofs.Accepted.{join_added, some_if_admitted}
 use Rattle.room_core.proofs.room.RoomState.accept_join.Goals as goal
 

@@ -4,8 +4,8 @@ use Rattle.rules.specs.declared.history.Op.{Op}
 use Rattle.rules.specs.declared.history.Entry.TheVariants.{Operation}
 use Rattle.rules.specs.Records.{is_placed}
 use Rattle.room_core.specs.Room.{with_entry}
-use Rattle.room_core.specs.Answers.{Outcome, admitted, operation_answer}
-use Rattle.room_core.specs.steps.Plans.{entry_added}
+use Rattle.room_core.specs.Answers.{Outcome, operation_answer}
+use Rattle.room_core.specs.steps.Plans.{admitted, entry_added}
 use Rattle.room_core.proofs.Accepted.{operation_added, some_if_admitted}
 use Rattle.room_core.proofs.room.RoomState.accept_operation.Goals as goal
 

@@ -2,7 +2,8 @@ use Rattle.std.proofs.Common.{◌≡◌, ◌++◌, ◌∷◌, [], ◌∙◌, ap,
 use Rattle.std.proofs.lemmas.List.Elements.{All-push}
 use Rattle.base_types.specs.Texts.{Bytes}
 use Rattle.openings.specs.Openings.{OpeningView}
-use Rattle.room_lock.specs.InOrder.{AreNamed, opening_name}
+use Rattle.room_lock.specs.InOrder.{opening_name}
+use Rattle.room_lock.specs.steps.Views.{AreNamed}
 use Rattle.room_lock.proofs.Begins.{on_err_so}
 use Rattle.room_lock.proofs.others.Directory.begin.Goals as goal
 

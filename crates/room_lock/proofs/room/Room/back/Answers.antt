@@ -8,7 +8,7 @@ use Rattle.room_core.specs.Answers.{back_reply}
 use Rattle.room_lock.specs.steps.Entrances.{IfEntered}
 use Rattle.room_lock.specs.Passes.{PartView, PassView}
 use Rattle.room_lock.specs.Shelves.{Shelf, part_of}
-use Rattle.room_lock.specs.Kept.{IsRoomKept, RoomView}
+use Rattle.room_lock.specs.steps.Kept.{IsRoomKept, RoomView}
 use Rattle.room_lock.specs.Shelves.{AreOfSitesIn}
 use Rattle.room_lock.specs.Calls.{IsBackOver}
 use Rattle.room_lock.proofs.Answers.{count_of_front}

@@ -2,7 +2,7 @@ use Rattle.std.proofs.Common.{◌≡◌, ◌++◌, ap, sym, ◌∙◌, slice_get
 use Rattle.rules.specs.declared.history.Entry.TheVariants.{Next}
 use Rattle.rules.specs.Records.{sites}
 use Rattle.room_core.specs.Room.{Room}
-use Rattle.room_core.specs.Answers.{admitted}
+use Rattle.room_core.specs.steps.Plans.{admitted}
 use Rattle.room_lock.specs.Sites.{none_or_one}
 use Rattle.room_lock.proofs.Answers.{end_stays, own_is, with_entry-entries}
 use Rattle.room_lock.proofs.Balance.{kept_with}

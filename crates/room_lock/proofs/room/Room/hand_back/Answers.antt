@@ -11,7 +11,7 @@ use Rattle.rules.specs.declared.refusal.Refusal.TheVariants.{NotJoined}
 use Rattle.room_core.specs.Room.{room_of, Room}
 use Rattle.room_core.specs.Answers.{answer, has_site, site_answer, reply_alone}
 use Rattle.room_lock.specs.Passes.{PartView}
-use Rattle.room_lock.specs.Kept.{IsRoomKept}
+use Rattle.room_lock.specs.steps.Kept.{IsRoomKept}
 use Rattle.room_lock.specs.Shelves.{AreOfSitesIn}
 use Rattle.room_lock.specs.Shelves.{Shelf, IsShelfOf}
 use Rattle.room_lock.specs.Calls.{IsLeaveOver}

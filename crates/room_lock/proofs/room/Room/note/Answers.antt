@@ -1,5 +1,5 @@
 use Rattle.std.proofs.Common.{◌≡◌, true, sym, ap, ◌∙◌}
-use Rattle.room_lock.specs.Kept.{RoomView}
+use Rattle.room_lock.specs.steps.Kept.{RoomView}
 use Rattle.room_lock.specs.Shelves.{is_away}
 use Rattle.room_lock.proofs.NotesOfSites.{noted_after}
 use Rattle.room_lock.proofs.room.Room.note.Goals as goal

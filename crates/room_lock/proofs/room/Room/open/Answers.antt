@@ -1,8 +1,9 @@
 use Rattle.std.proofs.Common.{◌++◌, ap, sym, ◌∙◌, subst}
-use Rattle.shared_history.specs.Fronts.{FrontView}
+use Rattle.shared_history.specs.steps.Fronts.{FrontView}
 use Rattle.openings.specs.Openings.{Opened, OpeningView}
 use Rattle.room_lock.specs.Passes.{PrefixView}
-use Rattle.room_lock.specs.Shelves.{Shelf, IsShelfOf, full_shelf}
+use Rattle.room_lock.specs.Shelves.{Shelf, IsShelfOf}
+use Rattle.room_lock.specs.steps.Shelves.{full_shelf}
 use Rattle.notes.specs.Notes.{NotePlaces}
 use Rattle.room_lock.specs.Shelves.{AreOfSitesIn}
 use Rattle.room_lock.proofs.NotesOfSites.{noted_none}

@@ -1,6 +1,7 @@
 use Rattle.std.proofs.Common.{ap, sym, subst}
 use Rattle.std.specs.Prelude.{true, false}
-use Rattle.room_lock.specs.Passes.{InUseView, PrefixView}
+use Rattle.room_lock.specs.Passes.{PrefixView}
+use Rattle.room_lock.specs.steps.Views.{InUseView}
 use Rattle.room_lock.specs.Calls.{IsBackRefusalOver}
 use Rattle.room_lock.proofs.Replies.{if_in_use_weaker, if_refused_weaker}
 use Rattle.room_lock.proofs.rooms.Rooms.back.Goals as goal

@@ -1,12 +1,11 @@
--- The invariants of rooms and of parts. A room's holds whenever its lock is free.
-use Rattle.std.specs.Prelude.{◌≡◌, ℕ, List, count_by}
+-- The invariant of a room. It holds whenever the room's lock is free.
+use Rattle.std.specs.Prelude.{◌≡◌, List}
 use Rattle.rules.specs.declared.history.Entry.{Entry}
 use Rattle.rules.specs.declared.limits.LimitValues.{LimitValues}
-use Rattle.shared_history.specs.Fronts.{FrontView}
+use Rattle.shared_history.specs.steps.Fronts.{FrontView}
 use Rattle.openings.specs.Openings.{OpeningView}
 use Rattle.notes.specs.Notes.{NotePlaces}
 use Rattle.room_core.specs.Room.{Room}
-use Rattle.room_lock.specs.Sites.{is_of_site}
 use Rattle.room_lock.specs.Shelves.{Shelf, IsShelfOf}
 
 -- a room: its opening, its record, the parts of the sites that no session is in as, and the notes
@@ -29,7 +28,3 @@ pub record IsRoomKept
   pub written : IsFrontOf opening front room.entries
   pub limits_are : room.limits ≡ limits
   pub shelved : IsShelfOf opening room.entries shelf
-
--- the number of the site's entries
-abbrev pub count_of_site : ℕ → List Entry → ℕ
-count_of_site site r = count_by (is_of_site site) r

@@ -1,0 +1,18 @@
+-- Parts that together added all entries of a record but its end.
+use Rattle.std.specs.Prelude.{◌≡◌, ◌≤◌, List, Some, map, sum_by}
+use Rattle.rules.specs.declared.history.Entry.{Entry}
+use Rattle.room_lock.specs.Sites.{count_of_sites}
+use Rattle.room_lock.specs.Sites.{count_of_site}
+use Rattle.room_lock.specs.Passes.{PartView}
+use Rattle.room_lock.specs.Shelves.{Shelf}
+use Rattle.room_lock.specs.Closing.{added_of}
+
+-- the part has seen at least as many entries of its site as it added
+abbrev pub HasItsEntries : PartView → Type 0
+HasItsEntries part = part.added ≤ count_of_site part.site part.seen
+
+-- The parts of all sites are on the shelf. Together they added all entries of the record but its
+-- end.
+abbrev pub IsComplete : List Entry → Shelf → Type 0
+IsComplete r shelf =
+    (parts : List PartView) × (map Some parts ≡ shelf) × (sum_by added_of parts ≡ count_of_sites r)

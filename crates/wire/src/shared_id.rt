@@ -105,8 +105,8 @@ impl SharedId {
         Ok(SharedId { written })
     }
 
-    /// The identifier with names more, or `None` if it would have one twice. The names are put into
-    /// the text that it has. Linear in the names and the text for each.
+    /// The identifier with these names added, or `None` if it would then have one twice. Each is
+    /// put into the text that it has, in time linear in the names and the text.
     ///
     /// # Errors
     ///

@@ -98,10 +98,12 @@ impl Input {
     pub(crate) fn give_back(&mut self)
         ensures { self.new ≡ self.old }
     {
-        if self.taken > 0 {
+        if self.taken == self.bytes.len() {
+            self.bytes = Vec::new(self.alloc);
+        } else {
             self.bytes.drain(..self.taken);
-            self.taken = 0;
             self.bytes.shrink_to_fit();
         }
+        self.taken = 0;
     }
 }

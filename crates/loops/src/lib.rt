@@ -32,6 +32,3 @@ pub use ending::Ending;
 pub use fault::LoopsFault;
 pub use run::{Loops, Settings, run_loops};
 pub use service::{Admission, Service};
-
-#[cfg(test)]
-mod tests;

@@ -13,6 +13,3 @@ pub use family::{Family, Kind, Label, Sample, Suffix};
 pub use histogram::{Bucket, histogram_samples};
 pub use number::Number;
 pub use text::write_families;
-
-#[cfg(test)]
-mod tests;

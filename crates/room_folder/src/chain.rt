@@ -272,14 +272,27 @@ impl<'a> Folder<'a> {
     {
         let next = ended.next.copy(alloc)?;
         let old = self.restore_ended(rt, alloc, ended)?;
-        let Some(new) = new_room(alloc, &old, next)? else {
-            return Err(self.bad_end(alloc, &old)?);
-        };
-        self.check_beginning(alloc, &new, read)?;
+        let succeeded = self.with_successor(alloc, old, next)?;
+        self.check_beginning(alloc, &succeeded.new, read)?;
         Ok(Chain {
-            newest: Newest::Renewed(Succeeded { old, new }),
+            newest: Newest::Renewed(succeeded),
             before: None,
         })
+    }
+
+    /// A room that has ended, with the new one of this name that follows it.
+    fn with_successor(
+        &self,
+        alloc: Global,
+        old: FoundRoom<File>,
+        next: RoomName,
+    ) -> Result<Succeeded, FolderFault<'a>>
+        ensures { IfOk result (λ succeeded. succeeded.new.name ≡ next) }
+    {
+        match new_room(alloc, &old, next)? {
+            Some(new) => Ok(Succeeded { old, new }),
+            None => Err(self.bad_end(alloc, &old)?),
+        }
     }
 
     /// Fails if the file has anything but the beginning of the new room's record.

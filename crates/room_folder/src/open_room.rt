@@ -9,7 +9,7 @@ use crate::chain::{EndedRoom, Newest, Succeeded};
 use crate::fault::FolderFault;
 use crate::folder::Folder;
 use crate::found::FoundRoom;
-use crate::open_rooms::log_renewal;
+use crate::open_rooms::{count_before_end, log_renewal};
 use crate::room_file::path_of;
 use crate::settling::SettledRoom;
 use base_types::{NoMemory, RoomName};
@@ -201,14 +201,50 @@ impl<'a> Folder<'a> {
             file ≡ record { name = name.now; entries = state.room.entries })) }
     {
         match newest {
-            Newest::Found(room) if room.name == *name => self.found_here(rt, alloc, room, None),
-            Newest::Renewed(Succeeded { old, new }) if old.name == *name => {
-                self.found_here(rt, alloc, old, Some(new.name))
-            }
-            Newest::Renewed(succeeded) if succeeded.new.name == *name => {
-                self.begun_here(rt, alloc, succeeded)
-            }
-            Newest::Found(_) | Newest::Renewed(_) => Ok(RoomFound::Absent),
+            Newest::Found(room) => self.open_found(rt, alloc, name, room),
+            Newest::Renewed(succeeded) => self.open_renewed(rt, alloc, name, succeeded),
+        }
+    }
+
+    /// Opens this room, which is in its file, if it has this name.
+    fn open_found<R: Files<File = File> + Log>(
+        &self,
+        rt: &R,
+        alloc: Global,
+        name: &RoomName,
+        room: FoundRoom<File>,
+    ) -> Result<RoomFound, FolderFault<'a>>
+        ensures limits { IfOk result (IfHere (λ state file. state.room.limits ≡ full_limits)) }
+        ensures file { IfOk result (IfHere (λ state file.
+            file ≡ record { name = name.now; entries = state.room.entries })) }
+    {
+        if room.name == *name {
+            self.found_here(rt, alloc, room, None)
+        } else {
+            Ok(RoomFound::Absent)
+        }
+    }
+
+    /// Opens the room of this name, if it is one of these.
+    fn open_renewed<R: Files<File = File> + Log + Wait>(
+        &self,
+        rt: &R,
+        alloc: Global,
+        name: &RoomName,
+        succeeded: Succeeded,
+    ) -> Result<RoomFound, FolderFault<'a>>
+        ensures limits { IfOk result (IfHere (λ state file. state.room.limits ≡ full_limits)) }
+        ensures file { IfOk result (IfHere (λ state file.
+            file ≡ record { name = name.now; entries = state.room.entries })) }
+    {
+        if succeeded.new.name == *name {
+            return self.begun_here(rt, alloc, succeeded);
+        }
+        let Succeeded { old, new } = succeeded;
+        if old.name == *name {
+            self.found_here(rt, alloc, old, Some(new.name))
+        } else {
+            Ok(RoomFound::Absent)
         }
     }
 
@@ -247,14 +283,24 @@ impl<'a> Folder<'a> {
         ensures limits { IfOk result (IfHere (λ state file. state.room.limits ≡ full_limits)) }
     {
         let Succeeded { old, new } = succeeded;
-        let FoundRoom {
-            name: old_name,
-            state: old_state,
-            file: old_file,
-        } = old;
-        self.settle_file(rt, alloc, old_file)?;
+        let FoundRoom { name, state, file } = old;
+        let before = count_before_end(&state);
+        drop(state);
+        self.settle_file(rt, alloc, file)?;
         let newest = self.write_room(rt, alloc, new)?;
-        log_renewal(rt, &old_name, &old_state, &newest);
+        log_renewal(rt, &name, before, &newest);
+        self.synced_here(rt, newest)
+    }
+
+    /// The newest room and its file, once the folder is synced.
+    fn synced_here<R: Files + Log>(
+        &self,
+        rt: &R,
+        newest: SettledRoom,
+    ) -> Result<RoomFound, FolderFault<'a>>
+        ensures { IfOk result (IfHere (λ state file.
+            (state ≡ newest.state) × (file ≡ newest.file))) }
+    {
         self.sync(rt)?;
         let SettledRoom {
             name: _,

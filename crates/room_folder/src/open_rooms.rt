@@ -192,16 +192,27 @@ impl<'a> Folder<'a> {
     {
         let ReadChain { newest, before } = chain;
         match newest {
-            Newest::Found(newest) => {
-                let before = match before {
-                    Some(before) => Some(self.settle_room(rt, alloc, before)?),
-                    None => None,
-                };
-                let newest = self.settle_room(rt, alloc, newest)?;
-                Ok(SettledChain { newest, before })
-            }
+            Newest::Found(newest) => self.settle_found(rt, alloc, newest, before),
             Newest::Renewed(succeeded) => self.settle_renewal(rt, alloc, succeeded),
         }
+    }
+
+    /// Settles the files of the newest room of a chain and of the room before it.
+    fn settle_found<R: Files<File = File> + Log>(
+        &self,
+        rt: &R,
+        alloc: Global,
+        newest: FoundRoom<File>,
+        before: Option<FoundRoom<File>>,
+    ) -> Result<SettledChain, FolderFault<'a>>
+        ensures { IfOk result (λ settled. settled.newest.name ≡ newest.name) }
+    {
+        let before = match before {
+            Some(before) => Some(self.settle_room(rt, alloc, before)?),
+            None => None,
+        };
+        let newest = self.settle_room(rt, alloc, newest)?;
+        Ok(SettledChain { newest, before })
     }
 
     /// Settles the files of a room that has ended and of the new one that follows it. The end comes
@@ -217,7 +228,7 @@ impl<'a> Folder<'a> {
         let Succeeded { old, new } = succeeded;
         let before = self.settle_room(rt, alloc, old)?;
         let newest = self.write_room(rt, alloc, new)?;
-        log_renewal(rt, &before.name, &before.state, &newest);
+        log_renewal(rt, &before.name, count_before_end(&before.state), &newest);
         Ok(SettledChain {
             newest,
             before: Some(before),
@@ -225,10 +236,14 @@ impl<'a> Folder<'a> {
     }
 }
 
-/// Logs that a room was renewed. Its end does not count among its entries.
-pub(crate) fn log_renewal<R: Log>(rt: &R, name: &RoomName, old: &RoomState, new: &SettledRoom) {
+/// The number of entries of a room that has ended, without its end.
+pub(crate) fn count_before_end(ended: &RoomState) -> usize {
+    ended.entries().len().saturating_sub(1)
+}
+
+/// Logs that the room of this name, which had so many entries before its end, was renewed.
+pub(crate) fn log_renewal<R: Log>(rt: &R, name: &RoomName, before: usize, new: &SettledRoom) {
     let (old_name, new_name) = (name.text(), new.name.text());
-    let before = old.entries().len().saturating_sub(1);
     let after = new.state.entries().len();
     info!(rt; "room {old_name} renewed as {new_name}: {before} entries to {after}");
 }

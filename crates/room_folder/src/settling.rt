@@ -8,7 +8,7 @@ use crate::fault::FolderFault;
 use crate::folder::{Folder, cannot_keep, log_entries};
 use crate::found::{Found, FoundRoom, front_of, string_of};
 use crate::room_file::{cut_or_create, open_empty, path_of};
-use base_types::RoomName;
+use base_types::{NoMemory, RoomName};
 use journal::{Journal, JournalFault, Synced};
 use log::Log;
 use record_file::append;
@@ -42,11 +42,22 @@ impl<'a> Folder<'a> {
         ensures name { IfOk result (λ settled. settled.name ≡ room.name) }
         ensures state { IfOk result (λ settled. settled.state ≡ room.state) }
     {
+        self.log_found(rt, alloc, &room)?;
         let FoundRoom { name, state, file } = room;
-        let path = path_of(alloc, self.dir, name.text())?;
-        log_entries(rt, path.as_str(), &state);
         let file = self.settle_file(rt, alloc, file)?;
         Ok(SettledRoom { name, state, file })
+    }
+
+    /// Logs how many entries a room has, if it has any.
+    fn log_found<R: Log>(
+        &self,
+        rt: &R,
+        alloc: Global,
+        room: &FoundRoom<File>,
+    ) -> Result<(), NoMemory> {
+        let path = path_of(alloc, self.dir, room.name.text())?;
+        log_entries(rt, path.as_str(), &room.state);
+        Ok(())
     }
 
     /// Settles a file. Logs a warning if it is cut.
@@ -85,12 +96,26 @@ impl<'a> Folder<'a> {
         ensures name { IfOk result (λ settled. settled.name ≡ room.name) }
         ensures state { IfOk result (λ settled. settled.state ≡ room.state) }
     {
+        let file = self.new_file(rt, alloc, &room)?;
         let NewRoom { name, state } = room;
-        let path = path_of(alloc, self.dir, name.text())?;
-        let journal = self.replace(rt, alloc, path.as_str(), state.entries())?;
-        let restored = front_of(rt, state.entries());
-        let file = RestoredFile::new(string_of(alloc, &name)?, restored, journal);
         Ok(SettledRoom { name, state, file })
+    }
+
+    /// Writes a file of the name and the record of a new room.
+    fn new_file<R: Files<File = File> + Log + Wait>(
+        &self,
+        rt: &R,
+        alloc: Global,
+        room: &NewRoom,
+    ) -> Result<RestoredFile<Synced<File>>, FolderFault<'a>>
+        ensures { IfOk result (λ file.
+            file ≡ record { name = room.now.name; entries = room.now.state.room.entries }) }
+    {
+        let name = string_of(alloc, &room.name)?;
+        let path = path_of(alloc, self.dir, room.name.text())?;
+        let entries = room.state.entries();
+        let journal = self.replace(rt, alloc, path.as_str(), entries)?;
+        Ok(RestoredFile::new(name, front_of(rt, entries), journal))
     }
 
     /// Writes a new file of these entries, and puts it at the path, in place of any that is there.

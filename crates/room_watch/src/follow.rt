@@ -5,10 +5,9 @@ ghost use Rattle.std.specs.Arc.{arc_value};
 ghost use Rattle.late_join.specs.Replica.{with_entries, with_taken};
 ghost use Rattle.room_watch.specs.steps.Lines.{added_line, added_lines};
 
-use crate::watch::{
-    WatchFault, connect, leave_room, line_of, newest_of, reply_to, session_over, show_room,
-    status_of, write_lines,
-};
+use crate::fault::WatchFault;
+use crate::session::{Asks, connect, reply_to, session_over};
+use crate::watch::{leave_room, line_of, newest_of, show_room, status_of, write_lines};
 use base_types::RoomName;
 use command_fault::Fault;
 use late_join::Replica;
@@ -20,7 +19,6 @@ use std::random::RandomSource;
 use std::sync::Arc;
 use std::thread;
 use std::time::{Clock, Duration};
-use tungstenite::{MaskKeys, WebSocket};
 use wire::{Reply, Request};
 
 /// The pause after a wait that brought no entry, in milliseconds. Few come from a server that holds
@@ -74,13 +72,13 @@ pub fn lines_of_entries(
 }
 
 /// Waits for entries, and takes them. Returns the lines that they add, or `None` if none came.
-fn news<S: Read + Write + Drop, K: MaskKeys + Drop>(
+fn news<A: Asks>(
     alloc: Global,
-    socket: &mut WebSocket<S, K>,
+    session: &mut A,
     replica: &mut Replica,
 ) -> Result<Option<String>, WatchFault> {
     let from = replica.count_taken();
-    let reply = reply_to(alloc, socket, &Request::Pull { from, waits: true })?;
+    let reply = reply_to(alloc, session, &Request::Pull { from, waits: true })?;
     let Reply::Entries {
         at: _,
         from: place,
@@ -100,20 +98,15 @@ fn news<S: Read + Write + Drop, K: MaskKeys + Drop>(
 
 /// Leaves the room, which has ended. Returns the newest one of the chain of this room, once the
 /// server knows it.
-fn leave_for_newest<C, S, K>(
+fn leave_for_newest<C: Clock, A: Asks>(
     clock: &C,
     alloc: Global,
-    socket: &mut WebSocket<S, K>,
+    session: &mut A,
     room: &RoomName,
-) -> Result<RoomName, WatchFault>
-where
-    C: Clock,
-    S: Read + Write + Drop,
-    K: MaskKeys + Drop,
-{
-    leave_room(alloc, socket)?;
+) -> Result<RoomName, WatchFault> {
+    leave_room(alloc, session)?;
     for _ask in 0..MAX_ASKS {
-        if let Some(newest) = newest_of(alloc, socket, room)? {
+        if let Some(newest) = newest_of(alloc, session, room)? {
             return Ok(newest);
         }
         thread::sleep(clock, Duration::from_millis(PAUSE_MILLISECONDS));
@@ -123,28 +116,22 @@ where
 
 /// Writes the lines of news until the session or the output fails. Where the room ends, writes the
 /// lines of the one that goes on with it. Returns the fault.
-fn follow<C, S, K, W>(
+fn follow<C: Clock, A: Asks, W: Write>(
     clock: &C,
     alloc: Global,
-    socket: &mut WebSocket<S, K>,
+    session: &mut A,
     room: &RoomName,
     output: &mut W,
-) -> Result<(), WatchFault>
-where
-    C: Clock,
-    S: Read + Write + Drop,
-    K: MaskKeys + Drop,
-    W: Write,
-{
-    let mut replica = show_room(alloc, socket, room, output)?;
+) -> Result<(), WatchFault> {
+    let mut replica = show_room(alloc, session, room, output)?;
     for _wait in 0..u64::MAX {
-        match news(alloc, socket, &mut replica)? {
+        match news(alloc, session, &mut replica)? {
             Some(lines) => write_lines(output, lines.as_str())?,
             None => thread::sleep(clock, Duration::from_millis(PAUSE_MILLISECONDS)),
         }
         if replica.has_ended() {
-            let newest = leave_for_newest(clock, alloc, socket, room)?;
-            replica = show_room(alloc, socket, &newest, output)?;
+            let newest = leave_for_newest(clock, alloc, session, room)?;
+            replica = show_room(alloc, session, &newest, output)?;
         }
     }
     Err(WatchFault::Session)

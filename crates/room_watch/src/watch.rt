@@ -3,138 +3,17 @@
 ghost use Rattle.std.specs.Prelude.{◌≡◌, IfOk, string_bytes};
 ghost use Rattle.room_watch.specs.steps.Lines.{shown_line};
 
-use base_types::{MAX_SITE, NoMemory, OpName, RoomName};
-use byte_streams::Uninterrupted;
+use crate::fault::WatchFault;
+use crate::session::{Asks, close, connect, reply_to, session_over};
+use base_types::{MAX_SITE, OpName, RoomName};
 use command_fault::Fault;
-use late_join::{FeedFault, Replica, TakeFault};
+use late_join::Replica;
 use rules::{Limits, Refusal};
-use std::alloc::{AllocError, Global};
+use std::alloc::Global;
 use std::io::{Read, Write};
-use std::net::{Net, OpenStream, TcpStream};
+use std::net::Net;
 use std::random::RandomSource;
-use thiserror::Error;
-use tungstenite::handshake::client::request_of;
-use tungstenite::{
-    CloseCode, CloseFrame, Error, HandshakeError, MaskKeys, Message, RandomKeys, Utf8Bytes,
-    WebSocket, client,
-};
-use wire::{Reply, Request, write_reply, write_request};
-use wire_reader::{ReadFault, read_reply};
-
-/// The most messages without text that are skipped while a reply is awaited.
-const MAX_PASSED_OVER: u32 = 1_000_000;
-
-/// Why a room cannot be shown.
-#[derive(Clone, Copy, Debug, PartialEq, Eq, Error)]
-pub enum WatchFault {
-    /// The stream failed, or the server sent an unexpected message.
-    #[error("the session failed")]
-    Session,
-    /// The output failed.
-    #[error("the output can't be written")]
-    Write,
-    /// An allocation failed.
-    #[error("out of memory")]
-    NoMemory,
-}
-
-impl From<AllocError> for WatchFault {
-    fn from(_fault: AllocError) -> WatchFault {
-        WatchFault::NoMemory
-    }
-}
-
-impl From<NoMemory> for WatchFault {
-    fn from(_fault: NoMemory) -> WatchFault {
-        WatchFault::NoMemory
-    }
-}
-
-impl From<Error> for WatchFault {
-    fn from(fault: Error) -> WatchFault {
-        match fault {
-            Error::OutOfMemory => WatchFault::NoMemory,
-            _ => WatchFault::Session,
-        }
-    }
-}
-
-impl From<ReadFault> for WatchFault {
-    fn from(fault: ReadFault) -> WatchFault {
-        match fault {
-            ReadFault::Bad => WatchFault::Session,
-            ReadFault::NoMemory => WatchFault::NoMemory,
-        }
-    }
-}
-
-impl From<TakeFault> for WatchFault {
-    fn from(fault: TakeFault) -> WatchFault {
-        match fault {
-            TakeFault::NoMemory => WatchFault::NoMemory,
-            _ => WatchFault::Session,
-        }
-    }
-}
-
-impl From<FeedFault> for WatchFault {
-    fn from(fault: FeedFault) -> WatchFault {
-        match fault {
-            FeedFault::NoMemory => WatchFault::NoMemory,
-            FeedFault::Take { place: _, fault } => WatchFault::from(fault),
-            FeedFault::NotAPage => WatchFault::Session,
-        }
-    }
-}
-
-impl From<WatchFault> for Fault {
-    ghost use Rattle.std.specs.Prelude.{◌≡◌};
-    ghost use Rattle.room_watch.specs.steps.Faults.{of_watching};
-
-    ghost from_gives = { λ fault gives. gives ≡ of_watching fault };
-
-    fn from(fault: WatchFault) -> Fault {
-        match fault {
-            WatchFault::Session => Fault::Session,
-            WatchFault::Write => Fault::Output,
-            WatchFault::NoMemory => Fault::NoMemory,
-        }
-    }
-}
-
-/// The next text message. Skips others.
-fn next_text<S: Read + Write + Drop, K: MaskKeys + Drop>(
-    socket: &mut WebSocket<S, K>,
-) -> Result<Utf8Bytes, WatchFault> {
-    for _passed_over in 0..=MAX_PASSED_OVER {
-        if let Message::Text(words) = socket.read()? {
-            return Ok(words);
-        }
-    }
-    Err(WatchFault::Session)
-}
-
-/// Sends a request, and returns the text of the reply.
-fn ask<S: Read + Write + Drop, K: MaskKeys + Drop>(
-    alloc: Global,
-    socket: &mut WebSocket<S, K>,
-    request: &Request,
-) -> Result<Utf8Bytes, WatchFault> {
-    let text = write_request(alloc, request)?;
-    let message = Message::text(alloc, text.as_str())?;
-    socket.send(message)?;
-    next_text(socket)
-}
-
-/// Sends a request, and returns the reply.
-pub(crate) fn reply_to<S: Read + Write + Drop, K: MaskKeys + Drop>(
-    alloc: Global,
-    socket: &mut WebSocket<S, K>,
-    request: &Request,
-) -> Result<Reply, WatchFault> {
-    let text = ask(alloc, socket, request)?;
-    Ok(read_reply(alloc, text.as_bytes())?)
-}
+use wire::{Reply, Request, write_reply};
 
 /// What asking to enter a room gave.
 #[derive(Drop)]
@@ -148,14 +27,14 @@ enum EnterReply {
 }
 
 /// Comes back as the first site of the room that no session is in as.
-fn come_back<S: Read + Write + Drop, K: MaskKeys + Drop>(
+fn come_back<A: Asks>(
     alloc: Global,
-    socket: &mut WebSocket<S, K>,
+    session: &mut A,
     room: &RoomName,
 ) -> Result<EnterReply, WatchFault> {
     for site in 1..=MAX_SITE {
         let room = room.copy(alloc)?;
-        match reply_to(alloc, socket, &Request::Back { room, site })? {
+        match reply_to(alloc, session, &Request::Back { room, site })? {
             Reply::Returned { .. } => return Ok(EnterReply::Entered),
             Reply::Renewed { at: _, room } => return Ok(EnterReply::Renewed(room)),
             Reply::No {
@@ -173,13 +52,13 @@ fn come_back<S: Read + Write + Drop, K: MaskKeys + Drop>(
 }
 
 /// Joins the room of this name.
-fn join<S: Read + Write + Drop, K: MaskKeys + Drop>(
+fn join<A: Asks>(
     alloc: Global,
-    socket: &mut WebSocket<S, K>,
+    session: &mut A,
     room: &RoomName,
 ) -> Result<EnterReply, WatchFault> {
     let room = room.copy(alloc)?;
-    match reply_to(alloc, socket, &Request::Join { room })? {
+    match reply_to(alloc, session, &Request::Join { room })? {
         Reply::Joined { .. } => Ok(EnterReply::Entered),
         Reply::Renewed { at: _, room } => Ok(EnterReply::Renewed(room)),
         _ => Err(WatchFault::Session),
@@ -188,13 +67,13 @@ fn join<S: Read + Write + Drop, K: MaskKeys + Drop>(
 
 /// Enters the room of this name: as a site that no session is in as, or else as the next site.
 /// Gives the room in which its chain goes on, if it was not entered for that.
-fn enter<S: Read + Write + Drop, K: MaskKeys + Drop>(
+fn enter<A: Asks>(
     alloc: Global,
-    socket: &mut WebSocket<S, K>,
+    session: &mut A,
     room: &RoomName,
 ) -> Result<Option<RoomName>, WatchFault> {
-    let entrance = match come_back(alloc, socket, room)? {
-        EnterReply::NoSite => join(alloc, socket, room)?,
+    let entrance = match come_back(alloc, session, room)? {
+        EnterReply::NoSite => join(alloc, session, room)?,
         entrance => entrance,
     };
     match entrance {
@@ -205,28 +84,28 @@ fn enter<S: Read + Write + Drop, K: MaskKeys + Drop>(
 }
 
 /// Enters the room of this name, or the newest of its chain, and reads its record into a replica.
-fn enter_and_pull<S: Read + Write + Drop, K: MaskKeys + Drop>(
+fn enter_and_pull<A: Asks>(
     alloc: Global,
-    socket: &mut WebSocket<S, K>,
+    session: &mut A,
     room: &RoomName,
 ) -> Result<Replica, WatchFault> {
-    if let Some(newest) = enter(alloc, socket, room)?
-        && enter(alloc, socket, &newest)?.is_some()
+    if let Some(newest) = enter(alloc, session, room)?
+        && enter(alloc, session, &newest)?.is_some()
     {
         return Err(WatchFault::Session);
     }
-    pull_record(alloc, socket)
+    pull_record(alloc, session)
 }
 
 /// The newest room of the chain of this room, which has ended: `None` if the server knows none. The
 /// session is in no room.
-pub(crate) fn newest_of<S: Read + Write + Drop, K: MaskKeys + Drop>(
+pub(crate) fn newest_of<A: Asks>(
     alloc: Global,
-    socket: &mut WebSocket<S, K>,
+    session: &mut A,
     room: &RoomName,
 ) -> Result<Option<RoomName>, WatchFault> {
     let room = room.copy(alloc)?;
-    match reply_to(alloc, socket, &Request::Join { room })? {
+    match reply_to(alloc, session, &Request::Join { room })? {
         Reply::Renewed { at: _, room } => Ok(Some(room)),
         Reply::No { .. } => Ok(None),
         _ => Err(WatchFault::Session),
@@ -234,15 +113,12 @@ pub(crate) fn newest_of<S: Read + Write + Drop, K: MaskKeys + Drop>(
 }
 
 /// A replica of the whole record, read page by page.
-fn pull_record<S: Read + Write + Drop, K: MaskKeys + Drop>(
-    alloc: Global,
-    socket: &mut WebSocket<S, K>,
-) -> Result<Replica, WatchFault> {
+fn pull_record<A: Asks>(alloc: Global, session: &mut A) -> Result<Replica, WatchFault> {
     let mut replica = Replica::new(alloc, Limits::full())?;
     // Each page but the last has an entry, so there are at most this many pages.
     for _page in 0..=Limits::MAX_ENTRIES {
         let from = replica.count_taken();
-        let text = ask(alloc, socket, &Request::Pull { from, waits: false })?;
+        let text = session.ask(alloc, &Request::Pull { from, waits: false })?;
         let fed = replica.feed_page(alloc, text.as_bytes())?;
         if fed.from != from || replica.count_taken() > fed.at {
             return Err(WatchFault::Session);
@@ -282,35 +158,11 @@ fn lines_of(alloc: Global, replica: &Replica) -> Result<String, WatchFault> {
 }
 
 /// Leaves the room.
-pub(crate) fn leave_room<S: Read + Write + Drop, K: MaskKeys + Drop>(
-    alloc: Global,
-    socket: &mut WebSocket<S, K>,
-) -> Result<(), WatchFault> {
-    match reply_to(alloc, socket, &Request::Leave)? {
+pub(crate) fn leave_room<A: Asks>(alloc: Global, session: &mut A) -> Result<(), WatchFault> {
+    match reply_to(alloc, session, &Request::Leave)? {
         Reply::Left { .. } => Ok(()),
         _ => Err(WatchFault::Session),
     }
-}
-
-/// Leaves the room, closes the session with 1000 (RFC 6455, section 7.4.1), and reads until the
-/// closing handshake is completed.
-fn leave<S: Read + Write + Drop, K: MaskKeys + Drop>(
-    alloc: Global,
-    socket: &mut WebSocket<S, K>,
-) -> Result<(), WatchFault> {
-    leave_room(alloc, socket)?;
-    socket.close(Some(CloseFrame {
-        code: CloseCode::Normal,
-        reason: Utf8Bytes::from_static(""),
-    }))?;
-    for _passed_over in 0..=MAX_PASSED_OVER {
-        match socket.read() {
-            Ok(_) => {}
-            Err(Error::ConnectionClosed) => return Ok(()),
-            Err(_) => return Err(WatchFault::Session),
-        }
-    }
-    Err(WatchFault::Session)
 }
 
 /// Writes the lines, and flushes the output.
@@ -321,48 +173,19 @@ pub(crate) fn write_lines<W: Write>(output: &mut W, lines: &str) -> Result<(), W
     Ok(())
 }
 
-/// Opens a session over the stream. The path of its request is a slash and the name of the first
-/// room of the chain, so it may enter the room also where sessions are confined to the chain of
-/// their path.
-pub(crate) fn session_over<'a, R, S>(
-    rt: &'a R,
-    alloc: Global,
-    stream: S,
-    room: &RoomName,
-) -> Result<WebSocket<S, RandomKeys<&'a R>>, WatchFault>
-where
-    R: RandomSource,
-    S: Read + Write + Drop,
-{
-    let first = room.first(alloc)?;
-    let name = first.text();
-    let url = format!(in alloc; "ws://localhost/{name}")?;
-    let request = request_of(alloc, &url)?;
-    match client(alloc, rt, request, stream) {
-        Ok((socket, _response)) => Ok(socket),
-        Err(HandshakeError::Failure(fault)) => Err(fault.into()),
-        Err(HandshakeError::Interrupted(_handshake)) => Err(WatchFault::Session),
-    }
-}
-
 /// Enters the room of this name, or the newest of its chain if it has ended, and writes the lines
 /// of all its objects. Returns the replica that it read.
-pub(crate) fn show_room<S, K, W>(
+pub(crate) fn show_room<A: Asks, W: Write>(
     alloc: Global,
-    socket: &mut WebSocket<S, K>,
+    session: &mut A,
     room: &RoomName,
     output: &mut W,
-) -> Result<Replica, WatchFault>
-where
-    S: Read + Write + Drop,
-    K: MaskKeys + Drop,
-    W: Write,
-{
-    let mut replica = enter_and_pull(alloc, socket, room)?;
+) -> Result<Replica, WatchFault> {
+    let mut replica = enter_and_pull(alloc, session, room)?;
     if replica.has_ended() {
-        leave_room(alloc, socket)?;
-        let newest = newest_of(alloc, socket, room)?;
-        replica = enter_and_pull(alloc, socket, newest.as_ref().unwrap_or(room))?;
+        leave_room(alloc, session)?;
+        let newest = newest_of(alloc, session, room)?;
+        replica = enter_and_pull(alloc, session, newest.as_ref().unwrap_or(room))?;
     }
     let lines = lines_of(alloc, &replica)?;
     write_lines(output, lines.as_str())?;
@@ -393,18 +216,8 @@ where
 {
     let mut socket = session_over(rt, alloc, stream, room)?;
     show_room(alloc, &mut socket, room, output)?;
-    leave(alloc, &mut socket)
-}
-
-/// Connects to the server at this address.
-pub(crate) fn connect<R: Net>(rt: &R, address: &str) -> Result<Uninterrupted<R::Stream>, Fault> {
-    match TcpStream::connect(rt, address) {
-        Ok(stream) => {
-            let _ = stream.set_nodelay(true);
-            Ok(Uninterrupted { stream })
-        }
-        Err(why) => Err(Fault::CannotConnect(why)),
-    }
+    leave_room(alloc, &mut socket)?;
+    close(&mut socket)
 }
 
 /// Connects, and shows the room.

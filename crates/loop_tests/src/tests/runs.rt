@@ -1,8 +1,8 @@
 //! Loops that run over sockets.
 
 use super::door::{Door, TEXT, TEXT_AND_CLOSE, expect_sent, expect_served, visit};
-use crate::{Arrival, Bell, Loops, Settings, run_loops};
 use connection::UNAVAILABLE;
+use loops::{Arrival, Bell, Loops, Settings, run_loops};
 use mio::Poll;
 use std::net::TcpListener;
 use std::sync::Wait;

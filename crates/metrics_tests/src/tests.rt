@@ -1,9 +1,9 @@
 //! A text that was written by hand, after the example of the format's documentation.
 
-use crate::{
+use base_types::NoMemory;
+use metrics::{
     Bucket, Family, Kind, Label, Number, Sample, Suffix, histogram_samples, write_families,
 };
-use base_types::NoMemory;
 use std::alloc::Global;
 use std::test::Fail;
 

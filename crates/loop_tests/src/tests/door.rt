@@ -2,8 +2,8 @@
 
 ghost use Rattle.std.specs.Prelude.{⊤};
 
-use crate::{Admission, Arrival, Client, Ending, Service};
 use connection::{Answer, End, Talk};
+use loops::{Admission, Arrival, Client, Ending, Service};
 use std::alloc::Global;
 use std::io::{Read, Write};
 use std::net::{Net, TcpListener, TcpStream};

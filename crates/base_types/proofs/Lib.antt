@@ -3,5 +3,6 @@ pub mod Labels
 pub mod Lists
 pub mod RoomNames
 pub mod Repeats
+pub mod Results
 pub mod Vectors
 mod Merged

@@ -1,6 +1,6 @@
 -- Labels: the texts that name keys and kinds, and the first rooms of chains.
 use Rattle.std.specs.Prelude.{ℕ, Bool, not, ◌&&◌, ◌||◌, ◌==◌, nat_le, nat_lt, List, length, Option}
-use Rattle.std.specs.Prelude.{Some, None, option_map, is_none, position, if◌then◌else◌}
+use Rattle.std.specs.Prelude.{Some, option_map, is_none, position, if◌then◌else◌}
 use Rattle.base_types.specs.declared.value.TheConstants.{MAX_VALUE_LEN}
 use Rattle.base_types.specs.declared.fault.NameFault.{NameFault}
 use Rattle.base_types.specs.declared.fault.NameFault.TheVariants.{Empty, TooLong, BadByte}
@@ -34,7 +34,3 @@ is_kind bytes = is_label 32 bytes
 -- at most 256 bytes
 unfoldable pub is_value_text : Bytes → Bool
 is_value_text bytes = nat_le (length bytes) MAX_VALUE_LEN
-
--- the fault of a value's text
-abbrev pub value_fault : Bytes → Option NameFault
-value_fault bytes = if is_value_text bytes then None else Some TooLong

@@ -5,8 +5,9 @@ ghost use Rattle.std.specs.Prelude.{◌≡◌, ℕ, List, [], true, false, ◌<�
 ghost use Rattle.std.specs.List.{HoldsAt};
 ghost use Rattle.std.specs.Result.{result_err};
 ghost use Rattle.base_types.specs.steps.Faults.{FailsBy, OnFault};
-ghost use Rattle.base_types.specs.Vectors.{count_of, counts, covers, same_pairs};
-ghost use Rattle.base_types.specs.Vectors.{pair_fault, vector_fault, is_vector};
+ghost use Rattle.base_types.specs.Vectors.{count_of, counts, covers, pair_fault, vector_fault};
+ghost use Rattle.base_types.specs.Vectors.{is_vector};
+ghost use Rattle.base_types.specs.steps.Equality.{same_pairs};
 ghost use Rattle.base_types.specs.declared.state_vector.VectorFault.TheVariants as vector_fault_of;
 ghost use Rattle.std.specs.Cmp.Rules.{comparing};
 ghost use Rattle.std.proofs.Common.{rules};

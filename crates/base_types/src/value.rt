@@ -1,8 +1,8 @@
 //! The values of attributes.
 
 ghost use Rattle.std.specs.Prelude.{◌≡◌, List, ℕ, true, false, IfOk, OnOk};
-ghost use Rattle.base_types.specs.steps.Faults.{FailsBy, OnFault};
-ghost use Rattle.base_types.specs.Texts.{is_value_text, value_fault};
+ghost use Rattle.base_types.specs.steps.Faults.{FailsBy, OnFault, value_fault};
+ghost use Rattle.base_types.specs.Texts.{is_value_text};
 
 use crate::fault::{NameFault, NoMemory};
 use crate::text::Text;
@@ -95,7 +95,8 @@ impl Value {
 
 impl PartialEq for Value {
     ghost use Rattle.std.specs.Cmp.{partial_equiv_from_equiv};
-    ghost use Rattle.base_types.specs.Values.{same_value, same_value-equivalence};
+    ghost use Rattle.base_types.specs.Values.{same_value};
+    ghost use Rattle.base_types.specs.steps.Equality.{same_value-equivalence};
 
     ghost eq = { same_value };
 
@@ -111,7 +112,7 @@ impl PartialEq for Value {
 }
 
 impl Eq for Value {
-    ghost use Rattle.base_types.specs.Values.{same_value-equivalence};
+    ghost use Rattle.base_types.specs.steps.Equality.{same_value-equivalence};
 
     ghost laws = { same_value-equivalence };
 }

@@ -7,8 +7,9 @@ ghost use Rattle.std.specs.Cmp.{partial_order_from_own_ties};
 ghost use Rattle.std.specs.Cmp.Rules.{comparing};
 ghost use Rattle.std.proofs.Common.{rules};
 ghost use Rattle.base_types.specs.Names.{name_cmp, same_name};
-ghost use Rattle.base_types.specs.VersionIds.{names_rise, names_fault, id_cmp};
-ghost use Rattle.base_types.specs.VersionIds.{same_names, same_names-ties};
+ghost use Rattle.base_types.specs.VersionIds.{names_rise, id_cmp, same_names};
+ghost use Rattle.base_types.specs.steps.Faults.{names_fault};
+ghost use Rattle.base_types.specs.steps.Equality.{same_names-ties};
 
 use crate::fault::{ListFault, NoMemory};
 use crate::op_name::OpName;

@@ -1,5 +1,5 @@
 -- What was written so far.
-use Rattle.std.proofs.Common.{◌≡◌, ℕ, ◌+◌, ◌-◌, ◌≤◌, List, [], append-nil, length, take, drop, Option, Result, Ok, Err, OnOk, OnErr, refl, sym, subst, arith}
+use Rattle.std.proofs.Common.{◌≡◌, ℕ, ◌+◌, ◌-◌, ◌≤◌, List, [], append-nil, length, take, drop, Option, refl, sym, subst, arith}
 use Rattle.std.proofs.lemmas.List.{take_rest, take-append-drop, length-take, length-drop}
 use Rattle.std.proofs.Math.Seq.{take-add}
 use Rattle.std.proofs.KnownBytes.{Appends-trans, Appends-nil}
@@ -22,11 +22,3 @@ no_front a bytes = record { prefix = []; rest = bytes; adds = Appends-nil a; who
 
 pub whole_front : (a b : Option (List ℕ)) (bytes : List ℕ) → Appends a b bytes → AppendsPrefix a b bytes
 whole_front a b bytes h = record { prefix = bytes; rest = []; adds = h; whole = sym (append-nil bytes) }
-
-pub ok_of : {T E P : Type 0} (r : Result T E) → P → OnOk r P
-ok_of (Ok x) p = p
-ok_of (Err y) p = tt
-
-pub err_of : {T E P : Type 0} (r : Result T E) → P → OnErr r P
-err_of (Ok x) p = tt
-err_of (Err y) p = p

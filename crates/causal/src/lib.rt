@@ -6,7 +6,8 @@ ghost use Rattle.std.specs.Option.{option_copied, option_map_or};
 ghost use Rattle.base_types.specs.Names.{is_site, same_name};
 ghost use Rattle.base_types.specs.Vectors.{count_of, counts};
 ghost use Rattle.rules.specs.Operations.{IsHistory, operation};
-ghost use Rattle.rules.specs.Admission.{count_at_site, is_ahead, is_not_closed, causal_refusal};
+ghost use Rattle.rules.specs.Admission.{count_at_site, is_ahead, is_not_closed};
+ghost use Rattle.rules.specs.steps.Histories.{causal_refusal};
 ghost use Rattle.causal.specs.steps.Index.{at_number, places_of_site, has_fewer, lacks, lacks_beyond};
 
 use base_types::{MAX_SITE, NoMemory, OpName, StateVector};
@@ -253,7 +254,7 @@ impl Past {
     /// # Errors
     ///
     /// `WrongSeq`, `OwnCount`, `Ahead` or `NotClosed`, the first that applies in this order.
-    #[tactic(auto, unfolding(rules::specs::Admission::causal_refusal))]
+    #[tactic(auto, unfolding(rules::specs::steps::Histories::causal_refusal))]
     pub fn admit(&self, name: OpName, seen: &StateVector) -> Result<(), NotAdmitted>
         ensures admitted { OnOk result (causal_refusal self.now.history name seen.now ≡ None) }
         ensures refusal { IfErr result

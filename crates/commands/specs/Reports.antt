@@ -25,12 +25,13 @@ pub record TellsPrefix {Input Found : Type 0} (report : Report Input Found)
   pub right : report.IsRight input found
   pub prefix : AppendsPrefix before after (report.text found)
 
--- The input of which a statement is made: all that one or two readers give, if it is known.
+-- a statement is true of some bytes: of all that a reader gives, if that is known
 abbrev pub OfReader : Option (List ℕ) → (List ℕ → Type 0) → Type 0
-OfReader bytes P = IfSome bytes P
+OfReader remaining P = (bytes : List ℕ) × IfSome remaining (λ all. bytes ≡ all) × P bytes
 
+-- and of those of two readers
 abbrev pub OfReaders : Option (List ℕ) → Option (List ℕ) → (List ℕ × List ℕ → Type 0) → Type 0
-OfReaders first second P = IfSome first (λ old. IfSome second (λ new. P (old, new)))
+OfReaders first second P = OfReader first (λ old. OfReader second (λ new. P (old, new)))
 
 -- the effect of the command on its input
 abbrev pub Reports : {Input Found : Type 0} → Report Input Found → ((Input → Type 0) → Type 0)

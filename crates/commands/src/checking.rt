@@ -1,42 +1,15 @@
 //! `grace check RECORD TRANSCRIPT`: checks a room's record and a transcript of it.
 
-ghost use Rattle.std.specs.Prelude.{◌≡◌, ◌≤◌, ◌⊎◌, IfErr, IfOk, IfSome, OnErr, OnOk, length};
-ghost use Rattle.std.specs.Prelude.{string_bytes};
-ghost use Rattle.std.specs.Io.KnownBytes.{Appends, IsAtEnd};
-ghost use Rattle.byte_streams.specs.Prefixes.{AppendsPrefix};
+ghost use Rattle.std.specs.Prelude.{◌≡◌, IfErr, IfOk, string_bytes};
 ghost use Rattle.commands.specs.Checks.{check_report, verdict_line, verdict_status};
-ghost use Rattle.commands.specs.steps.Statuses.{EndsEarly, IsOfResult, OfSome};
+ghost use Rattle.commands.specs.steps.Statuses.{EndsEarly, IsOfResult};
 ghost use Rattle.commands.specs.Reports.{OfReaders, Reports, Tells, TellsPrefix};
 
-use crate::reporting::end_with;
-use byte_streams::{Uninterrupted, write_out};
-use command_fault::{Fault, MAX_FILE_LEN, read_up_to};
+use crate::reporting::{end_with, read_whole, write_line};
+use command_fault::Fault;
 use history_check::{Verdict, check};
 use std::alloc::Global;
-use std::fs::File;
 use std::io::{Read, Write};
-use std::rt::Files;
-
-/// Reads all bytes of a file, at most `MAX_FILE_LEN`.
-pub(crate) fn read_whole<R: Read>(alloc: Global, input: &mut R) -> Result<Vec<u8>, Fault>
-    ensures all { IfOk result (λ bytes. IfSome (R.remaining input.old) (λ all. bytes.items ≡ all)) }
-    ensures most { IfOk result (λ bytes. length bytes.items ≤ MAX_FILE_LEN) }
-    ensures end { OnOk result (IsAtEnd (R.remaining input.new)) }
-    ensures fault { IfErr result (λ fault. (fault ≡ Fault.Input) ⊎ (fault ≡ Fault.NoMemory)) }
-{
-    read_up_to(alloc, input, MAX_FILE_LEN)
-}
-
-/// Reads all bytes of the file of this name.
-pub(crate) fn read_at<H: Files>(rt: &H, alloc: Global, path: &str) -> Result<Vec<u8>, Fault>
-    ensures most { IfOk result (λ bytes. length bytes.items ≤ MAX_FILE_LEN) }
-    ensures fault { IfErr result (λ fault. (fault ≡ Fault.Input) ⊎ (fault ≡ Fault.NoMemory)) }
-{
-    let Ok(stream) = File::open(rt, path) else {
-        return Err(Fault::Input);
-    };
-    read_whole(alloc, &mut Uninterrupted { stream })
-}
 
 /// The line of a verdict.
 fn verdict_line(alloc: Global, verdict: Verdict) -> Result<String, Fault>
@@ -61,19 +34,6 @@ fn verdict_status(verdict: Verdict) -> u8
         Verdict::Holds => 0,
         Verdict::BadRecord(_) | Verdict::BadTranscript(_) | Verdict::WrongReply(_) => 1,
     }
-}
-
-/// Writes a line and flushes the output.
-pub(crate) fn write_line<W: Write>(output: &mut W, line: &[u8]) -> Result<(), Fault>
-    ensures ok { OnOk result (Appends (W.contents output.old) (W.contents output.new) line.now) }
-    ensures prefix { OnErr result
-        (AppendsPrefix (W.contents output.old) (W.contents output.new) line.now) }
-    ensures fault { IfErr result (λ fault. fault ≡ Fault.Output) }
-{
-    if write_out(output, line).is_err() || output.flush().is_err() {
-        return Err(Fault::Output);
-    }
-    Ok(())
 }
 
 /// Judges these bytes, writes the line of the verdict, and returns the exit status.
@@ -118,25 +78,6 @@ fn judge_over<A: Read, B: Read, W: Write>(
     judge(alloc, entries.as_slice(), transcript.as_slice(), output)
 }
 
-/// The same for the files of these names.
-fn judge_at<H: Files, W: Write>(
-    rt: &H,
-    alloc: Global,
-    record: &str,
-    transcript: &str,
-    output: &mut W,
-) -> Result<u8, Fault>
-    ensures ok { IfOk result (λ status. OfSome
-        (Tells check_report (W.contents output.old) (W.contents output.new) status)) }
-    ensures fault { IfErr result (EndsEarly
-        (OfSome (TellsPrefix check_report (W.contents output.old) (W.contents output.new)))
-        (W.contents output.old) (W.contents output.new)) }
-{
-    let entries = read_at(rt, alloc, record)?;
-    let transcript = read_at(rt, alloc, transcript)?;
-    judge(alloc, entries.as_slice(), transcript.as_slice(), output)
-}
-
 /// Reads a room's record from the first reader and then a transcript of it from the second, each to
 /// its end. Writes the line of the verdict, flushes, and returns the exit status:
 ///
@@ -147,9 +88,10 @@ fn judge_at<H: Files, W: Write>(
 ///
 /// Before 3 and 4 it writes a line to `errors`.
 ///
-/// The clauses assume readers whose bytes are known and a writer that reports what it holds. They
-/// state the possible statuses, and what was written before each. Tests show when the status is 3
-/// and when 4, and the line on `errors`.
+/// The clauses assume a writer that reports what it holds. They state the possible statuses, and
+/// what was written before each. The verdict is on some bytes: those of the readers, where these are
+/// known, which those of a file are not. Tests show when the status is 3 and when 4, and the line on
+/// `errors`.
 pub fn check_over<A: Read, B: Read, W: Write, E: Write>(
     alloc: Global,
     first: &mut A,
@@ -161,22 +103,4 @@ pub fn check_over<A: Read, B: Read, W: Write, E: Write>(
         (W.contents output.old) (W.contents output.new) result }
 {
     end_with(judge_over(alloc, first, second, output), errors)
-}
-
-/// Like `check_over`, for the files of these names. Reads the first whole before it opens the
-/// second. A file that cannot be opened counts as failed input.
-///
-/// The clauses state the possible statuses. They state that before 0 and 1 the verdict on some
-/// bytes was written. That these are the bytes of the files, no clause can state.
-pub fn check_at<H: Files, W: Write, E: Write>(
-    rt: &H,
-    alloc: Global,
-    record: &str,
-    transcript: &str,
-    output: &mut W,
-    errors: &mut E,
-) -> u8
-    ensures { Reports check_report OfSome (W.contents output.old) (W.contents output.new) result }
-{
-    end_with(judge_at(rt, alloc, record, transcript, output), errors)
 }

@@ -1,17 +1,15 @@
 //! `grace renewed OLD NEW`: compares what two records draw.
 
 ghost use Rattle.std.specs.Prelude.{◌≡◌, IfErr, IfOk, string_bytes};
-ghost use Rattle.commands.specs.steps.Statuses.{EndsEarly, IsOfResult, OfSome};
+ghost use Rattle.commands.specs.steps.Statuses.{EndsEarly, IsOfResult};
 ghost use Rattle.commands.specs.Renewals.{comparison_line, comparison_status, renewed_report};
 ghost use Rattle.commands.specs.Reports.{OfReaders, Reports, Tells, TellsPrefix};
 
-use crate::checking::{read_at, read_whole, write_line};
-use crate::reporting::end_with;
+use crate::reporting::{end_with, read_whole, write_line};
 use command_fault::Fault;
 use renewal_text::{Comparison, compare};
 use std::alloc::Global;
 use std::io::{Read, Write};
-use std::rt::Files;
 
 /// The line of a comparison.
 fn comparison_line(alloc: Global, comparison: Comparison) -> Result<String, Fault>
@@ -79,25 +77,6 @@ fn compare_readers<A: Read, B: Read, W: Write>(
     compare_bytes(alloc, old.as_slice(), new.as_slice(), output)
 }
 
-/// The same for the files of these names.
-fn compare_files<H: Files, W: Write>(
-    rt: &H,
-    alloc: Global,
-    old: &str,
-    new: &str,
-    output: &mut W,
-) -> Result<u8, Fault>
-    ensures ok { IfOk result (λ status. OfSome
-        (Tells renewed_report (W.contents output.old) (W.contents output.new) status)) }
-    ensures fault { IfErr result (EndsEarly
-        (OfSome (TellsPrefix renewed_report (W.contents output.old) (W.contents output.new)))
-        (W.contents output.old) (W.contents output.new)) }
-{
-    let old = read_at(rt, alloc, old)?;
-    let new = read_at(rt, alloc, new)?;
-    compare_bytes(alloc, old.as_slice(), new.as_slice(), output)
-}
-
 /// Reads an old record from the first reader and then a new one from the second, each to its end.
 /// Writes a line, flushes, and returns the exit status:
 ///
@@ -109,8 +88,7 @@ fn compare_files<H: Files, W: Write>(
 ///
 /// Before 3 and 4 it writes a line to `errors`.
 ///
-/// The clauses assume readers whose bytes are known and a writer that reports what it holds. They
-/// state the possible statuses, and what was written before each.
+/// The clauses assume a writer that reports what it holds, and state what those of `check_over` do.
 pub fn renewed_over<A: Read, B: Read, W: Write, E: Write>(
     alloc: Global,
     first: &mut A,
@@ -122,20 +100,4 @@ pub fn renewed_over<A: Read, B: Read, W: Write, E: Write>(
         (W.contents output.old) (W.contents output.new) result }
 {
     end_with(compare_readers(alloc, first, second, output), errors)
-}
-
-/// Like `renewed_over`, for the files of these names. Reads the first whole before it opens the
-/// second. A file that cannot be opened counts as failed input. That the bytes are those of the
-/// files, no clause can state.
-pub fn renewed_at<H: Files, W: Write, E: Write>(
-    rt: &H,
-    alloc: Global,
-    old: &str,
-    new: &str,
-    output: &mut W,
-    errors: &mut E,
-) -> u8
-    ensures { Reports renewed_report OfSome (W.contents output.old) (W.contents output.new) result }
-{
-    end_with(compare_files(rt, alloc, old, new, output), errors)
 }

@@ -12,9 +12,9 @@ mod renewing;
 mod reporting;
 mod script;
 
-pub use checking::{check_at, check_over};
-pub use comparing::{renewed_at, renewed_over};
+pub use checking::check_over;
+pub use comparing::renewed_over;
 pub use fault::fault_of_rooms;
-pub use migrating::{migrate_at, migrate_over};
-pub use renewing::{renew_at, renew_over};
+pub use migrating::migrate_over;
+pub use renewing::renew_over;
 pub use script::{room_names, script_over};

@@ -1,17 +1,15 @@
 //! `grace migrate RECORD`: rewrites a room's record in the current forms.
 
 ghost use Rattle.std.specs.Prelude.{◌≡◌, IfErr, IfOk, string_bytes};
-ghost use Rattle.commands.specs.steps.Statuses.{EndsEarly, IsOfResult, OfSome};
+ghost use Rattle.commands.specs.steps.Statuses.{EndsEarly, IsOfResult};
 ghost use Rattle.commands.specs.Migrations.{migrate_report, migrated_status, migrated_text};
 ghost use Rattle.commands.specs.Reports.{OfReader, Reports, Tells, TellsPrefix};
 
-use crate::checking::{read_at, read_whole, write_line};
-use crate::reporting::end_with;
+use crate::reporting::{end_with, read_whole, write_line};
 use command_fault::Fault;
 use history_check::{Migrated, migrate};
 use std::alloc::Global;
 use std::io::{Read, Write};
-use std::rt::Files;
 
 /// The new text of a record, or the line for its first bad line.
 fn migrated_text(alloc: Global, migrated: Migrated) -> Result<String, Fault>
@@ -70,23 +68,6 @@ fn migrate_reader<R: Read, W: Write>(
     migrate_bytes(alloc, entries.as_slice(), output)
 }
 
-/// The same for the file of this name.
-fn migrate_file<H: Files, W: Write>(
-    rt: &H,
-    alloc: Global,
-    record: &str,
-    output: &mut W,
-) -> Result<u8, Fault>
-    ensures ok { IfOk result (λ status. OfSome
-        (Tells migrate_report (W.contents output.old) (W.contents output.new) status)) }
-    ensures fault { IfErr result (EndsEarly
-        (OfSome (TellsPrefix migrate_report (W.contents output.old) (W.contents output.new)))
-        (W.contents output.old) (W.contents output.new)) }
-{
-    let entries = read_at(rt, alloc, record)?;
-    migrate_bytes(alloc, entries.as_slice(), output)
-}
-
 /// Reads a room's record to its end and writes its entries in the current forms. Instead writes
 /// `bad record line N` with the first bad line, as `check_over` does, if the record is not legal.
 /// Flushes, and returns the exit status:
@@ -98,8 +79,7 @@ fn migrate_file<H: Files, W: Write>(
 ///
 /// Before 3 and 4 it writes a line to `errors`.
 ///
-/// The clauses assume a reader whose bytes are known and a writer that reports what it holds. They
-/// state the possible statuses, and what was written before each.
+/// The clauses assume a writer that reports what it holds, and state what those of `check_over` do.
 pub fn migrate_over<R: Read, W: Write, E: Write>(
     alloc: Global,
     input: &mut R,
@@ -110,18 +90,4 @@ pub fn migrate_over<R: Read, W: Write, E: Write>(
         (W.contents output.old) (W.contents output.new) result }
 {
     end_with(migrate_reader(alloc, input, output), errors)
-}
-
-/// Like `migrate_over`, for the file of this name. A file that cannot be opened counts as failed
-/// input. That the bytes are those of the file, no clause can state.
-pub fn migrate_at<H: Files, W: Write, E: Write>(
-    rt: &H,
-    alloc: Global,
-    record: &str,
-    output: &mut W,
-    errors: &mut E,
-) -> u8
-    ensures { Reports migrate_report OfSome (W.contents output.old) (W.contents output.new) result }
-{
-    end_with(migrate_file(rt, alloc, record, output), errors)
 }

@@ -1,17 +1,15 @@
 //! `grace renew RECORD`: prints a short record that draws what a room's record draws.
 
 ghost use Rattle.std.specs.Prelude.{◌≡◌, IfErr, IfOk, string_bytes};
-ghost use Rattle.commands.specs.steps.Statuses.{EndsEarly, IsOfResult, OfSome};
+ghost use Rattle.commands.specs.steps.Statuses.{EndsEarly, IsOfResult};
 ghost use Rattle.commands.specs.Renewals.{renew_report, renewed_status, renewed_text};
 ghost use Rattle.commands.specs.Reports.{OfReader, Reports, Tells, TellsPrefix};
 
-use crate::checking::{read_at, read_whole, write_line};
-use crate::reporting::end_with;
+use crate::reporting::{end_with, read_whole, write_line};
 use command_fault::Fault;
 use renewal_text::{RenewedText, renew};
 use std::alloc::Global;
 use std::io::{Read, Write};
-use std::rt::Files;
 
 /// The new record, or a line.
 fn renewed_text(alloc: Global, renewed: RenewedText) -> Result<String, Fault>
@@ -71,23 +69,6 @@ fn renew_reader<R: Read, W: Write>(
     renew_bytes(alloc, entries.as_slice(), output)
 }
 
-/// The same for the file of this name.
-fn renew_file<H: Files, W: Write>(
-    rt: &H,
-    alloc: Global,
-    record: &str,
-    output: &mut W,
-) -> Result<u8, Fault>
-    ensures ok { IfOk result (λ status. OfSome
-        (Tells renew_report (W.contents output.old) (W.contents output.new) status)) }
-    ensures fault { IfErr result (EndsEarly
-        (OfSome (TellsPrefix renew_report (W.contents output.old) (W.contents output.new)))
-        (W.contents output.old) (W.contents output.new)) }
-{
-    let entries = read_at(rt, alloc, record)?;
-    renew_bytes(alloc, entries.as_slice(), output)
-}
-
 /// Reads a room's record to its end and writes a renewed one: a legal record that draws the same,
 /// with no more entries. Instead writes `bad record line N` with the first bad line, as
 /// `check_over` does, if the record is not legal, and `cannot renew` if no renewed one was found.
@@ -100,8 +81,7 @@ fn renew_file<H: Files, W: Write>(
 ///
 /// Before 3 and 4 it writes a line to `errors`.
 ///
-/// The clauses assume a reader whose bytes are known and a writer that reports what it holds. They
-/// state the possible statuses, and what was written before each.
+/// The clauses assume a writer that reports what it holds, and state what those of `check_over` do.
 pub fn renew_over<R: Read, W: Write, E: Write>(
     alloc: Global,
     input: &mut R,
@@ -112,18 +92,4 @@ pub fn renew_over<R: Read, W: Write, E: Write>(
         (W.contents output.old) (W.contents output.new) result }
 {
     end_with(renew_reader(alloc, input, output), errors)
-}
-
-/// Like `renew_over`, for the file of this name. A file that cannot be opened counts as failed
-/// input. That the bytes are those of the file, no clause can state.
-pub fn renew_at<H: Files, W: Write, E: Write>(
-    rt: &H,
-    alloc: Global,
-    record: &str,
-    output: &mut W,
-    errors: &mut E,
-) -> u8
-    ensures { Reports renew_report OfSome (W.contents output.old) (W.contents output.new) result }
-{
-    end_with(renew_file(rt, alloc, record, output), errors)
 }

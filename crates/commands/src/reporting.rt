@@ -1,10 +1,37 @@
-//! The exit status of a command that writes one result.
+//! What the commands share that read their input whole and write one result of it.
 
-ghost use Rattle.std.specs.Prelude.{◌≡◌};
+ghost use Rattle.std.specs.Prelude.{◌≡◌, ◌≤◌, ◌⊎◌, IfErr, IfOk, IfSome, OnErr, OnOk, length};
+ghost use Rattle.std.specs.Io.KnownBytes.{Appends, IsAtEnd};
+ghost use Rattle.byte_streams.specs.Prefixes.{AppendsPrefix};
 ghost use Rattle.commands.specs.steps.Statuses.{end_status};
 
-use command_fault::Fault;
-use std::io::Write;
+use byte_streams::write_out;
+use command_fault::{Fault, MAX_FILE_LEN, read_up_to};
+use std::alloc::Global;
+use std::io::{Read, Write};
+
+/// Reads all bytes of a reader, at most `MAX_FILE_LEN`.
+pub(crate) fn read_whole<R: Read>(alloc: Global, input: &mut R) -> Result<Vec<u8>, Fault>
+    ensures all { IfOk result (λ bytes. IfSome (R.remaining input.old) (λ all. bytes.items ≡ all)) }
+    ensures most { IfOk result (λ bytes. length bytes.items ≤ MAX_FILE_LEN) }
+    ensures end { OnOk result (IsAtEnd (R.remaining input.new)) }
+    ensures fault { IfErr result (λ fault. (fault ≡ Fault.Input) ⊎ (fault ≡ Fault.NoMemory)) }
+{
+    read_up_to(alloc, input, MAX_FILE_LEN)
+}
+
+/// Writes a line and flushes the output.
+pub(crate) fn write_line<W: Write>(output: &mut W, line: &[u8]) -> Result<(), Fault>
+    ensures ok { OnOk result (Appends (W.contents output.old) (W.contents output.new) line.now) }
+    ensures prefix { OnErr result
+        (AppendsPrefix (W.contents output.old) (W.contents output.new) line.now) }
+    ensures fault { IfErr result (λ fault. fault ≡ Fault.Output) }
+{
+    if write_out(output, line).is_err() || output.flush().is_err() {
+        return Err(Fault::Output);
+    }
+    Ok(())
+}
 
 /// The exit status: that of the result, or of the fault. Writes the line of a fault to `errors`.
 pub(crate) fn end_with<E: Write>(end: Result<u8, Fault>, errors: &mut E) -> u8

@@ -10,7 +10,7 @@ use Rattle.base_types.specs.Vectors.{counts}
 use Rattle.base_types.specs.Names.{Name}
 use Rattle.rules.specs.declared.history.Op.{Op}
 use Rattle.rules.specs.Bodies.{are_at_odds}
-use Rattle.rules.specs.Operations.{same_op}
+use Rattle.rules.specs.steps.Histories.{same_op}
 use Rattle.rules.specs.Conflicts.{base, conflict, direct_conflict, members}
 use Rattle.rules.proofs.Counted.{same_name-true}
 use Rattle.rules.proofs.Lists.{any_back, filter_agree}

@@ -9,7 +9,8 @@ use Rattle.base_types.specs.Vectors.{counts}
 use Rattle.base_types.specs.Names.{Name, is_op_name}
 use Rattle.rules.specs.declared.history.Op.{Op}
 use Rattle.rules.specs.Bodies.{are_at_odds}
-use Rattle.rules.specs.Operations.{before, concurrent, same_op}
+use Rattle.rules.specs.Operations.{before, concurrent}
+use Rattle.rules.specs.steps.Histories.{same_op}
 use Rattle.rules.specs.Conflicts.{base, conflict, direct_conflict, members}
 use Rattle.rules.proofs.Lists.{In, In-from_Contains, Contains-from_In, In-append_cases, In-filter, In-filter_back, any_from, any_back, any_agree, filter_agree, map_agree}
 use Rattle.rules.proofs.Relation.{same_answer, conflict_symmetric}

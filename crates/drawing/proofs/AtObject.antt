@@ -7,7 +7,8 @@ use Rattle.base_types.specs.Vectors.{is_vector}
 use Rattle.rules.specs.declared.history.Op.{Op}
 use Rattle.rules.specs.declared.history.Entry.{Entry}
 use Rattle.rules.specs.declared.limits.LimitValues.{LimitValues}
-use Rattle.rules.specs.Admission.{causal_refusal, first_that_applies}
+use Rattle.rules.specs.Admission.{first_that_applies}
+use Rattle.rules.specs.steps.Histories.{causal_refusal}
 use Rattle.rules.specs.Bodies.{is_change_body}
 use Rattle.rules.specs.Operations.{IsCausallyOrdered, IsHistory, is_change_on, object_of}
 use Rattle.rules.specs.Records.{operations, version_conditions}

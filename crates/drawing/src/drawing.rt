@@ -7,7 +7,7 @@ ghost use Rattle.indexmap.specs.IndexMap.{spare};
 ghost use Rattle.base_types.specs.Names.{same_name};
 ghost use Rattle.rules.specs.declared.history.Entry.TheVariants.{Join};
 ghost use Rattle.rules.specs.declared.limits.TheConstants.Limits.{MAX_ENTRIES};
-ghost use Rattle.rules.specs.Admission.{causal_refusal};
+ghost use Rattle.rules.specs.steps.Histories.{causal_refusal};
 ghost use Rattle.rules.specs.Operations.{name_of};
 ghost use Rattle.rules.specs.Records.{objects, operations};
 ghost use Rattle.drawing.specs.steps.Additions.{CanAdd, CanCreate, CanStandAlone, CanChange, IsReady};

@@ -17,7 +17,9 @@ use Rattle.rules.specs.declared.refusal.Refusal.TheVariants.{RoomFull, RecordFul
 use Rattle.rules.specs.declared.limits.LimitValues.{LimitValues}
 use Rattle.rules.specs.Bodies.{is_change_body, is_put_body, kind_of_body}
 use Rattle.rules.specs.Limits.{full_limits}
-use Rattle.rules.specs.Operations.{IsHistory, IsPartOf, AreSame, before, creation_of, holds_drop, is_creation_of, is_on, is_change_on, object_of, operation, changes_on}
+use Rattle.rules.specs.Operations.{IsHistory, before, creation_of, holds_drop, is_creation_of}
+use Rattle.rules.specs.Operations.{is_on, is_change_on, object_of, operation, changes_on}
+use Rattle.rules.specs.steps.Histories.{IsPartOf, AreSame}
 use Rattle.rules.specs.Admission.{Condition, first_that_applies, names_counted, count_at_site, has_wrong_seq, has_wrong_own_count, is_ahead, is_not_closed}
 use Rattle.rules.specs.Conflicts.{base, has_object, members, IsFounded}
 use Rattle.rules.specs.Versions.{groups, keys_of, versions}

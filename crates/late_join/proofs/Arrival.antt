@@ -10,7 +10,9 @@ use Rattle.rules.specs.declared.history.Entry.{Entry}
 use Rattle.rules.specs.declared.history.Entry.TheVariants.{Operation}
 use Rattle.rules.specs.declared.refusal.Refusal.{Refusal}
 use Rattle.rules.specs.declared.refusal.Refusal.TheVariants.{RecordFull, OwnCount, NotClosed}
-use Rattle.rules.specs.Admission.{Condition, causal_refusal, count_at_site, first_that_applies, has_wrong_own_count, has_wrong_seq, is_not_closed, names_counted}
+use Rattle.rules.specs.Admission.{Condition, count_at_site, first_that_applies, has_wrong_own_count}
+use Rattle.rules.specs.Admission.{has_wrong_seq, is_not_closed, names_counted}
+use Rattle.rules.specs.steps.Histories.{causal_refusal}
 use Rattle.rules.specs.Bodies.{is_change_body}
 use Rattle.rules.specs.declared.limits.LimitValues.{LimitValues}
 use Rattle.rules.specs.Operations.{operation}

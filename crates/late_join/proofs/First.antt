@@ -7,7 +7,9 @@ use Rattle.rules.specs.declared.history.Op.{Op}
 use Rattle.rules.specs.declared.history.Entry.{Entry}
 use Rattle.rules.specs.declared.history.Entry.TheVariants.{Operation}
 use Rattle.rules.specs.declared.refusal.Refusal.TheVariants.{RecordFull, WrongSeq, OwnCount, Ahead, NotClosed}
-use Rattle.rules.specs.Admission.{causal_refusal, count_at_site, first_that_applies, has_wrong_own_count, has_wrong_seq, is_ahead, is_not_closed}
+use Rattle.rules.specs.Admission.{count_at_site, first_that_applies, has_wrong_own_count}
+use Rattle.rules.specs.Admission.{has_wrong_seq, is_ahead, is_not_closed}
+use Rattle.rules.specs.steps.Histories.{causal_refusal}
 use Rattle.rules.specs.declared.limits.LimitValues.{LimitValues}
 use Rattle.rules.specs.Records.{operations}
 use Rattle.late_join.specs.declared.fault.TakeFault.{TakeFault}

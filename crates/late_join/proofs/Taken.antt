@@ -14,7 +14,9 @@ use Rattle.rules.specs.declared.refusal.Refusal.TheVariants.{RecordFull, WrongSe
 use Rattle.rules.specs.declared.limits.LimitValues.{LimitValues}
 use Rattle.rules.specs.Bodies.{is_change_body}
 use Rattle.rules.specs.Operations.{IsHistory, IsCausallyOrdered, operation}
-use Rattle.rules.specs.Admission.{Condition, first_that_applies, names_counted, count_at_site, has_wrong_seq, has_wrong_own_count, is_ahead, is_not_closed, causal_refusal}
+use Rattle.rules.specs.Admission.{Condition, first_that_applies, names_counted, count_at_site}
+use Rattle.rules.specs.Admission.{has_wrong_seq, has_wrong_own_count, is_ahead, is_not_closed}
+use Rattle.rules.specs.steps.Histories.{causal_refusal}
 use Rattle.rules.specs.Conflicts.{IsFounded}
 use Rattle.rules.specs.Records.{has_ended, open_conditions, operations, refusal, creation_conditions, change_conditions}
 use Rattle.rules.proofs.Lists.{In-from_Contains, any_back, any_none, find_none}

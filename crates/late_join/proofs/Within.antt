@@ -17,7 +17,8 @@ use Rattle.rules.specs.Lists.{sort_by}
 use Rattle.rules.specs.Operations.{by_name, holds_drop, is_on, is_change_on, object_of, changes_on}
 use Rattle.rules.specs.Admission.{Condition, first_that_applies}
 use Rattle.rules.specs.Conflicts.{base, has_object, members}
-use Rattle.rules.specs.Versions.{groups, keys_of, new_keys}
+use Rattle.rules.specs.Versions.{groups, keys_of}
+use Rattle.rules.specs.steps.Keys.{new_keys}
 use Rattle.rules.specs.Records.{has_ended, is_end, operation_in, operations, objects, sites, admits, is_placed, refusal, order_conditions, change_conditions, creation_conditions, has_too_many_keys, has_too_many_versions, IsLegal, IsLegalAfter}
 use Rattle.rules.proofs.Lists.{In, Contains-from_In, In-append_cases, In-append_left, In-append_right, In-filter_map, any_from}
 use Rattle.rules.proofs.Once.{Once, Once-append}

@@ -4,7 +4,8 @@ use Rattle.std.specs.List.{list_any}
 use Rattle.std.proofs.lemmas.List.{length-map}
 use Rattle.std.proofs.lemmas.List.FromFn.{length-range_with_len}
 use Rattle.rules.specs.declared.history.Op.{Op}
-use Rattle.rules.specs.Operations.{same_op, name_of}
+use Rattle.rules.specs.Operations.{name_of}
+use Rattle.rules.specs.steps.Histories.{same_op}
 use Rattle.rules.proofs.Lists.{In, In-filter, In-filter_back, In-map_back, any_from, any_back}
 use Rattle.rules.proofs.Once.{Once, Once-map, length_within}
 use Rattle.rules.proofs.Relation.{same_answer}

@@ -7,7 +7,8 @@ use Rattle.rules.specs.declared.history.Entry.{Entry}
 use Rattle.rules.specs.declared.history.Entry.TheVariants.{Join, Operation, Next}
 use Rattle.rules.specs.declared.refusal.Refusal.{Refusal}
 use Rattle.rules.specs.declared.refusal.Refusal.TheVariants.{RecordFull}
-use Rattle.rules.specs.Admission.{Condition, causal_conditions, causal_refusal, first_that_applies}
+use Rattle.rules.specs.Admission.{Condition, causal_conditions, first_that_applies}
+use Rattle.rules.specs.steps.Histories.{causal_refusal}
 use Rattle.rules.specs.Records.{body_conditions, end_condition, is_end, is_join, is_placed, operations, order_conditions, refusal, sites}
 use Rattle.rules.proofs.Conditions.{not_first, room_for_join}
 use Rattle.rules.proofs.Records.{has_ended-push, legal_push, sites-end, sites-join, sites-operation}

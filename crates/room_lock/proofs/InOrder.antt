@@ -15,7 +15,7 @@ use Rattle.base_types.specs.Texts.{Bytes}
 use Rattle.openings.specs.Openings.{OpeningView}
 use Rattle.room_core.proofs.Seen.{some_same}
 use Rattle.room_lock.specs.InOrder.{AreInOrder, IsOpeningFor, opening_name, number_of, openings_in, opening_place}
-use Rattle.room_lock.specs.steps.Views.{AreNamed}
+use Rattle.room_lock.specs.steps.Openings.{AreNamed}
 use Rattle.room_lock.specs.Rooms.{RoomsView}
 
 -- a run of numbers with the next one

@@ -5,8 +5,7 @@ use mathlib.Core.List.{IsPrefix}
 use Rattle.rules.specs.declared.history.Entry.{Entry}
 use Rattle.rules.specs.declared.limits.LimitValues.{LimitValues}
 use Rattle.rules.specs.Records.{sites, IsLegal}
-use Rattle.room_lock.specs.Sites.{count_of_sites}
-use Rattle.room_lock.specs.Sites.{count_of_site}
+use Rattle.room_lock.specs.Sites.{count_of_sites, count_of_site}
 use Rattle.room_lock.specs.Passes.{PartView}
 
 abbrev pub site_of : PartView → ℕ

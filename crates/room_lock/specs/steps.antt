@@ -6,4 +6,5 @@ pub mod Stages
 pub mod Kept
 pub mod Shelves
 pub mod Views
+pub mod Openings
 pub mod Closing

@@ -44,7 +44,7 @@ impl<P: RoomHistories> Model for Directory<P> {
     ghost use Rattle.std.specs.Prelude.{List};
     ghost use Rattle.base_types.specs.Texts.{Bytes};
     ghost use Rattle.openings.specs.Openings.{OpeningView};
-    ghost use Rattle.room_lock.specs.steps.Views.{AreNamed};
+    ghost use Rattle.room_lock.specs.steps.Openings.{AreNamed};
 
     ghost Value = { List (Bytes × OpeningView) };
 

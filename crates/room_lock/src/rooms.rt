@@ -13,7 +13,7 @@ ghost use Rattle.room_lock.specs.declared.lookup.Lookup.TheVariants as lookup;
 ghost use Rattle.room_lock.specs.Closing.{IsClosed};
 ghost use Rattle.room_lock.specs.steps.Ends.{IsEndOver};
 ghost use Rattle.room_lock.specs.InOrder.{IsOpeningFor};
-ghost use Rattle.room_lock.specs.steps.Views.{MayBeOf};
+ghost use Rattle.room_lock.specs.steps.Openings.{MayBeOf};
 ghost use Rattle.room_lock.specs.Rooms.{IsListOf, IsOffered, IsOnDemand, Serves};
 ghost use Rattle.room_lock.specs.Lookups.{IfKnown, IfNew, IfOpen};
 ghost use Rattle.room_lock.specs.steps.Stages.{IsOpenAs};

@@ -2,7 +2,7 @@
 use Rattle.std.proofs.Common.{◌≡◌, ℕ, ◌+◌, ◌<◌, ◌≤◌, List, [], ◌∷◌, ◌++◌, length, get_or, map, take, drop, ap, sym, ◌∙◌, arith}
 use Rattle.std.proofs.lemmas.List.{drop-take, get_or-map, length-map, length-take, length_push, map-append, take-append-le, take_more, take-take}
 use Rattle.rules.specs.declared.history.Entry.{Entry}
-use Rattle.wire.specs.Texts.{entry_text}
+use Rattle.wire.specs.steps.Forms.{entry_text}
 use Rattle.room_record.specs.steps.Records.{AreTexts}
 use Rattle.room_record.proofs.Parts.{page_seen}
 

@@ -5,7 +5,8 @@ use Rattle.std.specs.List.{list_any}
 use Rattle.rules.specs.declared.history.Op.{Op}
 use Rattle.rules.specs.Bodies.{version_of_body}
 use Rattle.rules.specs.Groups.{group_named}
-use Rattle.rules.specs.Operations.{IsHistory, IsPartOf, known, name_of}
+use Rattle.rules.specs.Operations.{IsHistory, known, name_of}
+use Rattle.rules.specs.steps.Histories.{IsPartOf}
 use Rattle.rules.specs.Conflicts.{members, direct_conflict, conflict_by, total, base_within, base, conflict}
 use Rattle.rules.proofs.Lists.{In, In-from_Contains, Contains-from_In}
 use Rattle.rules.proofs.Vectors.{total-before}

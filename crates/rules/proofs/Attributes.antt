@@ -7,7 +7,8 @@ use Rattle.base_types.specs.Names.{Name}
 use Rattle.base_types.specs.Texts.{Bytes}
 use Rattle.rules.specs.declared.history.Op.{Op}
 use Rattle.rules.specs.Bodies.{value_of_body, differ_on_a_key, is_one_a_drop, are_at_odds}
-use Rattle.rules.specs.Operations.{IsHistory, before, concurrent, creation_of, is_past, name_of, same_op, changes_on}
+use Rattle.rules.specs.Operations.{IsHistory, before, concurrent, creation_of, name_of, changes_on}
+use Rattle.rules.specs.steps.Histories.{is_past, same_op}
 use Rattle.rules.specs.Conflicts.{base, conflict, direct_conflict}
 use Rattle.rules.specs.Versions.{gives, decides, groups, version_of, shown_of, initial_of}
 use Rattle.rules.proofs.Lists.{In, In-from_Contains, Contains-from_In, any_none}

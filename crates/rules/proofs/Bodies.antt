@@ -4,7 +4,8 @@ use Rattle.std.specs.Prelude.{find, option_map, bytes_eq, is_some}
 use Rattle.std.proofs.lemmas.Bool.{true≢false, false_from_ne_true, not_from_true, not_from_false, not-false, or_from}
 use Rattle.std.proofs.lemmas.Slice.Eq.{bytes_eq-Decides}
 use Rattle.base_types.specs.Texts.{Bytes}
-use Rattle.base_types.specs.Values.{same_value, same_value-Decides}
+use Rattle.base_types.specs.Values.{same_value}
+use Rattle.base_types.specs.steps.Equality.{same_value-Decides}
 use Rattle.base_types.specs.declared.value.Value.{Value}
 use Rattle.rules.specs.AttrLists.{Attr, value_at, are_different}
 use Rattle.rules.specs.declared.history.Body.{Body}

@@ -2,8 +2,9 @@
 use Rattle.std.proofs.Common.{List, ◌↔◌}
 use Rattle.std.specs.Prelude.{IsTrue, Contains}
 use Rattle.rules.specs.declared.history.Op.{Op}
-use Rattle.rules.specs.Operations.{IsHistory, Before, before}
-use Rattle.rules.specs.Operations.Before.{direct, through}
+use Rattle.rules.specs.Operations.{IsHistory, before}
+use Rattle.rules.specs.steps.Histories.{Before}
+use Rattle.rules.specs.steps.Histories.Before.{direct, through}
 
 record Counted (h : List Op) (a b : Op) : Type 0 where
   first : Contains h a

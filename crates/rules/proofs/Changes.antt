@@ -4,7 +4,9 @@ use Rattle.std.specs.Prelude.{IsTrue, Contains, filter}
 use Rattle.std.proofs.lemmas.Bool.{cases_Bool}
 use Rattle.base_types.specs.Names.{Name}
 use Rattle.rules.specs.declared.history.Op.{Op}
-use Rattle.rules.specs.Operations.{IsHistory, Before, before, by_name, object_of, is_change_on, changes_on, known}
+use Rattle.rules.specs.Operations.{IsHistory, before, by_name, object_of, is_change_on, changes_on}
+use Rattle.rules.specs.Operations.{known}
+use Rattle.rules.specs.steps.Histories.{Before}
 use Rattle.rules.proofs.Lists.{In, In-from_Contains, Contains-from_In, In-filter, In-filter_back}
 use Rattle.rules.proofs.Once.{Once, Once-filter, Once-from_HasNoRepeats}
 use Rattle.rules.proofs.Orders.{by_name_total, one_name}

@@ -11,7 +11,8 @@ use Rattle.rules.specs.declared.history.Entry.TheVariants.{Join, Operation, Next
 use Rattle.rules.specs.declared.refusal.Refusal.TheVariants.{RoomFull, RecordFull, WrongSeq, TooManyObjects, Renewed}
 use Rattle.rules.specs.declared.limits.LimitValues.{LimitValues}
 use Rattle.rules.specs.Bodies.{is_change_body}
-use Rattle.rules.specs.Admission.{Condition, count_at_site, first_that_applies, causal_conditions, causal_refusal}
+use Rattle.rules.specs.Admission.{Condition, count_at_site, first_that_applies, causal_conditions}
+use Rattle.rules.specs.steps.Histories.{causal_refusal}
 use Rattle.rules.proofs.Records.{count_at_site-length}
 use Rattle.rules.specs.Records.{operations, objects, sites, is_placed, admits, refusal, conditions, open_conditions, has_ended, order_conditions, creation_conditions, change_conditions}
 

@@ -10,7 +10,9 @@ use Rattle.rules.specs.declared.version.Shown.{Shown}
 use Rattle.rules.specs.declared.version.Shown.TheVariants.{Attrs, Gone}
 use Rattle.rules.specs.AttrLists.{Attr}
 use Rattle.rules.specs.Bodies.{is_change_body, is_put_body, is_drop_body, differ_on_a_key, is_one_a_drop, are_at_odds, value_of_body}
-use Rattle.rules.specs.Operations.{IsHistory, before, concurrent, changes_on, creation_of, holds_drop, is_change_on, is_on, known, object_of, same_op}
+use Rattle.rules.specs.Operations.{IsHistory, before, concurrent, changes_on, creation_of}
+use Rattle.rules.specs.Operations.{holds_drop, is_change_on, is_on, known, object_of}
+use Rattle.rules.specs.steps.Histories.{same_op}
 use Rattle.rules.specs.Conflicts.{base, conflict, direct_conflict, members, with_base, IsFounded}
 use Rattle.rules.specs.Groups.{groups_of}
 use Rattle.rules.specs.Versions.{attributes, decides, groups, initial_of, shown_of, version_of}

@@ -9,7 +9,9 @@ use Rattle.base_types.specs.Vectors.{counts, count_of, covers, is_vector}
 use Rattle.rules.specs.declared.history.Op.{Op}
 use Rattle.rules.specs.declared.refusal.Refusal.TheVariants.{WrongSeq, OwnCount, Ahead, NotClosed}
 use Rattle.rules.specs.Operations.{IsHistory, operation}
-use Rattle.rules.specs.Admission.{first_that_applies, names_counted, count_at_site, has_wrong_seq, has_wrong_own_count, is_ahead, is_not_closed, causal_refusal}
+use Rattle.rules.specs.Admission.{first_that_applies, names_counted, count_at_site, has_wrong_seq}
+use Rattle.rules.specs.Admission.{has_wrong_own_count, is_ahead, is_not_closed}
+use Rattle.rules.specs.steps.Histories.{causal_refusal}
 use Rattle.rules.proofs.Lists.{In, In-from_Contains, Contains-from_In, any_none}
 use Rattle.rules.proofs.Once.{Once-append, Once-from_HasNoRepeats, HasNoRepeats-from_Once}
 use Rattle.rules.proofs.Counted.{found, In-names_counted, covers-counts}

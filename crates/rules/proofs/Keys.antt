@@ -11,10 +11,12 @@ use Rattle.base_types.specs.declared.value.Value.{Value}
 use Rattle.base_types.specs.Repeats.{repeat_from, first_repeat}
 use Rattle.rules.specs.declared.history.Op.{Op}
 use Rattle.rules.specs.declared.pairs.PairsFault.TheVariants as pairs_faults
-use Rattle.rules.specs.AttrLists.{Attr, value_at, are_different, do_pairs_differ, gives_another, same_key, pairs_fault, are_pairs}
+use Rattle.rules.specs.AttrLists.{Attr, value_at, are_different, do_pairs_differ, same_key}
+use Rattle.rules.specs.AttrLists.{pairs_fault, are_pairs}
+use Rattle.rules.specs.steps.Keys.{gives_another, new_keys}
 use Rattle.rules.specs.Bodies.{keys_of_body, pairs_of_body}
 use Rattle.rules.specs.Lists.{HasNoRepeats, each_once}
-use Rattle.rules.specs.Versions.{keys_of, new_keys}
+use Rattle.rules.specs.Versions.{keys_of}
 use Rattle.rules.proofs.Lists.{In, In-map, In-map_back, In-append_cases, In-append_left, In-append_right, In-filter, In-filter_back, any_from, any_back, any_agree, find_is}
 use Rattle.rules.proofs.Once.{Once, Once-append, Once-filter, HasNoRepeats-from_Once, length_within}
 use Rattle.rules.proofs.Relation.{same_answer}

@@ -13,7 +13,10 @@ use Rattle.rules.specs.Bodies.{is_change_body, object_of_body}
 use Rattle.rules.specs.Records.{has_too_many_keys, version_conditions}
 use Rattle.rules.specs.Lists.{sort_by}
 use Rattle.rules.specs.Groups.{groups_of, identifier}
-use Rattle.rules.specs.Operations.{known, changes_on, object_of, is_on, is_change_on, is_creation_of, operations_on, creation_of, by_name, before, holds_drop, name_of}
+use Rattle.rules.specs.Operations.{known, changes_on, object_of, is_on, is_change_on}
+use Rattle.rules.specs.Operations.{is_creation_of, creation_of, by_name, before, holds_drop}
+use Rattle.rules.specs.Operations.{name_of}
+use Rattle.rules.specs.steps.Histories.{operations_on}
 use Rattle.rules.specs.Conflicts.{base, conflict, members}
 use Rattle.rules.specs.Versions.{groups, version_of, versions, by_id, shown_of, initial_of}
 use Rattle.rules.proofs.Lists.{In, filter_inner, map_agree}

@@ -5,7 +5,8 @@ use Rattle.std.specs.Ordering.{is_eq}
 use Rattle.std.specs.Cmp.{IsTotalOrder}
 use Rattle.std.proofs.lemmas.Cmp.{then_total, on_total, nat_cmp_total, lists_total}
 use Rattle.base_types.specs.Names.{Name, name_cmp}
-use Rattle.base_types.specs.VersionIds.{id_cmp, same_name-ties, same_names-ties}
+use Rattle.base_types.specs.VersionIds.{id_cmp}
+use Rattle.base_types.specs.steps.Equality.{same_name-ties, same_names-ties}
 use Rattle.rules.specs.declared.history.Op.{Op}
 use Rattle.rules.specs.declared.version.Version.{Version}
 use Rattle.rules.specs.Operations.{by_name, name_of}

@@ -8,7 +8,8 @@ use Rattle.base_types.specs.Vectors.{counts}
 use Rattle.rules.specs.declared.history.Op.{Op}
 use Rattle.rules.specs.Bodies.{is_change_body}
 use Rattle.rules.specs.Groups.{groups_of}
-use Rattle.rules.specs.Operations.{IsHistory, IsPartOf, is_past, before, same_op, changes_on, known, is_on}
+use Rattle.rules.specs.Operations.{IsHistory, before, changes_on, known, is_on}
+use Rattle.rules.specs.steps.Histories.{IsPartOf, is_past, same_op}
 use Rattle.rules.specs.Conflicts.{base, conflict, IsFounded}
 use Rattle.rules.specs.Versions.{groups}
 use Rattle.rules.proofs.Lists.{In, In-from_Contains, Contains-from_In, In-filter, In-filter_back}

@@ -5,7 +5,8 @@ use Rattle.std.proofs.lemmas.Bool.{cases_Bool, true≢false, not-true, not_from_
 use Rattle.base_types.specs.Names.{Name, same_name}
 use Rattle.base_types.specs.VersionIds.{same_names}
 use Rattle.rules.specs.Lists.{HasNoRepeats}
-use Rattle.rules.specs.Groups.{in_conflict_with, identifier, group_named, is_named, compatible_with_named, IsGroup}
+use Rattle.rules.specs.Groups.{in_conflict_with, identifier, group_named, IsGroup}
+use Rattle.rules.specs.steps.NamedGroups.{is_named, compatible_with_named}
 use Rattle.rules.proofs.Lists.{In, In-from_Contains, Contains-from_In, In-filter, In-filter_back, any_from, any_back}
 use Rattle.rules.proofs.Once.{Once, Once-from_HasNoRepeats}
 use Rattle.rules.proofs.Counted.{same_name-true, same_name-refl}

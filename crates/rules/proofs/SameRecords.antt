@@ -1,8 +1,8 @@
 -- Two legal records with the same operations are one history.
 use Rattle.std.proofs.Common.{List}
 use Rattle.rules.specs.declared.history.Entry.{Entry}
-use Rattle.rules.specs.Operations.{AreSame}
-use Rattle.rules.specs.Records.{operations, HoldTheSame}
+use Rattle.rules.specs.steps.Histories.{AreSame, HoldTheSame}
+use Rattle.rules.specs.Records.{operations}
 use Rattle.rules.proofs.Founded.{history_if_legal}
 
 pub are_same : (q r : List Entry) → HoldTheSame q r → AreSame (operations q) (operations r)

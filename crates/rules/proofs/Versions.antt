@@ -15,7 +15,8 @@ use Rattle.rules.specs.declared.version.Version.{Version}
 use Rattle.rules.specs.Bodies.{is_change_body}
 use Rattle.rules.specs.Lists.{HasNoRepeats, insert_by, sort_by}
 use Rattle.rules.specs.Groups.{groups_of, identifier}
-use Rattle.rules.specs.Operations.{IsHistory, IsPartOf, AreSame, changes_on, name_of, creation_of, is_creation_of}
+use Rattle.rules.specs.Operations.{IsHistory, changes_on, name_of, creation_of, is_creation_of}
+use Rattle.rules.specs.steps.Histories.{IsPartOf, AreSame}
 use Rattle.rules.specs.Conflicts.{conflict, IsFounded}
 use Rattle.rules.specs.Versions.{groups, version_of, versions, by_id, shown_of, initial_of}
 use Rattle.rules.proofs.Lists.{In, In-from_Contains, Contains-from_In, In-map_back, map_agree, find_is, find_none}

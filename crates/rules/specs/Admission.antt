@@ -46,7 +46,3 @@ abbrev pub causal_conditions : List Op → Name → Vector → List Condition
 causal_conditions h name v = (has_wrong_seq h name, WrongSeq)
     ∷ (has_wrong_own_count name v, OwnCount) ∷ (is_ahead h v, Ahead)
     ∷ (is_not_closed h v, NotClosed) ∷ []
-
--- why an operation of this name and vector may not come next, if it may not
-unfoldable pub causal_refusal : List Op → Name → Vector → Option Refusal
-causal_refusal h name v = first_that_applies (causal_conditions h name v)

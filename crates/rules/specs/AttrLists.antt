@@ -1,9 +1,7 @@
 -- Lists of attributes: keys with values.
-use Rattle.std.specs.Prelude.{Bool, false, not, ◌&&◌, nat_lt, ◌==◌, List, length, Option, Some}
-use Rattle.std.specs.Prelude.{find, option_map, is_none, bytes_eq, if◌then◌else◌}
+use Rattle.std.specs.Prelude.{Bool, false, not, nat_lt, ◌==◌, List, length, Option, Some, find}
+use Rattle.std.specs.Prelude.{option_map, is_none, bytes_eq, if◌then◌else◌}
 use Rattle.std.specs.List.{list_any}
-use Rattle.std.specs.Ordering.{on, eq_of_both}
-use Rattle.std.specs.Cmp.Lexicographic.{pointwise}
 use Rattle.base_types.specs.Texts.{Bytes}
 use Rattle.base_types.specs.Values.{same_value}
 use Rattle.base_types.specs.Repeats.{first_repeat}
@@ -31,16 +29,8 @@ abbrev pub do_pairs_differ : List Attr → List Attr → Bool
 do_pairs_differ first second =
     list_any (λ attr. are_different (value_at attr.0 first) (value_at attr.0 second)) first
 
--- some attribute gives the key a value other than this one
-abbrev pub gives_another : Bytes → Value → List Attr → Bool
-gives_another key value attrs =
-    list_any (λ attr. bytes_eq attr.0 key && not (same_value value attr.1)) attrs
-
 abbrev pub same_key : Attr → Attr → Bool
 same_key p q = bytes_eq p.0 q.0
-
-abbrev pub same_attrs : List Attr → List Attr → Bool
-same_attrs = pointwise (eq_of_both (on (λ attr. attr.0) bytes_eq) (on (λ attr. attr.1) same_value))
 
 -- the first fault of initial attributes
 unfoldable pub attrs_fault : List Attr → Option AttrsFault

@@ -2,7 +2,7 @@
 use Rattle.std.specs.Prelude.{◌≡◌, Bool, false, not, ◌&&◌, List, [], ◌∷◌, ◌++◌, map, filter, find}
 use Rattle.std.specs.Prelude.{Option, ◌⊎◌, Contains, IsTrue}
 use Rattle.std.specs.List.{list_any, list_all}
-use Rattle.base_types.specs.Names.{Name, name_cmp, same_name}
+use Rattle.base_types.specs.Names.{Name, name_cmp}
 use Rattle.base_types.specs.VersionIds.{same_names}
 use Rattle.rules.specs.Lists.{sort_by}
 
@@ -40,16 +40,6 @@ unfoldable pub group_named : {X : Type 0} → (X → X → Bool) → (X → Name
     → Option (List X)
 group_named conflict name s id =
     find (λ g. same_names (identifier conflict name s g) id) (groups_of conflict s)
-
--- the identifier has x's name
-abbrev pub is_named : {X : Type 0} → (X → Name) → List Name → X → Bool
-is_named name id x = list_any (same_name (name x)) id
-
--- the members of s that conflict with no member that the identifier names
-abbrev pub compatible_with_named : {X : Type 0} → (X → X → Bool) → (X → Name) → List X → List Name
-    → List X
-compatible_with_named conflict name s id =
-    filter (λ x. not (in_conflict_with conflict (filter (is_named name id) s) x)) s
 
 -- ---- the same, as a predicate
 

@@ -1,6 +1,6 @@
 -- Histories of operations, and causal order by state vectors (Sun and Chen, ACM TOCHI 9(1), 2002).
-use Rattle.std.specs.Prelude.{◌≡◌, ◌+◌, ◌≤◌, Bool, true, not, ◌&&◌, ◌||◌, List, Option, IsTrue}
-use Rattle.std.specs.Prelude.{filter, find, Contains, [], ◌∷◌}
+use Rattle.std.specs.Prelude.{◌≡◌, ◌+◌, ◌≤◌, Bool, true, not, ◌&&◌, List, Option, IsTrue, filter}
+use Rattle.std.specs.Prelude.{find, Contains, [], ◌∷◌}
 use Rattle.std.specs.List.{list_any}
 use Rattle.std.specs.declared.cmp.Ordering.{Ordering}
 use Rattle.std.specs.Ordering.{on}
@@ -14,11 +14,7 @@ use Rattle.rules.specs.Lists.{HasNoRepeats, sort_by}
 abbrev pub name_of : Op → Name
 name_of op = op.name
 
--- two operations are the same if their names are
-abbrev pub same_op : Op → Op → Bool
-same_op = λ a b. same_name a.name b.name
-
--- and ordered by them
+-- operations are ordered by their names
 abbrev pub by_name : Op → Op → Ordering
 by_name = on name_of name_cmp
 
@@ -64,23 +60,7 @@ pub record IsHistory (h : List Op) : Type 0 where
   pub closed : (a b : Op) (n : Name) → Contains h a → Contains h b → IsTrue (counts b.seen a.name)
       → IsTrue (counts a.seen n) → IsTrue (counts b.seen n)
 
--- k is a part of the history h, and a history
-pub record IsPartOf (k h : List Op) : Type 0 where
-  pub part : IsHistory k
-  pub whole : IsHistory h
-  pub within : (o : Op) → Contains k o → Contains h o
-
--- k and h list the operations of one history
-pub record AreSame (k h : List Op) : Type 0 where
-  pub one : IsPartOf k h
-  pub other : IsPartOf h k
-
 -- ---- causal order
-
--- a is before b: b's vector counts a, or some operation is between them
-pub data Before (h : List Op) : Op → Op → Type 0 where
-  direct : (a b : Op) → Contains h a → Contains h b → IsTrue (counts b.seen a.name) → Before h a b
-  through : (a x b : Op) → Before h a x → Before h x b → Before h a b
 
 -- the test by one count: on a history it is causal order
 abbrev pub before : Op → Op → Bool
@@ -90,10 +70,6 @@ before a b = counts b.seen a.name
 abbrev pub concurrent : Op → Op → Bool
 concurrent a b = not (before a b) && not (before b a)
 
--- a is b or before it
-abbrev pub is_past : Op → Op → Bool
-is_past b a = same_op a b || before a b
-
 -- no operation is listed before one that precedes it
 abbrev pub IsCausallyOrdered : List Op → Type 0
 IsCausallyOrdered [] = Unit {0}
@@ -101,10 +77,6 @@ IsCausallyOrdered (x ∷ xs) = ((y : Op) → Contains xs y → IsTrue (not (befo
     × IsCausallyOrdered xs
 
 -- ---- one object
-
--- the operations on an object: its creation and its changes
-abbrev pub operations_on : List Op → Name → List Op
-operations_on h object = filter (is_on object) h
 
 -- all changes of an object, in order of name
 unfoldable pub changes_on : List Op → Name → List Op

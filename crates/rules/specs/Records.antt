@@ -1,7 +1,7 @@
 -- The record of a room: its joins and operations in order, and which entry may come next.
-use Rattle.std.specs.Prelude.{◌≡◌, ◌↔◌, Contains, ℕ, ◌+◌, Bool, true, false, not, ◌&&◌, List, []}
-use Rattle.std.specs.Prelude.{◌∷◌, ◌++◌, Option, Some, None, ◌==◌, nat_le, nat_lt, filter}
-use Rattle.std.specs.Prelude.{filter_map, count_by, length, is_none, if◌then◌else◌}
+use Rattle.std.specs.Prelude.{◌≡◌, ℕ, ◌+◌, Bool, true, false, not, ◌&&◌, List, [], ◌∷◌, ◌++◌}
+use Rattle.std.specs.Prelude.{Option, Some, None, ◌==◌, nat_le, nat_lt, filter, filter_map}
+use Rattle.std.specs.Prelude.{count_by, length, is_none, if◌then◌else◌}
 use Rattle.std.specs.List.{list_any}
 use Rattle.base_types.specs.Vectors.{is_vector}
 use Rattle.rules.specs.declared.history.Op.{Op}
@@ -141,9 +141,3 @@ IsLegalAfter b r (entry ∷ later) = (admits b r entry ≡ true)
 -- a legal record: each entry is admitted by those before it
 abbrev pub IsLegal : LimitValues → List Entry → Type 0
 IsLegal b r = IsLegalAfter b [] r
-
--- two records, each legal under some limits, have the same operations, in any order
-pub record HoldTheSame (q r : List Entry) : Type 0 where
-  pub one : (limits : LimitValues) × IsLegal limits q
-  pub other : (limits : LimitValues) × IsLegal limits r
-  pub same : (a : Op) → Contains (operations q) a ↔ Contains (operations r) a

@@ -1,6 +1,5 @@
 -- The numbers and words of refusals, and who refuses what.
-use Rattle.std.specs.Prelude.{ℕ, Bool, true, false, List, [], ◌∷◌, codes, Option, ◌==◌}
-use Rattle.std.specs.List.{find}
+use Rattle.std.specs.Prelude.{ℕ, Bool, true, false, List, codes}
 use Rattle.rules.specs.declared.refusal.Refusal.{Refusal}
 use Rattle.rules.specs.declared.refusal.Refusal.TheVariants.{BadMessage, NotJoined, AlreadyJoined}
 use Rattle.rules.specs.declared.refusal.Refusal.TheVariants.{NoSuchRoom, RoomFull, RecordFull}
@@ -58,17 +57,6 @@ word_of NoSuchSite = codes "no-such-site"
 word_of SiteInUse = codes "site-in-use"
 word_of NotServed = codes "not-served"
 word_of Renewed = codes "renewed"
-
-abbrev all_refusals : List Refusal
-all_refusals =
-    BadMessage ∷ NotJoined ∷ AlreadyJoined ∷ NoSuchRoom ∷ RoomFull ∷ RecordFull ∷ WrongSeq
-    ∷ OwnCount ∷ Ahead ∷ NotClosed ∷ NoSuchObject ∷ NoSuchVersion ∷ ObjectFull ∷ TooManyKeys
-    ∷ TooManyVersions ∷ TooManyObjects ∷ TooFar ∷ Gone ∷ NoSuchSite ∷ SiteInUse
-    ∷ NotServed ∷ Renewed ∷ []
-
--- the refusal with this number
-abbrev pub refusal_at : ℕ → Option Refusal
-refusal_at code = find (λ r. code_of r == code) all_refusals
 
 -- does a session refuse so by itself, without asking a room
 abbrev pub is_by_session : Refusal → Bool

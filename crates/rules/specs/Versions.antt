@@ -1,8 +1,7 @@
 -- The versions of an object (the idea is that of Sun and Chen, ACM TOCHI 9(1), 2002): one for each
 -- group of its changes.
-use Rattle.std.specs.Prelude.{Bool, not, ◌&&◌, ◌++◌, List, [], Option, Some, None, map, filter}
-use Rattle.std.specs.Prelude.{filter_map, flat_map, find, is_some, option_map, bytes_eq}
-use Rattle.std.specs.Prelude.{if◌then◌else◌}
+use Rattle.std.specs.Prelude.{Bool, not, ◌&&◌, ◌++◌, List, [], Option, Some, None, map, filter_map}
+use Rattle.std.specs.Prelude.{flat_map, find, is_some, option_map, bytes_eq, if◌then◌else◌}
 use Rattle.std.specs.List.{list_any}
 use Rattle.std.specs.declared.cmp.Ordering.{Ordering}
 use Rattle.std.specs.Ordering.{nat_cmp, on}
@@ -47,12 +46,6 @@ value_of_key initial g key = value_by key initial (find (decides key g) g)
 -- the keys that puts give values, each once
 abbrev pub keys_of : List Op → List Bytes
 keys_of g = each_once bytes_eq (flat_map (λ op. keys_of_body op.body) g)
-
--- the keys of a change that none of these changes gives a value, each once
-abbrev pub new_keys : List Op → Op → List Bytes
-new_keys changes op =
-    filter (λ key. not (list_any (bytes_eq key) (keys_of changes)))
-    (each_once bytes_eq (keys_of_body op.body))
 
 -- attributes are ordered by their keys
 abbrev pub key_cmp : Attr → Attr → Ordering

@@ -1,5 +1,11 @@
 pub mod HeldPairs
 pub mod Marks
 pub mod Shared
+pub mod AttrLists
 pub mod Equality
 pub mod Examples
+pub mod Histories
+pub mod Keys
+pub mod NamedGroups
+pub mod Limits
+pub mod Codes

@@ -6,8 +6,9 @@ ghost use Rattle.std.specs.Result.{result_err};
 ghost use Rattle.base_types.specs.Repeats.{first_repeat};
 ghost use Rattle.std.specs.Cmp.Rules.{comparing};
 ghost use Rattle.std.proofs.Common.{rules};
-ghost use Rattle.base_types.specs.Values.{same_value-equivalence};
-ghost use Rattle.rules.specs.AttrLists.{Attr, same_attrs, same_key, attrs_fault, are_attrs};
+ghost use Rattle.base_types.specs.steps.Equality.{same_value-equivalence};
+ghost use Rattle.rules.specs.AttrLists.{Attr, same_key, attrs_fault, are_attrs};
+ghost use Rattle.rules.specs.steps.AttrLists.{same_attrs};
 ghost use Rattle.rules.specs.steps.Marks.{mark_of};
 
 use base_types::{Key, NoMemory, Value};

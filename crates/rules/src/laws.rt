@@ -15,12 +15,19 @@ ghost use Rattle.rules.specs.declared.version.Shown.TheVariants.{Attrs, Gone};
 ghost use Rattle.base_types.specs.declared.value.Value.{Value};
 ghost use Rattle.rules.specs.Bodies.{is_put_body, is_drop_body, pairs_of_body, differ_on_a_key, value_of_body, version_of_body};
 ghost use Rattle.rules.specs.Lists.{HasNoRepeats};
-ghost use Rattle.rules.specs.Operations.{IsHistory, IsPartOf, AreSame, Before, before, is_past, is_on, is_change_on, name_of, object_of, known, changes_on, operations_on, creation_of, concurrent, holds_drop, IsCausallyOrdered};
-ghost use Rattle.rules.specs.Groups.{groups_of, group_named, identifier, is_compatible, compatible_with_named, IsGroup};
+ghost use Rattle.rules.specs.Operations.{IsHistory, before, is_on, is_change_on, name_of, object_of};
+ghost use Rattle.rules.specs.Operations.{known, changes_on, creation_of, concurrent, holds_drop};
+ghost use Rattle.rules.specs.Operations.{IsCausallyOrdered};
+ghost use Rattle.rules.specs.steps.Histories.{IsPartOf, AreSame, Before, is_past, operations_on};
+ghost use Rattle.rules.specs.steps.Histories.{HoldTheSame};
+ghost use Rattle.rules.specs.Groups.{groups_of, group_named, identifier, is_compatible, IsGroup};
+ghost use Rattle.rules.specs.steps.NamedGroups.{compatible_with_named};
 ghost use Rattle.rules.specs.Conflicts.{base, conflict, direct_conflict, members, with_base, IsFounded};
 ghost use Rattle.rules.specs.AttrLists.{Attr, are_pairs};
-ghost use Rattle.rules.specs.Versions.{attributes, groups, initial_of, keys_of, new_keys, shown_of, versions, version_of, decides, gives, value_by, value_of_key};
-ghost use Rattle.rules.specs.Records.{operations, version_conditions, HoldTheSame, IsLegal};
+ghost use Rattle.rules.specs.Versions.{attributes, groups, initial_of, keys_of, shown_of, versions};
+ghost use Rattle.rules.specs.Versions.{version_of, decides, gives, value_by, value_of_key};
+ghost use Rattle.rules.specs.steps.Keys.{new_keys};
+ghost use Rattle.rules.specs.Records.{operations, version_conditions, IsLegal};
 
 // ---- causal order
 

@@ -1,7 +1,8 @@
 //! How much a room may hold.
 
 ghost use Rattle.std.specs.Prelude.{◌≡◌, ◌↔◌, ◌≤◌, true, IfSome, IsSome};
-ghost use Rattle.rules.specs.Limits.{full_limits, is_limit, are_limits};
+ghost use Rattle.rules.specs.Limits.{full_limits};
+ghost use Rattle.rules.specs.steps.Limits.{is_limit, are_limits};
 
 use std::marker::Model;
 
@@ -46,7 +47,7 @@ pub struct Limits {
 impl Model for Limits {
     ghost use Rattle.std.specs.Prelude.{◌≡◌, true};
     ghost use Rattle.rules.specs.declared.limits.LimitValues.{LimitValues};
-    ghost use Rattle.rules.specs.Limits.{are_limits};
+    ghost use Rattle.rules.specs.steps.Limits.{are_limits};
 
     ghost Value = { LimitValues };
 

@@ -5,8 +5,10 @@ ghost use Rattle.std.specs.List.{list_any};
 ghost use Rattle.std.specs.Result.{result_err};
 ghost use Rattle.std.specs.Cmp.Rules.{comparing};
 ghost use Rattle.std.proofs.Common.{rules};
-ghost use Rattle.base_types.specs.Values.{same_value-equivalence};
-ghost use Rattle.rules.specs.AttrLists.{Attr, gives_another, do_pairs_differ, same_attrs, pairs_fault, are_pairs};
+ghost use Rattle.base_types.specs.steps.Equality.{same_value-equivalence};
+ghost use Rattle.rules.specs.AttrLists.{Attr, do_pairs_differ, pairs_fault, are_pairs};
+ghost use Rattle.rules.specs.steps.Keys.{gives_another};
+ghost use Rattle.rules.specs.steps.AttrLists.{same_attrs};
 
 use crate::attrs::{copy_pairs, repeated_key};
 use base_types::{Key, NoMemory, Value};

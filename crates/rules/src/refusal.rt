@@ -60,7 +60,8 @@ pub enum Refusal {
 }
 
 impl Refusal {
-    ghost use Rattle.rules.specs.Refusals.{code_of, word_of, refusal_at, is_by_session, is_of_back};
+    ghost use Rattle.rules.specs.Refusals.{code_of, word_of, is_by_session, is_of_back};
+    ghost use Rattle.rules.specs.steps.Codes.{refusal_at};
 
     /// The refusal's number, from 1 to `MAX_REFUSAL_CODE`.
     pub fn code(self) -> u32

@@ -3,8 +3,9 @@
 ghost use Rattle.std.specs.Prelude.{◌≡◌, List, IfOk};
 ghost use Rattle.std.specs.Cmp.Rules.{comparing};
 ghost use Rattle.std.proofs.Common.{rules};
-ghost use Rattle.base_types.specs.Values.{same_value-equivalence};
-ghost use Rattle.rules.specs.AttrLists.{Attr, same_attrs};
+ghost use Rattle.base_types.specs.steps.Equality.{same_value-equivalence};
+ghost use Rattle.rules.specs.AttrLists.{Attr};
+ghost use Rattle.rules.specs.steps.AttrLists.{same_attrs};
 
 use crate::attrs::copy_pairs;
 use base_types::{Key, NoMemory, Value, VersionId};

@@ -4,13 +4,16 @@ ghost use Rattle.std.specs.Prelude.{◌≡◌, ◌↔◌, IsNone};
 
 use crate::platform::Platform;
 use crate::serve::Service;
+use byte_streams::Uninterrupted;
 use clap::ArgMatches;
 use command_fault::Fault;
 use command_line::{grace, show_error};
-use commands::{check_at, migrate_at, renew_at, renewed_at, script_over};
+use commands::{check_over, migrate_over, renew_over, renewed_over, script_over};
 use room_watch::{follow_at, watch_at};
 use std::alloc::Global;
+use std::fs::File;
 use std::io::{Read, Write};
+use std::rt::Files;
 use std::time::Duration;
 
 /// This many seconds, or `None` for 0.
@@ -57,18 +60,13 @@ fn service_of<'a, 'w, R, W>(
 }
 
 /// Runs `grace serve` with these options.
-fn run_serve<H, W, E>(
+fn run_serve<H: Platform, W: Write, E: Write>(
     rt: &H,
     alloc: Global,
     words: &ArgMatches,
     output: &mut W,
     errors: &mut E,
-) -> u8
-where
-    H: Platform,
-    W: Write,
-    E: Write,
-{
+) -> u8 {
     let names = words.get_strs("ROOM").unwrap_or(&[]);
     match (service_of(rt, alloc, words, output), words.get_str("keep")) {
         (Some(service), Some(dir)) => service.run_kept(dir, names, errors),
@@ -78,18 +76,13 @@ where
 }
 
 /// Runs `grace watch`.
-fn run_watch<H, W, E>(
+fn run_watch<H: Platform, W: Write, E: Write>(
     rt: &H,
     alloc: Global,
     words: &ArgMatches,
     output: &mut W,
     errors: &mut E,
-) -> u8
-where
-    H: Platform,
-    W: Write,
-    E: Write,
-{
+) -> u8 {
     match (words.get_str("ADDRESS"), words.get_str("ROOM")) {
         (Some(address), Some(room)) if words.get_flag("follow") => {
             follow_at(rt, alloc, address, room, output, errors)
@@ -99,21 +92,64 @@ where
     }
 }
 
+/// Opens the file that this argument names.
+///
+/// # Errors
+/// `Input` if the file cannot be opened.
+fn file_of<H: Files>(
+    rt: &H,
+    words: &ArgMatches,
+    name: &str,
+) -> Result<Uninterrupted<H::File>, Fault> {
+    let path = words.get_str(name).ok_or(Fault::Input)?;
+    let stream = File::open(rt, path).map_err(|_| Fault::Input)?;
+    Ok(Uninterrupted { stream })
+}
+
+/// Runs a command on files.
+///
+/// # Errors
+/// `Input` if a file cannot be opened.
+fn run_on_files<H: Files, W: Write, E: Write>(
+    rt: &H,
+    alloc: Global,
+    matches: &ArgMatches,
+    output: &mut W,
+    errors: &mut E,
+) -> Result<u8, Fault> {
+    match matches.subcommand() {
+        Some(("check", words)) => {
+            let mut record = file_of(rt, words, "RECORD")?;
+            let mut transcript = file_of(rt, words, "TRANSCRIPT")?;
+            Ok(check_over(alloc, &mut record, &mut transcript, output, errors))
+        }
+        Some(("migrate", words)) => {
+            let mut record = file_of(rt, words, "RECORD")?;
+            Ok(migrate_over(alloc, &mut record, output, errors))
+        }
+        Some(("renew", words)) => {
+            let mut record = file_of(rt, words, "RECORD")?;
+            Ok(renew_over(alloc, &mut record, output, errors))
+        }
+        Some(("renewed", words)) => {
+            let mut old = file_of(rt, words, "OLD")?;
+            let mut new = file_of(rt, words, "NEW")?;
+            Ok(renewed_over(alloc, &mut old, &mut new, output, errors))
+        }
+        // There is no other command.
+        _ => Ok(2),
+    }
+}
+
 /// Runs the command that was parsed.
-fn run_read<H, R, W, E>(
+fn run_parsed<H: Platform, R: Read, W: Write, E: Write>(
     rt: &H,
     alloc: Global,
     matches: &ArgMatches,
     input: &mut R,
     output: &mut W,
     errors: &mut E,
-) -> u8
-where
-    H: Platform,
-    R: Read,
-    W: Write,
-    E: Write,
-{
+) -> u8 {
     match matches.subcommand() {
         Some(("script", words)) => {
             let names = words.get_strs("ROOM").unwrap_or(&[]);
@@ -121,26 +157,13 @@ where
         }
         Some(("serve", words)) => run_serve(rt, alloc, words, output, errors),
         Some(("watch", words)) => run_watch(rt, alloc, words, output, errors),
-        Some(("check", words)) => match (words.get_str("RECORD"), words.get_str("TRANSCRIPT")) {
-            (Some(record), Some(transcript)) => {
-                check_at(rt, alloc, record, transcript, output, errors)
+        _ => match run_on_files(rt, alloc, matches, output, errors) {
+            Ok(status) => status,
+            Err(fault) => {
+                fault.write_line(errors);
+                fault.status()
             }
-            _ => 2,
         },
-        Some(("migrate", words)) => match words.get_str("RECORD") {
-            Some(record) => migrate_at(rt, alloc, record, output, errors),
-            None => 2,
-        },
-        Some(("renew", words)) => match words.get_str("RECORD") {
-            Some(record) => renew_at(rt, alloc, record, output, errors),
-            None => 2,
-        },
-        Some(("renewed", words)) => match (words.get_str("OLD"), words.get_str("NEW")) {
-            (Some(old), Some(new)) => renewed_at(rt, alloc, old, new, output, errors),
-            _ => 2,
-        },
-        // There is no other command, and each argument is required or has a default.
-        _ => 2,
     }
 }
 
@@ -152,26 +175,20 @@ where
 /// - 2 for a mistake in the command line;
 /// - 3 if input, output, a connection, the rooms or the rooms' files failed;
 /// - 4 if an allocation failed.
-pub fn run<H, R, W, E>(
+pub fn run<H: Platform, R: Read, W: Write, E: Write>(
     rt: &H,
     alloc: Global,
     words: &[String],
     input: &mut R,
     output: &mut W,
     errors: &mut E,
-) -> u8
-where
-    H: Platform,
-    R: Read,
-    W: Write,
-    E: Write,
-{
+) -> u8 {
     let Ok(command) = grace(alloc) else {
         Fault::NoMemory.write_line(errors);
         return Fault::NoMemory.status();
     };
     match command.try_get_matches_from(words) {
-        Ok(matches) => run_read(rt, alloc, &matches, input, output, errors),
+        Ok(matches) => run_parsed(rt, alloc, &matches, input, output, errors),
         Err(error) => show_error(alloc, &error, output, errors),
     }
 }

@@ -11,7 +11,7 @@ ghost use Rattle.sessions.specs.steps.Replies.{turn_of};
 ghost use Rattle.room_lock.specs.Calls.{IsCall, IsNotesCall};
 ghost use Rattle.room_lock.specs.InOrder.{IsOpeningFor};
 ghost use Rattle.room_lock.specs.Passes.{prefix_of};
-ghost use Rattle.room_lock.specs.steps.Views.{MayBeOf};
+ghost use Rattle.room_lock.specs.steps.Openings.{MayBeOf};
 ghost use Rattle.room_lock.specs.Rooms.{IsOnDemand};
 ghost use Rattle.room_lock.specs.declared.lookup.Lookup.TheVariants as lookup;
 ghost use Rattle.room_lock.specs.steps.Entrances.{IfEntered};

@@ -13,7 +13,7 @@ use Rattle.std.proofs.lemmas.List.{nil_from_length}
 use Rattle.std.proofs.lemmas.List.Sorted.{searchable_from_sorted}
 use Rattle.base_types.specs.Names.{Name, name_cmp, same_name}
 use Rattle.base_types.specs.VersionIds.{names_rise}
-use Rattle.rules.specs.Groups.{is_named}
+use Rattle.rules.specs.steps.NamedGroups.{is_named}
 use Rattle.rules.proofs.Counted.{same_name-true, same_name-refl}
 use Rattle.rules.proofs.Lists.{In, In-from_Contains, Contains-from_In, any_from, any_back}
 use Rattle.rules.proofs.Orders.{name_cmp_total, tied}

@@ -3,7 +3,8 @@
 
 ghost use Rattle.std.specs.Prelude.{◌≡◌, ◌<◌, [], map, filter, not, All, IfOk, OnOk};
 ghost use Rattle.base_types.specs.Names.{name_cmp};
-ghost use Rattle.rules.specs.Groups.{in_conflict_with, identifier, group_named, is_named};
+ghost use Rattle.rules.specs.Groups.{in_conflict_with, identifier, group_named};
+ghost use Rattle.rules.specs.steps.NamedGroups.{is_named};
 ghost use Rattle.rules.specs.Lists.{sort_by, HasNoRepeats};
 ghost use Rattle.places.specs.steps.PlaceSet.{has, places, with_those};
 ghost use Rattle.places.specs.steps.Relations.{places_in_conflict, IsRelation};

@@ -6,8 +6,10 @@ use Rattle.rules.specs.declared.history.Entry.{Entry}
 use Rattle.wire.specs.declared.request.Request.{Request}
 use Rattle.wire.specs.declared.request.TheConstants.{MAX_REQUEST_LEN}
 use Rattle.wire.specs.declared.reply.Reply.{Reply}
-use Rattle.wire.specs.Form.{request_form, entry_form, reply_form, IsRequest, IsRequestText, IsEntry, IsEntryText, IsReply, IsReplyText}
-use Rattle.wire.specs.Texts.{entry_text, reply_text}
+use Rattle.wire.specs.Form.{entry_form, reply_form, IsRequest, IsRequestText, IsEntry, IsEntryText}
+use Rattle.wire.specs.Form.{IsReply, IsReplyText}
+use Rattle.wire.specs.steps.Forms.{request_form, entry_text}
+use Rattle.wire.specs.Texts.{reply_text}
 use Rattle.wire.proofs.Again.{compact_again}
 use Rattle.wire.proofs.Plain.{plain_request, plain_entry, plain_reply}
 use Rattle.wire.proofs.Shallow.{shallow_request, shallow_entry, shallow_reply}

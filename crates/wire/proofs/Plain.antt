@@ -20,7 +20,11 @@ use Rattle.rules.specs.declared.history.Body.TheVariants.{New, Put, DropVersion}
 use Rattle.wire.specs.declared.request.Request.{Request}
 use Rattle.wire.specs.declared.request.Request.TheVariants.{Join, Back, Change, Show, Pull, Leave, List as ListObjects}
 use Rattle.wire.specs.declared.reply.Reply.TheVariants.{Joined, Returned, Made, Taken, Versions, Objects, Entries, Left, Notes, Renewed, No}
-use Rattle.wire.specs.Form.{list_form, whole_form, name_form, names_form, value_form, attr_form, attrs_form, shown_form, version_form, object_form, note_form, body_form, entry_form, request_form, reply_form, is_at, is_from, IsId, IsValue, IsAttr, IsShown, IsVersion, IsObject, IsNote, IsBody, IsEntry, IsRequest, IsReply}
+use Rattle.wire.specs.Form.{list_form, whole_form, name_form, names_form, value_form, attr_form}
+use Rattle.wire.specs.Form.{attrs_form, shown_form, version_form, object_form, note_form, body_form}
+use Rattle.wire.specs.Form.{entry_form, reply_form, is_at, is_from, IsId, IsValue, IsAttr, IsShown}
+use Rattle.wire.specs.Form.{IsVersion, IsObject, IsNote, IsBody, IsEntry, IsRequest, IsReply}
+use Rattle.wire.specs.steps.Forms.{request_form}
 use Rattle.rules.specs.declared.refusal.Refusal.{Refusal}
 use Rattle.rules.specs.Refusals.{code_of}
 use Rattle.rules.specs.declared.version.Version.{Version}

@@ -19,7 +19,10 @@ use Rattle.rules.specs.declared.version.Shown.{Shown}
 use Rattle.rules.specs.declared.version.Shown.TheVariants.{Attrs, Gone}
 use Rattle.wire.specs.declared.reply.Reply.{Reply}
 use Rattle.wire.specs.declared.reply.Reply.TheVariants.{Joined, Returned, Made, Taken, Versions, Objects, Entries, Left, Notes, Renewed, No}
-use Rattle.wire.specs.Form.{list_form, whole_form, name_form, names_form, value_form, attr_form, attrs_form, shown_form, version_form, object_form, note_form, body_form, operation_form, entry_form, request_form, reply_form}
+use Rattle.wire.specs.Form.{list_form, whole_form, name_form, names_form, value_form, attr_form}
+use Rattle.wire.specs.Form.{attrs_form, shown_form, version_form, object_form, note_form, body_form}
+use Rattle.wire.specs.Form.{operation_form, entry_form, reply_form}
+use Rattle.wire.specs.steps.Forms.{request_form}
 use Rattle.rules.specs.Refusals.{code_of, word_of}
 use Rattle.wire.specs.Notes.{Note}
 

@@ -1,6 +1,6 @@
 -- The JSON forms of requests, replies and entries, and of their parts.
-use Rattle.std.specs.Prelude.{◌≡◌, ℕ, ◌≤◌, FitsSigned, List, [], ◌∷◌, map, length}
-use Rattle.std.specs.Prelude.{codes, Bool, nat_le, true, false, Some, IsUtf8, ◌⊎◌}
+use Rattle.std.specs.Prelude.{◌≡◌, ℕ, ◌≤◌, FitsSigned, List, [], ◌∷◌, map, length, codes, Bool}
+use Rattle.std.specs.Prelude.{nat_le, true, false, Some, IsUtf8, ◌⊎◌}
 use Rattle.std.specs.Int.{w64}
 use Rattle.std.specs.List.{AllByRecursion}
 use Rattle.serde_json.specs.Data.{Data, number, unsigned, string, array}
@@ -136,10 +136,6 @@ request_form_by of_body (Pull from false) = list_form (string (codes "pull") ∷
 request_form_by of_body (Pull from true) = list_form (string (codes "wait") ∷ whole_form from ∷ [])
 request_form_by of_body Leave = list_form (string (codes "leave") ∷ [])
 
--- the form in which a request is written
-abbrev pub request_form : Request → Data
-request_form = request_form_by body_form
-
 -- what a request that is read keeps to
 abbrev pub IsRequest : Request → Type 0
 IsRequest (Join room) = is_room_name room ≡ true
@@ -157,16 +153,6 @@ IsFormBy form_by d x = (d ≡ form_by body_form x) ⊎ (d ≡ form_by old_body_f
 -- the JSON value is a form of the request
 abbrev pub IsRequestForm : Data → Request → Type 0
 IsRequestForm = IsFormBy request_form_by
-
--- the JSON value is a form of x, which is in range
-pub record HasForm {X : Type 0} (IsForm : Data → X → Type 0) (Fits : X
-    → Type 0) (d : Data) (x : X) : Type 0 where
-  pub form : IsForm d x
-  pub in_range : Fits x
-
--- the JSON value is one of the request
-abbrev pub IsRequestValue : Data → Request → Type 0
-IsRequestValue = HasForm IsRequestForm IsRequest
 
 -- the bytes are a text of x, with any white space and escapes: UTF-8 that is read as a form of x,
 -- which is in range
@@ -234,10 +220,6 @@ abbrev pub IsEntry : Entry → Type 0
 IsEntry (JoinOf site) = is_site site ≡ true
 IsEntry (Operation o) = (is_op_name o.name ≡ true) × (is_vector o.seen ≡ true) × IsBody o.body
 IsEntry (Next count) = is_at count ≡ true
-
--- the JSON value is one of the entry
-abbrev pub IsEntryValue : Data → Entry → Type 0
-IsEntryValue = HasForm IsEntryForm IsEntry
 
 -- the bytes are a text of the entry
 abbrev pub IsEntryText : List ℕ → Entry → Type 0
@@ -342,10 +324,6 @@ IsReply (Left at) = is_at at ≡ true
 IsReply (Notes at notes) = (is_at at ≡ true) × AreNotes notes
 IsReply (Renewed at room) = (is_at at ≡ true) × (is_room_name room ≡ true)
 IsReply (No at refusal) = is_at at ≡ true
-
--- the JSON value is one of the reply
-abbrev pub IsReplyValue : Data → Reply → Type 0
-IsReplyValue = HasForm IsReplyForm IsReply
 
 -- the bytes are a text of the reply
 abbrev pub IsReplyText : List ℕ → Reply → Type 0

@@ -1,13 +1,8 @@
 -- The texts of entries and replies.
 use Rattle.std.specs.Prelude.{List, ℕ}
 use Rattle.serde_json.specs.Written.{compact_text}
-use Rattle.rules.specs.declared.history.Entry.{Entry}
 use Rattle.wire.specs.declared.reply.Reply.{Reply}
-use Rattle.wire.specs.Form.{entry_form, reply_form}
-
--- the text of an entry
-abbrev pub entry_text : Entry → List ℕ
-entry_text entry = compact_text (entry_form entry)
+use Rattle.wire.specs.Form.{reply_form}
 
 -- the text of a reply
 unfoldable pub reply_text : Reply → List ℕ

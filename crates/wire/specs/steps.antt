@@ -3,3 +3,4 @@ pub mod Pages
 pub mod OneLine
 pub mod Quoting
 pub mod Growing
+pub mod Forms

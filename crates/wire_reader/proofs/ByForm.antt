@@ -7,7 +7,8 @@ use Rattle.serde_json.specs.Data.{Data}
 use Rattle.serde_json.specs.Read.{read}
 use Rattle.wire_reader.specs.declared.fault.ReadFault.{ReadFault}
 use Rattle.wire_reader.specs.declared.fault.ReadFault.TheVariants.{Bad, NoMemory}
-use Rattle.wire.specs.Form.{HasForm, IsTextOf}
+use Rattle.wire.specs.Form.{IsTextOf}
+use Rattle.wire.specs.steps.Forms.{HasForm}
 use Rattle.wire_reader.specs.steps.Reading.{Gives}
 use Rattle.wire_reader.specs.steps.Reads.{json_of, text_in}
 use Rattle.wire_reader.proofs.Exact.{ReadsForms, bind_some, some_is}

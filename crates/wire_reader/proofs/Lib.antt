@@ -23,3 +23,4 @@ pub mod Plain
 pub mod Shown
 pub mod Exchanges
 pub mod Scanned
+pub mod Utf8

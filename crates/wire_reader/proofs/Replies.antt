@@ -8,7 +8,8 @@ use Rattle.std.proofs.lemmas.Slice.Eq.{bytes_eq-Decides}
 use Rattle.serde_json.specs.Data.{Data, null, boolean, number, string, array, object}
 use Rattle.serde_json.specs.Find.{as_str}
 use Rattle.rules.specs.AttrLists.{Attr}
-use Rattle.rules.specs.Refusals.{code_of, word_of, refusal_at}
+use Rattle.rules.specs.Refusals.{code_of, word_of}
+use Rattle.rules.specs.steps.Codes.{refusal_at}
 use Rattle.rules.specs.declared.refusal.TheConstants.{MAX_REFUSAL_CODE}
 use Rattle.rules.specs.declared.refusal.Refusal.{Refusal}
 use Rattle.rules.specs.declared.refusal.Refusal.TheVariants.{BadMessage, NotJoined, AlreadyJoined, NoSuchRoom, RoomFull, RecordFull, WrongSeq, OwnCount, Ahead, NotClosed, NoSuchObject, NoSuchVersion, ObjectFull, TooManyKeys, TooManyVersions, TooManyObjects, TooFar, Gone, NoSuchSite, SiteInUse, NotServed, Renewed as RenewedRefusal}

@@ -1,18 +1,22 @@
 //! Requests from compact text, the form in which clients mostly send them. Reading it takes a third
 //! of the time of a JSON reader. Each part says that what it takes is the compact text of what it
-//! gives. Any other text is left to the JSON reader: with white space, escapes, or a number of more
-//! than nine digits. So are all but changes, pulls and waits.
+//! gives, and that its texts are UTF-8. Any other text is left to the JSON reader: with white space,
+//! escapes, or a number of more than nine digits. So are all but changes, pulls and waits.
 
 ghost use Rattle.std.specs.Prelude.{◌≡◌, ◌+◌, ◌<◌, ◌≤◌, ◌∷◌, [], ◌++◌, codes, true, false, length, map, take, IfOk, IsTrue, MatchOption, OnOk};
 ghost use Rattle.std.specs.Fmt.{decimal};
-ghost use Rattle.std.specs.List.{list_all, AllByRecursion};
+ghost use Rattle.std.specs.List.{list_all, prefix_len, AllByRecursion};
 ghost use Rattle.json.specs.Print.{quoted};
 ghost use Rattle.serde_json.specs.Data.{Data};
 ghost use Rattle.serde_json.specs.Written.{compact_text};
 ghost use Rattle.base_types.specs.Names.{is_op_name, is_seq};
 ghost use Rattle.base_types.specs.Vectors.{is_vector};
-ghost use Rattle.wire.specs.Form.{attr_form, attrs_form, body_form, list_form, name_form, names_form, request_form, value_form, ArePairs, is_from, IsAttr, IsBody, IsId, IsRequest, IsValue};
-ghost use Rattle.wire_reader.specs.steps.Compact.{fields_text, request_word};
+ghost use Rattle.wire.specs.Form.{attr_form, attrs_form, body_form, list_form, name_form};
+ghost use Rattle.wire.specs.Form.{names_form, value_form, ArePairs, is_from, IsAttr, IsBody, IsId};
+ghost use Rattle.wire.specs.Form.{IsRequest, IsValue};
+ghost use Rattle.wire.specs.steps.Forms.{request_form};
+ghost use Rattle.wire_reader.specs.steps.Compact.{fields_text, request_word, AreUtf8};
+ghost use Rattle.wire_reader.specs.steps.Compact.{IsUtf8Body, IsUtf8Request, IsUtf8Value};
 ghost use Rattle.wire.specs.steps.Quoting.{is_plain_byte};
 
 use crate::fault::ReadFault;
@@ -143,7 +147,7 @@ fn are_plain(bytes: &[u8]) -> bool
 
 /// As `plain_len`, one byte after the other.
 fn plain_len_by_one(bytes: &[u8]) -> usize
-    ensures plain { list_all is_plain_byte (take result bytes.now) ≡ true }
+    ensures plain { result ≡ prefix_len is_plain_byte bytes.now }
     ensures within { result ≤ length bytes.now }
 {
     for (place, byte) in bytes.iter().enumerate() {
@@ -156,7 +160,7 @@ fn plain_len_by_one(bytes: &[u8]) -> usize
 
 /// As `plain_len`, many bytes at once.
 fn plain_len_by_many(bytes: &[u8]) -> usize
-    ensures plain { list_all is_plain_byte (take result bytes.now) ≡ true }
+    ensures plain { result ≡ prefix_len is_plain_byte bytes.now }
     ensures within { result ≤ length bytes.now }
 {
     let mut len = 0;
@@ -169,7 +173,7 @@ fn plain_len_by_many(bytes: &[u8]) -> usize
 /// How many bytes at the front stand for themselves between quotes. Most texts are short. In a long
 /// one this takes most of the time of reading.
 fn plain_len(bytes: &[u8]) -> usize
-    ensures plain { list_all is_plain_byte (take result bytes.now) ≡ true }
+    ensures plain { result ≡ prefix_len is_plain_byte bytes.now }
     ensures within { result ≤ length bytes.now }
 {
     let len = plain_len_by_one(&bytes[..TOGETHER.min(bytes.len())]);
@@ -194,10 +198,14 @@ trait Scanned: Sized + Drop {
 
     ghost IsInRange: { Self → Type 0 };
 
+    /// Its texts are UTF-8.
+    ghost HasUtf8: { Self → Type 0 };
+
     /// Takes a part.
     fn scan(alloc: Global, cursor: &mut Cursor<'_>) -> Result<Self, ReadFault>
         ensures text { IfOk result (λ part. cursor.old ≡ compact_text (form part) ++ cursor.new) }
-        ensures range { IfOk result IsInRange };
+        ensures range { IfOk result IsInRange }
+        ensures utf8 { IfOk result HasUtf8 };
 }
 
 /// Takes the parts of a list after this first one, to its end.
@@ -206,10 +214,12 @@ fn rest_of<T: Scanned>(
     cursor: &mut Cursor<'_>,
     first: T,
 ) -> Result<Vec<T>, ReadFault>
-    requires { T.IsInRange first }
+    requires range { T.IsInRange first }
+    requires utf8 { T.HasUtf8 first }
     ensures text { IfOk result (λ parts. 91 ∷ (compact_text (T.form first) ++ cursor.old)
         ≡ compact_text (list_form (map T.form parts.items)) ++ cursor.new) }
     ensures range { IfOk result (λ parts. AllByRecursion T.IsInRange parts.items) }
+    ensures utf8 { IfOk result (λ parts. AllByRecursion T.HasUtf8 parts.items) }
 {
     let mut parts = Vec::new(alloc);
     parts.push(first)?;
@@ -229,6 +239,7 @@ fn list_of<T: Scanned>(alloc: Global, cursor: &mut Cursor<'_>) -> Result<Vec<T>,
     ensures text { IfOk result (λ parts.
         cursor.old ≡ compact_text (list_form (map T.form parts.items)) ++ cursor.new) }
     ensures range { IfOk result (λ parts. AllByRecursion T.IsInRange parts.items) }
+    ensures utf8 { IfOk result (λ parts. AllByRecursion T.HasUtf8 parts.items) }
 {
     cursor.expect(b'[')?;
     if cursor.take(b']') {
@@ -243,6 +254,8 @@ impl Scanned for OpName {
 
     ghost IsInRange = { λ name. is_op_name name ≡ true };
 
+    ghost HasUtf8 = { λ name. Unit {0} };
+
     fn scan(_alloc: Global, cursor: &mut Cursor<'_>) -> Result<OpName, ReadFault> {
         let (site, seq) = cursor.pair()?;
         OpName::new(site, seq).ok_or(ReadFault::Bad)
@@ -254,6 +267,7 @@ fn value_text_of(alloc: Global, cursor: &mut Cursor<'_>) -> Result<Value, ReadFa
     ensures text { IfOk result (λ value.
         cursor.old ≡ compact_text (value_form value) ++ cursor.new) }
     ensures range { IfOk result IsValue }
+    ensures utf8 { IfOk result IsUtf8Value }
 {
     let bytes = cursor.quoted()?;
     let Ok(text) = std::str::from_utf8(bytes) else {
@@ -267,6 +281,7 @@ fn integer_of(cursor: &mut Cursor<'_>) -> Result<Value, ReadFault>
     ensures text { IfOk result (λ value.
         cursor.old ≡ compact_text (value_form value) ++ cursor.new) }
     ensures range { IfOk result IsValue }
+    ensures utf8 { IfOk result IsUtf8Value }
 {
     if !cursor.take(b'-') {
         return Ok(Value::Number(i64::from(cursor.number()?)));
@@ -283,6 +298,7 @@ fn value_of(alloc: Global, cursor: &mut Cursor<'_>) -> Result<Value, ReadFault>
     ensures text { IfOk result (λ value.
         cursor.old ≡ compact_text (value_form value) ++ cursor.new) }
     ensures range { IfOk result IsValue }
+    ensures utf8 { IfOk result IsUtf8Value }
 {
     match cursor.rest.first() {
         Some(b'"') => value_text_of(alloc, cursor),
@@ -294,6 +310,8 @@ impl Scanned for (Key, Value) {
     ghost form = { attr_form };
 
     ghost IsInRange = { IsAttr };
+
+    ghost HasUtf8 = { λ attr. IsUtf8Value attr.1 };
 
     fn scan(alloc: Global, cursor: &mut Cursor<'_>) -> Result<(Key, Value), ReadFault> {
         cursor.expect(b'[')?;
@@ -356,6 +374,7 @@ fn pairs_of(alloc: Global, cursor: &mut Cursor<'_>) -> Result<Pairs, ReadFault>
     ensures text { IfOk result (λ pairs.
         cursor.old ≡ compact_text (attrs_form pairs) ++ cursor.new) }
     ensures range { IfOk result ArePairs }
+    ensures utf8 { IfOk result AreUtf8 }
 {
     cursor.expect(b'[')?;
     let (key, value) = Scanned::scan(alloc, cursor)?;
@@ -371,6 +390,7 @@ fn new_of(alloc: Global, cursor: &mut Cursor<'_>) -> Result<Body, ReadFault>
     ensures text { IfOk result (λ body. 44 ∷ cursor.old ≡ fields_text body ++ cursor.new) }
     ensures word { IfOk result (λ body. (body_form body).0 ≡ codes "new") }
     ensures range { IfOk result IsBody }
+    ensures utf8 { IfOk result IsUtf8Body }
 {
     let kind = Kind::parse(alloc, cursor.quoted()?)?;
     cursor.expect(b',')?;
@@ -384,6 +404,7 @@ fn put_of(alloc: Global, cursor: &mut Cursor<'_>) -> Result<Body, ReadFault>
     ensures text { IfOk result (λ body. 44 ∷ cursor.old ≡ fields_text body ++ cursor.new) }
     ensures word { IfOk result (λ body. (body_form body).0 ≡ codes "put") }
     ensures range { IfOk result IsBody }
+    ensures utf8 { IfOk result IsUtf8Body }
 {
     let object = OpName::scan(alloc, cursor)?;
     cursor.expect(b',')?;
@@ -403,6 +424,7 @@ fn drop_of(alloc: Global, cursor: &mut Cursor<'_>) -> Result<Body, ReadFault>
     ensures text { IfOk result (λ body. 44 ∷ cursor.old ≡ fields_text body ++ cursor.new) }
     ensures word { IfOk result (λ body. (body_form body).0 ≡ codes "drop") }
     ensures range { IfOk result IsBody }
+    ensures utf8 { IfOk result IsUtf8Body }
 {
     let object = OpName::scan(alloc, cursor)?;
     cursor.expect(b',')?;
@@ -416,6 +438,7 @@ fn body_of(alloc: Global, word: &[u8], cursor: &mut Cursor<'_>) -> Result<Body, 
     ensures text { IfOk result (λ body. 44 ∷ cursor.old ≡ fields_text body ++ cursor.new) }
     ensures word { IfOk result (λ body. (body_form body).0 ≡ word.now) }
     ensures range { IfOk result IsBody }
+    ensures utf8 { IfOk result IsUtf8Body }
 {
     match word {
         b"put" => put_of(alloc, cursor),
@@ -444,6 +467,7 @@ fn change_of(alloc: Global, word: &[u8], cursor: &mut Cursor<'_>) -> Result<Requ
         ≡ compact_text (request_form change) ++ cursor.new) }
     ensures word { IfOk result (λ change. request_word change ≡ word.now) }
     ensures range { IfOk result IsRequest }
+    ensures utf8 { IfOk result IsUtf8Request }
 {
     let seq = seq_of(cursor)?;
     cursor.expect(b',')?;
@@ -473,6 +497,7 @@ fn pull_of(cursor: &mut Cursor<'_>) -> Result<Request, ReadFault>
         ≡ compact_text (request_form pull) ++ cursor.new) }
     ensures word { IfOk result (λ pull. request_word pull ≡ codes "pull") }
     ensures range { IfOk result IsRequest }
+    ensures utf8 { IfOk result IsUtf8Request }
 {
     let from = place_of(cursor)?;
     Ok(Request::Pull { from, waits: false })
@@ -484,6 +509,7 @@ fn wait_of(cursor: &mut Cursor<'_>) -> Result<Request, ReadFault>
         ≡ compact_text (request_form wait) ++ cursor.new) }
     ensures word { IfOk result (λ wait. request_word wait ≡ codes "wait") }
     ensures range { IfOk result IsRequest }
+    ensures utf8 { IfOk result IsUtf8Request }
 {
     let from = place_of(cursor)?;
     Ok(Request::Pull { from, waits: true })
@@ -495,6 +521,7 @@ fn fields_of(alloc: Global, word: &[u8], cursor: &mut Cursor<'_>) -> Result<Requ
         ≡ compact_text (request_form request) ++ cursor.new) }
     ensures word { IfOk result (λ request. request_word request ≡ word.now) }
     ensures range { IfOk result IsRequest }
+    ensures utf8 { IfOk result IsUtf8Request }
 {
     match word {
         b"pull" => pull_of(cursor),
@@ -508,6 +535,7 @@ fn request_of(alloc: Global, cursor: &mut Cursor<'_>) -> Result<Request, ReadFau
     ensures text { IfOk result (λ request.
         cursor.old ≡ compact_text (request_form request) ++ cursor.new) }
     ensures range { IfOk result IsRequest }
+    ensures utf8 { IfOk result IsUtf8Request }
 {
     cursor.expect(b'[')?;
     let word = cursor.quoted()?;
@@ -524,6 +552,7 @@ fn request_of(alloc: Global, cursor: &mut Cursor<'_>) -> Result<Request, ReadFau
 pub(crate) fn read_compact(alloc: Global, message: &[u8]) -> Result<Request, ReadFault>
     ensures text { IfOk result (λ request. message.now ≡ compact_text (request_form request)) }
     ensures range { IfOk result IsRequest }
+    ensures utf8 { IfOk result IsUtf8Request }
 {
     let mut cursor = Cursor { rest: message };
     let request = request_of(alloc, &mut cursor)?;

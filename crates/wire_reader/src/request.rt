@@ -12,7 +12,7 @@ ghost use Rattle.wire_reader.specs.steps.Streams.{rest_in, Takes};
 use crate::body::operation_of;
 use crate::compact::read_compact;
 use crate::fault::ReadFault;
-use crate::part::{Part, name_of, read_text, room_of, utf8_of};
+use crate::part::{Part, name_of, read_text, room_of};
 use crate::token::{Seq, close_list, whole_of, word_of};
 use base_types::MAX_SITE;
 use json::{Reader, Scratch};
@@ -110,9 +110,7 @@ fn compact_in_bytes(alloc: Global, bytes: &[u8]) -> Result<Request, ReadFault>
     requires { length bytes.now ≤ MAX_REQUEST_LEN }
     ensures { IfOk result (λ request. request_read bytes.now ≡ Some request) }
 {
-    let request = read_compact(alloc, bytes)?;
-    let _text = utf8_of(bytes)?;
-    Ok(request)
+    read_compact(alloc, bytes)
 }
 
 /// Reads a request. Most are in compact text, which needs no JSON reader.

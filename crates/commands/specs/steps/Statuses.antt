@@ -1,14 +1,10 @@
--- How commands may end: their exit statuses, and what is said of an input that is not known.
+-- How commands may end: their exit statuses, and why early.
 use Rattle.std.specs.Prelude.{◌≡◌, ◌⊎◌, ℕ, List, Option, Some, None, Result, Ok, Err}
 use Rattle.std.specs.Io.KnownBytes.{Keeps}
 use Rattle.command_fault.specs.declared.fault.Fault.{Fault}
 use Rattle.command_fault.specs.declared.fault.Fault.TheVariants.{Input, Output, NoMemory}
 use Rattle.command_fault.specs.steps.Faults.{status_of}
 use Rattle.commands.specs.Names.{mistake_in}
-
--- a statement is true of some input
-abbrev pub OfSome : {Input : Type 0} → (Input → Type 0) → Type 0
-OfSome {Input} P = (input : Input) × P input
 
 -- an exit status after a result
 abbrev pub IsOfResult : ℕ → Type 0

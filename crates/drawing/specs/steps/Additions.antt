@@ -9,7 +9,8 @@ use Rattle.rules.specs.declared.history.Op.{Op}
 use Rattle.rules.specs.declared.history.Entry.{Entry}
 use Rattle.rules.specs.declared.history.Entry.TheVariants.{Operation}
 use Rattle.rules.specs.declared.refusal.Refusal.{Refusal}
-use Rattle.rules.specs.Admission.{causal_refusal, first_that_applies}
+use Rattle.rules.specs.Admission.{first_that_applies}
+use Rattle.rules.specs.steps.Histories.{causal_refusal}
 use Rattle.rules.specs.Bodies.{is_change_body}
 use Rattle.rules.specs.Operations.{object_of}
 use Rattle.rules.specs.Records.{operation_in, operations, body_conditions}

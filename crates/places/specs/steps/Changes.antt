@@ -6,7 +6,8 @@ use Rattle.base_types.specs.Names.{Name}
 use Rattle.base_types.specs.Vectors.{Vector, counts}
 use Rattle.rules.specs.declared.history.Op.{Op}
 use Rattle.rules.specs.declared.history.Body.TheVariants.{New}
-use Rattle.rules.specs.Operations.{IsHistory, IsCausallyOrdered, is_change_on, same_op}
+use Rattle.rules.specs.Operations.{IsHistory, IsCausallyOrdered, is_change_on}
+use Rattle.rules.specs.steps.Histories.{same_op}
 use Rattle.rules.specs.Conflicts.{base, conflict, members}
 use Rattle.places.specs.steps.PlaceSet.{places}
 use Rattle.places.specs.steps.Relations.{places_in_conflict}

@@ -5,8 +5,10 @@ use Rattle.std.specs.Cmp.{IsEquivalence, decided}
 use Rattle.std.specs.Cmp.Lexicographic.{pointwise}
 use Rattle.std.proofs.Common.{ap, refl, ◌∙◌}
 use Rattle.std.proofs.lemmas.Slice.Eq.{bytes_eq-Decides, slice_eq-Decides}
-use Rattle.base_types.specs.Values.{same_value, same_value-Decides}
-use Rattle.rules.specs.AttrLists.{Attr, same_attrs}
+use Rattle.base_types.specs.Values.{same_value}
+use Rattle.base_types.specs.steps.Equality.{same_value-Decides}
+use Rattle.rules.specs.AttrLists.{Attr}
+use Rattle.rules.specs.steps.AttrLists.{same_attrs}
 use Rattle.renewal.specs.Drawn.{Drawn}
 
 -- two facts decided together decide what they make

@@ -1,5 +1,6 @@
 -- What is planned for a room.
 use Rattle.std.specs.Prelude.{◌≡◌, ◌∷◌, ℕ, true, List, Option, Some, None, Result, IfOk, option_map}
+use Rattle.std.specs.Prelude.{if◌then◌else◌}
 use Rattle.base_types.specs.Names.{Name}
 use Rattle.rules.specs.declared.history.Op.{Op}
 use Rattle.rules.specs.declared.history.Entry.{Entry}
@@ -12,7 +13,6 @@ use Rattle.drawing.specs.steps.Additions.{Added, IsReady as CanBeAdded}
 use Rattle.drawing.specs.Room.{Room}
 use Rattle.drawing.specs.steps.State.{DrawingState}
 use Rattle.room_core.specs.Answers.{Outcome}
-use Rattle.std.specs.Prelude.{if◌then◌else◌}
 
 -- a reply, and what is added with it
 pub record Plan : Type 0 where

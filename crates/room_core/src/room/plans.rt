@@ -109,7 +109,7 @@ impl RoomState {
     }
 
     /// Why an operation is refused, whatever it does, if it is.
-    #[tactic(auto, unfolding(rules::specs::Admission::causal_refusal))]
+    #[tactic(auto, unfolding(rules::specs::steps::Histories::causal_refusal))]
     fn order_refusal(&self, op: &Op) -> Option<Refusal>
         ensures { result ≡ order_refusal self.now.room op.now }
     {

@@ -1,8 +1,7 @@
 -- Parts that together added all entries of a record but its end.
 use Rattle.std.specs.Prelude.{◌≡◌, ◌≤◌, List, Some, map, sum_by}
 use Rattle.rules.specs.declared.history.Entry.{Entry}
-use Rattle.room_lock.specs.Sites.{count_of_sites}
-use Rattle.room_lock.specs.Sites.{count_of_site}
+use Rattle.room_lock.specs.Sites.{count_of_sites, count_of_site}
 use Rattle.room_lock.specs.Passes.{PartView}
 use Rattle.room_lock.specs.Shelves.{Shelf}
 use Rattle.room_lock.specs.Closing.{added_of}

@@ -5,7 +5,7 @@ use Rattle.std.specs.List.{range_with_len}
 use Rattle.rules.specs.declared.history.Entry.{Entry}
 use Rattle.rules.specs.Records.{sites}
 use Rattle.openings.specs.Openings.{OpeningView}
-use Rattle.room_lock.specs.Sites.{is_of_site}
+use Rattle.room_lock.specs.Sites.{count_of_site}
 use Rattle.room_lock.specs.Passes.{PartView}
 use Rattle.room_lock.specs.Shelves.{Shelf}
 
@@ -21,7 +21,7 @@ count_away shelf = count_by (λ part. not (is_some part)) shelf
 -- the part of a site that has seen the whole record, and added all its entries there
 abbrev pub whole_part : OpeningView → List Entry → ℕ → PartView
 whole_part opening r site =
-    record { opening = opening; site = site; seen = r; added = count_by (is_of_site site) r }
+    record { opening = opening; site = site; seen = r; added = count_of_site site r }
 
 -- the shelf when no session is in the room, and each site has seen the whole record
 abbrev pub full_shelf : OpeningView → List Entry → Shelf

@@ -1,15 +1,7 @@
--- What contracts see of a site in use and of news, and which openings may be of some rooms.
-use Rattle.std.specs.Prelude.{◌⊎◌, ◌<◌, ℕ, List, length, ◌≡◌, All}
+-- What contracts see of a site in use, and of news.
+use Rattle.std.specs.Prelude.{ℕ, List}
 use Rattle.rules.specs.declared.history.Entry.{Entry}
-use Rattle.openings.specs.Openings.{OpeningView}
-use Rattle.room_lock.specs.Rooms.{RoomsView}
 use Rattle.room_lock.specs.Passes.{PrefixView}
-use Rattle.base_types.specs.Texts.{Bytes}
-use Rattle.room_lock.specs.InOrder.{opening_name}
-
--- this may be an opening of these rooms: the ones that are open from the start were opened first
-abbrev pub MayBeOf : RoomsView → OpeningView → Type 0
-MayBeOf rooms opening = (opening.number < length rooms.names) ⊎ (0 < rooms.others)
 
 -- a site that a session is in as, while its room has this record
 pub record InUseView : Type 0 where
@@ -20,7 +12,3 @@ pub record InUseView : Type 0 where
 pub record NewsView : Type 0 where
   pub entries : List Entry
   pub whole : PrefixView
-
--- each opening stands under the name of its room
-abbrev pub AreNamed : List (Bytes × OpeningView) → Type 0
-AreNamed openings = All (λ (named : Bytes × OpeningView). opening_name named.1 ≡ named.0) openings

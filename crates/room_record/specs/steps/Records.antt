@@ -1,7 +1,7 @@
 -- A record with texts of its entries.
 use Rattle.std.specs.Prelude.{◌≡◌, ℕ, List, length, map, take}
 use Rattle.rules.specs.declared.history.Entry.{Entry}
-use Rattle.wire.specs.Texts.{entry_text}
+use Rattle.wire.specs.steps.Forms.{entry_text}
 
 -- a record, and for how many more entries there is memory
 pub record RecordState : Type 0 where

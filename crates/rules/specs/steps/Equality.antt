@@ -6,11 +6,14 @@ use Rattle.std.proofs.Common.{ap, refl, ◌∙◌}
 use Rattle.std.proofs.lemmas.Slice.Eq.{bytes_eq-Decides, slice_eq-Decides}
 use Rattle.base_types.specs.Names.{Name, same_name}
 use Rattle.base_types.specs.VersionIds.{same_names}
-use Rattle.base_types.specs.Values.{same_value, same_value-Decides}
-use Rattle.base_types.specs.Vectors.{Vector, same_pairs}
-use Rattle.rules.specs.AttrLists.{Attr, same_attrs}
+use Rattle.base_types.specs.Values.{same_value}
+use Rattle.base_types.specs.steps.Equality.{same_value-Decides, same_pairs}
+use Rattle.base_types.specs.Vectors.{Vector}
+use Rattle.rules.specs.AttrLists.{Attr}
+use Rattle.rules.specs.steps.AttrLists.{same_attrs}
 use Rattle.rules.specs.steps.Shared.{held}
-use Rattle.rules.specs.Bodies.{object_of_body, version_of_body, pairs_of_body, kind_of_body, initial_in}
+use Rattle.rules.specs.Bodies.{object_of_body, version_of_body, pairs_of_body, kind_of_body}
+use Rattle.rules.specs.Bodies.{initial_in}
 use Rattle.rules.specs.declared.history.Body.{Body}
 use Rattle.rules.specs.declared.history.Body.TheVariants.{New, Put, DropVersion}
 use Rattle.rules.specs.declared.history.Op.{Op}

@@ -1,9 +1,9 @@
 -- The first lines of a transcript that are in form and in order.
 use Rattle.std.specs.Prelude.{◌≡◌, ℕ, Bool, true, false, List, [], ◌∷◌, ◌++◌, Some, map, ◌≤◌, All}
+use Rattle.std.specs.List.{AllPairs}
 use Rattle.transcript.specs.declared.line.TranscriptLine.{TranscriptLine}
 use Rattle.transcript.specs.steps.Reads.{line_read}
 use Rattle.transcript.specs.Order.{IsNext, IsInOrder}
-use Rattle.std.specs.List.{AllPairs}
 use Rattle.wire.specs.Replies.{at_of}
 
 -- these lines are in order, in a transcript of a record with `count` entries

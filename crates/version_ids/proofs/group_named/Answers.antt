@@ -1,6 +1,7 @@
 use Rattle.std.proofs.Common.{ap, refl, sym, ◌∙◌, not, ℕ, List}
 use Rattle.std.specs.Prelude.{filter}
-use Rattle.rules.specs.Groups.{in_conflict_with, is_named}
+use Rattle.rules.specs.Groups.{in_conflict_with}
+use Rattle.rules.specs.steps.NamedGroups.{is_named}
 use Rattle.places.proofs.Rising.{among_places}
 use Rattle.version_ids.proofs.Scopes.{kept_among, kept_low}
 use Rattle.version_ids.proofs.Found.{found_group, no_group}

@@ -10,7 +10,8 @@ use Rattle.base_types.specs.Names.{Name, same_name}
 use Rattle.base_types.specs.VersionIds.{same_names}
 use Rattle.rules.specs.steps.Equality.{same_name-Decides, same_names-Decides, same_entry}
 use Rattle.rules.specs.steps.Equality.{same_entry-Decides, same_shown, same_shown-Decides}
-use Rattle.rules.specs.Refusals.{code_of, refusal_at}
+use Rattle.rules.specs.Refusals.{code_of}
+use Rattle.rules.specs.steps.Codes.{refusal_at}
 use Rattle.rules.specs.Texts.{Bytes}
 use Rattle.rules.specs.declared.history.Entry.{Entry}
 use Rattle.rules.specs.declared.refusal.Refusal.{Refusal}

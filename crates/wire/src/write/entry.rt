@@ -3,7 +3,7 @@
 ghost use Rattle.std.specs.Prelude.{◌≡◌, IfOk, string_bytes};
 ghost use Rattle.std.specs.Arc.{arc_value};
 ghost use Rattle.wire.specs.Form.{entry_form, IsEntry, IsEntryText};
-ghost use Rattle.wire.specs.Texts.{entry_text};
+ghost use Rattle.wire.specs.steps.Forms.{entry_text};
 
 use super::operation::write_operation;
 use super::part::{Written, compact};

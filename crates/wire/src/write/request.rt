@@ -3,7 +3,8 @@
 ghost use Rattle.std.specs.Prelude.{◌≡◌, ◌≤◌, length, IfOk, string_bytes};
 ghost use Rattle.serde_json.specs.Written.{compact_text};
 ghost use Rattle.wire.specs.declared.request.TheConstants.{MAX_REQUEST_LEN};
-ghost use Rattle.wire.specs.Form.{request_form, IsRequest, IsRequestText};
+ghost use Rattle.wire.specs.Form.{IsRequest, IsRequestText};
+ghost use Rattle.wire.specs.steps.Forms.{request_form};
 
 use super::operation::write_operation;
 use super::part::{Written, compact};

@@ -3,7 +3,8 @@ use Rattle.std.specs.Prelude.{ℕ, List, [], ◌∷◌, codes, Option, Some, Non
 use Rattle.serde_json.specs.Data.{Data}
 use Rattle.serde_json.specs.Find.{as_str}
 use Rattle.rules.specs.AttrLists.{Attr}
-use Rattle.rules.specs.Refusals.{refusal_at, word_of}
+use Rattle.rules.specs.Refusals.{word_of}
+use Rattle.rules.specs.steps.Codes.{refusal_at}
 use Rattle.base_types.specs.declared.op_name.TheConstants.{MAX_SITE}
 use Rattle.rules.specs.declared.limits.TheConstants.Limits.{MAX_ENTRIES}
 use Rattle.rules.specs.declared.refusal.Refusal.{Refusal}

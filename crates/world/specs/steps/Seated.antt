@@ -1,11 +1,10 @@
 -- Who is in a room as which site.
-use Rattle.std.specs.Prelude.{ℕ, ◌≡◌, ◌≢◌, ◌↔◌, true, Some, None}
+use Rattle.std.specs.Prelude.{ℕ, ◌≡◌, ◌≢◌, ◌↔◌, true, Some, None, ◌<◌, IfSome, List}
 use Rattle.rules.specs.declared.limits.LimitValues.{LimitValues}
 use Rattle.wire.specs.Notes.{no_notes}
 use Rattle.room_core.specs.Room.{empty_room}
 use Rattle.room_core.specs.Answers.{has_site}
 use Rattle.world.specs.Alone.{Alone, no_site}
-use Rattle.std.specs.Prelude.{◌<◌, IfSome, List}
 use Rattle.world.specs.declared.seats.Seat.{Seat}
 use Rattle.world.specs.State.{seat_of}
 

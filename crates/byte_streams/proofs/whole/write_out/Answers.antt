@@ -1,5 +1,6 @@
 use Rattle.std.proofs.KnownBytes.{Appends-kept}
-use Rattle.byte_streams.proofs.Written.{err_of, front_at, wrote_more, wrote_within}
+use Rattle.base_types.proofs.Results.{err_of}
+use Rattle.byte_streams.proofs.Written.{front_at, wrote_more, wrote_within}
 use Rattle.byte_streams.proofs.whole.write_out.Goals as goal
 
 pub returns-in_err-count-clause-prefix : goal.returns-in_err-count-clause-prefix

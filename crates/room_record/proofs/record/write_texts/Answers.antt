@@ -2,7 +2,7 @@ use Rattle.std.proofs.Common.{◌≡◌, ◌+◌, ◌<◌, map, length, get_or, 
 use Rattle.std.proofs.lemmas.List.{length-map, length_push, get_or-map}
 use Rattle.std.specs.Arc.{arc_value}
 use Rattle.room_record.specs.steps.Records.{AreTexts}
-use Rattle.wire.specs.Texts.{entry_text}
+use Rattle.wire.specs.steps.Forms.{entry_text}
 use Rattle.room_record.proofs.FirstTexts.{one_more_text}
 use Rattle.room_record.proofs.record.write_texts.Goals as goal
 

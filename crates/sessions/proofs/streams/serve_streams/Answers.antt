@@ -1,7 +1,7 @@
 use Rattle.std.proofs.Common.{List, ℕ, map, ap, subst, sym}
 use Rattle.std.specs.Io.KnownBytes.{Appends}
 use Rattle.std.proofs.KnownBytes.{Appends-kept}
-use Rattle.byte_streams.proofs.Written.{ok_of}
+use Rattle.base_types.proofs.Results.{ok_of}
 use Rattle.room_lock.specs.Rooms.{IsListOf}
 use Rattle.sessions.specs.Records.{all_lines}
 use Rattle.sessions.proofs.Printed.{all_legal, named, same_names}

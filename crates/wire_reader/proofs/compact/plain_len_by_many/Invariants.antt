@@ -1,11 +1,11 @@
-use Rattle.std.proofs.Common.{◌≡◌, ◌≤◌, true, length, take, ◌-◌}
-use Rattle.std.specs.List.{list_all}
+use Rattle.std.proofs.Common.{◌≤◌, length, ◌-◌}
+use Rattle.std.specs.List.{prefix_len}
 use Rattle.wire.specs.steps.Quoting.{is_plain_byte}
 use Rattle.wire_reader.proofs.compact.plain_len_by_many.Given as goal
 
 abbrev pub invariant-loop-len : goal.invariant-loop-len
 invariant-loop-len l = record {
-  plain : list_all is_plain_byte (take l.len l.bytes) ≡ true;
+  plain : l.len ≤ prefix_len is_plain_byte l.bytes;
   within : l.len ≤ length l.bytes;
 }
 

@@ -9,3 +9,4 @@ invariant-parts g l =
     (91 ∷ (compact_text (g.T.Scanned.form l.fn.first) ++ l.fn.cursor) ≡ (91 ∷ join_by (λ part. compact_text (g.T.Scanned.form part)) (44 ∷ []) l.parts.items) ++ l.cursor)
     × (0 < length l.parts.items)
     × AllByRecursion g.T.Scanned.IsInRange l.parts.items
+    × AllByRecursion g.T.Scanned.HasUtf8 l.parts.items

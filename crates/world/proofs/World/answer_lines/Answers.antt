@@ -1,5 +1,5 @@
 use Rattle.std.proofs.Common.{ap, length, arith}
-use Rattle.byte_streams.proofs.Written.{err_of}
+use Rattle.base_types.proofs.Results.{err_of}
 use Rattle.world.proofs.Parts.{wrote_line, wrote_hands, wrote_up_to, up_to_hands, hands_front}
 use Rattle.world.proofs.World.answer_lines.Goals as goal
 

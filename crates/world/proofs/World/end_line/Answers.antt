@@ -3,7 +3,7 @@ use Rattle.std.proofs.lemmas.Bool.{eqb-true}
 use Rattle.std.proofs.lemmas.List.{nil_from_length}
 use Rattle.std.proofs.lemmas.Result.{on_err_weaker}
 use Rattle.world.specs.steps.Answered.{line_text}
-use Rattle.byte_streams.proofs.Written.{err_of}
+use Rattle.base_types.proofs.Results.{err_of}
 use Rattle.world.proofs.Changed.{both_ok}
 use Rattle.world.proofs.Parts.{answered_kept, answered_line, answered_lost, answered_end, answers_end, answers_nothing}
 use Rattle.world.proofs.World.end_line.Goals as goal

@@ -2,7 +2,8 @@ use Rattle.std.proofs.Common.{◌≡◌, sym, ap, subst, ◌++◌, ◌∙◌}
 use Rattle.std.proofs.KnownBytes.{Appends-kept}
 use Rattle.std.specs.Io.KnownBytes.{Appends}
 use Rattle.world.specs.steps.Answered.{line_text}
-use Rattle.byte_streams.proofs.Written.{err_of, ok_of, whole_front}
+use Rattle.base_types.proofs.Results.{err_of, ok_of}
+use Rattle.byte_streams.proofs.Written.{whole_front}
 use Rattle.world.proofs.Lines.{output_last, some_from_test}
 use Rattle.world.proofs.Parts.{stops_line, stops_lost, past_end}
 use Rattle.world.proofs.World.finish.Goals as goal

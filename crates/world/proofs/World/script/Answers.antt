@@ -1,6 +1,6 @@
 use Rattle.std.proofs.Common.{take, arith}
 use Rattle.std.proofs.lemmas.Result.{on_err_weaker}
-use Rattle.byte_streams.proofs.Written.{err_of}
+use Rattle.base_types.proofs.Results.{err_of}
 use Rattle.world.proofs.Changed.{both_ok}
 use Rattle.world.proofs.Transcript.{read_whole, read_last, read_stop, read_part, read_more, read_again, read_none, read_nothing, stop_front}
 use Rattle.world.proofs.EndedLines.{read_fault, no_fault}

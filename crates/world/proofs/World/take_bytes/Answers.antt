@@ -1,5 +1,5 @@
 use Rattle.std.proofs.Common.{[], refl}
-use Rattle.byte_streams.proofs.Written.{err_of}
+use Rattle.base_types.proofs.Results.{err_of}
 use Rattle.world.proofs.Parts.{answered_kept, wrote_cut, wrote_hands, wrote_kept, hands_all, hands_front, some_of}
 use Rattle.world.proofs.World.take_bytes.Goals as goal
 

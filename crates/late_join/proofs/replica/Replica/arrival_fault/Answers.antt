@@ -1,6 +1,6 @@
 use Rattle.std.proofs.Common.{ap, leb, length, sym, ◌∙◌, subst, Some}
 use Rattle.std.specs.Prelude.{option_map}
-use Rattle.rules.specs.Admission.{causal_refusal}
+use Rattle.rules.specs.steps.Histories.{causal_refusal}
 use Rattle.rules.specs.Records.{operations}
 use Rattle.late_join.specs.declared.fault.TakeFault.TheVariants.{Refused}
 use Rattle.late_join.specs.Replica.{ReplicaState}

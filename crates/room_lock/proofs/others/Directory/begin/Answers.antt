@@ -3,15 +3,15 @@ use Rattle.std.proofs.lemmas.List.Elements.{All-push}
 use Rattle.base_types.specs.Texts.{Bytes}
 use Rattle.openings.specs.Openings.{OpeningView}
 use Rattle.room_lock.specs.InOrder.{opening_name}
-use Rattle.room_lock.specs.steps.Views.{AreNamed}
-use Rattle.room_lock.proofs.Begins.{on_err_so}
+use Rattle.room_lock.specs.steps.Openings.{AreNamed}
+use Rattle.base_types.proofs.Results.{err_of}
 use Rattle.room_lock.proofs.others.Directory.begin.Goals as goal
 
 pub invariant_of-self-in_err-insert_new : goal.invariant_of-self-in_err-insert_new
 invariant_of-self-in_err-insert_new g c = subst AreNamed (sym c.in_err-insert_new.ensures.err) c.self.invariant
 
 pub returns-in_err-insert_new-clause-err : goal.returns-in_err-insert_new-clause-err
-returns-in_err-insert_new-clause-err g c = on_err_so c.from_residual-in_err-insert_new.result (c.in_err-insert_new.ensures.err ∙ c.self.view_is)
+returns-in_err-insert_new-clause-err g c = err_of c.from_residual-in_err-insert_new.result (c.in_err-insert_new.ensures.err ∙ c.self.view_is)
 
 pub invariant_of-self-2 : goal.invariant_of-self-2
 invariant_of-self-2 g c =

@@ -6,7 +6,7 @@ use Rattle.std.specs.Prelude.{bytes_eq}
 use Rattle.std.proofs.lemmas.Map.Made.{lookup_key_same}
 use Rattle.std.proofs.lemmas.Slice.Eq.{bytes_eq-Decides}
 use Rattle.room_lock.specs.InOrder.{opening_name}
-use Rattle.room_lock.specs.steps.Views.{AreNamed}
+use Rattle.room_lock.specs.steps.Openings.{AreNamed}
 use Rattle.room_lock.proofs.InOrder.{named_at, named_without}
 use Rattle.room_lock.proofs.others.Directory.end.Goals as goal
 

@@ -1,6 +1,6 @@
 use Rattle.std.proofs.Common.{◌+◌, ◌-◌, ◌≤◌, length, map, take, drop, sym, ap, ◌∙◌, subst, arith}
 use Rattle.std.specs.Arc.{arc_value}
-use Rattle.wire.specs.Texts.{entry_text}
+use Rattle.wire.specs.steps.Forms.{entry_text}
 use Rattle.wire.proofs.Pages.{of_texts}
 use Rattle.room_record.specs.steps.Records.{AreTexts, RecordState}
 use Rattle.room_record.specs.steps.Texts.{between_commas}

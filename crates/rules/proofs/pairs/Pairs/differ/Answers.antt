@@ -1,6 +1,6 @@
 use Rattle.std.proofs.Common.{◌∙◌}
 use Rattle.std.specs.List.{list_any}
-use Rattle.rules.specs.AttrLists.{gives_another}
+use Rattle.rules.specs.steps.Keys.{gives_another}
 use Rattle.rules.proofs.Keys.{differ_by_pairs}
 use Rattle.rules.proofs.pairs.Pairs.differ.Goals as goal
 

@@ -1,5 +1,5 @@
 use Rattle.std.proofs.Common.{rules, inr, Option, string_bytes, subst, sym}
-use Rattle.byte_streams.proofs.Written.{err_of}
+use Rattle.base_types.proofs.Results.{err_of}
 use Rattle.room_lock.specs.Passes.{PrefixView}
 use Rattle.sessions.specs.Sessions.{host_of}
 use Rattle.sessions.specs.steps.Replies.{turn_of}

@@ -289,3 +289,29 @@ class TestSecondPromise(unittest.TestCase):
         ])
         self.tree.run("--write")
         self.assertEqual(self.tree.run("--check"), (0, ["1 passed, 0 failed"]))
+
+    def test_determined_twice(self):
+        """What two determined modules import is named with the first of them."""
+        self.tree.script.PROMISES += (("Lines", "`high::lines`", (("high/src/lines.rt", ("lines",)),)),)
+        self.tree.script.DETERMINED = {
+            ("low", f"steps/{name}"): ("`low::laws`", "low/src/laws.rt", (law,))
+            for name, law in (("Reads", "read_by_form"), ("Lines", "lines_by_form"))
+        }
+        laws = ""
+        for name, word, law in (("Reads", "read", "read_by_form"), ("Lines", "line", "lines_by_form")):
+            self.tree.write(f"crates/low/specs/steps/{name}.antt", (
+                f"use Rattle.low.specs.steps.Halves.{{half}}\n{word} : Digit\n"
+            ))
+            laws += f"ghost use Rattle.low.specs.steps.{name}.{{{word}}};\n"
+            laws += f"pub fn {law}()\n    ensures {{ {word} }}\n{{}}\n"
+            self.tree.write(f"crates/high/src/{'pair' if word == 'read' else 'lines'}.rt", (
+                f"ghost use Rattle.low.specs.steps.{name}.{{{word}}};\n"
+                f"pub fn {'sum' if word == 'read' else 'lines'}()\n    ensures {{ {word} }}\n{{}}\n"
+            ))
+        self.tree.write("crates/low/src/laws.rt", laws)
+        _, printed = self.tree.run()
+        self.assertEqual([line for line in printed if line.startswith("Determined")], [
+            "Determined by the law `low::laws` (`read_by_form`), and not counted: `low` `steps/Reads` 1,"
+            " `low` `steps/Halves` 1.",
+            "Determined by the law `low::laws` (`lines_by_form`), and not counted: `low` `steps/Lines` 1.",
+        ])

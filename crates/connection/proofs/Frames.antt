@@ -1,5 +1,5 @@
 -- Frames that are written.
-use Rattle.std.proofs.Common.{◌≡◌, ℕ, List, [], drop, Some, Result, Err, Ok, refl, subst}
+use Rattle.std.proofs.Common.{◌≡◌, ℕ, List, [], ◌++◌, drop, Some, Result, Err, Ok, refl, subst}
 use Rattle.std.specs.Prelude.{option_map}
 use Rattle.websocket.specs.declared.error.Error.{Error}
 use Rattle.websocket.specs.Connection.{Connection, Effect, Sends, send, write_step, check_can_write}
@@ -15,14 +15,18 @@ use Rattle.connection.specs.Standing.{Standing}
 use Rattle.connection.specs.Serving.{Does, Takes, queue, queued_reply, sent_text}
 use Rattle.connection.specs.Talks.{Turn, Wait}
 
-sent_after : (c c' : Connection) (bs out : List ℕ) (check : Checked Error)
-    → Leaves (after_check check (send c (Op.Data Data.Text) bs)) c' [] out → (c' ≡ c) × Sends c.role (Some (sent_text bs)) [] out
-sent_after c c' bs out (Err e) leaves = absurd leaves
-sent_after c c' bs out (Ok _) leaves = (leaves.0, subst (λ (x : Connection). Sends x.role (Some (sent_text bs)) [] out) leaves.0 leaves.1)
+sent_after : (c c' : Connection) (bs old out : List ℕ) (check : Checked Error)
+    → Leaves (after_check check (send c (Op.Data Data.Text) bs)) c' old out
+    → (c' ≡ c) × (frame : List ℕ) × Sends c.role (Some (sent_text bs)) [] frame × (out ≡ old ++ frame)
+sent_after c c' bs old out (Err e) leaves = absurd leaves
+sent_after c c' bs old out (Ok _) leaves =
+    let sends = subst (λ (x : Connection). Sends x.role (Some (sent_text bs)) old out) leaves.0 leaves.1 in
+    (leaves.0, _, (sends.0, sends.1, refl), sends.2)
 
 -- a text that was written is one frame
-pub sent : (c c' : Connection) (bs out : List ℕ) → Leaves (write_step c (text bs)) c' [] out → (c' ≡ c) × Sends c.role (Some (sent_text bs)) [] out
-sent c c' bs out leaves = sent_after c c' bs out (check_can_write c.state) leaves
+pub sent : (c c' : Connection) (bs old out : List ℕ) → Leaves (write_step c (text bs)) c' old out
+    → (c' ≡ c) × (frame : List ℕ) × Sends c.role (Some (sent_text bs)) [] frame × (out ≡ old ++ frame)
+sent c c' bs old out leaves = sent_after c c' bs old out (check_can_write c.state) leaves
 
 -- what a read says that took a frame
 frame_facts : (r : Result (FrameStatus (ℕ × Effect)) Error) (input : List ℕ) (step : Step) (c c' : Connection) (out : List ℕ)

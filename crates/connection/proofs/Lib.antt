@@ -5,3 +5,4 @@ pub mod Queues
 pub mod Pieces
 pub mod Orders
 pub mod Blocks
+pub mod InList

@@ -1,23 +1,14 @@
 -- Frames that wait.
-use Rattle.std.proofs.Common.{◌≡◌, ◌<◌, ◌≤◌, ◌+◌, ◌⊎◌, inl, inr, ℕ, zero, suc, List, [], ◌∷◌, ◌++◌, take, length, get_or, refl, ap, arith, ◌∙◌, Option, Some, None, length-append}
+use Rattle.std.proofs.Common.{◌≡◌, ◌≤◌, ◌+◌, ◌⊎◌, inl, inr, ℕ, List, [], ◌∷◌, ◌++◌, length, refl, ap, arith, ◌∙◌, Option, Some, None, length-append}
 use Rattle.websocket.specs.Connection.{Effect}
 use Rattle.websocket.specs.Content.{Content, text, binary, ping, pong, close}
 use Rattle.websocket.specs.declared.protocol.config.Role.{Role}
 use Rattle.connection.specs.declared.item.TheConstants.{MAX_WAITING}
 use Rattle.connection.specs.Talks.{Block, Turn, Wait}
-use Rattle.connection.specs.Standing.{ConnectionState, QueuedFrame, Standing, waiting_len}
+use Rattle.connection.specs.Standing.{ConnectionState, Standing}
 use Rattle.connection.specs.Serving.{Answered, Does, Freed, Heard, Holds, Takes, queued_reply, unheld}
 use Rattle.connection.specs.Receiving.{Run, Served}
 use Rattle.connection.specs.Connections.{Receives}
-
--- one more frame is as many bytes more
-pub waiting_len_more : {D : Type 0} (i : ℕ) (frames : List (QueuedFrame D)) (item : QueuedFrame D) → i < length frames → item ≡ get_or frames i item
-    → waiting_len (take (i + 1) frames) ≡ waiting_len (take i frames) + length item.bytes
-waiting_len_more i [] item inside is = absurd (omega (arith, inside))
-waiting_len_more zero (x ∷ rest) item inside is = rw is (omega arith)
-waiting_len_more (suc i) (x ∷ rest) item inside is =
-    let step : waiting_len (take (i + 1) rest) ≡ waiting_len (take i rest) + length item.bytes = waiting_len_more i rest item (omega (arith, inside)) is in
-    let e : suc i + 1 ≡ suc (i + 1) = omega arith in rw e (omega (arith, step))
 
 module _ {S D : Type 0} (turn : Turn S D) where
   answered_adds : (role : Role) (message : List ℕ) (a b : Standing S D) → Answered turn role message a b

@@ -6,3 +6,4 @@ pub mod Releasing
 pub mod Connections
 pub mod Heads
 pub mod Histories
+pub mod steps

@@ -18,10 +18,10 @@ ghost use Rattle.connection.specs.declared.end.End.TheVariants as end;
 
 use crate::end::{End, end_of_error};
 use crate::input::Input;
-use crate::item::{Item, MAX_WAITING, MAX_WAITING_LEN};
+use crate::item::{MAX_WAITING, MAX_WAITING_LEN};
 use crate::talk::{Answer, MAX_HELD_LEN, Talk};
+use crate::waiting::Waiting;
 use std::alloc::Global;
-use std::collections::VecDeque;
 use std::marker::Model;
 use websocket::protocol::{FrameStatus, Message, NoMask, Step, WebSocketContext};
 
@@ -38,7 +38,7 @@ pub(crate) struct Dialogue<S, D> {
     alloc: Global,
     session: S,
     held: Option<Vec<u8>>,
-    waiting: VecDeque<Item<D>>,
+    waiting: Waiting<D>,
 }
 
 impl<S, D> Model for Dialogue<S, D> {
@@ -50,7 +50,7 @@ impl<S, D> Model for Dialogue<S, D> {
     ghost view = { λ d. record {
       session = d.session;
       held = option_map (λ message. message.items) d.held;
-      waiting = d.waiting.items;
+      waiting = d.waiting;
     } };
 }
 
@@ -63,7 +63,7 @@ impl<S, D: Drop> Dialogue<S, D> {
             alloc,
             session,
             held: None,
-            waiting: VecDeque::new(alloc),
+            waiting: Waiting::new(alloc),
         }
     }
 
@@ -86,23 +86,7 @@ impl<S, D: Drop> Dialogue<S, D> {
         ensures some { result ≡ true → self.now.waiting ≢ [] }
         ensures none { result ≡ false → self.now.waiting ≡ [] }
     {
-        !self.waiting.is_empty()
-    }
-
-    /// Puts a frame behind those that wait.
-    ///
-    /// # Errors
-    /// `NoMemory` if an allocation failed. Nothing has changed.
-    fn push(&mut self, frame: Vec<u8>, reported: Option<D>) -> Result<(), End>
-        ensures ok { OnOk result (self.new
-            ≡ queue self.old (record { bytes = frame.items; reported = reported } ∷ [])) }
-        ensures err { OnErr result (self.new ≡ self.old) }
-        ensures why { IfErr result (λ why. why ≡ end.NoMemory) }
-    {
-        match self.waiting.push_back(Item { frame, reported }) {
-            Ok(()) => Ok(()),
-            Err(_) => Err(End::NoMemory),
-        }
+        self.waiting.count() > 0
     }
 
     /// Puts a reply of the protocol behind the frames that wait, if there is one.
@@ -114,10 +98,7 @@ impl<S, D: Drop> Dialogue<S, D> {
         ensures err { OnErr result (self.new ≡ self.old) }
         ensures why { IfErr result (λ why. why ≡ end.NoMemory) }
     {
-        if frame.is_empty() {
-            return Ok(());
-        }
-        self.push(frame, None)
+        self.waiting.push_reply(&frame)
     }
 
     /// Puts the frame of an answer's text behind the frames that wait.
@@ -133,8 +114,7 @@ impl<S, D: Drop> Dialogue<S, D> {
         ensures why { IfErr result (CannotSend context.old (string_bytes answer.text)) }
     {
         let Answer { text, reported } = answer;
-        let frame = frame_of(self.alloc, context, &text)?;
-        self.push(frame, reported)
+        self.waiting.push_text(context, &text, reported)
     }
 
     /// Has the held message heard again, if there is one. With `may_hold` it may stay held;
@@ -350,27 +330,7 @@ impl<S, D: Drop> Dialogue<S, D> {
         ensures err { IfErr result (λ why. (why ≡ end.NoMemory)
             ⊎ IsFirstLost T.lacks self.old.waiting why) }
     {
-        let Some(first) = self.waiting.front() else {
-            return Ok(false);
-        };
-        if !is_kept(talk, first)? {
-            return Ok(false);
-        }
-        if output.extend_from_slice(&first.frame).is_err() {
-            return Err(End::NoMemory);
-        }
-        self.drop_first();
-        Ok(true)
-    }
-
-    /// Drops the first frame that waits. Gives back the memory if no other does.
-    fn drop_first(&mut self)
-        ensures { self.new ≡ record self.old { waiting = drop 1 self.old.waiting } }
-    {
-        let _first = self.waiting.pop_front();
-        if self.waiting.is_empty() {
-            self.waiting.shrink_to_fit();
-        }
+        self.waiting.release_first(talk, output)
     }
 
     /// How many bytes wait, and `most` where more do.
@@ -378,7 +338,7 @@ impl<S, D: Drop> Dialogue<S, D> {
         requires { most ≤ MAX_LOAD }
         ensures { result ≡ min (waiting_len self.now.waiting) most }
     {
-        waiting_len(&self.waiting, most)
+        self.waiting.len().min(most)
     }
 
     /// Returns whether so much waits that no frame is served.
@@ -386,8 +346,7 @@ impl<S, D: Drop> Dialogue<S, D> {
         ensures full { result ≡ true → IsFull self.now.waiting }
         ensures room { result ≡ false → HasRoom self.now.waiting }
     {
-        self.waiting.len() >= MAX_WAITING
-            || waiting_len(&self.waiting, MAX_WAITING_LEN) >= MAX_WAITING_LEN
+        self.waiting.count() >= MAX_WAITING || self.waiting.len() >= MAX_WAITING_LEN
     }
 
     /// Returns whether a message is held that blocks: no later frame is served before it is
@@ -417,53 +376,5 @@ impl<S, D: Drop> Dialogue<S, D> {
             waiting: _,
         } = self;
         session
-    }
-}
-
-/// How many bytes wait, and `most` where more do.
-fn waiting_len<D>(waiting: &VecDeque<Item<D>>, most: usize) -> usize
-    requires { most ≤ MAX_LOAD }
-    ensures { result ≡ min (waiting_len waiting.now.items) most }
-{
-    let mut len: usize = 0;
-    for i in 0..waiting.len() {
-        len = len.saturating_add(waiting[i].len()).min(most);
-    }
-    len
-}
-
-/// Returns whether what a frame reports is kept, if it reports anything.
-///
-/// # Errors
-/// Why it will not be kept.
-fn is_kept<T: Talk>(talk: &T, item: &Item<T::Reported>) -> Result<bool, End>
-    ensures yes { result ≡ Ok true → IfSome item.now.reported (λ reported. (receipt : T.Receipt)
-        × T.shows receipt reported) }
-    ensures no { result ≡ Ok false → item.now.reported ≢ None }
-    ensures err { IfErr result (λ why.
-        IsSomeAnd item.now.reported (λ reported. T.lacks reported why)) }
-{
-    let Some(reported) = &item.reported else {
-        return Ok(true);
-    };
-    match talk.receipt(reported) {
-        Ok(Some(_receipt)) => Ok(true),
-        Ok(None) => Ok(false),
-        Err(end) => Err(end),
-    }
-}
-
-/// The frame of a text.
-#[tactic(auto, using(crate::proofs::Frames::sent))]
-fn frame_of(alloc: Global, context: &mut WebSocketContext, text: &str) -> Result<Vec<u8>, End>
-    ensures frame { IfOk result (λ frame. Sends context.old.role (Some (sent_text text.now)) []
-        frame.items) }
-    ensures why { IfErr result (CannotSend context.old text.now) }
-    ensures context { context.new ≡ context.old }
-{
-    let mut frame = Vec::new(alloc);
-    match context.write(Message::Text(text), &mut frame, &mut NoMask) {
-        Ok(()) => Ok(frame),
-        Err(fault) => Err(end_of_error(&fault)),
     }
 }

@@ -1,8 +1,4 @@
-//! The frames that wait to be sent.
-
-ghost use Rattle.std.specs.Prelude.{◌≡◌, length};
-
-use std::marker::Model;
+//! A frame that waits to be sent, and how much may wait.
 
 /// Where so many frames wait, no more of what came is served.
 pub const MAX_WAITING: usize = 64;
@@ -13,28 +9,11 @@ pub const MAX_WAITING_LEN: usize = 65_536;
 /// The most bytes that `Connection::load` counts.
 pub const MAX_LOAD: usize = 16_777_216;
 
-/// A frame that waits to be sent, and what has to be kept before it is.
+/// A frame that waits to be sent. Its bytes stand in the list of all.
 #[derive(Drop)]
 pub(crate) struct Item<D> {
-    /// The bytes of the frame.
-    pub(crate) frame: Vec<u8>,
+    /// The number of its bytes.
+    pub(crate) len: usize,
     /// What it reports.
     pub(crate) reported: Option<D>,
-}
-
-impl<D> Model for Item<D> {
-    ghost use Rattle.connection.specs.Standing.{QueuedFrame};
-
-    ghost Value = { QueuedFrame D };
-
-    ghost view = { λ i. record { bytes = i.frame.items; reported = i.reported } };
-}
-
-impl<D> Item<D> {
-    /// The number of bytes of the frame.
-    pub(crate) fn len(&self) -> usize
-        ensures { result ≡ length self.now.bytes }
-    {
-        self.frame.len()
-    }
 }

@@ -11,6 +11,7 @@ mod input;
 mod item;
 pub mod laws;
 mod talk;
+mod waiting;
 
 pub use closing::Closing;
 pub use connection::{Connection, MAX_MESSAGE_LEN};

@@ -2,6 +2,7 @@
 
 use crate::bell::WAKE;
 use crate::ending::Ending;
+use crate::headroom::Headroom;
 use crate::line::{Line, Next};
 use crate::mail::{News, Outlook};
 use crate::openings::Openings;
@@ -83,6 +84,7 @@ where
         bench: Bench {
             scratch: shared.service.new_scratch(),
             chunk,
+            headroom: Headroom::new(shared.alloc),
         },
         eager: 0,
         now: 0,

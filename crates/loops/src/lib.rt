@@ -8,6 +8,7 @@ mod client;
 mod ending;
 mod event_loop;
 mod fault;
+mod headroom;
 mod line;
 mod mail;
 mod opening;

@@ -367,6 +367,7 @@ impl<S, D: Drop> Line<S, D> {
             Ok(0) => self.hang_up(now),
             Ok(count) => {
                 self.readiness.read(count, room);
+                bench.headroom.add(count);
                 self.times.heard = now;
                 self.hear(shared, &mut bench.scratch, &bench.chunk[..count], now);
                 true

@@ -4,6 +4,7 @@ use crate::bell::Bell;
 use crate::burden::Burden;
 use crate::client::Client;
 use crate::ending::Ending;
+use crate::headroom::Headroom;
 use crate::seats::Seats;
 use crate::service::Service;
 use std::alloc::Global;
@@ -36,4 +37,6 @@ pub(crate) struct Bench<C: Drop> {
     pub(crate) scratch: C,
     /// What one read takes.
     pub(crate) chunk: Vec<u8>,
+    /// Memory for what comes of it.
+    pub(crate) headroom: Headroom,
 }

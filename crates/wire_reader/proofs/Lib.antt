@@ -24,3 +24,4 @@ pub mod Shown
 pub mod Exchanges
 pub mod Scanned
 pub mod Utf8
+pub mod PlainTexts

@@ -1,7 +1,9 @@
 -- The texts of requests.
-use Rattle.std.proofs.Common.{◌≡◌, ℕ, ◌≤◌, List, length, Option, Some, None, Bool, true, false, cond, refl, sym, ◌∙◌, arith}
-use Rattle.std.specs.Prelude.{nat_le, ◌↔◌}
+use Rattle.std.proofs.Common.{◌≡◌, ℕ, ◌≤◌, List, length, Option, Some, None, Result, Ok, Err, Bool, true, false, cond, refl, sym, ◌∙◌, arith, IsUtf8}
+use Rattle.std.specs.Prelude.{nat_le, ◌↔◌, IfOk}
 use Rattle.std.proofs.lemmas.Bool.Decides.{nat_tests}
+use Rattle.json.specs.Lex.{between, lex}
+use Rattle.serde_json.specs.Read.{read}
 use Rattle.wire.specs.declared.request.TheConstants.{MAX_REQUEST_LEN}
 use Rattle.wire.specs.declared.request.Request.{Request}
 use Rattle.wire.specs.Form.{IsRequestText}
@@ -35,3 +37,17 @@ requests_by_form bytes q = (request_text_takes bytes q, request_text_again bytes
 -- bytes are a text of one request at most
 pub one_request : (bytes : List ℕ) (p q : Request) → IsRequestText bytes p → IsRequestText bytes q → p ≡ q
 one_request bytes p q g h = some_is p q (sym (request_text_again bytes p g) ∙ request_text_again bytes q h)
+
+-- ---- other texts of the same lexemes
+
+-- bytes that have the lexemes of a text of a request are one too
+pub same_lexemes : (bytes text : List ℕ) (q : Request) → IsUtf8 bytes → length bytes ≤ MAX_REQUEST_LEN → lex between text ≡ lex between bytes → request_read text ≡ Some q → request_read bytes ≡ Some q
+same_lexemes bytes text q utf8 short same e =
+    let is = (request_text_takes text q e).text in
+    let again : read bytes ≡ read text = rw same refl in
+    request_text_again bytes q (record { short = short; text = record { utf8 = utf8; value = is.value; is_read = again ∙ is.is_read; form = is.form; in_range = is.in_range } })
+
+-- what follows from a thing of a result holds where it does
+pub if_ok : {T E : Type 0} (A B : T → Type 0) (r : Result T E) → ((x : T) → A x → B x) → IfOk r A → IfOk r B
+if_ok A B (Ok x) so a = so x a
+if_ok A B (Err e) so a = tt

@@ -9,3 +9,4 @@ pub mod Reads
 pub mod Streams
 pub mod Exchanges
 pub mod Compact
+pub mod PlainTexts

@@ -6,7 +6,7 @@
 ghost use Rattle.std.specs.Prelude.{◌≡◌, ◌+◌, ◌<◌, ◌≤◌, ◌∷◌, [], ◌++◌, codes, true, false, length, map, take, IfOk, IsTrue, MatchOption, OnOk};
 ghost use Rattle.std.specs.Fmt.{decimal};
 ghost use Rattle.std.specs.List.{list_all, prefix_len, AllByRecursion};
-ghost use Rattle.json.specs.Print.{quoted};
+ghost use Rattle.json.specs.Print.{quoted, IsNumber};
 ghost use Rattle.serde_json.specs.Data.{Data};
 ghost use Rattle.serde_json.specs.Written.{compact_text};
 ghost use Rattle.base_types.specs.Names.{is_op_name, is_seq};
@@ -135,7 +135,7 @@ fn is_plain_byte(byte: u8) -> bool
 
 /// Do all of these bytes stand for themselves between quotes? It looks at each, so a compiler can
 /// test several at once.
-fn are_plain(bytes: &[u8]) -> bool
+pub(crate) fn are_plain(bytes: &[u8]) -> bool
     ensures { result ≡ list_all is_plain_byte bytes.now }
 {
     let mut are_plain = true;
@@ -184,12 +184,23 @@ fn plain_len(bytes: &[u8]) -> usize
 }
 
 /// The bytes at the front that stand for themselves between quotes, and those after them.
-fn split_plain(bytes: &[u8]) -> (&[u8], &[u8])
+pub(crate) fn split_plain(bytes: &[u8]) -> (&[u8], &[u8])
     ensures parts { bytes.now ≡ result.0.now ++ result.1.now }
     ensures plain { list_all is_plain_byte result.0.now ≡ true }
 {
     let len = plain_len(bytes);
     (&bytes[..len], &bytes[len..])
+}
+
+/// The number at the front, which may have a minus, and the bytes after it.
+pub(crate) fn split_number(bytes: &[u8]) -> Result<(&[u8], &[u8]), ReadFault>
+    ensures parts { IfOk result (λ parts. bytes.now ≡ parts.0.now ++ parts.1.now) }
+    ensures number { IfOk result (λ parts. IsNumber parts.0.now) }
+{
+    let mut cursor = Cursor { rest: bytes };
+    cursor.take(b'-');
+    cursor.number()?;
+    Ok(bytes.split_at(bytes.len() - cursor.rest.len()))
 }
 
 /// What is taken of compact text.

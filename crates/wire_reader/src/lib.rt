@@ -10,6 +10,7 @@ mod fault;
 pub mod laws;
 mod note;
 mod part;
+mod plain_text;
 mod reply;
 mod request;
 mod rising;

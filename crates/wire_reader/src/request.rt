@@ -12,12 +12,16 @@ ghost use Rattle.wire_reader.specs.steps.Streams.{rest_in, Takes};
 use crate::body::operation_of;
 use crate::compact::read_compact;
 use crate::fault::ReadFault;
-use crate::part::{Part, name_of, read_text, room_of};
+use crate::part::{Part, name_of, read_text, room_of, utf8_of};
+use crate::plain_text::plain_text;
 use crate::token::{Seq, close_list, whole_of, word_of};
 use base_types::MAX_SITE;
 use json::{Reader, Scratch};
 use std::alloc::Global;
 use wire::{MAX_FROM, MAX_REQUEST_LEN, Request};
+
+/// A shorter message is left to the JSON reader, which costs little there.
+const MIN_REWRITTEN_LEN: usize = 128;
 
 fn join_of(alloc: Global, reader: &mut Reader<'_>) -> Result<Request, ReadFault>
     ensures { (n : ℕ) → Takes (λ request. request) result
@@ -113,7 +117,36 @@ fn compact_in_bytes(alloc: Global, bytes: &[u8]) -> Result<Request, ReadFault>
     read_compact(alloc, bytes)
 }
 
-/// Reads a request. Most are in compact text, which needs no JSON reader.
+/// Reads a request from the plain text of its message. `Bad` also where there is none, or where it
+/// is the message itself.
+fn plain_in_bytes(alloc: Global, bytes: &[u8]) -> Result<Request, ReadFault>
+    requires { length bytes.now ≤ MAX_REQUEST_LEN }
+    ensures { IfOk result (λ request. request_read bytes.now ≡ Some request) }
+{
+    if bytes.len() < MIN_REWRITTEN_LEN {
+        return Err(ReadFault::Bad);
+    }
+    utf8_of(bytes)?;
+    let text = plain_text(alloc, bytes)?;
+    if bytes.len() <= text.len() {
+        return Err(ReadFault::Bad);
+    }
+    compact_in_bytes(alloc, &text)
+}
+
+/// Reads a request without the JSON reader. `Bad` also where only that can read it.
+fn simple_in_bytes(alloc: Global, bytes: &[u8]) -> Result<Request, ReadFault>
+    requires { length bytes.now ≤ MAX_REQUEST_LEN }
+    ensures { IfOk result (λ request. request_read bytes.now ≡ Some request) }
+{
+    match compact_in_bytes(alloc, bytes) {
+        Err(ReadFault::Bad) => plain_in_bytes(alloc, bytes),
+        read => read,
+    }
+}
+
+/// Reads a request. Most are in compact text, or have a plain text that is: these need no JSON
+/// reader.
 #[tactic(auto, unfolding(crate::specs::steps::Reads::request_read))]
 fn request_in_bytes(
     alloc: Global,
@@ -125,7 +158,7 @@ fn request_in_bytes(
     if bytes.len() > MAX_REQUEST_LEN {
         return Err(ReadFault::Bad);
     }
-    match compact_in_bytes(alloc, bytes) {
+    match simple_in_bytes(alloc, bytes) {
         Ok(request) => Ok(request),
         Err(ReadFault::Bad) => read_text(alloc, scratch, bytes),
         Err(ReadFault::NoMemory) => Err(ReadFault::NoMemory),

@@ -4,6 +4,31 @@ use std::process::Abort;
 use wire::write_request;
 use wire_reader::{Scratch, read_request};
 
+/// Texts of requests with white space and escapes, and the compact text of each. In the third
+/// stands a pair of surrogates. In the last stands the escape of a quote.
+const OTHER_TEXTS: [(&str, &str); 4] = [
+    (
+        r#"["put", 384,   [[1, 1]], [256, 16384],   [[1, 1]],
+            [["y", -12], ["x", "1 caf\u00e9\/ \u20AC  \u0061b"], ["b", "\u0416\u0418\u0417"]]]"#,
+        r#"["put",384,[[1,1]],[256,16384],[[1,1]],[["y",-12],["x","1 café/ €  ab"],["b","ЖИЗ"]]]"#,
+    ),
+    (
+        r#"  ["new", 1, [[1, 2], [256, 16384]], "rect",
+            [["x", "\u0416\u0418\u0417\u041D\u042c"], ["y", "[1, 2]"], ["z", 999999999]] ]  "#,
+        r#"["new",1,[[1,2],[256,16384]],"rect",[["x","ЖИЗНЬ"],["y","[1, 2]"],["z",999999999]]]"#,
+    ),
+    (
+        r#"["put", 3,  [[1, 1]],          [256, 16384],  [[1, 1]],
+              [["x", "\ud83d\ude00"], ["y", "a text that is much longer"]]]"#,
+        r#"["put",3,[[1,1]],[256,16384],[[1,1]],[["x","😀"],["y","a text that is much longer"]]]"#,
+    ),
+    (
+        r#"["put", 3,  [[1, 1]],          [256, 16384],  [[1, 1]],
+              [["x", "\u0022\u00e9"], ["y", "a text that is much longer"]]]"#,
+        r#"["put",3,[[1,1]],[256,16384],[[1,1]],[["x","\"é"],["y","a text that is much longer"]]]"#,
+    ),
+];
+
 /// A request of each form, in compact text.
 const REQUESTS: &str = r#"["join","a-9"]
 ["join","a-9.999999"]
@@ -18,16 +43,23 @@ const REQUESTS: &str = r#"["join","a-9"]
 ["wait",65535]
 ["leave"]"#;
 
-fn is_written_again(rt: &(impl Abort + AllocGlobal), text: &str) {
+fn is_written_as(rt: &(impl Abort + AllocGlobal), text: &str, compact: &str) {
     let mut scratch = Scratch::new(rt.alloc());
     let request = read_request(rt.alloc(), &mut scratch, text.as_bytes());
     let written = write_request(rt.alloc(), &request.expect(rt, "a request"));
-    assert_eq!(rt; written.expect(rt, "memory").as_str(), text);
+    assert_eq!(rt; written.expect(rt, "memory").as_str(), compact);
 }
 
 #[test]
 fn requests_are_written(rt: HostRuntime) {
     for text in REQUESTS.lines() {
-        is_written_again(&rt, text);
+        is_written_as(&rt, text, text);
+    }
+}
+
+#[test]
+fn requests_are_written_in_compact_text(rt: HostRuntime) {
+    for (text, compact) in OTHER_TEXTS {
+        is_written_as(&rt, text, compact);
     }
 }

@@ -36,7 +36,7 @@ WRITTEN = """# Proofs
 
 - `low`: `Digits` 3, `Numbers` 2
 
-All together: 2 modules, 5 lines.
+All together: 2 modules, 5 lines, of which 2 are comments.
 
 <!-- believed: end -->
 
@@ -112,10 +112,10 @@ class TestBelieved(unittest.TestCase):
         self.expect_failed(
             f"{PAGE} lacks the line: **Twice** (`high::twice`): 2 modules, 6 lines.",
             f"{PAGE} lacks the line: - `low`: `Digits` 4, `Numbers` 2",
-            f"{PAGE} lacks the line: All together: 2 modules, 6 lines.",
+            f"{PAGE} lacks the line: All together: 2 modules, 6 lines, of which 2 are comments.",
             f"{PAGE} has a wrong line: **Twice** (`high::twice`): 2 modules, 5 lines.",
             f"{PAGE} has a wrong line: - `low`: `Digits` 3, `Numbers` 2",
-            f"{PAGE} has a wrong line: All together: 2 modules, 5 lines.",
+            f"{PAGE} has a wrong line: All together: 2 modules, 5 lines, of which 2 are comments.",
         )
 
     def test_import_added(self):

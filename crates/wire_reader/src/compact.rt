@@ -1,7 +1,7 @@
 //! Requests from compact text, the form in which clients mostly send them. Reading it takes a third
 //! of the time of a JSON reader. Each part says that what it takes is the compact text of what it
-//! gives, and that its texts are UTF-8. Any other text is left to the JSON reader: with white space,
-//! escapes, or a number of more than nine digits. So are all but changes, pulls and waits.
+//! gives, and that its texts are UTF-8. Nothing else is taken: no white space, no escapes, no number
+//! of more than nine digits, and no requests but changes, pulls and waits.
 
 ghost use Rattle.std.specs.Prelude.{◌≡◌, ◌+◌, ◌<◌, ◌≤◌, ◌∷◌, [], ◌++◌, codes, true, false, length, map, take, IfOk, IsTrue, MatchOption, OnOk};
 ghost use Rattle.std.specs.Fmt.{decimal};
@@ -127,7 +127,7 @@ impl<'a> Cursor<'a> {
 }
 
 /// Returns whether a byte stands for itself between quotes.
-fn is_plain_byte(byte: u8) -> bool
+pub(crate) fn is_plain_byte(byte: u8) -> bool
     ensures { result ≡ is_plain_byte byte }
 {
     0x20 <= byte && byte != b'"' && byte != b'\\'

@@ -6,14 +6,16 @@
 //! surrogate pair stands, or where there is an object, a literal or a number of another form than
 //! that of compact text. Such a message is left to the JSON reader.
 
-ghost use Rattle.std.specs.Prelude.{◌≡◌, ◌∷◌, ◌++◌, IfOk, IfSome, IsTrue};
-ghost use Rattle.std.specs.Char.{digit_value};
+ghost use Rattle.std.specs.Prelude.{◌≡◌, ◌<◌, ◌∷◌, ◌++◌, IfOk, IfSome, IsTrue, OnOk, true};
+ghost use Rattle.std.specs.Char.{digit_value, encode_utf8};
+ghost use Rattle.std.specs.List.{list_all};
+ghost use Rattle.wire.specs.steps.Quoting.{is_plain_byte};
 ghost use Rattle.json.specs.Lex.{lex, between};
 ghost use Rattle.json.specs.Text.{code_unit};
 ghost use Rattle.json.specs.Word.{is_operator, is_space};
 ghost use Rattle.wire_reader.specs.steps.PlainTexts.{IsEscape, IsUnicode, KeepsContent, KeepsLexemes};
 
-use crate::compact::{are_plain, split_number, split_plain};
+use crate::compact::{are_plain, is_plain_byte, split_number, split_plain};
 use crate::fault::ReadFault;
 use std::alloc::Global;
 
@@ -91,6 +93,34 @@ fn escaped(bytes: &[u8]) -> Option<(char, &[u8])>
     }
 }
 
+/// Writes a character that stands for itself in a string. Most escapes are of one byte or of two.
+fn push_plain(character: char, text: &mut Vec<u8>) -> Result<(), ReadFault>
+    ensures plain { OnOk result (list_all is_plain_byte (encode_utf8 character) ≡ true) }
+    ensures text { OnOk result (text.new.items ≡ text.old.items ++ encode_utf8 character) }
+{
+    if character.is_ascii() {
+        return push_ascii(character as u8, text);
+    }
+    let mut buffer = [0; 4];
+    let encoded = character.encode_utf8(&mut buffer).as_bytes();
+    if !are_plain(encoded) {
+        return Err(ReadFault::Bad);
+    }
+    Ok(text.extend_from_slice(encoded)?)
+}
+
+/// Writes a character of ASCII that stands for itself in a string.
+fn push_ascii(byte: u8, text: &mut Vec<u8>) -> Result<(), ReadFault>
+    requires { byte < 128 }
+    ensures plain { OnOk result (list_all is_plain_byte (encode_utf8 byte) ≡ true) }
+    ensures text { OnOk result (text.new.items ≡ text.old.items ++ encode_utf8 byte) }
+{
+    if !is_plain_byte(byte) {
+        return Err(ReadFault::Bad);
+    }
+    Ok(text.push(byte)?)
+}
+
 /// Takes an escape after its backslash, and writes what it stands for.
 fn escape_of<'a>(bytes: &'a [u8], text: &mut Vec<u8>) -> Result<&'a [u8], ReadFault>
     ensures { IfOk result (λ rest.
@@ -99,12 +129,7 @@ fn escape_of<'a>(bytes: &'a [u8], text: &mut Vec<u8>) -> Result<&'a [u8], ReadFa
     let Some((character, rest)) = escaped(bytes) else {
         return Err(ReadFault::Bad);
     };
-    let mut buffer = [0; 4];
-    let encoded = character.encode_utf8(&mut buffer).as_bytes();
-    if !are_plain(encoded) {
-        return Err(ReadFault::Bad);
-    }
-    text.extend_from_slice(encoded)?;
+    push_plain(character, text)?;
     Ok(rest)
 }
 

@@ -134,19 +134,20 @@ fn plain_in_bytes(alloc: Global, bytes: &[u8]) -> Result<Request, ReadFault>
     compact_in_bytes(alloc, &text)
 }
 
-/// Reads a request without the JSON reader. `Bad` also where only that can read it.
-fn simple_in_bytes(alloc: Global, bytes: &[u8]) -> Result<Request, ReadFault>
+/// Reads a request that is not compact text.
+#[tactic(auto, unfolding(crate::specs::steps::Reads::request_read))]
+fn other_in_bytes(alloc: Global, scratch: &mut Scratch, bytes: &[u8]) -> Result<Request, ReadFault>
     requires { length bytes.now ≤ MAX_REQUEST_LEN }
-    ensures { IfOk result (λ request. request_read bytes.now ≡ Some request) }
+    ensures { Gives (λ request. request) result (request_read bytes.now) }
 {
-    match compact_in_bytes(alloc, bytes) {
-        Err(ReadFault::Bad) => plain_in_bytes(alloc, bytes),
-        read => read,
+    match plain_in_bytes(alloc, bytes) {
+        Ok(request) => Ok(request),
+        Err(ReadFault::Bad) => read_text(alloc, scratch, bytes),
+        Err(ReadFault::NoMemory) => Err(ReadFault::NoMemory),
     }
 }
 
-/// Reads a request. Most are in compact text, or have a plain text that is: these need no JSON
-/// reader.
+/// Reads a request. Most are compact text, or have a plain text that is: these need no JSON reader.
 #[tactic(auto, unfolding(crate::specs::steps::Reads::request_read))]
 fn request_in_bytes(
     alloc: Global,
@@ -158,9 +159,9 @@ fn request_in_bytes(
     if bytes.len() > MAX_REQUEST_LEN {
         return Err(ReadFault::Bad);
     }
-    match simple_in_bytes(alloc, bytes) {
+    match compact_in_bytes(alloc, bytes) {
         Ok(request) => Ok(request),
-        Err(ReadFault::Bad) => read_text(alloc, scratch, bytes),
+        Err(ReadFault::Bad) => other_in_bytes(alloc, scratch, bytes),
         Err(ReadFault::NoMemory) => Err(ReadFault::NoMemory),
     }
 }

@@ -1,20 +1,21 @@
 -- A plain text stands for its message.
-use Rattle.std.proofs.Common.{◌≡◌, ℕ, zero, suc, negsuc, ◌^◌, ◌<◌, Bool, true, false, cond, not, ◌&&◌, ◌||◌, ◌==◌, nat_le, nat_lt, ◌≤◌, length, get_or, drop, subst, List, [], ◌∷◌, ◌++◌, Option, Some, None, inl, inr, refl, sym, ap, ap₂, ◌∙◌, append_assoc, append-nil, arith, decimal, take, take_at, length-append, ◌-◌}
-use Rattle.std.specs.Char.{digit_value, encode_utf8, is_digit, InScalarRange}
+use Rattle.std.proofs.Common.{◌≡◌, ℕ, zero, suc, negsuc, ◌^◌, ◌<◌, Bool, true, false, cond, not, ◌&&◌, ◌||◌, ◌==◌, nat_le, ◌≤◌, length, get_or, drop, subst, List, [], ◌∷◌, ◌++◌, Option, Some, None, inl, inr, refl, sym, ap, ap₂, ◌∙◌, append_assoc, arith, decimal, take, take_at, length-append, ◌-◌, ◌+◌, ◌/◌, ◌%◌}
+use Rattle.std.specs.Char.{encode_utf8, is_digit, InScalarRange}
 use Rattle.std.specs.List.{list_all}
 use Rattle.std.specs.Prelude.{IfSome, IsTrue}
-use Rattle.std.proofs.lemmas.Bool.{and_parts, leb-true, le-ltb, ne_eqb, not-true, true≢false}
+use Rattle.std.proofs.lemmas.Bool.{and_from, and_parts, leb-true, le-ltb, lt-ltb, ne_eqb, not-true, true≢false}
 use Rattle.std.proofs.lemmas.Bool.Decides.{nat_tests}
 use Rattle.std.proofs.lemmas.Fmt.{decimal_digit}
-use Rattle.json.specs.Lex.{Class, Lexeme, Mode, backslash, between, class, in_escape, in_string, lex, lex_byte, operator, operator_lexeme, other, quote, space, string_token, token}
+use Rattle.std.proofs.lemmas.List.{drop_more}
+use Rattle.json.specs.Lex.{Lexeme, Mode, backslash, between, class, in_string, lex, lex_byte, operator, operator_lexeme, other, quote, space, string_token, token}
 use Rattle.json.specs.Print.{IsNumber}
-use Rattle.json.specs.Text.{after_backslash, after_u, code_unit, content, is_high_surrogate, is_low_surrogate, plain, prepend, short_escape}
+use Rattle.json.specs.Text.{code_unit, content, is_high_surrogate, is_low_surrogate, plain, prepend, short_escape}
 use Rattle.json.specs.Token.{number}
 use Rattle.json.specs.Word.{after_number, ends_word, is_operator, is_space}
 use Rattle.json.proofs.Printed.Decimals.{IsNumber-decimal, IsNumber-signed_decimal}
 use Rattle.json.proofs.Printed.Numbers.{lex-number}
 use Rattle.wire.specs.steps.Quoting.{is_plain_byte}
-use Rattle.wire_reader.specs.steps.PlainTexts.{IsEscape, IsUnicode, StandsFor, StandsInside}
+use Rattle.wire_reader.specs.steps.PlainTexts.{IsEscape, IsUnicode, IsWritten, StandsFor, StandsInside}
 
 -- ---- a byte of a string
 
@@ -89,6 +90,40 @@ module _ (message text rest : List ℕ) where
       ap (lex between) (append_assoc text written xs)
       ∙ stands (written ++ xs) (content_run written xs h ∙ ap (prepend written) same ∙ sym is.0) (lex_run written xs h ∙ follows ∙ sym is.1)
 
+-- ---- characters
+
+high_is_plain : (x : ℕ) → 128 ≤ x → is_plain_byte x ≡ true
+high_is_plain x high = grind (arith, nat_tests)
+
+encode_two : (c : ℕ) → 128 ≤ c → c < 2048 → encode_utf8 c ≡ (192 + c / 64) ∷ (128 + c % 64) ∷ []
+unfolding encode_utf8
+encode_two c low high = rw (le-ltb c 128 low, lt-ltb c 2048 high) refl
+
+encode_three : (c : ℕ) → 2048 ≤ c → c < 65536 → encode_utf8 c ≡ (224 + c / 4096) ∷ (128 + c / 64 % 64) ∷ (128 + c % 64) ∷ []
+unfolding encode_utf8
+encode_three c low high = rw (le-ltb c 128 (omega arith), le-ltb c 2048 low, lt-ltb c 65536 high) refl
+
+pub two_written : (c : ℕ) (before one after : List ℕ) → 128 ≤ c → c < 2048 → one ≡ before ++ (192 + c / 64) ∷ [] → after ≡ one ++ (128 + c % 64) ∷ [] → IsWritten c before after
+two_written c before one after low high first second =
+    let a : ℕ = 192 + c / 64 in
+    let b : ℕ = 128 + c % 64 in
+    let is : encode_utf8 c ≡ a ∷ b ∷ [] = encode_two c low high in
+    let all : list_all is_plain_byte (a ∷ b ∷ []) ≡ true = and_from (is_plain_byte a) _ (high_is_plain a (omega arith)) (and_from (is_plain_byte b) true (high_is_plain b (omega arith)) refl) in (
+      second ∙ ap (λ (s : List ℕ). s ++ b ∷ []) first ∙ append_assoc before (a ∷ []) (b ∷ []) ∙ ap (λ (s : List ℕ). before ++ s) (sym is),
+      ap (list_all is_plain_byte) is ∙ all,
+    )
+
+pub three_written : (c : ℕ) (before one two after : List ℕ) → 2048 ≤ c → c < 65536 → one ≡ before ++ (224 + c / 4096) ∷ [] → two ≡ one ++ (128 + c / 64 % 64) ∷ [] → after ≡ two ++ (128 + c % 64) ∷ [] → IsWritten c before after
+three_written c before one two after low high first second third =
+    let a : ℕ = 224 + c / 4096 in
+    let b : ℕ = 128 + c / 64 % 64 in
+    let d : ℕ = 128 + c % 64 in
+    let is : encode_utf8 c ≡ a ∷ b ∷ d ∷ [] = encode_three c low high in
+    let all : list_all is_plain_byte (a ∷ b ∷ d ∷ []) ≡ true = and_from (is_plain_byte a) _ (high_is_plain a (omega arith)) (and_from (is_plain_byte b) _ (high_is_plain b (omega arith)) (and_from (is_plain_byte d) true (high_is_plain d (omega arith)) refl)) in (
+      third ∙ ap (λ (s : List ℕ). s ++ d ∷ []) (second ∙ ap (λ (s : List ℕ). s ++ b ∷ []) first) ∙ append_assoc (before ++ a ∷ []) (b ∷ []) (d ∷ []) ∙ append_assoc before (a ∷ []) (b ∷ d ∷ []) ∙ ap (λ (s : List ℕ). before ++ s) (sym is),
+      ap (list_all is_plain_byte) is ∙ all,
+    )
+
 -- ---- escapes
 
 hex_is_inside : (x : ℕ) → is_digit x 16 ≡ true → IsInside x
@@ -146,11 +181,14 @@ same_operator x xs ys h same = lex_operator x xs h ∙ ap (λ l. operator_lexeme
 same_number : (s xs ys : List ℕ) → IsNumber s → ends_word xs ≡ true → ends_word ys ≡ true → lex between xs ≡ lex between ys → lex between (s ++ xs) ≡ lex between (s ++ ys)
 same_number s xs ys is ends end same = lex-number s xs is ends ∙ ap (λ l. token (number s) ∷ l) same ∙ sym (lex-number s ys is end)
 
-module _ (message text rest : List ℕ) where
-  pub space_kept : (x : ℕ) → is_space x ≡ true → StandsFor message text (x ∷ rest) → StandsFor message text rest
-  unfolding lex
-  space_kept x h stands xs same = stands xs (same ∙ sym (ap (λ c. lex_byte between c x rest (λ m. lex m rest)) (class_space x h)))
+pub space_more : (bytes : List ℕ) (i : ℕ) → i < length bytes → is_space (get_or bytes i 0) ≡ true → lex between (drop (i + 1) bytes) ≡ lex between (drop i bytes)
+unfolding lex
+space_more bytes i within h =
+    let x = get_or bytes i 0 in
+    let rest = drop (i + 1) bytes in
+    sym (ap (lex between) (drop_more bytes i 0 within) ∙ ap (λ c. lex_byte between c x rest (λ m. lex m rest)) (class_space x h))
 
+module _ (message text rest : List ℕ) where
   pub operator_kept : (x : ℕ) → is_operator x ≡ true → StandsFor message text (x ∷ rest) → StandsFor message (text ++ x ∷ []) rest
   operator_kept x h stands xs same = ap (lex between) (append_assoc text (x ∷ []) xs) ∙ stands (x ∷ xs) (same_operator x xs rest h same)
 

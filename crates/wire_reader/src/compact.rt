@@ -135,7 +135,7 @@ pub(crate) fn is_plain_byte(byte: u8) -> bool
 
 /// Do all of these bytes stand for themselves between quotes? It looks at each, so a compiler can
 /// test several at once.
-pub(crate) fn are_plain(bytes: &[u8]) -> bool
+fn are_plain(bytes: &[u8]) -> bool
     ensures { result ≡ list_all is_plain_byte bytes.now }
 {
     let mut are_plain = true;

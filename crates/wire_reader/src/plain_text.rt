@@ -6,21 +6,28 @@
 //! surrogate pair stands, or where there is an object, a literal or a number of another form than
 //! that of compact text. Such a message is left to the JSON reader.
 
-ghost use Rattle.std.specs.Prelude.{◌≡◌, ◌<◌, ◌∷◌, ◌++◌, IfOk, IfSome, IsTrue, OnOk, true};
-ghost use Rattle.std.specs.Char.{digit_value, encode_utf8};
-ghost use Rattle.std.specs.List.{list_all};
-ghost use Rattle.wire.specs.steps.Quoting.{is_plain_byte};
+ghost use Rattle.std.specs.Prelude.{◌≡◌, ◌<◌, ◌∷◌, ◌++◌, IfOk, IfSome, IsTrue, OnOk};
+ghost use Rattle.std.specs.Char.{digit_value};
 ghost use Rattle.json.specs.Lex.{lex, between};
 ghost use Rattle.json.specs.Text.{code_unit};
 ghost use Rattle.json.specs.Word.{is_operator, is_space};
-ghost use Rattle.wire_reader.specs.steps.PlainTexts.{IsEscape, IsUnicode, KeepsContent, KeepsLexemes};
+ghost use Rattle.wire_reader.specs.steps.PlainTexts.{IsEscape, IsUnicode, IsWritten, KeepsContent, KeepsLexemes};
 
-use crate::compact::{are_plain, is_plain_byte, split_number, split_plain};
+use crate::compact::{is_plain_byte, split_number, split_plain};
 use crate::fault::ReadFault;
 use std::alloc::Global;
 
 /// How many hex digits an escape has.
 const HEX_DIGITS: usize = 4;
+
+/// The first character that takes two bytes of UTF-8.
+const TWO_BYTES: u32 = 0x80;
+
+/// The first that takes three.
+const THREE_BYTES: u32 = 0x800;
+
+/// The first that takes four.
+const FOUR_BYTES: u32 = 0x1_0000;
 
 /// The value of a byte that is no digit and no letter.
 const NO_DIGIT: u32 = 36;
@@ -30,6 +37,18 @@ fn is_space(byte: u8) -> bool
     ensures { result ≡ is_space byte }
 {
     matches!(byte, b' ' | b'\t' | b'\n' | b'\r')
+}
+
+/// What follows white space.
+fn after_space(bytes: &[u8]) -> &[u8]
+    ensures { lex between result.now ≡ lex between bytes.now }
+{
+    for (place, byte) in bytes.iter().enumerate() {
+        if !is_space(*byte) {
+            return &bytes[place..];
+        }
+    }
+    &bytes[bytes.len()..]
 }
 
 /// Is the byte a bracket, a comma or a colon?
@@ -93,32 +112,38 @@ fn escaped(bytes: &[u8]) -> Option<(char, &[u8])>
     }
 }
 
-/// Writes a character that stands for itself in a string. Most escapes are of one byte or of two.
-fn push_plain(character: char, text: &mut Vec<u8>) -> Result<(), ReadFault>
-    ensures plain { OnOk result (list_all is_plain_byte (encode_utf8 character) ≡ true) }
-    ensures text { OnOk result (text.new.items ≡ text.old.items ++ encode_utf8 character) }
-{
-    if character.is_ascii() {
-        return push_ascii(character as u8, text);
-    }
-    let mut buffer = [0; 4];
-    let encoded = character.encode_utf8(&mut buffer).as_bytes();
-    if !are_plain(encoded) {
-        return Err(ReadFault::Bad);
-    }
-    Ok(text.extend_from_slice(encoded)?)
-}
-
-/// Writes a character of ASCII that stands for itself in a string.
-fn push_ascii(byte: u8, text: &mut Vec<u8>) -> Result<(), ReadFault>
+/// Writes a byte of a string. `Bad` if it is not plain.
+fn write_ascii(byte: u8, text: &mut Vec<u8>) -> Result<(), ReadFault>
     requires { byte < 128 }
-    ensures plain { OnOk result (list_all is_plain_byte (encode_utf8 byte) ≡ true) }
-    ensures text { OnOk result (text.new.items ≡ text.old.items ++ encode_utf8 byte) }
+    ensures { OnOk result (IsWritten byte text.old.items text.new.items) }
 {
     if !is_plain_byte(byte) {
         return Err(ReadFault::Bad);
     }
-    Ok(text.push(byte)?)
+    text.push(byte)?;
+    Ok(())
+}
+
+/// Writes a character of a string. `Bad` if it is ASCII that is not plain, or none of the first
+/// 65,536, which have an escape each.
+fn write_character(character: char, text: &mut Vec<u8>) -> Result<(), ReadFault>
+    ensures { OnOk result (IsWritten character text.old.items text.new.items) }
+{
+    let code = u32::from(character);
+    if code < TWO_BYTES {
+        write_ascii(code as u8, text)
+    } else if code < THREE_BYTES {
+        text.push((192 + code / 64) as u8)?;
+        text.push((128 + code % 64) as u8)?;
+        Ok(())
+    } else if code < FOUR_BYTES {
+        text.push((224 + code / 4096) as u8)?;
+        text.push((128 + code / 64 % 64) as u8)?;
+        text.push((128 + code % 64) as u8)?;
+        Ok(())
+    } else {
+        Err(ReadFault::Bad)
+    }
 }
 
 /// Takes an escape after its backslash, and writes what it stands for.
@@ -129,7 +154,7 @@ fn escape_of<'a>(bytes: &'a [u8], text: &mut Vec<u8>) -> Result<&'a [u8], ReadFa
     let Some((character, rest)) = escaped(bytes) else {
         return Err(ReadFault::Bad);
     };
-    push_plain(character, text)?;
+    write_character(character, text)?;
     Ok(rest)
 }
 
@@ -183,15 +208,13 @@ fn number_of<'a>(bytes: &'a [u8], text: &mut Vec<u8>) -> Result<&'a [u8], ReadFa
     }
 }
 
-/// Takes a lexeme, or a number and the operator after it, and writes what it took. Or it takes a
-/// byte of white space.
+/// Takes a lexeme, or a number and the operator after it, and writes what it took.
 fn lexeme_of<'a>(bytes: &'a [u8], text: &mut Vec<u8>) -> Result<&'a [u8], ReadFault>
     ensures { IfOk result (λ rest.
         KeepsLexemes text.old.items bytes.now text.new.items rest.now) }
 {
     match bytes.split_first() {
         Some((b'"', rest)) => string_of(rest, text),
-        Some((space, rest)) if is_space(*space) => Ok(rest),
         Some((mark, rest)) if is_operator(*mark) => {
             text.push(*mark)?;
             Ok(rest)
@@ -210,13 +233,13 @@ pub(crate) fn plain_text(alloc: Global, message: &[u8]) -> Result<Vec<u8>, ReadF
     ensures { IfOk result (λ text. lex between text.items ≡ lex between message.now) }
 {
     let mut text = Vec::with_capacity(alloc, message.len())?;
-    let mut rest = message;
+    let mut rest = after_space(message);
     // Each turn takes a byte.
     'lexemes: for _ in 0..=message.len() {
         if rest.is_empty() {
             return Ok(text);
         }
-        rest = lexeme_of(rest, &mut text)?;
+        rest = after_space(lexeme_of(rest, &mut text)?);
     }
     Err(ReadFault::Bad)
 }

@@ -17,11 +17,15 @@ use crate::plain_text::plain_text;
 use crate::token::{Seq, close_list, whole_of, word_of};
 use base_types::MAX_SITE;
 use json::{Reader, Scratch};
+use memchr::memchr_iter;
 use std::alloc::Global;
 use wire::{MAX_FROM, MAX_REQUEST_LEN, Request};
 
-/// A shorter message is left to the JSON reader, which costs little there.
-const MIN_REWRITTEN_LEN: usize = 128;
+/// The front of a message that tells whether it is rewritten. A shorter message is not.
+const FRONT_LEN: usize = 128;
+
+/// Where the front has fewer escapes, the JSON reader takes less time than the rewriting.
+const MIN_ESCAPES: usize = 12;
 
 fn join_of(alloc: Global, reader: &mut Reader<'_>) -> Result<Request, ReadFault>
     ensures { (n : ℕ) → Takes (λ request. request) result
@@ -117,13 +121,18 @@ fn compact_in_bytes(alloc: Global, bytes: &[u8]) -> Result<Request, ReadFault>
     read_compact(alloc, bytes)
 }
 
+/// Returns whether the message has many escapes, as its front tells.
+fn has_many_escapes(bytes: &[u8]) -> bool {
+    bytes.len() >= FRONT_LEN && memchr_iter(b'\\', &bytes[..FRONT_LEN]).count() >= MIN_ESCAPES
+}
+
 /// Reads a request from the plain text of its message. `Bad` also where there is none, or where it
 /// is the message itself.
 fn plain_in_bytes(alloc: Global, bytes: &[u8]) -> Result<Request, ReadFault>
     requires { length bytes.now ≤ MAX_REQUEST_LEN }
     ensures { IfOk result (λ request. request_read bytes.now ≡ Some request) }
 {
-    if bytes.len() < MIN_REWRITTEN_LEN {
+    if !has_many_escapes(bytes) {
         return Err(ReadFault::Bad);
     }
     utf8_of(bytes)?;

@@ -4,13 +4,14 @@ use std::process::Abort;
 use wire::write_request;
 use wire_reader::{Scratch, read_request};
 
-/// Texts of requests with white space and escapes, and the compact text of each. In the third
-/// stands a pair of surrogates. In the last stands the escape of a quote.
+/// Texts of requests with white space and escapes, and the compact text of each. All but the second
+/// begin with many escapes. In the third stand pairs of surrogates, in the last an escaped quote.
 const OTHER_TEXTS: [(&str, &str); 4] = [
     (
-        r#"["put", 384,   [[1, 1]], [256, 16384],   [[1, 1]],
-            [["y", -12], ["x", "1 caf\u00e9\/ \u20AC  \u0061b"], ["b", "\u0416\u0418\u0417"]]]"#,
-        r#"["put",384,[[1,1]],[256,16384],[[1,1]],[["y",-12],["x","1 café/ €  ab"],["b","ЖИЗ"]]]"#,
+        r#"["put", 384, [[1, 1]], [256, 16384], [[1, 1]],
+[["x", "\u0416\u0418\u0417\u041D\u042c\u0416\u0418\u0417\u041D\u042c\u00e9\/ \u20ACb"],
+["y", -12]]]"#,
+        r#"["put",384,[[1,1]],[256,16384],[[1,1]],[["x","ЖИЗНЬЖИЗНЬé/ €b"],["y",-12]]]"#,
     ),
     (
         r#"  ["new", 1, [[1, 2], [256, 16384]], "rect",
@@ -18,14 +19,14 @@ const OTHER_TEXTS: [(&str, &str); 4] = [
         r#"["new",1,[[1,2],[256,16384]],"rect",[["x","ЖИЗНЬ"],["y","[1, 2]"],["z",999999999]]]"#,
     ),
     (
-        r#"["put", 3,  [[1, 1]],          [256, 16384],  [[1, 1]],
-              [["x", "\ud83d\ude00"], ["y", "a text that is much longer"]]]"#,
-        r#"["put",3,[[1,1]],[256,16384],[[1,1]],[["x","😀"],["y","a text that is much longer"]]]"#,
+        r#"["put", 3, [[1, 1]], [256, 16384], [[1, 1]],
+[["x", "\ud83d\ude00\ud83d\ude00\ud83d\ude00\ud83d\ude00\ud83d\ude00\ud83d\ude00"]]]"#,
+        r#"["put",3,[[1,1]],[256,16384],[[1,1]],[["x","😀😀😀😀😀😀"]]]"#,
     ),
     (
-        r#"["put", 3,  [[1, 1]],          [256, 16384],  [[1, 1]],
-              [["x", "\u0022\u00e9"], ["y", "a text that is much longer"]]]"#,
-        r#"["put",3,[[1,1]],[256,16384],[[1,1]],[["x","\"é"],["y","a text that is much longer"]]]"#,
+        r#"["put", 3, [[1, 1]], [256, 16384], [[1, 1]],
+[["x", "\u00e9\u00e9\u00e9\u00e9\u00e9\u00e9\u00e9\u00e9\u00e9\u00e9\u00e9\u0022"]]]"#,
+        r#"["put",3,[[1,1]],[256,16384],[[1,1]],[["x","ééééééééééé\""]]]"#,
     ),
 ];
 

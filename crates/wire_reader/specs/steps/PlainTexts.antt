@@ -1,8 +1,10 @@
 -- The plain text of a message, in parts.
-use Rattle.std.specs.Prelude.{◌≡◌, ℕ, List, ◌++◌}
+use Rattle.std.specs.Prelude.{◌≡◌, ℕ, List, ◌++◌, true}
 use Rattle.std.specs.Char.{encode_utf8}
+use Rattle.std.specs.List.{list_all}
 use Rattle.json.specs.Lex.{lex, between, in_escape, in_string}
 use Rattle.json.specs.Text.{after_backslash, after_u, content, plain, prepend}
+use Rattle.wire.specs.steps.Quoting.{is_plain_byte}
 
 -- the text stands for what a message has before this rest of it: with the lexemes of the rest
 -- after it, it has those of the message
@@ -39,3 +41,9 @@ abbrev pub IsEscape : ℕ → List ℕ → List ℕ → Type 0
 IsEscape character bytes rest =
     (content after_backslash bytes ≡ prepend (encode_utf8 character) (content plain rest))
     × (lex in_escape bytes ≡ lex in_string rest)
+
+-- the character was written, whose bytes stand for themselves in a string
+abbrev pub IsWritten : ℕ → List ℕ → List ℕ → Type 0
+IsWritten character before after =
+    (after ≡ before ++ encode_utf8 character)
+    × (list_all is_plain_byte (encode_utf8 character) ≡ true)

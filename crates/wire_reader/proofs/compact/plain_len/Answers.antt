@@ -1,7 +1,7 @@
-use Rattle.std.proofs.Common.{◌≡◌, ◌∙◌, ℕ, ◌+◌, ◌≤◌, List, length, sym, ap, drop, take, arith, inl, inr}
+use Rattle.std.proofs.Common.{◌∙◌, ◌+◌, sym, ap, take, arith, inl, inr}
 use Rattle.std.specs.List.{prefix_len}
 use Rattle.std.proofs.lemmas.Bool.{cases_lt}
-use Rattle.std.proofs.lemmas.List.{length-take, take_all, take_rest}
+use Rattle.std.proofs.lemmas.List.{take_all, take_rest}
 use Rattle.wire.specs.steps.Quoting.{is_plain_byte}
 use Rattle.wire_reader.proofs.Plain.{front_passed, front_stopped, skipped}
 use Rattle.wire_reader.proofs.compact.plain_len.Goals as goal

@@ -5,6 +5,8 @@ use Rattle.wire_reader.proofs.plain_text.escape_of.Goals as goal
 
 pub returns : goal.returns
 returns c message stands =
+    let character = c.in-Some.character in
     let rest = c.in-Some.rest.now in
-    subst (λ (text : List ℕ). StandsInside message text rest) (sym c.in_ok-push_plain.ensures.text)
-    (escape_kept message c.args.text.now.items rest c.in-Some.character c.args.bytes.now c.in-Some.ensures c.in_ok-push_plain.ensures.plain stands)
+    let written = c.in_ok-write_character.ensures in
+    subst (λ (text : List ℕ). StandsInside message text rest) (sym written.0)
+    (escape_kept message c.args.text.now.items rest character c.args.bytes.now c.in-Some.ensures written.1 stands)

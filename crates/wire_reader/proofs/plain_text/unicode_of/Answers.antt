@@ -1,4 +1,4 @@
-use Rattle.std.proofs.Common.{◌≡◌, ◌-◌, ℕ, List, drop, length, take, subst, sym, arith}
+use Rattle.std.proofs.Common.{◌≡◌, ◌-◌, ℕ, drop, length, take, subst, sym, arith}
 use Rattle.std.proofs.lemmas.List.{take_rest}
 use Rattle.wire_reader.specs.steps.PlainTexts.{IsUnicode}
 use Rattle.wire_reader.proofs.PlainTexts.{unicode_at}

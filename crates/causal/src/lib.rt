@@ -106,11 +106,15 @@ fn count_in(seen: &StateVector, site: u32) -> u32
     }
 }
 
-/// Does an operation, if there is one, count that of this pair?
-fn knows(op: Option<&Op>, pair: (u32, u32)) -> bool
-    ensures { result
-        ≡ option_map_or (λ op. counts op.seen pair) (option_copied op.entry) false }
+/// Are the two names the same, or does the operation of the first, if there is one, count that of the
+/// second?
+fn knows(name: (u32, u32), op: Option<&Op>, pair: (u32, u32)) -> bool
+    ensures { result ≡ (same_name name pair
+        || option_map_or (λ op. counts op.seen pair) (option_copied op.entry) false) }
 {
+    if name == pair {
+        return true;
+    }
     match op {
         Some(op) => pair.1 <= count_in(&op.seen, pair.0),
         None => false,
@@ -193,8 +197,8 @@ impl Past {
     }
 
     /// Does the vector lack something that the operation of one of these pairs counts, of those
-    /// that the operations of two pairs don't count? Goes along two vectors for each of those, and
-    /// looks each of the others up in two vectors.
+    /// that are neither of two pairs and that their operations don't count? Goes along two vectors
+    /// for each of those, and looks each of the others up in two vectors.
     fn lacks_beyond(
         &self,
         seen: &StateVector,
@@ -204,10 +208,10 @@ impl Past {
     ) -> bool
         ensures { result ≡ lacks_beyond self.now.history seen.now own latest pairs.now }
     {
-        let own = self.operation(own.0, own.1);
-        let latest = self.operation(latest.0, latest.1);
-        pairs.iter().any(|pair| !knows(own, *pair)
-            && !knows(latest, *pair)
+        let own_op = self.operation(own.0, own.1);
+        let latest_op = self.operation(latest.0, latest.1);
+        pairs.iter().any(|pair| !knows(own, own_op, *pair)
+            && !knows(latest, latest_op, *pair)
             && self.lacks_one(seen, *pair))
     }
 
@@ -225,14 +229,14 @@ impl Past {
             || lacks_beyond self.now.history seen.now own latest pairs.now)) }
     {
         self.lacks_one(seen, own)
-            || self.lacks_one(seen, latest)
+            || (latest != own && self.lacks_one(seen, latest))
             || self.lacks_beyond(seen, own, latest, pairs)
     }
 
     /// Does the vector lack something that an operation which it counts counts? The site is that of
     /// the vector's author. Goes along two vectors for its last operation, for the latest of all
-    /// that the vector counts, and then only for each site whose last operation neither of these
-    /// two counts.
+    /// that the vector counts if that is another one, and then only for each site whose last
+    /// operation neither of these two counts.
     fn is_not_closed(&self, seen: &StateVector, site: u32) -> bool
         requires { is_ahead self.now.history seen.now ≡ false }
         ensures { result ≡ is_not_closed self.now.history seen.now }

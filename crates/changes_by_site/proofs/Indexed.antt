@@ -1,8 +1,8 @@
 -- Places by classes: with the next place, and over a list that agrees.
-use Rattle.std.proofs.Common.{◌≡◌, ℕ, ◌+◌, ◌<◌, Bool, true, false, List, [], ◌∷◌, ◌++◌, refl, sym, ap, ◌∙◌, subst, inl, inr, arith}
+use Rattle.std.proofs.Common.{◌≡◌, ℕ, ◌+◌, ◌<◌, Bool, true, false, List, [], ◌∷◌, ◌++◌, sym, ap, ◌∙◌, inl, inr, arith}
 use Rattle.std.specs.Prelude.{filter}
 use Rattle.std.proofs.lemmas.Bool.{cases_eq, cases_lt, false_from_ne_true}
-use Rattle.rules.proofs.Lists.{In, filter_agree}
+use Rattle.rules.proofs.Lists.{filter_agree}
 use Rattle.places.specs.steps.PlaceSet.{with_place, places}
 use Rattle.changes_by_site.specs.steps.Indexes.{IsIndex}
 use Rattle.places.proofs.Filters.{filter_none}

@@ -1,11 +1,14 @@
 //! The places of changes by their sites.
 
-ghost use Rattle.std.specs.Prelude.{◌≡◌, ℕ, ◌+◌, ◌<◌, ◌^◌, [], ◌∷◌, length, IfOk, OnOk, OnErr};
+ghost use Rattle.std.specs.Prelude.{◌≡◌, ℕ, ◌+◌, ◌<◌, ◌^◌, [], ◌∷◌, length, nat_le, IfOk, OnOk, OnErr};
+ghost use Rattle.std.specs.List.{list_all};
+ghost use Rattle.base_types.specs.Vectors.{count_of, counts};
 ghost use Rattle.places.specs.steps.PlaceSet.{with_places};
 ghost use Rattle.places.specs.steps.Changes.{places_counted};
-ghost use Rattle.changes_by_site.specs.steps.Indexes.{counted_of, changes_of_site_at, with_counted, with_new_site, with_change_of_site, with_change_at, AreBySite, AreInOrder, IsRising};
+ghost use Rattle.changes_by_site.specs.steps.Indexes.{counted_of, changes_of_site_at, is_counted, known_of, last_number, with_counted, with_new_site, with_change_of_site, with_change_at, AreBySite, AreInOrder, IsRising};
 ghost use Rattle.places.specs.steps.Lookups.{IsPlaceOf};
 
+use crate::Known;
 use base_types::{NoMemory, OpName, StateVector};
 use places::PlaceSet;
 use rules::SharedOp;
@@ -60,6 +63,16 @@ impl SiteChanges {
         Ok(())
     }
 
+    /// Does a vector count the last change, and so all? True if there is none.
+    fn is_counted(&self, seen: &StateVector) -> bool
+        ensures { result ≡ nat_le (last_number self.now) (count_of seen.now self.now.site) }
+    {
+        match self.changes.last() {
+            Some((number, _)) => *number <= seen.count(self.site),
+            None => true,
+        }
+    }
+
     /// Adds the places of the changes that a vector counts to a set: all, or those before the first
     /// that it doesn't count.
     fn insert_counted(&self, seen: &StateVector, known: &mut PlaceSet) -> Result<(), NoMemory>
@@ -76,6 +89,13 @@ impl SiteChanges {
         }
         known.insert_below(&self.places, self.changes[counted].1)
     }
+}
+
+/// Does a vector count each of these changes?
+fn counts_each(ops: &[SharedOp], seen: &StateVector) -> bool
+    ensures { result ≡ list_all (λ op. counts seen.now op.name) ops.now }
+{
+    ops.iter().all(|op| seen.has(op.name))
 }
 
 /// The first `len` changes of an object, by site.
@@ -175,9 +195,46 @@ impl BySite {
         Ok(counted)
     }
 
+    /// Does a vector count the last indexed change of each site?
+    fn has_counted_sites(&self, seen: &StateVector) -> bool
+        ensures { result ≡ list_all (is_counted seen.now) self.now.sites }
+    {
+        self.sites.iter().all(|changes| changes.is_counted(seen))
+    }
+
+    /// Does a vector count all changes? One look-up a site, and for each change that is not indexed.
+    fn has_counted_all(&self, ops: &[SharedOp], seen: &StateVector) -> bool
+        requires sites { AreBySite ops.now self.now }
+        requires order { AreInOrder ops.now }
+        ensures { result ≡ list_all (λ op. counts seen.now op.name) ops.now }
+    {
+        self.has_counted_sites(seen) && counts_each(&ops[self.len as usize..], seen)
+    }
+
+    /// Which of the changes a vector counts. For an author who knows all, that takes no memory, and
+    /// one look-up a site.
+    pub fn known(
+        &self,
+        alloc: Global,
+        ops: &[SharedOp],
+        seen: &StateVector,
+    ) -> Result<Known, NoMemory>
+        requires few { length ops.now < 2 ^ 32 }
+        requires sites { AreBySite ops.now self.now }
+        requires order { AreInOrder ops.now }
+        ensures { IfOk result (λ known.
+            known_of known (length ops.now) ≡ places_counted ops.now seen.now) }
+    {
+        if self.has_counted_all(ops, seen) {
+            return Ok(Known::All);
+        }
+        let places = self.known_places(alloc, ops, seen)?;
+        Ok(Known::Places(places))
+    }
+
     /// The places of the changes that a vector counts: the indexed ones by site, then the others
     /// one by one.
-    pub fn known_places(
+    fn known_places(
         &self,
         alloc: Global,
         ops: &[SharedOp],

@@ -2,5 +2,7 @@
 #![tactic(auto)]
 
 mod by_site;
+mod known;
 
 pub use by_site::BySite;
+pub use known::Known;

@@ -18,6 +18,7 @@ use Rattle.rules.proofs.Reordered.{same_key_itself}
 use Rattle.places.specs.steps.PlaceSet.{has, places}
 use Rattle.changes_by_key.specs.steps.Indexes.{body_gives}
 use Rattle.places.specs.steps.PlaceSet.{AreBelow}
+use Rattle.places.proofs.Filters.{filter_none}
 use Rattle.places.proofs.Places.{has_if_in, below}
 use Rattle.conflict_rows.specs.steps.Rows.{places_outside}
 
@@ -63,3 +64,7 @@ pub new_at_odds : (kind : Bytes) (attrs : List Attr) (body : Body) → are_at_od
 new_at_odds kind attrs (New m a) = refl
 new_at_odds kind attrs (Put o v p) = refl
 new_at_odds kind attrs (DropVersion o v) = refl
+
+-- where all places are known, there are no others
+pub none_outside : (n : ℕ) → places_outside (places n) n ≡ []
+none_outside n = filter_none (λ x. not (has (places n) x)) (places n) (λ x m. ap not (has_if_in (places n) x m))

@@ -6,10 +6,11 @@ ghost use Rattle.rules.specs.Bodies.{is_drop_body, keys_of_body};
 ghost use Rattle.places.specs.steps.PlaceSet.{has, AreBelow};
 ghost use Rattle.conflict_rows.specs.steps.Rows.{at_odds_at, places_outside, places_unknown};
 ghost use Rattle.places.specs.steps.Changes.{at, base_places, places_counted, AreChangesOn, IsAddition};
+ghost use Rattle.changes_by_site.specs.steps.Indexes.{known_of};
 
 use base_types::{Key, NoMemory, OpName, StateVector};
 use changes_by_key::ByKey;
-use changes_by_site::BySite;
+use changes_by_site::{BySite, Known};
 use conflict_rows::{Addition, ConflictRows, WithAddition};
 use places::{PlaceSet, Relation};
 use rules::{Body, Op, SharedOp};
@@ -56,7 +57,7 @@ impl ObjectChanges {
     /// `commit` can't fail. The changes stay as they are.
     ///
     /// The change precedes none of these in causal order, and knows no other changes of the object.
-    /// The caller gives the places of its base and of the changes that it knows.
+    /// The caller gives the places of its base, and the changes that it knows.
     ///
     /// Looks at each change that conflicts with an earlier one. Where the last change of the base
     /// is based on the others, it begins there. It also looks at all changes from the first unknown
@@ -72,12 +73,13 @@ impl ObjectChanges {
         alloc: Global,
         op: SharedOp,
         base: PlaceSet,
-        known: &PlaceSet,
+        known: &Known,
     ) -> Result<Addition, NoMemory>
         // What is known of the change.
         requires changes { AreChangesOn self.old.object (self.old.ops ++ op ∷ []) }
         requires base { base ≡ base_places self.old.ops op }
-        requires known { known.now ≡ places_counted self.old.ops op.seen }
+        requires known { known_of known.now (length self.old.ops)
+            ≡ places_counted self.old.ops op.seen }
         // What is planned.
         ensures op { IfOk result (λ addition. addition.op ≡ op) }
         ensures ready { IfOk result (λ addition.
@@ -127,16 +129,17 @@ impl ObjectChanges {
         self.rows.ops()
     }
 
-    /// The places of the changes that a vector counts. One look-up for each site that they come
-    /// from, and for each change since the last `plan`.
+    /// Which of the changes a vector counts. One look-up for each site that they come from, and for
+    /// each change since the last `plan`.
     ///
     /// # Errors
     ///
     /// `NoMemory` if an allocation failed.
-    pub fn known_places(&self, alloc: Global, seen: &StateVector) -> Result<PlaceSet, NoMemory>
-        ensures { IfOk result (λ known. known ≡ places_counted self.now.ops seen.now) }
+    pub fn known(&self, alloc: Global, seen: &StateVector) -> Result<Known, NoMemory>
+        ensures { let ops = self.now.ops in IfOk result (λ known.
+            known_of known (length ops) ≡ places_counted ops seen.now) }
     {
-        self.sites.known_places(alloc, self.rows.ops(), seen)
+        self.sites.known(alloc, self.rows.ops(), seen)
     }
 
     /// Does a change give the key a value? Compares the different keys, the guessed one first, and
@@ -202,18 +205,19 @@ impl ObjectChanges {
 
     /// Of the changes that a change to be added doesn't know, those that may be at odds with it.
     /// None, without a look-up, if it knows all.
-    fn candidates(&self, alloc: Global, op: &Op, known: &PlaceSet) -> Result<PlaceSet, NoMemory>
-        requires { known.now ≡ places_counted self.now.ops op.now.seen }
+    fn candidates(&self, alloc: Global, op: &Op, known: &Known) -> Result<PlaceSet, NoMemory>
+        requires { known_of known.now (length self.now.ops)
+            ≡ places_counted self.now.ops op.now.seen }
         ensures within { IfOk result (λ candidates.
             All (λ place. place < length self.now.ops) candidates) }
         ensures same { IfOk result (λ candidates.
             filter (at_odds_at self.now.ops op.now.body) candidates
             ≡ filter (at_odds_at self.now.ops op.now.body) (places_unknown self.now.ops op.now)) }
     {
-        if known.count() == self.rows.ops().len() {
-            return Ok(PlaceSet::empty(alloc));
+        match known {
+            Known::All => Ok(PlaceSet::empty(alloc)),
+            Known::Places(known) => self.unknown_that_may_be_at_odds(alloc, &op.body, known),
         }
-        self.unknown_that_may_be_at_odds(alloc, &op.body, known)
     }
 }
 

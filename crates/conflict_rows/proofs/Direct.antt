@@ -3,9 +3,6 @@ use Rattle.std.proofs.Common.{◌≡◌, ℕ, ◌<◌, ◌≤◌, Bool, true, fa
 use Rattle.std.specs.Prelude.{filter, nat_lt, All}
 use Rattle.std.specs.List.{list_any}
 use Rattle.std.proofs.lemmas.Bool.{and_right, true≢false, cases_Bool, cases_lt, cases_order, eq-eqb, ne_eqb, lt-ltb, le-ltb, or_right, false_from_ne_true}
-use Rattle.std.proofs.lemmas.List.{nil_from_length}
-use Rattle.std.proofs.lemmas.List.Filters.{length-filter_both}
-use Rattle.std.proofs.lemmas.List.FromFn.{length-range_with_len}
 use Rattle.base_types.specs.Vectors.{counts}
 use Rattle.base_types.specs.Names.{Name}
 use Rattle.rules.specs.declared.history.Op.{Op}
@@ -89,23 +86,6 @@ module _ {object : Name} (k : List Op) (o : Op) (w : AreChangesOf object (k ++ o
       turned true false true = refl
       turned true false false = refl
       turned false b c = refl
-
--- where all are known, there are no others
-pub none_unknown : (k : List Op) (o : Op) (known : List ℕ) → known ≡ places_counted k o.seen → length known ≡ length k → places_outside known (length k) ≡ []
-none_unknown k o known n whole =
-    filter_agree (λ x. not (has known x)) (λ p. not (counted p)) (places (length k)) (λ p m. ap not (ap (λ l. has l p) n ∙ has-filter counted (length k) p (below (length k) p m)))
-    ∙ nil_from_length (filter (λ p. not (counted p)) (places (length k))) rest
-  where
-    counted : ℕ → Bool
-    counted p = counts o.seen (at k p).name
-
-    size : length (places (length k)) ≡ length k
-    size = length-range_with_len 0 (length k)
-
-    rest : length (filter (λ p. not (counted p)) (places (length k))) ≡ 0
-    rest =
-        let both = length-filter_both counted (λ p. not (counted p)) (λ p. refl) (places (length k)) in
-        let all = ap length (sym n) in omega (arith, both, size, whole, all)
 
 -- ---- the row, from the direct conflicts and those of the base
 

@@ -1,5 +1,5 @@
 -- How a past finds its operations by name: what its own functions cite.
-use Rattle.std.specs.Prelude.{◌≡◌, ℕ, ◌-◌, ◌≤◌, ◌==◌, ◌&&◌, nat_lt, Bool, false, not, List, []}
+use Rattle.std.specs.Prelude.{◌≡◌, ℕ, ◌-◌, ◌≤◌, ◌==◌, ◌&&◌, ◌||◌, nat_lt, Bool, false, not, List, []}
 use Rattle.std.specs.Prelude.{length, Option, None, slice_get, slice_index_or, position, Contains}
 use Rattle.std.specs.Prelude.{if◌then◌else◌}
 use Rattle.std.specs.Option.{option_map_or}
@@ -42,12 +42,13 @@ has_fewer h pairs = list_any (λ pair. nat_lt (count_at_site h pair.0) pair.1) p
 abbrev pub lacks : List Op → Vector → Name → Bool
 lacks h v name = option_map_or (λ op. not (covers v op.seen)) (operation h name) false
 
--- there is an operation of the one name, and it counts that of the other
+-- the two names are the same, or there is an operation of the one and it counts that of the other
 abbrev pub knows : List Op → Name → Name → Bool
-knows h name other = option_map_or (λ op. counts op.seen other) (operation h name) false
+knows h name other =
+    same_name name other || option_map_or (λ op. counts op.seen other) (operation h name) false
 
--- the vector lacks something that the operation of one of these names counts, of those that the
--- operations of two names don't count
+-- the vector lacks something that the operation of one of these names counts, of those that are
+-- neither of two names and that the operations of these two don't count
 abbrev pub lacks_beyond : List Op → Vector → Name → Name → List Name → Bool
 lacks_beyond h v own latest names =
     list_any (λ name. not (knows h own name) && (not (knows h latest name) && lacks h v name)) names

@@ -1,11 +1,13 @@
 -- The index of the first changes on an object by the sites that they come from.
-use Rattle.std.specs.Prelude.{◌≡◌, ℕ, ◌+◌, ◌<◌, ◌≤◌, set, Bool, true, List, [], ◌∷◌, ◌++◌, ◌==◌}
+use Rattle.std.specs.Prelude.{◌≡◌, ℕ, ◌+◌, ◌-◌, ◌<◌, ◌≤◌, set, Bool, true, List, [], ◌∷◌, ◌++◌, ◌==◌}
 use Rattle.std.specs.Prelude.{nat_le, map, filter, length, slice_index_or}
 use Rattle.std.specs.List.Sorted.{IsNonDecreasingBy}
 use Rattle.base_types.specs.Names.{Name}
 use Rattle.base_types.specs.Vectors.{Vector, count_of}
 use Rattle.rules.specs.declared.history.Op.{Op}
 use Rattle.places.specs.steps.PlaceSet.{places, with_place, with_places}
+use Rattle.changes_by_site.specs.declared.known.Known.{Known}
+use Rattle.changes_by_site.specs.declared.known.Known.TheVariants.{All, Places}
 use Rattle.places.specs.steps.Changes.{at}
 
 -- the first n places by classes, of which each place has one at most: the classes that occur there,
@@ -95,3 +97,16 @@ abbrev pub with_counted : Vector → List ℕ → List OfSite → List ℕ
 with_counted seen known [] = known
 with_counted seen known (of ∷ others) =
     with_counted seen (with_places known (counted_of seen of)) others
+
+-- the number of a site's last change, 0 if it has none
+abbrev pub last_number : OfSite → ℕ
+last_number of = (slice_index_or of.changes (length of.changes - 1) (0, 0)).0
+
+-- does a vector count a site's last change?
+abbrev pub is_counted : Vector → OfSite → Bool
+is_counted seen of = nat_le (last_number of) (count_of seen of.site)
+
+-- of the first n places those that are known
+abbrev pub known_of : Known → ℕ → List ℕ
+known_of All n = places n
+known_of (Places known) n = known

@@ -9,4 +9,3 @@ pub mod Closed
 pub mod Balance
 pub mod Replies
 pub mod Standing
-mod Begins

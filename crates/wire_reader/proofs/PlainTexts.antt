@@ -1,9 +1,9 @@
 -- A plain text stands for its message.
-use Rattle.std.proofs.Common.{◌≡◌, ℕ, zero, suc, negsuc, ◌^◌, ◌<◌, Bool, true, false, cond, not, ◌&&◌, ◌||◌, ◌==◌, nat_le, ◌≤◌, length, get_or, drop, subst, List, [], ◌∷◌, ◌++◌, Option, Some, None, inl, inr, refl, sym, ap, ap₂, ◌∙◌, append_assoc, arith, decimal, take, take_at, length-append, ◌-◌, ◌+◌, ◌/◌, ◌%◌}
+use Rattle.std.proofs.Common.{◌≡◌, ℕ, zero, suc, negsuc, ◌^◌, ◌<◌, Bool, true, false, cond, not, ◌&&◌, ◌||◌, ◌==◌, nat_le, ◌≤◌, length, get_or, drop, subst, List, [], ◌∷◌, ◌++◌, Option, Some, None, inl, inr, refl, sym, ap, ap₂, ◌∙◌, ◌⊎◌, append_assoc, arith, decimal, take, take_at, length-append, ◌-◌, ◌+◌, ◌/◌, ◌%◌}
 use Rattle.std.specs.Char.{encode_utf8, is_digit, InScalarRange}
-use Rattle.std.specs.List.{list_all}
-use Rattle.std.specs.Prelude.{IfSome, IsTrue}
-use Rattle.std.proofs.lemmas.Bool.{and_from, and_parts, leb-true, le-ltb, lt-ltb, ne_eqb, not-true, true≢false}
+use Rattle.std.specs.List.{list_all, AllByRecursion}
+use Rattle.std.specs.Prelude.{IsTrue}
+use Rattle.std.proofs.lemmas.Bool.{and_from, and_parts, cases_lt, leb-true, le-ltb, lt-ltb, ne_eqb, not-true, true≢false}
 use Rattle.std.proofs.lemmas.Bool.Decides.{nat_tests}
 use Rattle.std.proofs.lemmas.Fmt.{decimal_digit}
 use Rattle.std.proofs.lemmas.List.{drop_more}
@@ -15,7 +15,7 @@ use Rattle.json.specs.Word.{after_number, ends_word, is_operator, is_space}
 use Rattle.json.proofs.Printed.Decimals.{IsNumber-decimal, IsNumber-signed_decimal}
 use Rattle.json.proofs.Printed.Numbers.{lex-number}
 use Rattle.wire.specs.steps.Quoting.{is_plain_byte}
-use Rattle.wire_reader.specs.steps.PlainTexts.{IsEscape, IsUnicode, IsWritten, StandsFor, StandsInside}
+use Rattle.wire_reader.specs.steps.PlainTexts.{IsEscape, IsUnicode, StandsFor, StandsInside}
 
 -- ---- a byte of a string
 
@@ -92,8 +92,13 @@ module _ (message text rest : List ℕ) where
 
 -- ---- characters
 
-high_is_plain : (x : ℕ) → 128 ≤ x → is_plain_byte x ≡ true
-high_is_plain x high = grind (arith, nat_tests)
+-- bytes beyond ASCII
+abbrev AreHigh : List ℕ → Type 0
+AreHigh = AllByRecursion (λ x. 128 ≤ x)
+
+high_are_plain : (xs : List ℕ) → AreHigh xs → list_all is_plain_byte xs ≡ true
+high_are_plain [] high = refl
+high_are_plain (x ∷ xs) high = let low : 128 ≤ x = high.0 in and_from (is_plain_byte x) (list_all is_plain_byte xs) (grind (arith, nat_tests)) (high_are_plain xs high.1)
 
 encode_two : (c : ℕ) → 128 ≤ c → c < 2048 → encode_utf8 c ≡ (192 + c / 64) ∷ (128 + c % 64) ∷ []
 unfolding encode_utf8
@@ -103,26 +108,30 @@ encode_three : (c : ℕ) → 2048 ≤ c → c < 65536 → encode_utf8 c ≡ (224
 unfolding encode_utf8
 encode_three c low high = rw (le-ltb c 128 (omega arith), le-ltb c 2048 low, lt-ltb c 65536 high) refl
 
-pub two_written : (c : ℕ) (before one after : List ℕ) → 128 ≤ c → c < 2048 → one ≡ before ++ (192 + c / 64) ∷ [] → after ≡ one ++ (128 + c % 64) ∷ [] → IsWritten c before after
-two_written c before one after low high first second =
-    let a : ℕ = 192 + c / 64 in
-    let b : ℕ = 128 + c % 64 in
-    let is : encode_utf8 c ≡ a ∷ b ∷ [] = encode_two c low high in
-    let all : list_all is_plain_byte (a ∷ b ∷ []) ≡ true = and_from (is_plain_byte a) _ (high_is_plain a (omega arith)) (and_from (is_plain_byte b) true (high_is_plain b (omega arith)) refl) in (
-      second ∙ ap (λ (s : List ℕ). s ++ b ∷ []) first ∙ append_assoc before (a ∷ []) (b ∷ []) ∙ ap (λ (s : List ℕ). before ++ s) (sym is),
-      ap (list_all is_plain_byte) is ∙ all,
-    )
+encode_four : (c : ℕ) → 65536 ≤ c → encode_utf8 c ≡ (240 + c / 262144) ∷ (128 + c / 4096 % 64) ∷ (128 + c / 64 % 64) ∷ (128 + c % 64) ∷ []
+unfolding encode_utf8
+encode_four c low = rw (le-ltb c 128 (omega arith), le-ltb c 2048 (omega arith), le-ltb c 65536 low) refl
 
-pub three_written : (c : ℕ) (before one two after : List ℕ) → 2048 ≤ c → c < 65536 → one ≡ before ++ (224 + c / 4096) ∷ [] → two ≡ one ++ (128 + c / 64 % 64) ∷ [] → after ≡ two ++ (128 + c % 64) ∷ [] → IsWritten c before after
-three_written c before one two after low high first second third =
-    let a : ℕ = 224 + c / 4096 in
-    let b : ℕ = 128 + c / 64 % 64 in
-    let d : ℕ = 128 + c % 64 in
-    let is : encode_utf8 c ≡ a ∷ b ∷ d ∷ [] = encode_three c low high in
-    let all : list_all is_plain_byte (a ∷ b ∷ d ∷ []) ≡ true = and_from (is_plain_byte a) _ (high_is_plain a (omega arith)) (and_from (is_plain_byte b) _ (high_is_plain b (omega arith)) (and_from (is_plain_byte d) true (high_is_plain d (omega arith)) refl)) in (
-      third ∙ ap (λ (s : List ℕ). s ++ d ∷ []) (second ∙ ap (λ (s : List ℕ). s ++ b ∷ []) first) ∙ append_assoc (before ++ a ∷ []) (b ∷ []) (d ∷ []) ∙ append_assoc before (a ∷ []) (b ∷ d ∷ []) ∙ ap (λ (s : List ℕ). before ++ s) (sym is),
-      ap (list_all is_plain_byte) is ∙ all,
-    )
+two_plain : (c : ℕ) → 128 ≤ c → c < 2048 → list_all is_plain_byte (encode_utf8 c) ≡ true
+two_plain c low high = ap (list_all is_plain_byte) (encode_two c low high) ∙ high_are_plain ((192 + c / 64) ∷ (128 + c % 64) ∷ []) (omega arith, (omega arith, tt))
+
+three_plain : (c : ℕ) → 2048 ≤ c → c < 65536 → list_all is_plain_byte (encode_utf8 c) ≡ true
+three_plain c low high = ap (list_all is_plain_byte) (encode_three c low high) ∙ high_are_plain ((224 + c / 4096) ∷ (128 + c / 64 % 64) ∷ (128 + c % 64) ∷ []) (omega arith, (omega arith, (omega arith, tt)))
+
+four_plain : (c : ℕ) → 65536 ≤ c → list_all is_plain_byte (encode_utf8 c) ≡ true
+four_plain c low = ap (list_all is_plain_byte) (encode_four c low) ∙ high_are_plain ((240 + c / 262144) ∷ (128 + c / 4096 % 64) ∷ (128 + c / 64 % 64) ∷ (128 + c % 64) ∷ []) (omega arith, (omega arith, (omega arith, (omega arith, tt))))
+
+three_or_four : (c : ℕ) → 2048 ≤ c → (c < 65536) ⊎ (65536 ≤ c) → list_all is_plain_byte (encode_utf8 c) ≡ true
+three_or_four c low (inl less) = three_plain c low less
+three_or_four c low (inr more) = four_plain c more
+
+two_or_more : (c : ℕ) → 128 ≤ c → (c < 2048) ⊎ (2048 ≤ c) → list_all is_plain_byte (encode_utf8 c) ≡ true
+two_or_more c low (inl less) = two_plain c low less
+two_or_more c low (inr more) = three_or_four c more (cases_lt c 65536)
+
+-- a character beyond ASCII is plain
+pub high_character : (c : ℕ) → 128 ≤ c → list_all is_plain_byte (encode_utf8 c) ≡ true
+high_character c high = two_or_more c high (cases_lt c 2048)
 
 -- ---- escapes
 
@@ -216,11 +225,6 @@ u_at character x bytes digits rest e is unicode =
 
 pub slash_at : (x : ℕ) (bytes rest : List ℕ) → bytes ≡ x ∷ rest → x ≡ 47 → IsEscape 47 bytes rest
 slash_at x bytes rest e is = subst (λ (front : List ℕ). IsEscape 47 front rest) (sym (e ∙ ap (λ y. y ∷ rest) is)) (slash_is rest)
-
--- what follows from a thing of what was found holds of it
-pub if_some : {T : Type 0} (A B : T → Type 0) (o : Option T) → ((x : T) → A x → B x) → IfSome o A → IfSome o B
-if_some A B None so a = tt
-if_some A B (Some x) so a = so x a
 
 -- ---- numbers
 

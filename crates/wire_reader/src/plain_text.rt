@@ -1,16 +1,18 @@
 //! The plain text of a message: the same lexemes of JSON, without white space and without escapes.
-//! Many clients put a space after each comma, and write each letter beyond ASCII as an escape. The
-//! plain text of such a message is compact text, which is read at a third of the cost.
+//! Many clients put a space after each comma, and write each letter beyond ASCII as an escape.
+//! What is read of the plain text is what is read of the message, and takes less time.
 //!
 //! A message gets no plain text where an escape stands for a byte that needs one, where half of a
 //! surrogate pair stands, or where there is an object, a literal or a number of another form than
-//! that of compact text. Such a message is left to the JSON reader.
+//! that of compact text. Such a message is read as it is.
 
 ghost use Rattle.std.specs.Prelude.{◌≡◌, ◌<◌, ◌∷◌, ◌++◌, IfOk, IfSome, IsTrue, OnOk};
-ghost use Rattle.std.specs.Char.{digit_value};
+ghost use Rattle.std.specs.Char.{digit_value, encode_utf8};
+ghost use Rattle.std.specs.List.{list_all};
 ghost use Rattle.json.specs.Lex.{lex, between};
 ghost use Rattle.json.specs.Text.{code_unit};
 ghost use Rattle.json.specs.Word.{is_operator, is_space};
+ghost use Rattle.wire.specs.steps.Quoting.{is_plain_byte};
 ghost use Rattle.wire_reader.specs.steps.PlainTexts.{IsEscape, IsUnicode, IsWritten, KeepsContent, KeepsLexemes};
 
 use crate::compact::{is_plain_byte, split_number, split_plain};
@@ -19,15 +21,6 @@ use std::alloc::Global;
 
 /// How many hex digits an escape has.
 const HEX_DIGITS: usize = 4;
-
-/// The first character that takes two bytes of UTF-8.
-const TWO_BYTES: u32 = 0x80;
-
-/// The first that takes three.
-const THREE_BYTES: u32 = 0x800;
-
-/// The first that takes four.
-const FOUR_BYTES: u32 = 0x1_0000;
 
 /// The value of a byte that is no digit and no letter.
 const NO_DIGIT: u32 = 36;
@@ -112,38 +105,23 @@ fn escaped(bytes: &[u8]) -> Option<(char, &[u8])>
     }
 }
 
-/// Writes a byte of a string. `Bad` if it is not plain.
-fn write_ascii(byte: u8, text: &mut Vec<u8>) -> Result<(), ReadFault>
-    requires { byte < 128 }
-    ensures { OnOk result (IsWritten byte text.old.items text.new.items) }
+/// Does a character stand for itself in a string, with all bytes of its UTF-8?
+fn is_plain(character: char) -> bool
+    ensures { result ≡ list_all is_plain_byte (encode_utf8 character) }
 {
-    if !is_plain_byte(byte) {
-        return Err(ReadFault::Bad);
-    }
-    text.push(byte)?;
-    Ok(())
+    !character.is_ascii() || is_plain_byte(character as u8)
 }
 
-/// Writes a character of a string. `Bad` if it is ASCII that is not plain, or none of the first
-/// 65,536, which have an escape each.
+/// Writes a character of a string. `Bad` if it is not plain.
 fn write_character(character: char, text: &mut Vec<u8>) -> Result<(), ReadFault>
     ensures { OnOk result (IsWritten character text.old.items text.new.items) }
 {
-    let code = u32::from(character);
-    if code < TWO_BYTES {
-        write_ascii(code as u8, text)
-    } else if code < THREE_BYTES {
-        text.push((192 + code / 64) as u8)?;
-        text.push((128 + code % 64) as u8)?;
-        Ok(())
-    } else if code < FOUR_BYTES {
-        text.push((224 + code / 4096) as u8)?;
-        text.push((128 + code / 64 % 64) as u8)?;
-        text.push((128 + code % 64) as u8)?;
-        Ok(())
-    } else {
-        Err(ReadFault::Bad)
+    if !is_plain(character) {
+        return Err(ReadFault::Bad);
     }
+    let mut buffer = [0; 4];
+    text.extend_from_slice(character.encode_utf8(&mut buffer).as_bytes())?;
+    Ok(())
 }
 
 /// Takes an escape after its backslash, and writes what it stands for.

@@ -92,7 +92,7 @@ impl SiteChanges {
 }
 
 /// Does a vector count each of these changes?
-fn counts_each(ops: &[SharedOp], seen: &StateVector) -> bool
+fn are_counted(ops: &[SharedOp], seen: &StateVector) -> bool
     ensures { result ≡ list_all (λ op. counts seen.now op.name) ops.now }
 {
     ops.iter().all(|op| seen.has(op.name))
@@ -196,23 +196,27 @@ impl BySite {
     }
 
     /// Does a vector count the last indexed change of each site?
-    fn has_counted_sites(&self, seen: &StateVector) -> bool
+    fn are_sites_counted(&self, seen: &StateVector) -> bool
         ensures { result ≡ list_all (is_counted seen.now) self.now.sites }
     {
         self.sites.iter().all(|changes| changes.is_counted(seen))
     }
 
     /// Does a vector count all changes? One look-up a site, and for each change that is not indexed.
-    fn has_counted_all(&self, ops: &[SharedOp], seen: &StateVector) -> bool
+    fn are_all_counted(&self, ops: &[SharedOp], seen: &StateVector) -> bool
         requires sites { AreBySite ops.now self.now }
         requires order { AreInOrder ops.now }
         ensures { result ≡ list_all (λ op. counts seen.now op.name) ops.now }
     {
-        self.has_counted_sites(seen) && counts_each(&ops[self.len as usize..], seen)
+        self.are_sites_counted(seen) && are_counted(&ops[self.len as usize..], seen)
     }
 
-    /// Which of the changes a vector counts. For an author who knows all, that takes no memory, and
-    /// one look-up a site.
+    /// Which of the changes a vector counts. One look-up a site, and for each change that is not
+    /// indexed. Where it counts all, that takes no memory.
+    ///
+    /// # Errors
+    ///
+    /// `NoMemory` if an allocation failed.
     pub fn known(
         &self,
         alloc: Global,
@@ -225,7 +229,7 @@ impl BySite {
         ensures { IfOk result (λ known.
             known_of known (length ops.now) ≡ places_counted ops.now seen.now) }
     {
-        if self.has_counted_all(ops, seen) {
+        if self.are_all_counted(ops, seen) {
             return Ok(Known::All);
         }
         let places = self.known_places(alloc, ops, seen)?;

@@ -106,18 +106,14 @@ fn count_in(seen: &StateVector, site: u32) -> u32
     }
 }
 
-/// Are the two names the same, or does the operation of the first, if there is one, count that of the
-/// second?
+/// Does the operation of a name, if there is one, count that of a pair, or is the pair the name?
 fn knows(name: (u32, u32), op: Option<&Op>, pair: (u32, u32)) -> bool
-    ensures { result ≡ (same_name name pair
-        || option_map_or (λ op. counts op.seen pair) (option_copied op.entry) false) }
+    ensures { result ≡ (option_map_or (λ op. counts op.seen pair) (option_copied op.entry) false
+        || same_name name pair) }
 {
-    if name == pair {
-        return true;
-    }
     match op {
-        Some(op) => pair.1 <= count_in(&op.seen, pair.0),
-        None => false,
+        Some(op) => pair.1 <= count_in(&op.seen, pair.0) || name == pair,
+        None => name == pair,
     }
 }
 

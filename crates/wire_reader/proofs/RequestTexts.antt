@@ -1,15 +1,14 @@
 -- The texts of requests.
-use Rattle.std.proofs.Common.{◌≡◌, ℕ, ◌≤◌, List, length, Option, Some, None, Bool, true, false, cond, refl, sym, ◌∙◌, arith}
-use Rattle.std.specs.Prelude.{nat_le, ◌↔◌}
+use Rattle.std.proofs.Common.{◌≡◌, ℕ, ◌≤◌, List, length, Option, Some, None, Result, Ok, Err, Bool, true, false, cond, refl, sym, ◌∙◌, arith, IsUtf8}
+use Rattle.std.specs.Prelude.{nat_le, ◌↔◌, IfOk}
 use Rattle.std.proofs.lemmas.Bool.Decides.{nat_tests}
-use Rattle.std.specs.Str.{is_utf8}
 use Rattle.json.specs.Lex.{between, lex}
 use Rattle.serde_json.specs.Read.{read}
 use Rattle.wire.specs.declared.request.TheConstants.{MAX_REQUEST_LEN}
 use Rattle.wire.specs.declared.request.Request.{Request}
 use Rattle.wire.specs.Form.{IsRequestText}
 use Rattle.wire_reader.specs.steps.Requests.{request_of}
-use Rattle.wire_reader.specs.steps.Reads.{json_of, text_in, request_read}
+use Rattle.wire_reader.specs.steps.Reads.{text_in, request_read}
 use Rattle.wire_reader.proofs.Exact.{some_is}
 use Rattle.wire_reader.proofs.Requests.{reads_requests}
 use Rattle.wire_reader.proofs.ByForm.{text_takes, text_again}
@@ -41,11 +40,14 @@ one_request bytes p q g h = some_is p q (sym (request_text_again bytes p g) ∙ 
 
 -- ---- other texts of the same lexemes
 
--- short texts of the same lexemes are texts of the same request
-pub same_request : (bytes text : List ℕ) → lex between text ≡ lex between bytes → is_utf8 bytes ≡ true → is_utf8 text ≡ true → length text ≤ MAX_REQUEST_LEN → length bytes ≤ MAX_REQUEST_LEN → request_read text ≡ request_read bytes
-unfolding request_read json_of
-same_request bytes text same utf8 utf8' short short' =
-    let is_short : nat_le (length text) MAX_REQUEST_LEN ≡ true = grind (arith, nat_tests) in
-    let is_short' : nat_le (length bytes) MAX_REQUEST_LEN ≡ true = grind (arith, nat_tests) in
-    let again : read text ≡ read bytes = rw same refl in
-    rw (is_short, is_short', utf8, utf8', again) refl
+-- bytes that have the lexemes of a text of a request are one too
+pub same_lexemes : (bytes text : List ℕ) (q : Request) → IsUtf8 bytes → length bytes ≤ MAX_REQUEST_LEN → lex between text ≡ lex between bytes → request_read text ≡ Some q → request_read bytes ≡ Some q
+same_lexemes bytes text q utf8 short same e =
+    let is = (request_text_takes text q e).text in
+    let again : read bytes ≡ read text = rw same refl in
+    request_text_again bytes q (record { short = short; text = record { utf8 = utf8; value = is.value; is_read = again ∙ is.is_read; form = is.form; in_range = is.in_range } })
+
+-- what follows from a thing of a result holds where it does
+pub if_ok : {T E : Type 0} (A B : T → Type 0) (r : Result T E) → ((x : T) → A x → B x) → IfOk r A → IfOk r B
+if_ok A B (Ok x) so a = so x a
+if_ok A B (Err e) so a = tt

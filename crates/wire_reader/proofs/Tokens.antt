@@ -16,10 +16,10 @@ use Rattle.std.proofs.lemmas.Bool.Decides.{nat_tests}
 use Rattle.fast_float.specs.Text.{Parts, scan, digits_of, nearest, with_sign, IsInteger}
 use Rattle.std.specs.Prelude.{IsUtf8}
 use Rattle.std.specs.Str.{is_utf8}
-use Rattle.std.proofs.lemmas.Str.{IsUtf8-from_is_utf8, is_utf8-from_IsUtf8}
+use Rattle.std.proofs.lemmas.Str.{IsUtf8-from_is_utf8}
 use Rattle.std.proofs.lemmas.Slice.Eq.{bytes_eq-Decides}
 use Rattle.wire_reader.specs.steps.Reads.{json_of, text_in}
-use Rattle.std.specs.Result.{IsErrAnd, MatchResult, is_ok}
+use Rattle.std.specs.Result.{IsErrAnd}
 use Rattle.base_types.specs.declared.value.Value.TheVariants.{Number}
 use Rattle.wire_reader.specs.declared.fault.ReadFault.{ReadFault}
 use Rattle.wire_reader.specs.declared.fault.ReadFault.TheVariants.{Bad, NoMemory}
@@ -716,10 +716,6 @@ text_in_utf8 reader bytes e = rw e refl
 no_utf8_by : (bytes : List ℕ) (b : Bool) → is_utf8 bytes ≡ b → (IsUtf8 bytes → ⊥) → b ≡ false
 no_utf8_by bytes true e never = absurd (never (IsUtf8-from_is_utf8 bytes e))
 no_utf8_by bytes false e never = refl
-
-pub is_ok_if_utf8 : {T E : Type 0} (bytes : List ℕ) (r : Result T E) (V : T → Type 0) (U : E → Type 0) → MatchResult r (λ x. V x × IsUtf8 bytes) (λ e. ¬ (IsUtf8 bytes) × U e) → is_ok r ≡ is_utf8 bytes
-is_ok_if_utf8 bytes (Ok x) V U found = sym (is_utf8-from_IsUtf8 bytes found.1)
-is_ok_if_utf8 bytes (Err e) V U found = sym (no_utf8_by bytes (is_utf8 bytes) refl found.0)
 
 pub no_utf8 : (bytes : List ℕ) → (IsUtf8 bytes → ⊥) → json_of bytes ≡ None
 unfolding json_of

@@ -135,15 +135,8 @@ pub(crate) trait Part: Sized + Drop {
             (next_in read_in n reader.old) reader.new };
 }
 
-/// Are the bytes UTF-8?
-pub(crate) fn is_utf8(bytes: &[u8]) -> bool
-    ensures { result ≡ is_utf8 bytes.now }
-{
-    std::str::from_utf8(bytes).is_ok()
-}
-
 /// The bytes as a text. `Bad` if they are not UTF-8.
-fn utf8_of(bytes: &[u8]) -> Result<&str, ReadFault>
+pub(crate) fn utf8_of(bytes: &[u8]) -> Result<&str, ReadFault>
     ensures { MatchResult result (λ text. (text.now ≡ bytes.now) × (is_utf8 bytes.now ≡ true))
         (λ e. Fails e (json_of bytes.now)) }
 {

@@ -1,6 +1,6 @@
 //! Requests from JSON.
 
-ghost use Rattle.std.specs.Prelude.{◌≡◌, ◌≤◌, ℕ, length, IfOk, IfSome, IsErrOf, Some, None};
+ghost use Rattle.std.specs.Prelude.{◌≡◌, ◌≤◌, ℕ, length, IfOk, IsErrOf, Some, None};
 ghost use Rattle.wire.specs.declared.request.Request.{Request as AnyRequest};
 ghost use Rattle.wire.specs.declared.request.TheConstants.{MAX_REQUEST_LEN};
 ghost use Rattle.wire.specs.Form.{IsRequestText};
@@ -11,11 +11,11 @@ ghost use Rattle.wire_reader.specs.steps.Streams.{rest_in, Takes};
 
 use crate::body::operation_of;
 use crate::compact::read_compact;
-use crate::fault::{ReadFault, if_in_form};
-use crate::part::{Part, is_utf8, name_of, read_text, room_of};
+use crate::fault::ReadFault;
+use crate::part::{Part, name_of, read_text, room_of, utf8_of};
 use crate::plain_text::plain_text;
 use crate::token::{Seq, close_list, whole_of, word_of};
-use base_types::{MAX_SITE, NoMemory};
+use base_types::MAX_SITE;
 use json::{Reader, Scratch};
 use memchr::memchr_iter;
 use std::alloc::Global;
@@ -24,7 +24,7 @@ use wire::{MAX_FROM, MAX_REQUEST_LEN, Request};
 /// The front of a message that tells whether it is rewritten. A shorter message is not.
 const FRONT_LEN: usize = 128;
 
-/// How many escapes the front of a message has at least, if the message is rewritten.
+/// Where the front has fewer escapes, the JSON reader takes less time than the rewriting.
 const MIN_ESCAPES: usize = 12;
 
 fn join_of(alloc: Global, reader: &mut Reader<'_>) -> Result<Request, ReadFault>
@@ -121,54 +121,42 @@ fn compact_in_bytes(alloc: Global, bytes: &[u8]) -> Result<Request, ReadFault>
     read_compact(alloc, bytes)
 }
 
-/// Reads a request by the JSON reader.
-#[tactic(auto, unfolding(crate::specs::steps::Reads::request_read))]
-fn json_in_bytes(alloc: Global, scratch: &mut Scratch, bytes: &[u8]) -> Result<Request, ReadFault>
-    requires { length bytes.now ≤ MAX_REQUEST_LEN }
-    ensures { Gives (λ request. request) result (request_read bytes.now) }
-{
-    read_text(alloc, scratch, bytes)
-}
-
 /// Returns whether the message has many escapes, as its front tells.
 fn has_many_escapes(bytes: &[u8]) -> bool {
     bytes.len() >= FRONT_LEN && memchr_iter(b'\\', &bytes[..FRONT_LEN]).count() >= MIN_ESCAPES
 }
 
-/// The plain text of a message, which has the same request. `None` if there is none, if it is
-/// longer than the message, or if either is not UTF-8.
-fn rewritten(alloc: Global, bytes: &[u8]) -> Result<Option<Vec<u8>>, NoMemory>
+/// Reads a request from the plain text of its message. `Bad` also where there is none, or where it
+/// is the message itself.
+fn plain_in_bytes(alloc: Global, bytes: &[u8]) -> Result<Request, ReadFault>
     requires { length bytes.now ≤ MAX_REQUEST_LEN }
-    ensures short { IfOk result (λ found.
-        IfSome found (λ text. length text.items ≤ MAX_REQUEST_LEN)) }
-    ensures same { IfOk result (λ found.
-        IfSome found (λ text. request_read text.items ≡ request_read bytes.now)) }
+    ensures { IfOk result (λ request. request_read bytes.now ≡ Some request) }
 {
-    let Some(text) = if_in_form(plain_text(alloc, bytes))? else {
-        return Ok(None);
-    };
-    if bytes.len() < text.len() || !is_utf8(bytes) || !is_utf8(&text) {
-        return Ok(None);
+    if !has_many_escapes(bytes) {
+        return Err(ReadFault::Bad);
     }
-    Ok(Some(text))
+    utf8_of(bytes)?;
+    let text = plain_text(alloc, bytes)?;
+    if bytes.len() <= text.len() {
+        return Err(ReadFault::Bad);
+    }
+    compact_in_bytes(alloc, &text)
 }
 
-/// Reads a request that is not compact text. Of a message with many escapes, the JSON reader reads
-/// the plain text, if there is one.
+/// Reads a request that is not compact text.
+#[tactic(auto, unfolding(crate::specs::steps::Reads::request_read))]
 fn other_in_bytes(alloc: Global, scratch: &mut Scratch, bytes: &[u8]) -> Result<Request, ReadFault>
     requires { length bytes.now ≤ MAX_REQUEST_LEN }
     ensures { Gives (λ request. request) result (request_read bytes.now) }
 {
-    if !has_many_escapes(bytes) {
-        return json_in_bytes(alloc, scratch, bytes);
-    }
-    match rewritten(alloc, bytes)? {
-        Some(text) => json_in_bytes(alloc, scratch, &text),
-        None => json_in_bytes(alloc, scratch, bytes),
+    match plain_in_bytes(alloc, bytes) {
+        Ok(request) => Ok(request),
+        Err(ReadFault::Bad) => read_text(alloc, scratch, bytes),
+        Err(ReadFault::NoMemory) => Err(ReadFault::NoMemory),
     }
 }
 
-/// Reads a request. Most are compact text, which needs no JSON reader.
+/// Reads a request. Most are compact text, or have a plain text that is: these need no JSON reader.
 #[tactic(auto, unfolding(crate::specs::steps::Reads::request_read))]
 fn request_in_bytes(
     alloc: Global,

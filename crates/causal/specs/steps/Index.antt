@@ -42,10 +42,10 @@ has_fewer h pairs = list_any (λ pair. nat_lt (count_at_site h pair.0) pair.1) p
 abbrev pub lacks : List Op → Vector → Name → Bool
 lacks h v name = option_map_or (λ op. not (covers v op.seen)) (operation h name) false
 
--- the two names are the same, or there is an operation of the one and it counts that of the other
+-- there is an operation of the one name and it counts that of the other, or both are the same name
 abbrev pub knows : List Op → Name → Name → Bool
 knows h name other =
-    same_name name other || option_map_or (λ op. counts op.seen other) (operation h name) false
+    option_map_or (λ op. counts op.seen other) (operation h name) false || same_name name other
 
 -- the vector lacks something that the operation of one of these names counts, of those that are
 -- neither of two names and that the operations of these two don't count

@@ -113,6 +113,19 @@ def notices_of_start(folder, on_demand=0, rooms=("plan",)):
         return server.other_notices
 
 
+def expect_drawn(client):
+    """Expects that the new room shows an object as the old one did."""
+    versions = [[[], [["t", "text"], ["x", 102], ["y", 0]]]]
+    client.expect_reply('["show",[1,2]]', compact(["versions", RENEWED + 1, [1, 2], "rect", versions]))
+
+
+def expect_end(client):
+    """Expects that who comes back to the old room can read its end."""
+    client.expect_reply('["back","plan",1]', f'["back",{NEARLY_FULL + 1},1,{2 * DRAWN}]')
+    entries = f'["entries",{NEARLY_FULL + 1},{NEARLY_FULL},[["next",{RENEWED}]]]'
+    client.expect_reply(f'["pull",{NEARLY_FULL}]', entries)
+
+
 def renewal_notice(old="plan", new="plan.2"):
     """Returns the notice about the renewal of the room that is nearly full."""
     return "INFO", f"room {old} renewed as {new}: {NEARLY_FULL} entries to {RENEWED}"
@@ -143,14 +156,9 @@ class TestStart(unittest.TestCase):
                 client = server.client()
                 client.expect_reply('["join","plan"]', '["renewed",0,"plan.2"]')
                 client.expect_reply('["join","plan.2"]', f'["joined",{RENEWED},2]')
-                client.expect_reply('["show",[1,2]]', compact(
-                    ["versions", RENEWED + 1, [1, 2], "rect", [[[], [["t", "text"], ["x", 102], ["y", 0]]]]]
-                ))
+                expect_drawn(client)
                 client.expect_reply('["leave"]', f'["left",{RENEWED + 1}]')
-                client.expect_reply('["back","plan",1]', f'["back",{NEARLY_FULL + 1},1,{2 * DRAWN}]')
-                client.expect_reply(
-                    f'["pull",{NEARLY_FULL}]', f'["entries",{NEARLY_FULL + 1},{NEARLY_FULL},[["next",{RENEWED}]]]'
-                )
+                expect_end(client)
                 server.kill()
                 server.warnings()
                 self.assertEqual(
@@ -476,14 +484,8 @@ class TestOnDemand(unittest.TestCase):
                 client = server.client()
                 client.expect_reply(["join", "plan"], SENT_ON)
                 client.expect_reply(["join", "plan.2"], JOINED)
-                client.expect_reply('["show",[1,2]]', compact(
-                    ["versions", RENEWED + 1, [1, 2], "rect", [[[], [["t", "text"], ["x", 102], ["y", 0]]]]]
-                ))
-                other = server.client()
-                other.expect_reply('["back","plan",1]', f'["back",{NEARLY_FULL + 1},1,{2 * DRAWN}]')
-                other.expect_reply(
-                    f'["pull",{NEARLY_FULL}]', f'["entries",{NEARLY_FULL + 1},{NEARLY_FULL},[["next",{RENEWED}]]]'
-                )
+                expect_drawn(client)
+                expect_end(server.client())
                 self.assertEqual(rooms_of(server)["open"], 2, "the open rooms")
                 server.kill()
                 server.warnings()

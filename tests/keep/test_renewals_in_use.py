@@ -290,9 +290,15 @@ class TestKills(unittest.TestCase):
         self.assertGreater(renewals, 0, "whether some rooms were renewed")
 
     def draw_once(self, client, room):
-        """Joins the newest room of a chain, puts a value there and leaves."""
-        reply = json.loads(client.ask(["join", room]))
-        if reply[0] == "renewed":
-            reply = json.loads(ask_until_served(client, ["join", reply[2]]))
-        self.assertEqual(json.loads(client.ask(put(1, reply[2])))[0], "taken", "the reply")
-        client.ask('["leave"]')
+        """Joins the newest room of a chain, puts a value there and leaves. Where that room ends before the put comes,
+        the next one takes it."""
+        for _ in range(2):
+            reply = json.loads(client.ask(["join", room]))
+            if reply[0] == "renewed":
+                reply = json.loads(ask_until_served(client, ["join", reply[2]]))
+            answer = json.loads(client.ask(put(1, reply[2])))
+            client.ask('["leave"]')
+            if answer[0] == "taken":
+                return
+            self.assertEqual(answer[2:], [22, "renewed"], "the refusal")
+        self.fail("both rooms refuse the put")

@@ -210,10 +210,13 @@ export class RenewingServer {
     this.#tell(this.newest)
   }
 
-  /** Ends the newest room, and opens its successor, if it has a renewal that is not longer. */
+  /**
+   * Ends the newest room, and opens its successor, if it has a renewal that is not longer. A room that nobody has joined
+   * is not nearly full.
+   */
   renew() {
     const old = this.newest
-    const start = renewalOf(old.record)
+    const start = old.record.length > 0 ? renewalOf(old.record) : null
     if (start === null) return
     old.add(["next", start.length])
     this.#open(`r.${this.rooms.size + 1}`, start)

@@ -246,10 +246,11 @@ class RenewingServer:
             self.tell(self.newest)
 
     def renew(self):
-        """Ends the newest room, and opens its successor, if it has a renewal that is not longer."""
+        """Ends the newest room, and opens its successor, if it has a renewal that is not longer. A room that nobody has
+        joined is not nearly full."""
         with self.lock:
             old = self.newest
-            start = renewal_of(old.record)
+            start = renewal_of(old.record) if old.record else None
             if start is None:
                 return
             old.add(("next", len(start)))

@@ -21,6 +21,13 @@ def cut(**options):
             yield server, relay, room, other
 
 
+def lose(relay, room):
+    """Cuts the connection of a client. The relay then cuts each new one, until it is told otherwise."""
+    relay.what_to_do = lambda text: CUT_BEFORE
+    relay.cut()
+    wait_until("the connection is lost", lambda: room.state != "open")
+
+
 def operations(room):
     """Returns the entries of the record that are not joins."""
     return [entry for entry in room.record if entry[0] != "join"]
@@ -102,9 +109,7 @@ class TestLostConnections(unittest.TestCase):
         with cut() as (_, relay, room, other):
             made = room.create("rect", {"x": 0})
             agree(room, other)
-            relay.what_to_do = lambda text: CUT_BEFORE
-            relay.cut()
-            wait_until("the connection is lost", lambda: room.state != "open")
+            lose(relay, room)
             put = room.set(made.name, (), "x", 5)
             second = room.create("line")
             other.set(made.name, (), "x", 9).done.result(PATIENCE)
@@ -122,9 +127,7 @@ class TestLostConnections(unittest.TestCase):
         with cut(back_seconds=0.3) as (server, relay, room, other):
             made = room.create("rect", {"x": 0})
             agree(room, other)
-            relay.what_to_do = lambda text: CUT_BEFORE
-            relay.cut()
-            wait_until("the connection is lost", lambda: room.state != "open")
+            lose(relay, room)
             put = room.set(made.name, (), "x", 5)
             line = room.create("line")
             renamed = []

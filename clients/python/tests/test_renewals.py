@@ -16,6 +16,12 @@ from rooms import PATIENCE, EventLog, expect_error, versions_of, wait_until
 
 RETRIES = 0.005, 0.01
 GOES_ON = "This drawing goes on in another room."
+# The record of a room in which somebody has made an object and put a value.
+RECORD = """\
+["join",1]
+["new",[1,1],[],"rect",[["x",0]]]
+["put",[1,2],[[1,1]],[1,1],[],[["x",1]]]
+"""
 
 
 class Client(Room):
@@ -89,6 +95,15 @@ class TestRenewals(unittest.TestCase):
             self.assertEqual(room.objects(), newest.drawing.names(), "the objects")
             for name in room.objects():
                 self.assertEqual(versions_of(room, name), versions_of(newest.drawing, name), f"object {name}")
+
+    @contextlib.contextmanager
+    def cut_at_put(self, server, room):
+        """Yields a put of a client's only object that the client could not send. Meanwhile it does not come back."""
+        made = room.create("rect", {"x": 0})
+        self.agree(server, room)
+        with server.lock:
+            server.cut()
+            yield room.put(made.object, (), {"x": 1})
 
     def test_renewed_while_it_looks(self):
         """A client that only looks learns of the end by a page. Names, versions and changes that it holds go on."""
@@ -174,11 +189,7 @@ class TestRenewals(unittest.TestCase):
     def test_renewed_while_it_was_away(self):
         """The room ends while the connection is lost. The client comes back to it, reads it to its end, and goes on."""
         with renewing(1) as (server, room):
-            made = room.create("rect", {"x": 0})
-            self.agree(server, room)
-            with server.lock:
-                server.cut()
-                room.put(made.object, (), {"x": 1})
+            with self.cut_at_put(server, room):
                 server.add(("join", 2))
                 server.add(("put", (2, 1), ((1, 1),), (1, 1), (), (("y", 9),)))
                 server.renew()
@@ -224,19 +235,14 @@ class TestRenewals(unittest.TestCase):
         """The old room can no longer be read. The client tells what it could not take along, and enters the newest
         one."""
         with renewing(1) as (server, room):
-            made = room.create("rect", {"x": 0})
-            self.agree(server, room)
-            with server.lock:
-                server.cut()
-                lost = room.put(made.object, (), {"x": 1})
+            with self.cut_at_put(server, room) as lost:
                 server.renew()
                 server.renew()
             self.agree(server, room)
             self.assertEqual(lost.done.exception(PATIENCE).word, "renewed", "the refusal")
-            lines = ['["join",1]', '["new",[1,1],[],"rect",[["x",0]]]', '["put",[1,2],[[1,1]],[1,1],[],[["x",1]]]', ""]
             words = "This drawing went on in another room without your last changes."
             wait_until("the news", lambda: room.refused)
-            expected = [Renewed("r", "r.3", words, [], "\n".join(lines))]
+            expected = [Renewed("r", "r.3", words, [], RECORD)]
             self.assertEqual((room.events.of("renewed"), room.refused), (expected, ["renewed"]), "the news")
             self.assertEqual(shown(room), [("rect", [((), {"x": 0})])], "what is shown")
 
@@ -301,18 +307,13 @@ class TestRenewals(unittest.TestCase):
             self.assertEqual(change.done.exception(PATIENCE).word, "another-room", "the refusal")
             is_in(room, "r")
             self.agree(server, room)
-            lines = ['["join",1]', '["new",[1,1],[],"rect",[["x",0]]]', '["put",[1,2],[[1,1]],[1,1],[],[["x",1]]]', ""]
-            self.assertEqual(resets, ["\n".join(lines)], "the text")
+            self.assertEqual(resets, [RECORD], "the text")
 
     def test_another_used_the_site(self):
         """Another client was in the old room as this site, and made changes. The client's own go on under another
         site."""
         with renewing(1) as (server, room):
-            made = room.create("rect", {"x": 0})
-            self.agree(server, room)
-            with server.lock:
-                server.cut()
-                room.put(made.object, (), {"x": 1})
+            with self.cut_at_put(server, room):
                 server.add(("put", (1, 2), ((1, 1),), (1, 1), (), (("y", 9),)))
                 server.renew()
             self.agree(server, room)

@@ -115,6 +115,11 @@ export class RoomState {
     return this.#holds > 0
   }
 
+  /** The server has so many entries. What it counted before is of an earlier room if the client has none of it. */
+  count(length) {
+    this.length = this.#record.length > 0 ? Math.max(this.length, length) : length
+  }
+
   /** How many entries of the record were pulled, and how many the server has at least. */
   get progress() {
     const have = this.#record.length

@@ -211,7 +211,7 @@ export class Session {
     })
     this.#isIn = true
     if (await this.#isOtherRecord(at)) this.#state.discardRoom()
-    this.#state.length = Math.max(this.#state.length, at)
+    this.#state.count(at)
     await this.#load()
     await this.#leave()
   }
@@ -302,7 +302,7 @@ export class Session {
     this.#isIn = true
     const [, at, site] = joined
     if (await this.#isOtherRecord(at)) this.#state.discardRoom()
-    this.#state.length = Math.max(this.#state.length, at + 1)
+    this.#state.count(at + 1)
     await this.#load()
     this.#state.becomeSite(site, this.#entrance.name)
   }

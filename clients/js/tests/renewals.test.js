@@ -137,6 +137,20 @@ test("renewed before it came", LIMIT, withServer(async (client, server) => {
   assert.deepEqual(room.renewals, [], "the news")
 }))
 
+/** The room goes on in a shorter one after the client has joined it, and before it has read an entry. */
+test("renewed before it was read", LIMIT, withServer(async (client, server) => {
+  server.add(["join", 1])
+  server.add(["new", [1, 1], [], "rect", [["x", 0]]])
+  for (const number of [2, 3, 4]) server.add(["put", [1, number], [[1, number - 1]], [1, 1], [], [["x", number]]])
+  server.before = (text) => {
+    if (!text.startsWith('["pull"')) return
+    server.before = () => {}
+    server.renew()
+    server.cut()
+  }
+  await agree(server, await client())
+}))
+
 /** The room ends while the connection is lost. The client comes back to it, reads it to its end, and goes on. */
 test("renewed while it was away", LIMIT, withServer(async (client, server) => {
   const room = await client()

@@ -81,7 +81,7 @@ class Session {
       this.endWait()
       this.server.requests.push(text)
       this.server.before(text)
-      this.#answer(readText(text))
+      if (this.server.sessions.has(this)) this.#answer(readText(text))
     })
   }
 

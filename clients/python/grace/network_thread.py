@@ -343,7 +343,7 @@ class NetworkThread:
         with self._locked():
             if is_other_record:
                 self.room_state.discard_room()
-            self.room_state.length = max(self.room_state.length, at)
+            self.room_state.count(at)
         self._load()
         self._leave()
 
@@ -465,7 +465,7 @@ class NetworkThread:
         with self._locked():
             if is_other_record:
                 self.room_state.discard_room()
-            self.room_state.length = max(self.room_state.length, at + 1)
+            self.room_state.count(at + 1)
         self._load()
         with self._locked():
             self.room_state.become_site(site)

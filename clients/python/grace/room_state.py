@@ -67,6 +67,10 @@ class RoomState:
 
     # ---- reading
 
+    def count(self, length: int) -> None:
+        """The server has so many entries. What it counted before is of an earlier room if the client has none of it."""
+        self.length = max(self.length, length) if self.record else length
+
     @property
     def lacks(self) -> bool:
         """Whether the server is known to have more entries."""

@@ -102,6 +102,8 @@ class Session:
         text = payload.decode()
         self.server.requests.append(text)
         self.server.before(text)
+        if self not in self.server.sessions:
+            return
         word, *rest = frozen(json.loads(text))
         if word == "wait" and rest[0] == len(self.room.record) and self.has_heard_notes:
             self.waits_from = rest[0]

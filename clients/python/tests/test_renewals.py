@@ -309,6 +309,24 @@ class TestRenewals(unittest.TestCase):
             self.agree(server, room)
             self.assertEqual(resets, [RECORD], "the text")
 
+    def test_lost_before_it_read(self):
+        """The room goes on in a shorter one after the client has joined it, and before it has read an entry."""
+        with RenewingServer() as server:
+            server.add(("join", 1))
+            server.add(("new", (1, 1), (), "rect", (("x", 0),)))
+            for number in (2, 3, 4):
+                server.add(("put", (1, number), ((1, number - 1),), (1, 1), (), (("x", number),)))
+
+            def end(text):
+                if text.startswith('["pull"'):
+                    server.before = lambda text: None
+                    server.renew()
+                    server.cut()
+
+            server.before = end
+            with Client(server) as room:
+                self.agree(server, room)
+
     def test_another_used_the_site(self):
         """Another client was in the old room as this site, and made changes. The client's own go on under another
         site."""

@@ -115,7 +115,10 @@ export class RoomState {
     return this.#holds > 0
   }
 
-  /** The server has so many entries. What it counted before is of an earlier room if the client has none of it. */
+  /**
+   * The room has this many entries. While the client has none of them, an earlier count may be another room's, and
+   * goes.
+   */
   count(length) {
     this.length = this.#record.length > 0 ? Math.max(this.length, length) : length
   }

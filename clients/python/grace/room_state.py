@@ -68,7 +68,8 @@ class RoomState:
     # ---- reading
 
     def count(self, length: int) -> None:
-        """The server has so many entries. What it counted before is of an earlier room if the client has none of it."""
+        """The room has this many entries. While the client has none of them, an earlier count may be another room's,
+        and goes."""
         self.length = max(self.length, length) if self.record else length
 
     @property

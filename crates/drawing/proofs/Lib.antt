@@ -8,4 +8,3 @@ pub mod Shown
 pub mod ObjectKinds
 pub mod Replay
 pub mod Refused
-pub mod OnPlans

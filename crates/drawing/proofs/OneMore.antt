@@ -1,5 +1,5 @@
 -- What one more entry does to the objects of a record with their changes.
-use Rattle.std.proofs.Common.{◌≡◌, ℕ, ◌+◌, true, false, not, List, [], ◌∷◌, ◌++◌, length, sym, ap, ◌∙◌, None, Some, cond}
+use Rattle.std.proofs.Common.{◌≡◌, ◌+◌, true, false, not, List, [], ◌∷◌, ◌++◌, length, sym, ap, ◌∙◌, None, Some, cond}
 use Rattle.std.specs.Prelude.{filter}
 use Rattle.std.specs.List.{IsDistinct}
 use Rattle.std.specs.Map.{keys_of, lookup, set_value}

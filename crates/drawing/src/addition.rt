@@ -1,12 +1,11 @@
 //! An entry that is ready to be added to a drawing.
 
-ghost use Rattle.std.specs.Prelude.{◌≡◌, option_map, IfOk};
+ghost use Rattle.std.specs.Prelude.{◌≡◌, option_map};
 ghost use Rattle.std.specs.Arc.{arc_value};
 ghost use Rattle.rules.specs.Records.{is_end, is_join};
 ghost use Rattle.drawing.specs.steps.State.{DrawingState};
 ghost use Rattle.drawing.specs.steps.Additions.{IsReady, ids_of};
 
-use base_types::NoMemory;
 use rules::{Entry, SharedOp};
 use shape::{PlannedChange, Shape};
 use std::alloc::Global;
@@ -19,11 +18,10 @@ use wire::SharedIds;
 pub(crate) enum Part {
     /// An entry that is no operation adds nothing.
     Alone,
-    /// A creation adds the operation and its object. This is larger than what a change adds, so it
-    /// has memory of its own.
+    /// A creation adds the operation and its object.
     Creation(SharedOp, Box<Shape>),
     /// A change adds the operation, and what is planned for its object, which stands at this place.
-    Change(usize, SharedOp, PlannedChange),
+    Change(usize, SharedOp, Box<PlannedChange>),
 }
 
 /// An entry that can be added to a drawing without an allocation. Only the plans of `Drawing` make
@@ -31,8 +29,7 @@ pub(crate) enum Part {
 #[derive(Drop)]
 pub struct Addition {
     pub(crate) entry: Arc<Entry>,
-    /// In memory of its own, since it is large and moves from plan to commit.
-    pub(crate) part: Box<Part>,
+    pub(crate) part: Part,
 }
 
 impl Model for Addition {
@@ -41,19 +38,10 @@ impl Model for Addition {
 
     ghost Value = { Added };
 
-    ghost view = { λ addition. record { entry = arc_value addition.entry; part = addition.part.value } };
+    ghost view = { λ addition. record { entry = arc_value addition.entry; part = addition.part } };
 }
 
 impl Addition {
-    /// An entry, and what it adds beside itself.
-    pub(crate) fn new(alloc: Global, entry: Arc<Entry>, part: Part) -> Result<Addition, NoMemory>
-        ensures { IfOk result (λ added.
-            added ≡ record { entry = arc_value entry; part = part }) }
-    {
-        let part = Box::new(alloc, part)?;
-        Ok(Addition { entry, part })
-    }
-
     /// The entry that will be added.
     pub fn entry(&self) -> &Arc<Entry>
         ensures { arc_value result.now ≡ self.now.entry }
@@ -82,7 +70,7 @@ impl Addition {
         ensures entry { self.new.entry ≡ self.old.entry }
         ensures ready { (s : DrawingState) → IsReady s self.old → IsReady s self.new }
     {
-        match &mut *self.part {
+        match &mut self.part {
             Part::Alone | Part::Creation(..) => None,
             Part::Change(_, _, planned) => Some(planned.take_ids(alloc)),
         }

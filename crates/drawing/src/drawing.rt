@@ -211,12 +211,14 @@ impl Drawing {
         ensures { self.new.room ≡ with_entry self.old.room (Some addition.entry) }
     {
         let Addition { entry, part } = addition;
-        match Box::into_inner(part) {
+        match part {
             Part::Alone => self.add_alone(entry),
             Part::Creation(op, shape) => {
                 self.add_creation(entry, op, Box::into_inner(shape));
             }
-            Part::Change(place, op, planned) => self.add_change(entry, place, op, planned),
+            Part::Change(place, op, planned) => {
+                self.add_change(entry, place, op, Box::into_inner(planned));
+            }
         }
     }
 

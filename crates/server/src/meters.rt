@@ -5,17 +5,12 @@ use crate::tallies::Tallies;
 use crate::tally::EntrySums;
 use base_types::NoMemory;
 use command_line::VERSION;
-use crossbeam_utils::CachePadded;
 use keeper::{FileSync, Reason};
 use metrics::{Family, Kind, Label, Number, Sample, Suffix, write_families};
 use rules::{MAX_REFUSAL_CODE, Refusal};
 use sessions::Cause;
 use std::alloc::{AllocError, Global};
 use std::sync::atomic::{AtomicU64, Ordering};
-
-/// The counters of replies. Replies on rooms of different places mostly count by different ones, so
-/// that threads in rooms of their own do not contend for one.
-const REPLY_COUNTERS: usize = 64;
 
 /// Why sessions end, in the order of their counters.
 const CAUSES: [Cause; 6] = [
@@ -40,7 +35,6 @@ const REASONS: [Reason; 5] = [
 #[derive(Drop)]
 pub(crate) struct Meters {
     alloc: Global,
-    replies: Vec<CachePadded<AtomicU64>>,
     /// By the code of the refusal.
     refusals: Vec<AtomicU64>,
     /// In the order of `CAUSES`.
@@ -82,13 +76,8 @@ impl Meters {
     /// # Errors
     /// `AllocError` if an allocation failed.
     pub(crate) fn new(alloc: Global) -> Result<Meters, AllocError> {
-        let mut replies = Vec::with_capacity(alloc, REPLY_COUNTERS)?;
-        for _ in 0..REPLY_COUNTERS {
-            replies.push(CachePadded::new(AtomicU64::new(0)))?;
-        }
         Ok(Meters {
             alloc,
-            replies,
             refusals: counters(alloc, MAX_REFUSAL_CODE as usize + 1)?,
             ended: counters(alloc, CAUSES.len())?,
             turned_away: AtomicU64::new(0),
@@ -97,14 +86,9 @@ impl Meters {
         })
     }
 
-    /// There is a reply, on the room at this place if it reports on one.
-    pub(crate) fn add_reply(&self, place: Option<usize>, refusal: Option<Refusal>) {
-        if let Some(counter) = self.replies.get(place.unwrap_or(0) % REPLY_COUNTERS) {
-            count(counter);
-        }
-        if let Some(refusal) = refusal
-            && let Some(counter) = self.refusals.get(refusal.code() as usize)
-        {
+    /// There is a reply that is a refusal.
+    pub(crate) fn add_refusal(&self, refusal: Refusal) {
+        if let Some(counter) = self.refusals.get(refusal.code() as usize) {
             count(counter);
         }
     }
@@ -167,21 +151,12 @@ impl Meters {
             alloc,
             "grace_replies_total",
             "Replies.",
-            self.count_replies(),
+            rooms.count_replies(),
         )?)?;
         families.push(self.refusals()?)?;
         self.syncs.add_families(alloc, &mut families)?;
         families.push(build(alloc)?)?;
         write_families(alloc, &families)
-    }
-
-    /// The number of replies.
-    fn count_replies(&self) -> u64 {
-        let mut replies: u64 = 0;
-        for counter in &self.replies {
-            replies = replies.saturating_add(load(counter));
-        }
-        replies
     }
 
     /// The family of ended sessions, by their cause.

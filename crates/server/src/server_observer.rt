@@ -150,7 +150,10 @@ impl<R: Wait + Log> ServerObserver<'_, R> {
 
 impl<R: Wait + Log> Observer for ServerObserver<'_, R> {
     fn after_reply(&self, place: Option<usize>, refusal: Option<Refusal>) {
-        self.meters.add_reply(place, refusal);
+        self.rooms.add_reply(place);
+        if let Some(refusal) = refusal {
+            self.meters.add_refusal(refusal);
+        }
     }
 
     fn after_entry(&self, room: &RoomName, place: usize, kind: EntryKind) {

@@ -4,6 +4,7 @@ ghost use Rattle.std.specs.Prelude.{◌≡◌, ◌+◌, ◌<◌, ◌^◌, IfOk, 
 
 use crate::tally::{EntrySums, Tally};
 use base_types::{NoMemory, RoomName};
+use crossbeam_utils::CachePadded;
 use keeper::Beginning;
 use log::{Log, info};
 use room_core::RoomState;
@@ -28,8 +29,11 @@ struct Past {
 pub(crate) struct Tallies {
     /// The names of the rooms that are open from the start.
     names: Vec<RoomName>,
-    rooms: Vec<Tally>,
+    /// Threads in rooms of their own write to no common cache line.
+    rooms: Vec<CachePadded<Tally>>,
     past: Mutex<Past>,
+    /// The number of replies that report on no room.
+    outside: AtomicU64,
     /// The number of rooms that were opened on demand.
     opened: AtomicU64,
     /// The number of rooms that were closed.
@@ -62,7 +66,9 @@ impl Tallies {
             vec_len tallies.rooms ≡ length names.now + on_demand) }
     {
         let count = names.len().saturating_add(on_demand as usize);
-        let rooms = (0..count).map(|_| Tally::empty()).collect(alloc)?;
+        let rooms = (0..count)
+            .map(|_| CachePadded::new(Tally::empty()))
+            .collect(alloc)?;
         Ok(Tallies::new(copies(alloc, names)?, rooms))
     }
 
@@ -81,13 +87,18 @@ impl Tallies {
         ensures rooms { IfOk result (λ tallies.
             vec_len tallies.rooms ≡ length records.now + on_demand) }
     {
-        let mut rooms: Vec<Tally> = records.iter().map(Tally::of_room).collect(alloc)?;
-        let mut others: Vec<Tally> = (0..on_demand).map(|_| Tally::empty()).collect(alloc)?;
+        let mut rooms: Vec<CachePadded<Tally>> = records
+            .iter()
+            .map(|record| CachePadded::new(Tally::of_room(record)))
+            .collect(alloc)?;
+        let mut others: Vec<CachePadded<Tally>> = (0..on_demand)
+            .map(|_| CachePadded::new(Tally::empty()))
+            .collect(alloc)?;
         rooms.append(&mut others)?;
         Ok(Tallies::new(copies(alloc, names)?, rooms))
     }
 
-    fn new(names: Vec<RoomName>, rooms: Vec<Tally>) -> Tallies
+    fn new(names: Vec<RoomName>, rooms: Vec<CachePadded<Tally>>) -> Tallies
         ensures names { result.names ≡ names }
         ensures rooms { result.rooms ≡ rooms }
     {
@@ -99,6 +110,7 @@ impl Tallies {
             names,
             rooms,
             past: Mutex::new(past),
+            outside: AtomicU64::new(0),
             opened: AtomicU64::new(0),
             closed: AtomicU64::new(0),
         }
@@ -109,6 +121,25 @@ impl Tallies {
         if let Some(room) = self.rooms.get(place) {
             room.add(rt, name, kind);
         }
+    }
+
+    /// There is a reply, on the room at this place if it reports on one.
+    pub(crate) fn add_reply(&self, place: Option<usize>) {
+        match place.and_then(|place| self.rooms.get(place)) {
+            Some(room) => room.add_reply(),
+            None => {
+                self.outside.fetch_add(1, Ordering::SeqCst);
+            }
+        }
+    }
+
+    /// The number of replies. Linear in the number of rooms that may be open.
+    pub(crate) fn count_replies(&self) -> u64 {
+        let mut replies = self.outside.load(Ordering::SeqCst);
+        for room in &self.rooms {
+            replies = replies.saturating_add(room.replies());
+        }
+        replies
     }
 
     /// A room was opened on demand with a record. Warns if it begins nearly full, and nothing goes

@@ -2,6 +2,7 @@
 
 ghost use Rattle.std.specs.Prelude.{◌≡◌, ◌-◌};
 
+use crossbeam_utils::CachePadded;
 use keeper::Beginning;
 use log::{Log, info, warn};
 use room_core::RoomState;
@@ -10,12 +11,14 @@ use std::sync::atomic::{AtomicU64, Ordering};
 use succession::nine_tenths;
 use wire::EntryKind;
 
-/// A room's numbers of joins, entries and objects.
+/// A room's numbers of joins, entries and objects, and that of the replies on it and on those that
+/// were at its place before.
 #[derive(Drop)]
 pub(crate) struct Tally {
     joins: AtomicU64,
     entries: AtomicU64,
     objects: AtomicU64,
+    replies: AtomicU64,
     /// Another room goes on with what the room has.
     has_ended: bool,
 }
@@ -32,6 +35,7 @@ impl Tally {
             joins: AtomicU64::new(0),
             entries: AtomicU64::new(0),
             objects: AtomicU64::new(0),
+            replies: AtomicU64::new(0),
             has_ended: false,
         }
     }
@@ -42,6 +46,7 @@ impl Tally {
             joins: AtomicU64::new(u64::from(room.sites())),
             entries: AtomicU64::new(room.entries().len() as u64),
             objects: AtomicU64::new(u64::from(room.count_objects())),
+            replies: AtomicU64::new(0),
             has_ended: room.has_ended(),
         }
     }
@@ -81,6 +86,16 @@ impl Tally {
             }
             EntryKind::Change => {}
         }
+    }
+
+    /// Counts a reply on the room.
+    pub(crate) fn add_reply(&self) {
+        count(&self.replies);
+    }
+
+    /// The number of replies.
+    pub(crate) fn replies(&self) -> u64 {
+        load(&self.replies)
     }
 
     /// Warns if the room of this name begins with nine tenths of its joins, its objects or its
@@ -174,7 +189,7 @@ impl EntrySums {
     }
 
     /// What these rooms have. Linear in their number.
-    pub(crate) fn of(rooms: &[Tally]) -> EntrySums {
+    pub(crate) fn of(rooms: &[CachePadded<Tally>]) -> EntrySums {
         let mut sums = EntrySums::NONE;
         for room in rooms {
             sums = sums.and(room.sums());

@@ -1,7 +1,7 @@
 //! The groups of an object's changes with their identifiers. Both are kept between calls, since a
 //! change leaves most identifiers as they are.
 
-ghost use Rattle.std.specs.Prelude.{◌≡◌, ◌+◌, ◌<◌, ◌≤◌, ◌++◌, List, [], Err, true, All, IfOk, IfSome, OnOk, filter, length, map, not, slice_index_or};
+ghost use Rattle.std.specs.Prelude.{◌≡◌, ◌+◌, ◌<◌, ◌≤◌, ◌++◌, ◌∷◌, List, [], Err, true, All, IfOk, IfSome, OnOk, filter, length, map, not, slice_index_or};
 ghost use Rattle.std.specs.List.Sorted.{IsPermutation, IsSorted, IsSortedWithin};
 ghost use Rattle.base_types.specs.Names.{Name};
 ghost use Rattle.base_types.specs.VersionIds.{id_cmp, names_rise};
@@ -12,8 +12,10 @@ ghost use Rattle.places.specs.steps.Lookups.{IsPlaceOf};
 ghost use Rattle.places.specs.steps.Changes.{at, conflicting_places, is_conflict_of};
 ghost use Rattle.version_groups.specs.declared.fault.AddFault.TheVariants as AddFault;
 ghost use Rattle.version_groups.specs.steps.Kept.{count_of_groups, HaveGrown};
+ghost use Rattle.shape.specs.steps.GroupsAfter.{groups_after};
 ghost use Rattle.shape.specs.steps.Kept.{id_at, is_less, named, AreGroupsOf, AreNamedOf, GoesOn, Reordered};
 
+use crate::planned::GroupsAfter;
 use base_types::{NoMemory, VersionId};
 use conflict::{ObjectChanges, WithAddition};
 use places::{PlaceSet, Relation};
@@ -164,6 +166,13 @@ fn find(ids: &[SharedId], id: &VersionId) -> Option<usize>
     None
 }
 
+/// The identifier of no names, alone. Takes no memory.
+pub(crate) fn one_unnamed(alloc: Global) -> SharedIds
+    ensures { result.items ≡ [] ∷ [] }
+{
+    SharedIds::from_buf(alloc, [SharedId::default()])
+}
+
 impl NamedGroups {
     /// The group of no changes.
     pub(crate) fn new(alloc: Global) -> Result<NamedGroups, NoMemory>
@@ -188,6 +197,22 @@ impl NamedGroups {
         ensures sorted { IsSorted id_cmp self.now.ids }
     {
         &self.ids
+    }
+
+    /// Replaces the groups by those with a change more, which are of so many places. Without an
+    /// allocation.
+    pub(crate) fn replace(&mut self, ops: u32, after: GroupsAfter)
+        requires some { 0 < length self.old.groups.groups }
+        requires ops { (groups_after after).groups.ops ≡ ops }
+        ensures { self.new ≡ groups_after after }
+    {
+        match after {
+            GroupsAfter::One(group) => {
+                self.groups.replace_by_one(ops, group);
+                self.ids = one_unnamed(*self.ids.allocator());
+            }
+            GroupsAfter::Several(several) => *self = Box::into_inner(several).into_groups(),
+        }
     }
 
     /// The groups with one more change, in memory of their own. `TooMany` if there would be more

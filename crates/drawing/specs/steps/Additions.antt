@@ -45,7 +45,7 @@ pub record Added : Type 0 where
 abbrev pub ids_of : Part → Option (List (List Name))
 ids_of part.Alone = None
 ids_of (part.Creation op shape) = None
-ids_of (part.Change place op planned) = Some planned.ids
+ids_of (part.Change place op planned) = Some planned.value.ids
 
 -- a shape stands under this name, at this place, and this holds of it
 pub record HasShape (shapes : List (Name × Stored)) (name : Name) (place : ℕ) (Holds : Stored
@@ -82,7 +82,7 @@ abbrev pub IsReadyPart : DrawingState → Entry → Part → Type 0
 IsReadyPart s entry part.Alone = CanStandAlone s entry
 IsReadyPart s entry (part.Creation op shape) = CanAdd s entry op × CanCreate s op shape.value
 IsReadyPart s entry (part.Change place op planned) =
-    CanAdd s entry op × CanChange s place op planned
+    CanAdd s entry op × CanChange s place op planned.value
 
 -- the entry can be added as planned, and takes no memory
 abbrev pub IsReady : DrawingState → Added → Type 0

@@ -62,7 +62,10 @@ impl Drawing {
     {
         self.record.reserve_one()?;
         let entry = Arc::new(alloc, entry)?;
-        Addition::new(alloc, entry, Part::Alone)
+        Ok(Addition {
+            entry,
+            part: Part::Alone,
+        })
     }
 
     /// Prepares an operation that may come next in causal order. The drawing stays as it is.
@@ -115,8 +118,10 @@ impl Drawing {
         self.objects.reserve(1)?;
         let entry = op.entry()?;
         let shape = Box::new(alloc, Shape::create(alloc, op.share()?, self.limits)?)?;
-        let addition = Addition::new(alloc, entry, Part::Creation(op, shape))?;
-        Ok(addition)
+        Ok(Addition {
+            entry,
+            part: Part::Creation(op, shape),
+        })
     }
 
     /// Plans to add a change that may come next.
@@ -135,7 +140,10 @@ impl Drawing {
         let (entry, shared) = (op.entry()?, op.share()?);
         self.reserve_operation(op.name.site())?;
         let (place, planned) = self.plan_at_object(alloc, shared)?;
-        Ok(Addition::new(alloc, entry, Part::Change(place, op, planned))?)
+        Ok(Addition {
+            entry,
+            part: Part::Change(place, op, planned),
+        })
     }
 
     /// Takes memory for one more operation of this site.
@@ -156,15 +164,15 @@ impl Drawing {
         &mut self,
         alloc: Global,
         op: SharedOp,
-    ) -> Result<(usize, PlannedChange), AddFault>
+    ) -> Result<(usize, Box<PlannedChange>), AddFault>
         requires next { IsNext self.old.room op }
         requires change { is_change_body op.body ≡ true }
         requires counted { counts op.seen (object_of op) ≡ true }
         // The plan for the object as it then is.
         ensures shape { IfOk result
-            (λ p. HasShape self.new.reserve.shapes (object_of op) p.0 (λ d. IsPlanned d p.1)) }
-        ensures added { IfOk result (λ p. p.1.addition.op ≡ op) }
-        ensures ids { IfOk result (λ p. p.1.ids ≡ ids_with self.old.room op) }
+            (λ p. HasShape self.new.reserve.shapes (object_of op) p.0 (λ d. IsPlanned d p.1.value)) }
+        ensures added { IfOk result (λ p. p.1.value.addition.op ≡ op) }
+        ensures ids { IfOk result (λ p. p.1.value.ids ≡ ids_with self.old.room op) }
         // Whether there is one.
         ensures allowed { OnOk result (body_refusal self.old.room op ≡ None) }
         ensures refusal { IfErr result (IsAddRefusal (body_refusal self.old.room op)) }
